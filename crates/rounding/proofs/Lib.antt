@@ -1,2 +1,14 @@
-pub mod Laws
+pub mod Orders
+pub mod Closest
+pub mod Within
+pub mod Dropped
+pub mod Units
+pub mod Pack
+pub mod Patterns
 pub mod Near
+pub mod Sticky
+pub mod Jammed
+pub mod Values
+pub mod Sums
+pub mod Adding
+pub mod Comparing

@@ -1,0 +1,69 @@
+-- A pattern is its sign's weight and the rest; the rest says whether it is a NaN's, an infinity's or a finite value's. Assumes nothing.
+use mathlib.Core.Path.{_≡_, sym, ap, _∙_, subst}
+use mathlib.Core.Logic.{inl, inr}
+use mathlib.Core.Bool.{Bool, true, false, not, cond}
+use Prim.Native.Nat.{ℕ, suc, _+_, _-_, _*_, _/_, _%_, _≤_, _<_}
+use native.Mathlib.Nat.{le-trans, le-of-eq, lt-of-lt-of-le, lt-of-le-of-lt, zero-lt-suc, mul-comm, mul-pos, mul-lt-mul-of-pos-right, eq-or-lt-of-le, le-of-suc-le-suc, zero-add, mod-lt, mod-eq-of-lt, div-lt-iff-lt-mul, add-mod-left, lt-suc-self}
+use native.Mathlib.Omega.{arith}
+use lib.Dec.{T, leb, eqb, nltb→le, leb→le, nleb→lt}
+use lib.Arith.{le→nltb}
+use lib.Pow.{pow-pos}
+use lib.Ieee.{Float, nan, inf, Format, binary32, binary64, fits, toBits, prec, ofBits, isNan, nanBits, ofFields, hid, top, ones}
+use lib.Ieee.Bits.{nanBits-above, ofBits-toBits, nanBits-is}
+use lib.Ieee.Scale.{finite}
+use Rattle.rounding.proofs.Pack.{ofBits-is}
+
+pub top-pos : (f : Format) → 0 < top f
+top-pos f = mul-pos (pow-pos (prec f - 1)) (zero-lt-suc (ones f))
+
+-- ---- sign and rest
+pub rest-is : (f : Format) (s : Bool) (r : ℕ) → r < top f → (cond s (top f) 0 + r) % top f ≡ r
+rest-is f true r h = add-mod-left (top f) r ∙ mod-eq-of-lt h
+rest-is f false r h = ap (λ (z : ℕ). z % top f) (zero-add r) ∙ mod-eq-of-lt h
+
+pub sign-rest : (f : Format) (n : ℕ) → n < 2 * top f → n ≡ cond (leb (top f) n) (top f) 0 + n % top f
+sign-rest f n h = go (leb (top f) n) (leb→le (top f) n) (nleb→lt (top f) n)
+  where
+    go : (b : Bool) → (T b → top f ≤ n) → (T (not b) → n < top f) → n ≡ cond b (top f) 0 + n % top f
+    go true a b =
+        let l : top f ≤ n = a tt in
+        let e : n ≡ top f + (n - top f) = omega arith in
+        let r : n % top f ≡ n - top f = ap (λ (z : ℕ). z % top f) e ∙ rest-is f true (n - top f) (omega arith) in
+        omega arith
+    go false a b = sym (zero-add (n % top f) ∙ mod-eq-of-lt (b tt))
+
+-- ---- a NaN's pattern lies above an infinity's
+pub no-nan-rest : (f : Format) (n : ℕ) → T (not (nanBits f n)) → n % top f ≤ ones f * hid f
+no-nan-rest f n h = nltb→le (ones f * hid f) (n % top f) (subst (λ (z : Bool). T (not z)) (nanBits-above f n) h)
+
+pub rest-no-nan : (f : Format) (n : ℕ) → n % top f ≤ ones f * hid f → T (not (nanBits f n))
+rest-no-nan f n h = subst (λ (z : Bool). T (not z)) (sym (nanBits-above f n)) (le→nltb (ones f * hid f) (n % top f) h)
+
+pub value-bits : (f : Format) (x : Float) → T (fits f x) → T (not (isNan x)) → T (not (nanBits f (toBits f x)))
+value-bits f x held h = subst (λ (z : Bool). T (not z)) (sym (nanBits-is f (toBits f x) ∙ ap isNan (ofBits-toBits f x held))) h
+
+-- sign and rest, put together, are no NaN
+pub inf-lt : (f : Format) → ones f * hid f < top f
+inf-lt f = lt-of-lt-of-le (mul-lt-mul-of-pos-right (lt-suc-self (ones f)) (pow-pos (prec f - 1))) (le-of-eq (mul-comm (suc (ones f)) (hid f)))
+
+pub joined-no-nan : (f : Format) (s : Bool) (r : ℕ) → r ≤ ones f * hid f → T (not (nanBits f (cond s (top f) 0 + r)))
+joined-no-nan f s r h = rest-no-nan f (cond s (top f) 0 + r) (le-trans (le-of-eq (rest-is f s r (lt-of-le-of-lt h (inf-lt f)))) h)
+
+-- ---- a finite value's pattern lies below an infinity's
+no-value : (b s : Bool) → T (finite (cond b (inf s) nan)) → ⊥
+no-value true s h = h
+no-value false s h = h
+
+full : (f : Format) (s : Bool) (t : ℕ) → T (finite (ofFields f s (ones f) t)) → ⊥
+unfolding ofFields
+full binary32 s t h = no-value (eqb t 0) s h
+full binary64 s t h = no-value (eqb t 0) s h
+
+pub finite-rest : (f : Format) (n : ℕ) → T (finite (ofBits f n)) → n % top f < ones f * hid f
+finite-rest f n h =
+    let x = n % top f / hid f in
+    let l : x < suc (ones f) = div-lt-iff-lt-mul (pow-pos (prec f - 1)) .1 (lt-of-lt-of-le (mod-lt n (top-pos f)) (le-of-eq (mul-comm (hid f) (suc (ones f))))) in
+    elim (eq-or-lt-of-le (le-of-suc-le-suc l)) [
+      | inl e ↦ absurd (full f (leb (top f) n) (n % hid f) (subst (λ (z : ℕ). T (finite (ofFields f (leb (top f) n) z (n % hid f)))) e (subst (λ (v : Float). T (finite v)) (ofBits-is f n) h)))
+      | inr g ↦ div-lt-iff-lt-mul (pow-pos (prec f - 1)) .0 g
+    ]
