@@ -1,0 +1,10 @@
+pub mod Same
+pub mod Within
+pub mod Product
+pub mod Value
+pub mod Units
+pub mod Round
+pub mod Operations
+pub mod Exact
+pub mod Near
+pub mod Whole

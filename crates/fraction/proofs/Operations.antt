@@ -1,0 +1,108 @@
+-- Each operation is one rounding of its exact result: a sum, a product, a quotient by a number above zero. By the cases of the signs. Assumes nothing.
+use mathlib.Core.Path.{_≡_, refl, sym, ap, _∙_}
+use mathlib.Core.Bool.{Bool, true, false, not, _&&_, cond}
+use Prim.Native.Nat.{ℕ, _+_, _-_, _*_, _≤_, _<_}
+use native.Mathlib.Nat.{add-mul, add-sub-of-le, le-of-lt, mul-le-mul-right, mul-pos}
+use native.Mathlib.Omega.{arith}
+use lib.IntN.{ℤ}
+use lib.Dec.{T, ltb, eqb, ltb→lt, nltb→le, eqb→eq}
+use lib.Ieee.{Float, nan, inf, fin, Format, unlike, up, down, round, sum, add, mul, div}
+use lib.Ieee.Fits.{down-pos, up-pos}
+use lib.Ieee.Scale.{finite}
+use Rattle.fraction.specs.Fraction.{Frac, frac, plus, times, over, Same}
+use Rattle.fraction.specs.Value.{signed, val}
+use Rattle.fraction.proofs.Same.{ring, same-refl, same-trans}
+use Rattle.fraction.proofs.Value.{signed-pos}
+
+-- x is a rounding, and what is rounded is the number q
+pub record Rounded (f : Format) (x : Float) (q : Frac) : Type 0 where
+  pub s : Bool
+  pub a : ℕ
+  pub c : ℕ
+  pub is : x ≡ round f s a c
+  pub same : Same (signed s a c) q
+
+-- the same rounding, seen as one of an equal number
+pub seen : {f : Format} {x : Float} {q r : Frac} → Same q r → Rounded f x q → Rounded f x r
+seen e w = record { s = w .s; a = w .a; c = w .c; is = w .is; same = same-trans (w .same) e }
+
+-- ---- ±a / c + ±b / c, over c
+abbrev pub joint : Bool → ℕ → Bool → ℕ → ℕ → Frac
+joint s a t b c = frac (signed s a c .p + signed t b c .p) (signed s a c .n + signed t b c .n) c
+
+pub less : (a b c : ℕ) → a ≤ b → a * c + (b - a) * c ≡ b * c
+less a b c h = sym (add-mul a (b - a) c) ∙ ap (λ (x : ℕ). x * c) (add-sub-of-le h)
+
+sum-rounded : (f : Format) (s : Bool) (a : ℕ) (t : Bool) (b c : ℕ) → 0 < c → Rounded f (sum f s a t b c) (joint s a t b c)
+unfolding sum
+sum-rounded f false a false b c C = record { s = false; a = a + b; c = c; is = refl; same = same-refl C }
+sum-rounded f true a true b c C = record { s = true; a = a + b; c = c; is = refl; same = same-refl C }
+sum-rounded f false a true b c C = go (ltb a b) (ltb→lt a b) (nltb→le a b)
+  where
+    go : (z : Bool) → (T z → a < b) → (T (not z) → b ≤ a) → Rounded f (cond z (round f true (b - a) c) (round f (false && ltb b a) (a - b) c)) (joint false a true b c)
+    go true h k = record { s = true; a = b - a; c = c; is = refl; same = omega (arith, less a b c (le-of-lt (h tt))) }
+    go false h k = record { s = false; a = a - b; c = c; is = refl; same = omega (arith, less b a c (k tt)) }
+sum-rounded f true a false b c C = go (ltb a b) (ltb→lt a b) (nltb→le a b) (ltb b a) (nltb→le b a) refl
+  where
+    go : (z : Bool) → (T z → a < b) → (T (not z) → b ≤ a) → (y : Bool) → (T (not y) → a ≤ b) → ltb b a ≡ y → Rounded f (cond z (round f false (b - a) c) (round f (ltb b a) (a - b) c)) (joint true a false b c)
+    go true h k y l e = record { s = false; a = b - a; c = c; is = refl; same = omega (arith, less a b c (le-of-lt (h tt))) }
+    go false h k true l e = record { s = true; a = a - b; c = c; is = ap (λ (z : Bool). round f z (a - b) c) e; same = omega (arith, less b a c (k tt)) }
+    go false h k false l e = record { s = false; a = a - b; c = c; is = ap (λ (z : Bool). round f z (a - b) c) e; same = omega (arith, less b a c (k tt), mul-le-mul-right c (l tt)) }
+
+pub joint-same : (s t : Bool) (a c b d : ℕ) → 0 < c → 0 < d → Same (joint s (a * d) t (b * c) (c * d)) (plus (signed s a c) (signed t b d))
+joint-same s t a c b d C D = record { left = mul-pos C D; right = mul-pos (signed-pos s a c C) (signed-pos t b d D); cross = go s t }
+  where
+    go : (s t : Bool) → let x = signed s a c in let y = signed t b d in let j = joint s (a * d) t (b * c) (c * d) in j .p * (x .d * y .d) + (x .n * y .d + y .n * x .d) * (c * d) ≡ (x .p * y .d + y .p * x .d) * (c * d) + j .n * (x .d * y .d)
+    go false false = simp ring (omega arith)
+    go false true = simp ring (omega arith)
+    go true false = simp ring (omega arith)
+    go true true = simp ring (omega arith)
+
+pub add-rounded : (f : Format) (x y : Float) → T (finite x) → T (finite y) → Rounded f (add f x y) (plus (val x) (val y))
+unfolding add
+add-rounded f nan y h k = absurd h
+add-rounded f (inf s) y h k = absurd h
+add-rounded f (fin s m e) nan h k = absurd k
+add-rounded f (fin s m e) (inf t) h k = absurd k
+add-rounded f (fin s m e) (fin t n d) h k =
+    seen (joint-same s t (m * up e) (down e) (n * up d) (down d) (down-pos e) (down-pos d)) (sum-rounded f s (m * up e * down d) t (n * up d * down e) (down e * down d) (mul-pos (down-pos e) (down-pos d)))
+
+-- ---- a product
+pub product-same : (s t : Bool) (a c b d : ℕ) → 0 < c → 0 < d → Same (signed (unlike s t) (a * b) (c * d)) (times (signed s a c) (signed t b d))
+product-same s t a c b d C D = record { left = signed-pos (unlike s t) (a * b) (c * d) (mul-pos C D); right = mul-pos (signed-pos s a c C) (signed-pos t b d D); cross = go s t }
+  where
+    go : (s t : Bool) → let x = signed s a c in let y = signed t b d in let j = signed (unlike s t) (a * b) (c * d) in j .p * (x .d * y .d) + (x .p * y .n + x .n * y .p) * j .d ≡ (x .p * y .p + x .n * y .n) * j .d + j .n * (x .d * y .d)
+    go false false = simp ring (omega arith)
+    go false true = simp ring (omega arith)
+    go true false = simp ring (omega arith)
+    go true true = simp ring (omega arith)
+
+pub mul-rounded : (f : Format) (x y : Float) → T (finite x) → T (finite y) → Rounded f (mul f x y) (times (val x) (val y))
+unfolding mul
+mul-rounded f nan y h k = absurd h
+mul-rounded f (inf s) y h k = absurd h
+mul-rounded f (fin s m e) nan h k = absurd k
+mul-rounded f (fin s m e) (inf t) h k = absurd k
+mul-rounded f (fin s m e) (fin t n d) h k =
+    record { s = unlike s t; a = m * up e * (n * up d); c = down e * down d; is = refl; same = product-same s t (m * up e) (down e) (n * up d) (down d) (down-pos e) (down-pos d) }
+
+-- ---- a quotient, by a number that is above zero
+pub div-rounded : (f : Format) (x : Float) (n : ℕ) (d : ℤ) → T (finite x) → 0 < n → Rounded f (div f x (fin false n d)) (over (val x) (n * up d) (down d))
+unfolding div
+div-rounded f nan n d h N = absurd h
+div-rounded f (inf s) n d h N = absurd h
+div-rounded f (fin s m e) n d h N = go (eqb n 0) (eqb→eq n 0)
+  where
+    B : 0 < n * up d
+    B = mul-pos N (up-pos d)
+
+    same-of : (s : Bool) (a c b d : ℕ) → 0 < b * c → 0 < c * b → Same (signed (unlike s false) (a * d) (b * c)) (over (signed s a c) b d)
+    same-of false a c b d L R = record { left = L; right = R; cross = simp ring (omega arith) }
+    same-of true a c b d L R = record { left = L; right = R; cross = simp ring (omega arith) }
+
+    go : (z : Bool) → (T z → n ≡ 0) → Rounded f (cond z (cond (eqb m 0) nan (inf (unlike s false))) (round f (unlike s false) (m * up e * down d) (n * up d * down e))) (over (val (fin s m e)) (n * up d) (down d))
+    go true k = absurd (clash (k tt))
+      where
+        clash : n ≡ 0 → ⊥
+        clash b = omega arith
+    go false k = record { s = unlike s false; a = m * up e * down d; c = n * up d * down e; is = refl; same = same-of s (m * up e) (down e) (n * up d) (down d) (mul-pos B (down-pos e)) (mul-pos (down-pos e) B) }
