@@ -1,6 +1,6 @@
 -- Each operation is one rounding of its exact result: a sum, a product, a quotient by a number above zero. By the cases of the signs. Assumes nothing.
 use mathlib.Core.Path.{_≡_, refl, sym, ap, _∙_}
-use mathlib.Core.Bool.{Bool, true, false, not, _&&_, cond}
+use mathlib.Core.Bool.{Bool, true, false, not, _&&_, Bool·beq, cond}
 use Prim.Native.Nat.{ℕ, _+_, _-_, _*_, _≤_, _<_}
 use native.Mathlib.Nat.{add-mul, add-sub-of-le, le-of-lt, mul-le-mul-right, mul-pos}
 use native.Mathlib.Omega.{arith}
@@ -9,6 +9,7 @@ use lib.Dec.{T, ltb, eqb, ltb→lt, nltb→le, eqb→eq}
 use lib.Ieee.{Float, nan, inf, fin, Format, unlike, up, down, round, sum, add, mul, div}
 use lib.Ieee.Fits.{down-pos, up-pos}
 use lib.Ieee.Scale.{finite}
+use Rattle.rounding.proofs.Sums.{sum-sign, sum-size, sum-is}
 use Rattle.fraction.specs.Fraction.{Frac, frac, plus, times, over, Same}
 use Rattle.fraction.specs.Value.{signed, val}
 use Rattle.fraction.proofs.Same.{ring, same-refl, same-trans}
@@ -34,20 +35,16 @@ pub less : (a b c : ℕ) → a ≤ b → a * c + (b - a) * c ≡ b * c
 less a b c h = sym (add-mul a (b - a) c) ∙ ap (λ (x : ℕ). x * c) (add-sub-of-le h)
 
 sum-rounded : (f : Format) (s : Bool) (a : ℕ) (t : Bool) (b c : ℕ) → 0 < c → Rounded f (sum f s a t b c) (joint s a t b c)
-unfolding sum
-sum-rounded f false a false b c C = record { s = false; a = a + b; c = c; is = refl; same = same-refl C }
-sum-rounded f true a true b c C = record { s = true; a = a + b; c = c; is = refl; same = same-refl C }
-sum-rounded f false a true b c C = go (ltb a b) (ltb→lt a b) (nltb→le a b)
+sum-rounded f s a t b c C = record { s = sum-sign s a t b; a = sum-size s a t b; c = c; is = sum-is f s a t b c; same = go s t (ltb a b) (ltb→lt a b) (nltb→le a b) (ltb b a) (nltb→le b a) }
   where
-    go : (z : Bool) → (T z → a < b) → (T (not z) → b ≤ a) → Rounded f (cond z (round f true (b - a) c) (round f (false && ltb b a) (a - b) c)) (joint false a true b c)
-    go true h k = record { s = true; a = b - a; c = c; is = refl; same = omega (arith, less a b c (le-of-lt (h tt))) }
-    go false h k = record { s = false; a = a - b; c = c; is = refl; same = omega (arith, less b a c (k tt)) }
-sum-rounded f true a false b c C = go (ltb a b) (ltb→lt a b) (nltb→le a b) (ltb b a) (nltb→le b a) refl
-  where
-    go : (z : Bool) → (T z → a < b) → (T (not z) → b ≤ a) → (y : Bool) → (T (not y) → a ≤ b) → ltb b a ≡ y → Rounded f (cond z (round f false (b - a) c) (round f (ltb b a) (a - b) c)) (joint true a false b c)
-    go true h k y l e = record { s = false; a = b - a; c = c; is = refl; same = omega (arith, less a b c (le-of-lt (h tt))) }
-    go false h k true l e = record { s = true; a = a - b; c = c; is = ap (λ (z : Bool). round f z (a - b) c) e; same = omega (arith, less b a c (k tt)) }
-    go false h k false l e = record { s = false; a = a - b; c = c; is = ap (λ (z : Bool). round f z (a - b) c) e; same = omega (arith, less b a c (k tt), mul-le-mul-right c (l tt)) }
+    go : (s t y : Bool) → (T y → a < b) → (T (not y) → b ≤ a) → (z : Bool) → (T (not z) → a ≤ b) → Same (signed (cond (Bool·beq s t) s (cond y t (s && z))) (cond (Bool·beq s t) (a + b) (cond y (b - a) (a - b))) c) (joint s a t b c)
+    go false false y h k z l = same-refl C
+    go true true y h k z l = same-refl C
+    go false true true h k z l = omega (arith, less a b c (le-of-lt (h tt)))
+    go false true false h k z l = omega (arith, less b a c (k tt))
+    go true false true h k z l = omega (arith, less a b c (le-of-lt (h tt)))
+    go true false false h k true l = omega (arith, less b a c (k tt))
+    go true false false h k false l = omega (arith, less b a c (k tt), mul-le-mul-right c (l tt))
 
 pub joint-same : (s t : Bool) (a c b d : ℕ) → 0 < c → 0 < d → Same (joint s (a * d) t (b * c) (c * d)) (plus (signed s a c) (signed t b d))
 joint-same s t a c b d C D = record { left = mul-pos C D; right = mul-pos (signed-pos s a c C) (signed-pos t b d D); cross = go s t }

@@ -14,7 +14,7 @@ use lib.Ieee.Fits.{round-is}
 use lib.Ieee.Exact.{HasValue, units-val}
 use lib.Ieee.Order.{drop, kept}
 use lib.Ieee.Scale.{grid, overflow}
-use Rattle.rounding.proofs.Laws.{prec-pos}
+use Rattle.rounding.proofs.Dropped.{prec-pos}
 use Rattle.fraction.specs.Fraction.{Within}
 use Rattle.fraction.specs.Value.{signed, Is, Rounds}
 use Rattle.fraction.proofs.Same.{ring, same-sym}

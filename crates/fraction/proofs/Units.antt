@@ -12,16 +12,13 @@ use lib.Ieee.{size}
 use lib.Ieee.Digits.{size-le, size-lt, size-reaches}
 use lib.Ieee.Nearest.{closest}
 use lib.Ieee.Order.{drop, kept}
-use Rattle.rounding.proofs.Near.{closest-near, closest-unique}
+use Rattle.rounding.proofs.Within.{closest-near, closest-multiple}
 use Rattle.fraction.proofs.Same.{ring}
 
 -- w units are within 2 ^ j / 2 of n / c
 pub record Near (w n c j : ℕ) : Type 0 where
   pub above : w * c * 2 ≤ n * 2 + c * 2 ^ j
   pub below : n * 2 ≤ w * c * 2 + c * 2 ^ j
-
-closest-whole : (q u : ℕ) → 0 < u → closest (q * u) u ≡ q
-closest-whole q u U = closest-unique (q * u) u q U (omega arith) (omega arith)
 
 few : (z p j : ℕ) → z ≤ p + j → z - p ≤ j
 few z p j h = omega arith
@@ -46,7 +43,7 @@ near-eq p n c j P C h =
     let q = 2 ^ (p + j - k) in
     let qk : q * 2 ^ k ≡ 2 ^ (p + j) = sym (pow-add 2 (p + j - k) k) ∙ ap (λ (x : ℕ). 2 ^ x) (back k K) in
     let nq : n ≡ q * (c * 2 ^ k) = h ∙ ap (λ (x : ℕ). c * x) (sym qk) ∙ simp (mul-assoc, mul-comm) in
-    let w : kept p n c ≡ q = ap (λ (x : ℕ). closest x (c * 2 ^ k)) nq ∙ closest-whole q (c * 2 ^ k) (mul-pos C (pow-pos k)) in
+    let w : kept p n c ≡ q = ap (λ (x : ℕ). closest x (c * 2 ^ k)) nq ∙ closest-multiple q (c * 2 ^ k) (mul-pos C (pow-pos k)) in
     let v : kept p n c * 2 ^ k * c ≡ n = ap (λ (x : ℕ). x * 2 ^ k * c) w ∙ ap (λ (x : ℕ). x * c) qk ∙ mul-comm (2 ^ (p + j)) c ∙ sym h in
     omega arith
   where
