@@ -2,13 +2,13 @@
 use mathlib.Core.Path.{_≡_, sym, ap, _∙_, subst}
 use mathlib.Core.Bool.{Bool}
 use Prim.Native.Nat.{ℕ, zero, suc, _+_, _-_, _*_, _/_, _%_, _^_, _≤_, _<_, compare}
-use native.Mathlib.Nat.{le-trans, le-of-eq, lt-of-lt-of-le, lt-of-le-of-lt, zero-lt-suc, mul-one, mul-comm, mul-assoc, le-antisymm, le-div-iff-mul-le, div-lt-iff-lt-mul, div-div-eq-div-mul}
+use native.Mathlib.Nat.{le-trans, le-of-eq, lt-of-lt-of-le, lt-of-le-of-lt, zero-lt-suc, mul-one, mul-comm, mul-assoc, mul-pos, mul-le-mul-right, mul-lt-mul-of-pos-right, le-antisymm, le-div-iff-mul-le, div-lt-iff-lt-mul, div-div-eq-div-mul}
 use native.Mathlib.Omega.{arith}
 use lib.Pow.{pow-add, pow-pos}
 use lib.Ieee.{Format, units, round, prec, low, size, hid}
 use lib.Ieee.Digits.{size-lt, size-le, size-reaches}
 use lib.Ieee.Fits.{round-is, two, two-le-pos, nearest-le, kept-lt}
-use lib.Ieee.Nearest.{closest, nearest-ge}
+use lib.Ieee.Nearest.{closest, closest-same, nearest-ge}
 use lib.Ieee.Order.{drop, kept}
 use Rattle.rounding.proofs.Orders.{pow-lt-back}
 
@@ -53,6 +53,17 @@ pub round-at : (f : Format) (s : Bool) (num den k : ℕ) → 0 < den → (0 < k 
 round-at f s num den zero D lo hi = round-low f s num den D (subst (λ (z : ℕ). num * 2 ^ low f < 2 ^ prec f * z) (mul-one den) hi)
 round-at f s num den (suc k) D lo hi =
     round-normal f s num den (suc k) D (le-trans (le-of-eq (move (prec f - 1) (suc k) den)) (lo (zero-lt-suc k))) (lt-of-lt-of-le hi (le-of-eq (sym (move (prec f) (suc k) den))))
+
+-- v of a finer unit, 2 ^ -(low + e)
+pub round-finer : (f : Format) (s : Bool) (v e k : ℕ) → (0 < k → hid f * 2 ^ (e + k) ≤ v) → v < 2 ^ prec f * 2 ^ (e + k) → round f s v (2 ^ (low f + e)) ≡ units f s (closest v (2 ^ (e + k))) k
+round-finer f s v e k lo hi =
+    let den = 2 ^ (low f + e) in
+    let u = 2 ^ (e + k) in
+    let l = 2 ^ low f in
+    let d : den * 2 ^ k ≡ u * l = sym (pow-add 2 (low f + e) k) ∙ ap (λ (z : ℕ). 2 ^ z) (omega arith) ∙ pow-add 2 (e + k) (low f) in
+    let part : (q : ℕ) → q * (den * 2 ^ k) ≡ q * u * l = λ q. ap (λ (z : ℕ). q * z) d ∙ sym (mul-assoc q u l) in
+    round-at f s v den k (pow-pos (low f + e)) (λ K. le-trans (le-of-eq (part (hid f))) (mul-le-mul-right l (lo K))) (lt-of-lt-of-le (mul-lt-mul-of-pos-right hi (pow-pos (low f))) (le-of-eq (sym (part (2 ^ prec f)))))
+    ∙ ap (λ (z : ℕ). units f s z k) (closest-same (v * l) (den * 2 ^ k) v u (mul-pos (pow-pos (low f + e)) (pow-pos k)) (pow-pos (e + k)) (mul-assoc v l u ∙ ap (λ (z : ℕ). v * z) (mul-comm l u ∙ sym d)))
 
 -- ---- the number that is kept has prec digits at most, or is 2 ^ prec; and that many at least where any were dropped
 pub kept-le : (p n den : ℕ) → kept p n den ≤ 2 ^ p

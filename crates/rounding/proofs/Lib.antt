@@ -5,6 +5,7 @@ pub mod Dropped
 pub mod Units
 pub mod Pack
 pub mod Patterns
+pub mod Whole
 pub mod Near
 pub mod Sticky
 pub mod Jammed

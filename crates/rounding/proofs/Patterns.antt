@@ -2,16 +2,18 @@
 use mathlib.Core.Path.{_≡_, sym, ap, _∙_, subst}
 use mathlib.Core.Logic.{inl, inr}
 use mathlib.Core.Bool.{Bool, true, false, not, cond}
-use Prim.Native.Nat.{ℕ, suc, _+_, _-_, _*_, _/_, _%_, _≤_, _<_}
-use native.Mathlib.Nat.{le-trans, le-of-eq, lt-of-lt-of-le, lt-of-le-of-lt, zero-lt-suc, mul-comm, mul-pos, mul-lt-mul-of-pos-right, eq-or-lt-of-le, le-of-suc-le-suc, zero-add, mod-lt, mod-eq-of-lt, div-lt-iff-lt-mul, add-mod-left, lt-suc-self}
+use Prim.Native.Nat.{ℕ, zero, suc, _+_, _-_, _*_, _/_, _%_, _^_, _≤_, _<_}
+use native.Mathlib.Nat.{le-trans, le-of-eq, lt-of-lt-of-le, lt-of-le-of-lt, zero-lt-suc, mul-comm, mul-pos, mul-lt-mul-of-pos-right, eq-or-lt-of-le, le-of-suc-le-suc, lt-irrefl, suc-mul, div-add-mod', zero-add, mod-lt, mod-eq-of-lt, div-lt-iff-lt-mul, add-mod-left, lt-suc-self}
 use native.Mathlib.Omega.{arith}
-use lib.Dec.{T, leb, eqb, nltb→le, leb→le, nleb→lt}
+use lib.Dec.{T, leb, eqb, nltb→le, lit<, leb→le, nleb→lt}
 use lib.Arith.{le→nltb}
 use lib.Pow.{pow-pos}
-use lib.Ieee.{Float, nan, inf, Format, binary32, binary64, fits, toBits, prec, ofBits, isNan, nanBits, ofFields, hid, top, ones}
+use lib.Ieee.{Float, nan, inf, Format, binary32, binary64, units, fits, toBits, prec, emax, ofBits, isNan, nanBits, ofFields, hid, top, ones}
 use lib.Ieee.Bits.{nanBits-above, ofBits-toBits, nanBits-is}
 use lib.Ieee.Scale.{finite}
-use Rattle.rounding.proofs.Pack.{ofBits-is}
+use Rattle.rounding.proofs.Dropped.{prec-pos}
+use Rattle.rounding.proofs.Pack.{ofBits-is, pack}
+use Rattle.rounding.proofs.Units.{twice-hid}
 
 pub top-pos : (f : Format) → 0 < top f
 top-pos f = mul-pos (pow-pos (prec f - 1)) (zero-lt-suc (ones f))
@@ -67,3 +69,24 @@ finite-rest f n h =
       | inl e ↦ absurd (full f (leb (top f) n) (n % hid f) (subst (λ (z : ℕ). T (finite (ofFields f (leb (top f) n) z (n % hid f)))) e (subst (λ (v : Float). T (finite v)) (ofBits-is f n) h)))
       | inr g ↦ div-lt-iff-lt-mul (pow-pos (prec f - 1)) .0 g
     ]
+
+-- a finite value's pattern without its sign, b, is b / hid - 1 in its unit's exponent, and the rest of b counts that unit
+pub unpacked : (f : Format) (s : Bool) (b : ℕ) → b < ones f * hid f → ofBits f (cond s (top f) 0 + b) ≡ units f s (b - (b / hid f - 1) * hid f) (b / hid f - 1)
+unpacked f s b h = go (b / hid f) (b % hid f) (sym (div-add-mod' b (hid f))) (mod-lt b (pow-pos (prec f - 1))) (div-lt-iff-lt-mul (pow-pos (prec f - 1)) .1 h)
+  where
+    read : (q k : ℕ) → b ≡ k * hid f + q → q ≤ 2 ^ prec f → (0 < k → hid f ≤ q) → k < 2 * emax f → ofBits f (cond s (top f) 0 + b) ≡ units f s q k
+    read q k e a l c = ap (λ (z : ℕ). ofBits f (cond s (top f) 0 + z)) e ∙ pack f s q k a l c
+
+    go : (x t : ℕ) → b ≡ x * hid f + t → t < hid f → x < ones f → ofBits f (cond s (top f) 0 + b) ≡ units f s (b - (x - 1) * hid f) (x - 1)
+    go zero t e T X =
+        let w : 2 ^ prec f ≡ hid f + hid f = twice-hid (prec f) (prec-pos f) in
+        read (b - 0 * hid f) 0 (omega arith) (omega arith) (λ (k : 0 < 0). absurd (lt-irrefl 0 k)) (half f)
+      where
+        half : (f : Format) → 0 < 2 * emax f
+        half binary32 = lit< tt
+        half binary64 = lit< tt
+    go (suc x) t e T X =
+        let w : 2 ^ prec f ≡ hid f + hid f = twice-hid (prec f) (prec-pos f) in
+        let m : suc x * hid f ≡ x * hid f + hid f = suc-mul x (hid f) in
+        let k : x ≡ suc x - 1 = omega arith in
+        read (b - x * hid f) x (omega arith) (omega arith) (λ _. omega arith) (omega arith) ∙ ap (λ (z : ℕ). units f s (b - z * hid f) z) k

@@ -1,0 +1,36 @@
+// An f64 as the nearest f32, by its pattern: Rust's `x as f32`.
+ghost use mathlib.Core.Path.{_≡_};
+ghost use Prim.Native.Nat.{_≤_};
+ghost use Rattle.rounding.specs.Operations.{narrowed};
+ghost use Rattle.narrowing.specs.Nearest.{Rounds};
+
+// The pattern of the nearest f32 from that of an f64, both without the sign's bit.
+fn magnitude(b: u64) -> u64
+    requires { ⌜ b ≤ 0x7ff0_0000_0000_0000 ⌝ }
+    ensures { λ r. ⌜ Rounds b r ⌝ }
+{
+    if b >= 0x3810_0000_0000_0000 {
+        // From 2^128 on it is an infinity.
+        if b >= 0x47f0_0000_0000_0000 {
+            return 0x7f80_0000;
+        }
+        // A normal f32. The exponent's field falls by 896, and of the digits the lower 29 go: half a unit less one
+        // is added, and one more where the last digit that stays is odd. A carry moves up into the field.
+        return (b - 0x3800_0000_0000_0000 + (0x0fff_ffff + ((b >> 29) & 1))) >> 29;
+    }
+    // Below 2^-126 an f32 counts units of 2^-149. Those are the last digits of a sum with 2^-97, so that the sum rounds to them,
+    // and a tie goes to the even one in both: 2^-97 is an even number of them.
+    f64::to_bits(f64::from_bits(b) + f64::from_bits(0x39e0_0000_0000_0000)) - 0x39e0_0000_0000_0000
+}
+
+// K4, K5. x as the nearest f32, a tie to the one whose last digit is even; a NaN gives the NaN.
+pub fn narrow(x: f64) -> f32
+    ensures { λ r. ⌜ r ≡ narrowed x ⌝ }
+{
+    if x != x {
+        return 0.0f32 / 0.0f32;
+    }
+    let n: u64 = f64::to_bits(x);
+    let r: u64 = magnitude(n & 0x7fff_ffff_ffff_ffff);
+    f32::from_bits((((n >> 63) << 31) | r) as u32)
+}
