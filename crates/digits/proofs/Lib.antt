@@ -1,0 +1,4 @@
+pub mod Lengths
+pub mod Jams
+pub mod Putting
+pub mod Taking
