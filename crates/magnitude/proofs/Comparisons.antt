@@ -3,9 +3,10 @@ use mathlib.Core.Path.{_≡_, sym}
 use mathlib.Core.Bool.{Bool, true, false, not, _&&_, _||_}
 use mathlib.Core.Logic.{inl, inr}
 use Prim.Native.Nat.{ℕ, _+_, _*_, _≤_}
-use native.Mathlib.Nat.{le-of-eq, le-of-lt, le-trans, eq-or-lt-of-le, add-comm}
+use native.Mathlib.Nat.{le-refl, le-of-eq, le-of-lt, le-trans, eq-or-lt-of-le, add-comm}
 use native.Mathlib.Omega.{arith}
 use lib.Dec.{T, ltb, eqb, ltb→lt, lt→ltb, nltb→le, eqb→eq}
+use lib.Arith.{le→nltb}
 use lib.IntN.{ℤ}
 use lib.Ieee.{Float, nan, inf, fin, up, down, below, level, lt, eq, le, isNan}
 use lib.Ieee.Scale.{finite}
@@ -78,6 +79,14 @@ nlt→le (fin s m e) nan p q h = absurd q
 nlt→le (fin s m e) (inf true) p q h = absurd h
 nlt→le (fin s m e) (inf false) p q h = tt
 nlt→le (fin s m e) (fin t n d) p q h = upward s t (m * up e * down d) (n * up d * down e) h
+
+pub le-itself : (x : Float) → T (not (isNan x)) → T (le x x)
+unfolding lt isNan
+le-itself nan p = absurd p
+le-itself (inf true) p = nlt→le (inf true) (inf true) p p tt
+le-itself (inf false) p = nlt→le (inf false) (inf false) p p tt
+le-itself (fin true m e) p = nlt→le (fin true m e) (fin true m e) p p (le→nltb (m * up e * down e) (m * up e * down e) (le-refl (m * up e * down e)))
+le-itself (fin false m e) p = nlt→le (fin false m e) (fin false m e) p p (le→nltb (m * up e * down e) (m * up e * down e) (le-refl (m * up e * down e)))
 
 pub lt→le : (x y : Float) → T (lt x y) → T (le x y)
 unfolding le
