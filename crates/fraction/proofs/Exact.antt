@@ -12,8 +12,8 @@ use lib.Ieee.Exact.{round-exact}
 use Rattle.fraction.specs.Fraction.{Frac, frac, plus, times, opp, over, Same}
 use Rattle.fraction.specs.Value.{signed, Is}
 use Rattle.fraction.proofs.Same.{same-trans, plus-same, times-same, over-same}
-use Rattle.fraction.proofs.Value.{signed-d, value-is, neg-is}
-use Rattle.fraction.proofs.Operations.{less, Rounded, seen, add-rounded, mul-rounded, div-rounded}
+use Rattle.fraction.proofs.Value.{value-is, neg-is}
+use Rattle.fraction.proofs.Operations.{less, Rounded, bottom, seen, add-rounded, mul-rounded, div-rounded}
 
 -- (P - N) / 2 ^ t has no more digits than the format keeps
 pub record Fits (f : Format) (P N t : ℕ) : Type 0 where
@@ -37,7 +37,7 @@ whole-of true a c P N u C e = let l : P ≤ N = le-of-mul-le-mul-right {k = c} (
 
 pub rounded-exact : {f : Format} {x : Float} (P N t : ℕ) → Fits f P N t → Rounded f x (frac P N (2 ^ t)) → Is x (frac P N (2 ^ t))
 rounded-exact {f} P N t w r =
-    let C : 0 < r .c = rw (signed-d (r .s) (r .a) (r .c)) at (r .same .left) in
+    let C = bottom r in
     let e = round-whole f (r .s) (r .a) (r .c) (cond (r .s) (N - P) (P - N)) t C (small (r .s) (2 ^ prec f) (pow-pos (prec f)) (w .hi) (w .lo)) (w .deep) (whole-of (r .s) (r .a) (r .c) P N (2 ^ t) C (r .same)) in
     rw (r .is) (record { real = e .real; same = same-trans (e .same) (r .same) })
   where

@@ -7,4 +7,6 @@ pub mod Round
 pub mod Operations
 pub mod Exact
 pub mod Near
+pub mod Nearest
+pub mod Grid
 pub mod Whole

@@ -1,39 +1,31 @@
 -- An operation on floats that lie near numbers lies near the exact result: the operands' errors, carried through, and one rounding more. Assumes nothing.
-use mathlib.Core.Bool.{Bool, true, false, _&&_}
+use mathlib.Core.Bool.{Bool, false, _&&_}
 use Prim.Native.Nat.{ℕ, _+_, _*_, _^_, _≤_, _<_}
 use native.Mathlib.Nat.{zero-add, add-zero, mul-pos}
-use native.Mathlib.Omega.{arith}
 use lib.IntN.{ℤ}
 use lib.Dec.{T, leb, ltb, leb→le, ltb→lt, lit<}
 use lib.Pow.{pow-pos}
 use lib.Ieee.{Float, fin, Format, prec, emax, low, up, down, add, sub, mul, div}
 use lib.Ieee.Fits.{and-l, and-r, up-pos}
 use Rattle.fraction.specs.Fraction.{Frac, nil, plus, times, opp, over, Same, Within, Mag}
-use Rattle.fraction.specs.Value.{signed, val, Is, Rounds}
+use Rattle.fraction.specs.Value.{val, Is, Rounds}
 use Rattle.fraction.proofs.Same.{same-refl, same-sym, times-same, over-same}
 use Rattle.fraction.proofs.Within.{chain, from, to, rescale, same-within, within-plus}
 use Rattle.fraction.proofs.Product.{within-times, within-product}
-use Rattle.fraction.proofs.Value.{signed-d, val-pos, neg-near}
+use Rattle.fraction.proofs.Value.{val-pos, neg-near}
 use Rattle.fraction.proofs.Round.{round-absolute, round-relative}
-use Rattle.fraction.proofs.Operations.{Rounded, add-rounded, mul-rounded, div-rounded}
-
-bound-of : (s : Bool) (a c g e : ℕ) → Within g e (signed s a c) nil → a * g ≤ c * e
-bound-of false a c g e w = omega (arith, w .above)
-bound-of true a c g e w = omega (arith, w .below)
-
-bottom : {f : Format} {x : Float} {q : Frac} (r : Rounded f x q) → 0 < r .c
-bottom r = rw (signed-d (r .s) (r .a) (r .c)) at (r .same .left)
+use Rattle.fraction.proofs.Operations.{Rounded, bottom, bounded, add-rounded, mul-rounded, div-rounded}
 
 -- ---- one rounding of q, for |q| ≤ 2 ^ k / 2 ^ h
 pub rounded-absolute : {f : Format} {x : Float} {q : Frac} (h k : ℕ) → prec f + h ≤ low f + k → k ≤ emax f + h → Within (2 ^ h) (2 ^ k) q nil → Rounded f x q → Rounds (2 ^ (prec f + h) * 2) (2 ^ k) x q
 rounded-absolute {f} h k J O w r =
-    let n = round-absolute f (r .s) (r .a) (r .c) h k (bottom r) J O (bound-of (r .s) (r .a) (r .c) (2 ^ h) (2 ^ k) (from (same-sym (r .same)) w)) in
+    let n = round-absolute f (r .s) (r .a) (r .c) h k (bottom r) J O (bounded r w) in
     rw (r .is) (record { real = n .real; near = to (r .same) (n .near) })
 
 -- ---- one rounding of q, for |q| ≤ B / K, where B / K is not below the normal range: the error is at most (B / K) / 2 ^ prec
 pub rounded-relative : {f : Format} {x : Float} {q : Frac} {K B : ℕ} → 0 < K → Within K B q nil → K * 2 ^ prec f ≤ B * (2 ^ low f * 2) → B ≤ K * 2 ^ emax f → Rounded f x q → Rounds (K * 2 ^ prec f) B x q
 rounded-relative {f} {K = K} {B} k w m o r =
-    let n = round-relative f (r .s) (r .a) (r .c) K B (bottom r) k (bound-of (r .s) (r .a) (r .c) K B (from (same-sym (r .same)) w)) m o in
+    let n = round-relative f (r .s) (r .a) (r .c) K B (bottom r) k (bounded r w) m o in
     rw (r .is) (record { real = n .real; near = to (r .same) (n .near) })
 
 -- ---- What one rounding at |q| ≤ 2 ^ k / 2 ^ h asks of closed numbers: the format reaches there, and half a unit there is at most r / g.

@@ -6,14 +6,15 @@ use native.Mathlib.Nat.{add-mul, add-sub-of-le, le-of-lt, mul-le-mul-right, mul-
 use native.Mathlib.Omega.{arith}
 use lib.IntN.{ℤ}
 use lib.Dec.{T, ltb, eqb, ltb→lt, nltb→le, eqb→eq}
-use lib.Ieee.{Float, nan, inf, fin, Format, unlike, up, down, round, sum, add, mul, div}
+use lib.Ieee.{Float, nan, inf, fin, Format, unlike, up, down, round, add, mul, div}
 use lib.Ieee.Fits.{down-pos, up-pos}
 use lib.Ieee.Scale.{finite}
 use Rattle.rounding.proofs.Sums.{sum-sign, sum-size, sum-is}
-use Rattle.fraction.specs.Fraction.{Frac, frac, plus, times, over, Same}
+use Rattle.fraction.specs.Fraction.{Frac, frac, nil, plus, times, over, Same, Within}
 use Rattle.fraction.specs.Value.{signed, val}
-use Rattle.fraction.proofs.Same.{ring, same-refl, same-trans}
-use Rattle.fraction.proofs.Value.{signed-pos}
+use Rattle.fraction.proofs.Same.{ring, same-refl, same-sym, same-trans}
+use Rattle.fraction.proofs.Within.{from}
+use Rattle.fraction.proofs.Value.{signed-d, signed-pos}
 
 -- x is a rounding, and what is rounded is the number q
 pub record Rounded (f : Format) (x : Float) (q : Frac) : Type 0 where
@@ -27,6 +28,16 @@ pub record Rounded (f : Format) (x : Float) (q : Frac) : Type 0 where
 pub seen : {f : Format} {x : Float} {q r : Frac} → Same q r → Rounded f x q → Rounded f x r
 seen e w = record { s = w .s; a = w .a; c = w .c; is = w .is; same = same-trans (w .same) e }
 
+pub bottom : {f : Format} {x : Float} {q : Frac} (r : Rounded f x q) → 0 < r .c
+bottom r = rw (signed-d (r .s) (r .a) (r .c)) at (r .same .left)
+
+pub bounded : {f : Format} {x : Float} {q : Frac} {g e : ℕ} (r : Rounded f x q) → Within g e q nil → r .a * g ≤ r .c * e
+bounded {g = g} {e} r w = go (r .s) (r .a) (r .c) (from (same-sym (r .same)) w)
+  where
+    go : (s : Bool) (a c : ℕ) → Within g e (signed s a c) nil → a * g ≤ c * e
+    go false a c w = omega (arith, w .above)
+    go true a c w = omega (arith, w .below)
+
 -- ---- ±a / c + ±b / c, over c
 abbrev pub joint : Bool → ℕ → Bool → ℕ → ℕ → Frac
 joint s a t b c = frac (signed s a c .p + signed t b c .p) (signed s a c .n + signed t b c .n) c
@@ -34,8 +45,8 @@ joint s a t b c = frac (signed s a c .p + signed t b c .p) (signed s a c .n + si
 pub less : (a b c : ℕ) → a ≤ b → a * c + (b - a) * c ≡ b * c
 less a b c h = sym (add-mul a (b - a) c) ∙ ap (λ (x : ℕ). x * c) (add-sub-of-le h)
 
-sum-rounded : (f : Format) (s : Bool) (a : ℕ) (t : Bool) (b c : ℕ) → 0 < c → Rounded f (sum f s a t b c) (joint s a t b c)
-sum-rounded f s a t b c C = record { s = sum-sign s a t b; a = sum-size s a t b; c = c; is = sum-is f s a t b c; same = go s t (ltb a b) (ltb→lt a b) (nltb→le a b) (ltb b a) (nltb→le b a) }
+pub sum-same : (s : Bool) (a : ℕ) (t : Bool) (b c : ℕ) → 0 < c → Same (signed (sum-sign s a t b) (sum-size s a t b) c) (joint s a t b c)
+sum-same s a t b c C = go s t (ltb a b) (ltb→lt a b) (nltb→le a b) (ltb b a) (nltb→le b a)
   where
     go : (s t y : Bool) → (T y → a < b) → (T (not y) → b ≤ a) → (z : Bool) → (T (not z) → a ≤ b) → Same (signed (cond (Bool·beq s t) s (cond y t (s && z))) (cond (Bool·beq s t) (a + b) (cond y (b - a) (a - b))) c) (joint s a t b c)
     go false false y h k z l = same-refl C
@@ -62,7 +73,16 @@ add-rounded f (inf s) y h k = absurd h
 add-rounded f (fin s m e) nan h k = absurd k
 add-rounded f (fin s m e) (inf t) h k = absurd k
 add-rounded f (fin s m e) (fin t n d) h k =
-    seen (joint-same s t (m * up e) (down e) (n * up d) (down d) (down-pos e) (down-pos d)) (sum-rounded f s (m * up e * down d) t (n * up d * down e) (down e * down d) (mul-pos (down-pos e) (down-pos d)))
+    let a = m * up e * down d in
+    let b = n * up d * down e in
+    let c = down e * down d in
+    record {
+      s = sum-sign s a t b;
+      a = sum-size s a t b;
+      c = c;
+      is = sum-is f s a t b c;
+      same = same-trans (sum-same s a t b c (mul-pos (down-pos e) (down-pos d))) (joint-same s t (m * up e) (down e) (n * up d) (down d) (down-pos e) (down-pos d));
+    }
 
 -- ---- a product
 pub product-same : (s t : Bool) (a c b d : ℕ) → 0 < c → 0 < d → Same (signed (unlike s t) (a * b) (c * d)) (times (signed s a c) (signed t b d))

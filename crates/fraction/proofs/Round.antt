@@ -1,11 +1,11 @@
 -- One rounding's error, over the format: |round - a / c| is at most 2 ^ k / 2 ^ (prec + 1 + h) where a / c is at most 2 ^ k / 2 ^ h, and at most
 -- (B / K) / 2 ^ prec where a / c is at most B / K and B / K is not below the normal range. The result is a whole number of units, and `Units` says how near.
 -- Assumes nothing.
-use mathlib.Core.Path.{_≡_, refl, sym, ap, _∙_, subst}
-use mathlib.Core.Logic.{_⊎_, inl, inr}
+use mathlib.Core.Path.{_≡_, sym, ap, _∙_, subst}
+use mathlib.Core.Logic.{inl, inr}
 use mathlib.Core.Bool.{Bool, true, false}
 use Prim.Native.Nat.{ℕ, suc, _+_, _-_, _*_, _^_, _≤_, _<_}
-use native.Mathlib.Nat.{pow-suc, one-mul, add-sub-of-le, add-comm, add-suc, le-trans, le-of-eq, lt-of-lt-of-le, mul-le-mul-right, mul-le-mul-left, mul-pos, le-of-mul-le-mul-right, mul-assoc, mul-comm}
+use native.Mathlib.Nat.{pow-suc, one-mul, add-sub-of-le, add-comm, le-trans, le-of-eq, lt-of-lt-of-le, mul-le-mul-right, mul-le-mul-left, mul-pos, le-of-mul-le-mul-right, mul-assoc, mul-comm}
 use native.Mathlib.Omega.{arith}
 use lib.Dec.{lit≤, lit<}
 use lib.Pow.{pow-add, pow-pos, pow-mono}
@@ -20,7 +20,7 @@ use Rattle.fraction.specs.Value.{signed, Is, Rounds}
 use Rattle.fraction.proofs.Same.{ring, same-sym}
 use Rattle.fraction.proofs.Within.{from, rescale}
 use Rattle.fraction.proofs.Value.{value-is}
-use Rattle.fraction.proofs.Units.{Near, near, Part, near-part}
+use Rattle.fraction.proofs.Units.{near, Part, near-part}
 
 -- ---- so many units, where that does not overflow
 grid-is : (f : Format) (s : Bool) (a c : ℕ) → grid f a c < overflow f → Is (round f s a c) (signed s (grid f a c) (2 ^ low f))

@@ -1,10 +1,10 @@
 -- What `round` keeps of a fraction n / c of units: w * 2 ^ k units, off by at most half of 2 ^ j where the fraction is at most 2 ^ (prec + j), and by at most
 -- a part in 2 ^ prec of it where it has prec digits. The nearest whole number is off by a half at most. Assumes nothing.
-use mathlib.Core.Path.{_≡_, refl, sym, ap, _∙_, subst}
+use mathlib.Core.Path.{_≡_, sym, ap, _∙_, subst}
 use mathlib.Core.Logic.{_⊎_, inl, inr}
 use mathlib.Core.Bool.{Bool, true, false, not}
-use Prim.Native.Nat.{ℕ, zero, suc, _+_, _-_, _*_, _/_, _^_, _≤_, _<_}
-use native.Mathlib.Nat.{pow-suc, add-sub-of-le, le-div-iff-mul-le, add-zero, add-suc, mul-lt-mul-of-pos-left, le-trans, le-of-eq, le-of-lt, lt-of-lt-of-le, lt-of-le-of-lt, eq-or-lt-of-le, mul-le-mul-left, mul-pos, mul-assoc, mul-comm, mul-left-comm, div-lt-iff-lt-mul}
+use Prim.Native.Nat.{ℕ, suc, _+_, _-_, _*_, _/_, _^_, _≤_, _<_}
+use native.Mathlib.Nat.{pow-suc, add-sub-of-le, le-div-iff-mul-le, add-zero, add-suc, mul-lt-mul-of-pos-left, le-trans, le-of-eq, le-of-lt, lt-of-lt-of-le, lt-of-le-of-lt, eq-or-lt-of-le, mul-le-mul-left, mul-pos, mul-assoc, mul-comm, div-lt-iff-lt-mul}
 use native.Mathlib.Omega.{arith}
 use lib.Dec.{T, leb, leb→le, nleb→lt}
 use lib.Pow.{pow-add, pow-pos, pow-mono, pow-lt}
@@ -13,7 +13,6 @@ use lib.Ieee.Digits.{size-le, size-lt, size-reaches}
 use lib.Ieee.Nearest.{closest}
 use lib.Ieee.Order.{drop, kept}
 use Rattle.rounding.proofs.Within.{closest-near, closest-multiple}
-use Rattle.fraction.proofs.Same.{ring}
 
 -- w units are within 2 ^ j / 2 of n / c
 pub record Near (w n c j : ℕ) : Type 0 where

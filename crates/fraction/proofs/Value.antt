@@ -8,7 +8,7 @@ use lib.Ieee.{Float, nan, inf, fin, up, down, neg}
 use lib.Ieee.Fits.{down-pos}
 use lib.Ieee.Exact.{HasValue}
 use lib.Ieee.Scale.{finite}
-use Rattle.fraction.specs.Fraction.{Frac, frac, nil, opp, Same, Within}
+use Rattle.fraction.specs.Fraction.{Frac, opp, Same}
 use Rattle.fraction.specs.Value.{signed, val, Is, Rounds}
 use Rattle.fraction.proofs.Same.{same-refl, opp-same}
 use Rattle.fraction.proofs.Within.{same-within, within-opp}
@@ -28,7 +28,7 @@ val-pos (fin s m e) = signed-pos s (m * up e) (down e) (down-pos e)
 pub is-val : (x : Float) → T (finite x) → Is x (val x)
 is-val x h = record { real = h; same = same-refl (val-pos x) }
 
-signed-same : (s : Bool) (a c w l : ℕ) → 0 < c → 0 < l → a * l ≡ w * c → Same (signed s a c) (signed s w l)
+pub signed-same : (s : Bool) (a c w l : ℕ) → 0 < c → 0 < l → a * l ≡ w * c → Same (signed s a c) (signed s w l)
 signed-same false a c w l C L e = omega arith
 signed-same true a c w l C L e = omega arith
 

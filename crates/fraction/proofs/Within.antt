@@ -1,8 +1,8 @@
 -- |x - y| ≤ e / g: such bounds add up along a chain and in a sum, move to equal numbers, and change their unit. Each is two one-sided inequalities between
 -- cross products, multiplied out. Assumes nothing.
-use mathlib.Core.Path.{_≡_, refl, sym}
+use mathlib.Core.Path.{sym}
 use Prim.Native.Nat.{ℕ, _+_, _*_, _≤_, _<_}
-use native.Mathlib.Nat.{add-comm, add-zero, le-of-eq, mul-le-mul-right, mul-le-mul-left, mul-pos, le-of-mul-le-mul-right}
+use native.Mathlib.Nat.{add-comm, add-zero, le-of-eq, mul-le-mul-right, mul-pos, le-of-mul-le-mul-right}
 use native.Mathlib.Omega.{arith}
 use Rattle.fraction.specs.Fraction.{Frac, plus, opp, Upto, Same, Within}
 use Rattle.fraction.proofs.Same.{ring}

@@ -1,6 +1,6 @@
 -- A number as a fraction with a sign: p, n and d stand for (p - n) / d. Definitions only.
 use mathlib.Core.Path.{_≡_}
-use Prim.Native.Nat.{ℕ, zero, suc, _+_, _*_, _≤_, _<_}
+use Prim.Native.Nat.{ℕ, suc, _+_, _*_, _≤_, _<_}
 use lib.IntN.{ℤ, pos, negsuc}
 
 pub record Frac : Type 0 where

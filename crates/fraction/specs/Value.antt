@@ -1,8 +1,8 @@
 -- A float's value, and what it means that a float is a number or lies near one. Definitions only.
-use mathlib.Core.Bool.{Bool, true, false}
-use Prim.Native.Nat.{ℕ, _*_}
-use lib.Dec.{T}
-use lib.Ieee.{Float, nan, inf, fin, up, down}
+use mathlib.Core.Bool.{Bool, true, false, cond}
+use Prim.Native.Nat.{ℕ, _-_, _*_}
+use lib.Dec.{T, ltb}
+use lib.Ieee.{Float, nan, inf, fin, Format, up, down, round}
 use lib.Ieee.Scale.{finite}
 use Rattle.fraction.specs.Fraction.{Frac, frac, nil, Same, Within}
 
@@ -26,3 +26,7 @@ pub record Is (x : Float) (q : Frac) : Type 0 where
 pub record Rounds (g e : ℕ) (x : Float) (q : Frac) : Type 0 where
   pub real : T (finite x)
   pub near : Within g e (val x) q
+
+-- q rounded once: the float nearest to it, a tie to the one whose last digit is even
+unfoldable pub nearestTo : Format → Frac → Float
+nearestTo f q = cond (ltb (q .p) (q .n)) (round f true (q .n - q .p) (q .d)) (round f false (q .p - q .n) (q .d))
