@@ -1,3 +1,3 @@
-
 pub mod Narrowed
 pub mod Patterns
+pub mod Signed

@@ -1,16 +1,26 @@
 -- The three cases of `magnitude`: the pattern of the nearest f32, from the pattern b of an f64. Assumes nothing.
-use mathlib.Core.Path.{_≡_, sym, subst}
-use mathlib.Core.Bool.{Bool, cond}
-use Prim.Native.Nat.{ℕ, _+_, _-_, _*_, _/_, _^_, _≤_, _<_}
-use native.Mathlib.Nat.{le-trans, lt-of-lt-of-le, mul-le-mul-left, mul-lt-mul-of-pos-right}
+use mathlib.Core.Path.{_≡_, refl, sym, ap, _∙_, subst}
+use mathlib.Core.Logic.{_⊎_, inl, inr}
+use mathlib.Core.Bool.{Bool, true, false, not, cond}
+use Prim.Native.Nat.{ℕ, _+_, _-_, _*_, _/_, _%_, _^_, _≤_, _<_}
+use native.Mathlib.Nat.{le-refl, le-trans, lt-of-lt-of-le, lt-of-le-of-lt, mul-assoc, mul-le-mul-right, mul-le-mul-left, mul-lt-mul-of-pos-right, eq-or-lt-of-le, lt-irrefl, zero-add, add-comm, le-add-right, add-lt-add-of-le-of-lt}
 use native.Mathlib.Omega.{arith}
-use lib.Dec.{lit≤}
+use lib.Dec.{T, lit≤, lit<}
 use lib.Pow.{pow-pos, pow-mono}
-use lib.Ieee.{Float, binary32, binary64, round, ofBits}
+use lib.Bits.{bitAnd, and-mask}
+use lib.Ieee.{Float, inf, binary32, binary64, units, round, add, toBits, ofBits, isNan, odd, ofFields}
 use lib.Ieee.Exact.{HasValue, units-val}
+use lib.Ieee.Nearest.{closest}
+use Rattle.narrowing.specs.Nearest.{Rounds}
 use Rattle.rounding.specs.Operations.{narrowed}
-use Rattle.narrowing.proofs.Narrowed.{narrowed-value}
+use Rattle.narrowing.proofs.Narrowed.{digits-ge, digits-le, low-units, narrowed-value, normal-over, normal-units}
+use Rattle.rounding.proofs.Adding.{plus}
+use Rattle.rounding.proofs.Closest.{closest-by-add, closest-le, closest-shift}
+use Rattle.rounding.proofs.Dropped.{round-finer}
+use Rattle.rounding.proofs.Pack.{pack}
 use Rattle.rounding.proofs.Patterns.{unpacked}
+use Rattle.rounding.proofs.Units.{bits-units}
+use Rattle.rounding.proofs.Values.{value-no-nan}
 
 -- b is `count` of the unit 2 ^ `exponent`, in smallest values of f64
 abbrev exponent : ℕ → ℕ
@@ -74,12 +84,15 @@ normal-code b lo hi =
     ∙ closest-shift (k * 2 ^ 22) q (2 ^ 29) (pow-pos 29)
     ∙ ap (λ (z : ℕ). z + closest q (2 ^ 29)) (mul-assoc k (2 ^ 22) 2) in
     record {
-      small = subst (λ (z : ℕ). z ≤ 0x7f80_0000) (sym is) (omega arith);
+      small = subst (λ (z : ℕ). z ≤ 0x7f80_0000) (sym is) (room k (closest q (2 ^ 29)) (omega arith) c);
       reads = λ s.
           ap (λ (z : ℕ). ofBits binary32 (cond s 0x8000_0000 0 + z)) is
           ∙ pack binary32 s (closest q (2 ^ 29)) k c (λ _. digits-ge false q k ge lt) (omega arith)
           ∙ sym (narrows b fine s ∙ ap (λ (z : ℕ). round binary32 s (q * 2 ^ z) (2 ^ 1074)) e ∙ normal-units s q k ge lt);
     }
+  where
+    room : (k q : ℕ) → k < 254 → q ≤ 2 ^ 24 → k * 2 ^ 23 + q ≤ 0x7f80_0000
+    room k q a b = omega arith
 
 -- ---- below 2 ^ -126, by a sum with 2 ^ -97, which is 2 ^ 977 smallest values
 half : HasValue (ofBits binary64 0x39e0_0000_0000_0000) false (2 ^ 977) (2 ^ 1074)
@@ -87,7 +100,7 @@ unfolding ofBits ofFields odd
 half = (refl, refl)
 
 module _ (b : ℕ) (hi : b < 0x3810_0000_0000_0000) where
-  v : ℕ
+  abbrev v : ℕ
   v = count b * 2 ^ exponent b
 
   fine : b < 0x7ff0_0000_0000_0000
@@ -104,9 +117,44 @@ module _ (b : ℕ) (hi : b < 0x3810_0000_0000_0000) where
   own : HasValue (ofBits binary64 b) false v (2 ^ 1074)
   own = subst (λ (z : ℕ). HasValue (ofBits binary64 z) false v (2 ^ 1074)) (zero-add b) (value b fine false)
 
-  -- the sum
-  whole : add binary64 (ofBits binary64 b) (ofBits binary64 0x39e0_0000_0000_0000) ≡ units binary64 false (2 ^ 52 + closest v (2 ^ 925)) 925
-  whole =
+  -- the sum, and its pattern
+  abbrev sum : Float
+  sum = add binary64 (ofBits binary64 b) (ofBits binary64 0x39e0_0000_0000_0000)
+
+  abbrev q : ℕ
+  q = 2 ^ 52 + closest v (2 ^ 925)
+
+  q-le : q ≤ 2 ^ 53
+  q-le = omega (arith, low-le)
+
+  sum-value : HasValue sum false (q * 2 ^ 925) (2 ^ 1074)
+  sum-value =
+      let h : v < 2 ^ 977 = lt-of-lt-of-le v-lt (lit≤ tt) in
+      let is : sum ≡ units binary64 false q 925 =
       plus binary64 (ofBits binary64 b) (ofBits binary64 0x39e0_0000_0000_0000) v (2 ^ 977) (2 ^ 1074) (pow-pos 1074) own half
-      ∙ round-finer binary64 false (v + 2 ^ 977) 0 925 (λ _. ?) ?
-      ∙ ap (λ (z : ℕ). units binary64 false z 925) ?
+      ∙ ap (λ (z : ℕ). round binary64 false z (2 ^ 1074)) (add-comm v (2 ^ 977))
+      ∙ round-finer binary64 false (2 ^ 977 + v) 0 925 (λ _. le-add-right (2 ^ 977) v) (add-lt-add-of-le-of-lt (le-refl (2 ^ 977)) h)
+      ∙ ap (λ (z : ℕ). units binary64 false z 925) (closest-shift (2 ^ 51) v (2 ^ 925) (pow-pos 925)) in
+      subst (λ (x : Float). HasValue x false (q * 2 ^ 925) (2 ^ 1074)) (sym is) (units-val binary64 false q 925 (lt-of-le-of-lt (mul-le-mul-right (2 ^ 925) q-le) (lit< tt)))
+
+  pub sum-no-nan : T (not (isNan sum))
+  sum-no-nan = value-no-nan sum false (q * 2 ^ 925) (2 ^ 1074) sum-value
+
+  bits-are : toBits binary64 sum ≡ 0 + (925 * 2 ^ 52 + q)
+  bits-are = bits-units binary64 sum false q 925 q-le (λ _. le-add-right (2 ^ 52) (closest v (2 ^ 925))) sum-value
+
+  pub bits-ge : 0x39e0_0000_0000_0000 ≤ toBits binary64 sum
+  bits-ge = omega (arith, bits-are)
+
+  pub low-code : Rounds b (toBits binary64 sum - 0x39e0_0000_0000_0000)
+  low-code =
+      let c = closest v (2 ^ 925) in
+      let l : c ≤ 2 ^ 23 = low-le in
+      let is : toBits binary64 sum - 0x39e0_0000_0000_0000 ≡ 0 * 2 ^ 23 + c = omega (arith, bits-are) in
+      record {
+        small = omega arith;
+        reads = λ s.
+            ap (λ (z : ℕ). ofBits binary32 (cond s 0x8000_0000 0 + z)) is
+            ∙ pack binary32 s c 0 (le-trans l (lit≤ tt)) (λ (k : 0 < 0). absurd (lt-irrefl 0 k)) (lit< tt)
+            ∙ sym (narrows b fine s ∙ low-units s v (lt-of-lt-of-le v-lt (lit≤ tt)));
+      }

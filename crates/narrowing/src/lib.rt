@@ -32,5 +32,5 @@ pub fn narrow(x: f64) -> f32
     }
     let n: u64 = f64::to_bits(x);
     let r: u64 = magnitude(n & 0x7fff_ffff_ffff_ffff);
-    f32::from_bits((((n >> 63) << 31) | r) as u32)
+    f32::from_bits((((n >> 63) << 31) + r) as u32)
 }

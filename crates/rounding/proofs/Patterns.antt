@@ -48,8 +48,8 @@ value-bits f x held h = subst (λ (z : Bool). T (not z)) (sym (nanBits-is f (toB
 pub inf-lt : (f : Format) → ones f * hid f < top f
 inf-lt f = lt-of-lt-of-le (mul-lt-mul-of-pos-right (lt-suc-self (ones f)) (pow-pos (prec f - 1))) (le-of-eq (mul-comm (suc (ones f)) (hid f)))
 
-pub joined-no-nan : (f : Format) (s : Bool) (r : ℕ) → r ≤ ones f * hid f → T (not (nanBits f (cond s (top f) 0 + r)))
-joined-no-nan f s r h = rest-no-nan f (cond s (top f) 0 + r) (le-trans (le-of-eq (rest-is f s r (lt-of-le-of-lt h (inf-lt f)))) h)
+pub sign-no-nan : (f : Format) (s : Bool) (r : ℕ) → r ≤ ones f * hid f → T (not (nanBits f (cond s (top f) 0 + r)))
+sign-no-nan f s r h = rest-no-nan f (cond s (top f) 0 + r) (le-trans (le-of-eq (rest-is f s r (lt-of-le-of-lt h (inf-lt f)))) h)
 
 -- ---- a finite value's pattern lies below an infinity's
 no-value : (b s : Bool) → T (finite (cond b (inf s) nan)) → ⊥
