@@ -1,0 +1,19 @@
+-- `patterns::float_of` meets its contract, by the laws over the format. Assumes nothing.
+use borrow.Author.Needs.{needs}
+use native.Mathlib.Omega.{arith}
+use lib.Ieee.{binary64}
+use Rattle.patterns.proofs.Quiet.{reads-nan, reads-number}
+use Rattle.patterns.proofs.float_of.Statement.{statement}
+use Rattle.patterns.proofs.float_of.Tie as tie
+
+returns : tie.Need-returns
+returns c = reads-nan binary64 (c .before .args .n) (omega (arith, c .if1 .taken))
+
+float-from-bits-result : tie.Need-float-from-bits-result
+float-from-bits-result c = reads-number binary64 (c .before .args .n) (omega (arith, c .if1 .left))
+
+returns-2 : tie.Need-returns-2
+returns-2 c = search needs
+
+pub float-of-spec : {M : Type 1} → statement M
+float-of-spec = tie.close (tie.spec returns float-from-bits-result returns-2)

@@ -1,0 +1,45 @@
+// O3. Bit patterns of floats, in and out. A compiled NaN may have any NaN's pattern, so a NaN is tested for and its pattern written here: the ones that
+// are handed out are 7FF8000000000000 and 7FC00000.
+ghost use mathlib.Core.Path.{_≡_};
+ghost use lib.Ieee as Ieee;
+ghost use lib.Ieee.{binary32, binary64};
+
+// Rust's f64::to_bits, with one NaN.
+pub fn bits_of(x: f64) -> u64
+    ensures { λ r. ⌜ r ≡ Ieee.toBits binary64 x ⌝ }
+{
+    if x != x {
+        return 0x7ff8_0000_0000_0000;
+    }
+    f64::to_bits(x)
+}
+
+// Rust's f64::from_bits: with the sign taken off, a NaN's pattern lies above an infinity's.
+pub fn float_of(n: u64) -> f64
+    ensures { λ r. ⌜ r ≡ Ieee.ofBits binary64 n ⌝ }
+{
+    if n % 0x8000_0000_0000_0000 > 0x7ff0_0000_0000_0000 {
+        return 0.0 / 0.0;
+    }
+    f64::from_bits(n)
+}
+
+// Rust's f32::to_bits, with one NaN.
+pub fn bits_of_f32(a: f32) -> u32
+    ensures { λ r. ⌜ r ≡ Ieee.toBits binary32 a ⌝ }
+{
+    if a != a {
+        return 0x7fc0_0000;
+    }
+    f32::to_bits(a)
+}
+
+// Rust's f32::from_bits.
+pub fn float_of_f32(n: u32) -> f32
+    ensures { λ r. ⌜ r ≡ Ieee.ofBits binary32 n ⌝ }
+{
+    if n % 0x8000_0000 > 0x7f80_0000 {
+        return 0.0 / 0.0;
+    }
+    f32::from_bits(n)
+}
