@@ -1,0 +1,114 @@
+# oracle/rust.sh: what oracle/run, oracle/store and bench/run share. Sourced, with `root` (the repository) and `me` (the command) set.
+# Builds Rust for x86-64 and runs it: plainly on x86-64, by oracle/fetch-rust and the kit's emulator on Arm. Writes below target/oracle alone.
+
+out=$root/target/oracle
+# cargo's release profile: opt-level 3, no fast-math, no target features beyond x86-64's own
+flags='--edition 2021 -C opt-level=3'
+# `port` from the day on which the library exports sine, cosine and exp2; until then the original keeps the standard library's
+elementary=std
+
+missing() { echo "$me: $1" >&2; exit 2; }
+failed() { echo "$me: $1" >&2; exit 1; }
+
+# Names what is missing before anything is made.
+find_all() {
+    command -v rt >/dev/null || missing "there is no rt on the PATH: put the Rattle kit's bin folder there"
+    kit=$(dirname "$(dirname "$(rt doc)")")
+    for f in lib modulation; do
+        [ -f "$(original_file "$f")" ] || missing "the original is not at ${WOW_SRC:-../shared/docs/src}: set WOW_SRC to the folder that has crates/wow-dsp/src/$f.rs (or $f.rs.txt)"
+    done
+    mkdir -p "$out"
+    case $(uname -m) in
+    x86_64)
+        command -v rustc >/dev/null || missing "there is no rustc on the PATH: install Rust, one whose integers have is_multiple_of"
+        command -v cc >/dev/null || missing "there is no cc on the PATH, by which rustc links: install a C compiler"
+        x64_rustc=rustc x64_run= ;;
+    aarch64)
+        [ -x "$out/rust-x64/rustc-x64" ] || "$root/oracle/fetch-rust" "$out/rust-x64" || exit 2
+        x64_rustc=$out/rust-x64/rustc-x64 x64_run=$out/rust-x64/run-x64 ;;
+    *) missing "this machine is $(uname -m): this runs on x86_64 and aarch64" ;;
+    esac
+}
+
+# Every signature of an exported function that FILES state, as Rust declares it: a slice is a pointer and a length.
+signatures() { # FILES
+    cat "$@" | sed 's|//.*||' | tr '\n' ' ' | awk '{
+        while (match($0, /fn fugnadri_[a-z0-9_]*( as [a-z0-9_]*)?\([^)]*\)( -> [a-z0-9]+)?/)) {
+            print substr($0, RSTART, RLENGTH)
+            $0 = substr($0, RSTART + RLENGTH)
+        }
+    }' | sed -e 's/ as [a-z0-9_]*(/(/' -e 's/  */ /g' -e 's/( /(/' -e 's/,\{0,1\} )/)/' \
+        -e 's/\([a-z0-9_]*\): &mut \[\([a-z0-9]*\)\]/\1: *mut \2, \1_len: usize/g' \
+        -e 's/\([a-z0-9_]*\): &\[\([a-z0-9]*\)\]/\1: *const \2, \1_len: usize/g' | sort
+}
+
+# The static library, proved, and the crate `boundary` over it.
+build_boundary() {
+    lib=$root/target/staticlib/libfugnadri.a
+    if [ ! -f "$lib" ] || [ -n "$(find "$root/crates" "$root/crates.txt" "$kit/KIT-ID" -newer "$lib" | head -n 1)" ]; then
+        (cd "$root" && rt staticlib fugnadri) >"$out/staticlib.log" 2>&1 || failed "rt staticlib fugnadri fails: see target/oracle/staticlib.log"
+    fi
+    signatures "$root"/crates/fugnadri/src/*.rt >"$out/exported"
+    signatures "$root/oracle/src/boundary.rs" >"$out/declared"
+    if ! cmp -s "$out/exported" "$out/declared"; then
+        echo "$me: what crates/fugnadri exports (<) is not what oracle/src/boundary.rs declares (>):" >&2
+        diff "$out/exported" "$out/declared" | grep '^[<>]' >&2
+        exit 1
+    fi
+    build_boundary_crate "$root/target/staticlib"
+}
+
+build_boundary_crate() { # FOLDER of libfugnadri.a
+    build rlib boundary "$root/oracle/src/boundary.rs" -L "native=$1" -l static=fugnadri
+}
+
+# The original, in release mode, from a copy below target/ with the edits that docs/ORACLE.md lists: as the crate `wow_dsp`.
+build_original() {
+    copy=$out/original
+    rm -rf "$copy" && mkdir -p "$copy"
+    for f in lib modulation; do
+        src=$(original_file "$f")
+        sed -f "$root/oracle/edits/visibility.sed" "$src" >"$copy/$f.rs"
+        sed 's/pub //' "$src" >"$copy/before"
+        sed 's/pub //' "$copy/$f.rs" | cmp -s - "$copy/before" || other "visibility.sed changes more than visibility in $f.rs"
+        changed "$f" "$src" 61 22
+        [ "$elementary" = std ] || {
+            mv "$copy/$f.rs" "$copy/before"
+            sed -f "$root/oracle/edits/elementary.sed" "$copy/before" >"$copy/$f.rs"
+            changed "$f" "$copy/before" 1 6
+            ! grep -q '\.\(sin\|cos\|powf\)(' "$copy/$f.rs" || other "elementary.sed leaves a call of sin, cos or powf in $f.rs"
+        }
+    done
+    rm -f "$copy/before"
+    build rlib wow_dsp "$copy/lib.rs" --extern "boundary=$out/libboundary.rlib"
+}
+other() { missing "$1: the original is not the one that oracle/edits were made for"; }
+
+original_file() { # lib|modulation
+    case ${WOW_SRC:-} in
+    '') from=$root/../shared/docs/src ;;
+    /*) from=$WOW_SRC ;;
+    *) from=$root/$WOW_SRC ;;
+    esac
+    from=$from/crates/wow-dsp/src/$1.rs
+    if [ -f "$from" ]; then echo "$from"; else echo "$from.txt"; fi
+}
+
+# Holds the edits to the number of lines that they are known to change.
+changed() { # FILE BEFORE LINES-OF-LIB LINES-OF-MODULATION
+    want=$3
+    [ "$1" = lib ] || want=$4
+    got=$(diff "$2" "$copy/$1.rs" | grep -c '^>')
+    [ "$got" = "$want" ] || other "the edits change $got lines of $1.rs and not $want"
+}
+
+# build rlib|bin NAME SOURCE WORDS..
+build() {
+    kind=$1 name=$2 source=$3
+    shift 3
+    file=$out/$name
+    [ "$kind" = bin ] || file=$out/lib$name.rlib
+    # shellcheck disable=SC2086
+    $x64_rustc $flags --crate-type "$kind" --crate-name "$name" "$source" -L "$out" "$@" -o "$file" 2>"$out/$name.log" ||
+        missing "$($x64_rustc --version) does not build $name: see target/oracle/$name.log"
+}

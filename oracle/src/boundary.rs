@@ -1,0 +1,44 @@
+//! The static library's exported functions: one safe function for each.
+//!
+//! The only place that declares them for Rust. `oracle/run` holds these lines to the signatures in
+//! crates/fugnadri before it builds, and its subjects call every one. Each function there is total
+//! (no `requires`), so a call is safe at every argument.
+
+/// Declares functions over numbers, and wraps each under its name without the prefix.
+macro_rules! numbers {
+    ($($(#[$doc:meta])* fn $symbol:ident as $name:ident($($arg:ident: $of:ty),*) -> $result:ty;)*) => {
+        extern "C" {
+            $(fn $symbol($($arg: $of),*) -> $result;)*
+        }
+        $(
+            $(#[$doc])*
+            #[inline]
+            pub fn $name($($arg: $of),*) -> $result {
+                unsafe { $symbol($($arg),*) }
+            }
+        )*
+    };
+}
+
+numbers! {
+    /// x as the nearest f32.
+    fn fugnadri_narrow as narrow(x: f64) -> f32;
+    fn fugnadri_narrow_bits as narrow_bits(x: u64) -> u32;
+    /// a * b + c, rounded once.
+    fn fugnadri_fused32 as fused32(a: f32, b: f32, c: f32) -> f32;
+    fn fugnadri_fused32_bits as fused32_bits(a: u32, b: u32, c: u32) -> u32;
+    fn fugnadri_fused64 as fused64(a: f64, b: f64, c: f64) -> f64;
+    fn fugnadri_fused64_bits as fused64_bits(a: u64, b: u64, c: u64) -> u64;
+    /// The square root, correctly rounded.
+    fn fugnadri_square_root as square_root(x: f64) -> f64;
+    fn fugnadri_square_root_bits as square_root_bits(x: u64) -> u64;
+    /// The integer part, towards minus infinity.
+    fn fugnadri_floor as floor(x: f64) -> i64;
+    /// x minus its integer part.
+    fn fugnadri_fraction as fraction(x: f64) -> f64;
+    fn fugnadri_fraction_bits as fraction_bits(x: u64) -> u64;
+    /// a * b modulo 2^64.
+    fn fugnadri_wrapping_mul as wrapping_mul(a: u64, b: u64) -> u64;
+    /// a * 2^n modulo 2^64.
+    fn fugnadri_shl as shl(a: u64, n: u64) -> u64;
+}

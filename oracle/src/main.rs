@@ -1,0 +1,60 @@
+//! The live comparison: the original and the static library on the same inputs, bit for bit.
+//!
+//! `main SEED ROUNDS SECONDS`: whole rounds over every subject, ROUNDS of them or, where SECONDS is
+//! not 0, until so many seconds have passed. Prints what was compared and how many, and stops at the
+//! first difference with exit status 1.
+// The emulator that runs this on Arm cannot open what Rust's own `main` opens.
+#![no_main]
+
+mod context;
+mod format;
+mod inputs;
+mod pair;
+mod random;
+mod subjects {
+    pub mod fused;
+    pub mod integer_part;
+    pub mod narrow;
+    pub mod square_root;
+    pub mod words;
+}
+
+use context::Context;
+use std::time::{Duration, Instant};
+
+/// A file of subjects/ each. `run` compares one batch of every kind of input that it has.
+const SUBJECTS: [fn(&mut Context); 5] = [
+    subjects::narrow::run,
+    subjects::fused::run,
+    subjects::square_root::run,
+    subjects::integer_part::run,
+    subjects::words::run,
+];
+
+#[no_mangle]
+pub extern "C" fn main(_: i32, _: *const *const u8) -> i32 {
+    let word = |n: usize| -> u64 {
+        let text = std::env::args().nth(n).expect("SEED ROUNDS SECONDS");
+        text.parse().expect("a number")
+    };
+    let (seed, rounds, seconds) = (word(1), word(2), word(3));
+    let start = Instant::now();
+    let over = |round: u64| match seconds {
+        0 => round >= rounds,
+        _ => start.elapsed() >= Duration::from_secs(seconds),
+    };
+    let mut context = Context::new(seed);
+    while context.round == 0 || !over(context.round) {
+        for subject in SUBJECTS {
+            subject(&mut context);
+        }
+        context.round += 1;
+    }
+    context.report();
+    println!(
+        "no difference: seed {seed}, {} rounds, {:.1} s",
+        context.round,
+        start.elapsed().as_secs_f64()
+    );
+    0
+}
