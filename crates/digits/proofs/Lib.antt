@@ -1,4 +1,5 @@
 pub mod Lengths
 pub mod Jams
-pub mod Putting
+pub mod Plain
 pub mod Taking
+pub mod Putting

@@ -2,26 +2,25 @@
 use mathlib.Core.Path.{_≡_, sym, ap, _∙_, subst}
 use mathlib.Core.Logic.{dite}
 use mathlib.Core.Bool.{Bool, cond}
-use Prim.Native.Nat.{ℕ, zero, suc, _+_, _-_, _*_, _/_, _%_, _^_, _≤_, _<_}
-use native.Mathlib.Nat.{le-of-eq, le-of-lt, lt-of-lt-of-le, zero-lt-suc, mul-assoc, mul-pos}
+use Prim.Native.Nat.{ℕ, suc, _+_, _-_, _*_, _/_, _%_, _^_, _≤_, _<_}
+use native.Mathlib.Nat.{le-of-lt, lt-of-lt-of-le, mul-assoc}
 use native.Mathlib.Decide.{decLt}
 use native.Mathlib.Omega.{arith}
 use borrow.Author.Tests.{le-leb, lt-leb, eq-eqb, ne-eqb}
 use lib.Dec.{T, leb, eqb}
 use lib.Pow.{pow-add, pow-pos, pow-mono, shl-lt}
 use lib.Bits.{shifted-even}
-use lib.Ieee.{Float, nan, inf, fin, binary64, up, down, size, units, fits, ofBits, toBits}
-use lib.Ieee.Fits.{up-pos}
+use lib.Ieee.{Float, binary64, size, units, fits, ofBits, toBits}
 use lib.Ieee.Bits.{ofBits-toBits, toBits-lt}
 use lib.Ieee.Digits.{size-le}
 use lib.Ieee.Exact.{HasValue, units-val}
 use lib.Ieee.Positive.{first-pos}
-use lib.Ieee.Scale.{finite}
 use Rattle.rounding.proofs.Pack.{pack}
 use Rattle.rounding.proofs.Patterns.{sign-rest, finite-rest}
 use Rattle.rounding.proofs.Values.{rescale}
 use Rattle.digits.specs.declared.Scaled.{Scaled}
 use Rattle.digits.specs.Pattern.{placeOf, digitsOf, unpacked, plain}
+use Rattle.digits.proofs.Plain.{plain-finite, plain-some}
 use Rattle.digits.proofs.Lengths.{size-some, filled-least, filled-below}
 
 -- the value x is (-1) ^ s * m * 2 ^ e / 2 ^ 1137, and m has 63 digits, the last of them 0
@@ -37,17 +36,6 @@ pub record Scaling (x : Float) (p : Scaled) : Type 0 where
 -- the sign's bit
 sign-bit : (n : ℕ) → n < 2 ^ 64 → leb (2 ^ 63) n ≡ eqb (n / 2 ^ 63) 1
 sign-bit n h = dite (decLt n (2 ^ 63)) (λ l. lt-leb (2 ^ 63) n l ∙ sym (ne-eqb (n / 2 ^ 63) 1 (omega arith))) (λ g. le-leb (2 ^ 63) n (omega arith) ∙ sym (eq-eqb (n / 2 ^ 63) 1 (omega arith)))
-
-plain-finite : (x : Float) → T (plain x) → T (finite x)
-plain-finite nan h = h
-plain-finite (inf s) h = h
-plain-finite (fin s m e) h = tt
-
-plain-some : (x : Float) (s : Bool) (a c : ℕ) → T (plain x) → 0 < c → HasValue x s a c → 0 < a
-plain-some nan s a c p C v = absurd p
-plain-some (inf t) s a c p C v = absurd p
-plain-some (fin t zero e) s a c p C v = absurd p
-plain-some (fin t (suc m) e) s a c p C v = first-pos a (down e) (lt-of-lt-of-le (mul-pos (mul-pos (zero-lt-suc m) (up-pos e)) C) (le-of-eq (v .1)))
 
 -- ---- the law
 scales : (d k j : ℕ) → j ≤ 63 → d * 2 ^ k * 2 ^ 1137 ≡ d * 2 ^ (63 - j) * 2 ^ (k + j) * 2 ^ 1074
@@ -79,12 +67,12 @@ scaling x held p =
     let J : size d ≤ 53 = size-le d 53 D in
     let J1 : 1 ≤ size d = size-some d some in
     let J63 : size d ≤ 63 = omega arith in
-    let up : 63 - size d ≡ suc (62 - size d) = omega arith in
+    let more : 63 - size d ≡ suc (62 - size d) = omega arith in
     record {
       sign = omega arith;
       least = filled-least d 63 some J63;
       below = filled-below d 63 some J63;
-      even = ap (λ (j : ℕ). d * 2 ^ j % 2) up ∙ shifted-even d (62 - size d);
+      even = ap (λ (j : ℕ). d * 2 ^ j % 2) more ∙ shifted-even d (62 - size d);
       some = omega arith;
       bounded = omega arith;
       value = rescale x s (d * 2 ^ k) (2 ^ 1074) (d * 2 ^ (63 - size d) * 2 ^ (k + size d)) (2 ^ 1137) (pow-pos 1074) (scales d k (size d) J63) value;

@@ -1,10 +1,17 @@
--- K4, K5. What `unpack`, `sticky` and `pack` compute, for every input. Definitions only; the laws `scaling` and `packed-rounds` say what they mean.
+-- K4, K5. What `is_plain`, `unpack`, `sticky` and `pack` compute, for every input. Definitions only; the laws `scaling` and `packed-rounds` say what they mean.
 use mathlib.Core.Bool.{Bool, true, false, cond}
 use Prim.Native.Nat.{ℕ, zero, suc, _+_, _-_, _*_, _/_, _%_, _^_}
 use lib.Dec.{ltb, eqb}
 use lib.Ieee.{Float, nan, inf, fin, binary64, size, ofBits}
 use lib.Ieee.Nearest.{closest}
 use Rattle.digits.specs.declared.Scaled.{Scaled}
+
+-- Finite, and no zero.
+abbrev pub plain : Float → Bool
+plain nan = false
+plain (inf s) = false
+plain (fin s zero e) = false
+plain (fin s (suc m) e) = true
 
 -- How many places above the smallest value a pattern's digits stand: the exponent's field less 1, a field of 0 counting as 1.
 abbrev pub placeOf : ℕ → ℕ
@@ -30,10 +37,3 @@ magnitudeOf w k = cond (ltb k 2046) (k * 2 ^ 52 + closest (w % 2 ^ 55) 4) 0x7ff0
 -- The value of that pattern, with s's last digit for its sign.
 abbrev pub packed : ℕ → ℕ → ℕ → Float
 packed s w k = ofBits binary64 (s % 2 * 2 ^ 63 + magnitudeOf w k)
-
--- Finite, and no zero: the values whose digits `unpacked` gives.
-abbrev pub plain : Float → Bool
-plain nan = false
-plain (inf s) = false
-plain (fin s zero e) = false
-plain (fin s (suc m) e) = true

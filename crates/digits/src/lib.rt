@@ -1,7 +1,7 @@
 // An f64's digits taken out of its bit pattern, a number cut short, and digits put into a pattern, rounded once.
 ghost use mathlib.Core.Path.{_≡_};
 ghost use Prim.Native.Nat.{_-_};
-ghost use Rattle.digits.specs.Pattern.{unpacked, withSticky, magnitudeOf, packed};
+ghost use Rattle.digits.specs.Pattern.{plain, unpacked, withSticky, magnitudeOf, packed};
 
 // The number (-1)^s * m * 2^(e - 1137), where m has 63 digits.
 pub struct Scaled {
@@ -17,7 +17,19 @@ fn place(field: u64) -> u64
     if field == 0 { 0 } else { field - 1 }
 }
 
-// What it means for a finite value that is no zero: the law `scaling`.
+// The values whose digits can be taken out.
+pub fn is_plain(x: f64) -> bool
+    ensures { λ r. ⌜ r ≡ plain x ⌝ }
+{
+    if x < 1.0 / 0.0 {
+        if -1.0 / 0.0 < x {
+            return x != 0.0;
+        }
+    }
+    false
+}
+
+// What it means for a plain value: the law `scaling`.
 pub fn unpack(bits: u64) -> Scaled
     ensures { λ r. ⌜ r ≡ unpacked bits ⌝ }
 {

@@ -1,0 +1,7 @@
+pub mod Squares
+pub mod Restoring
+pub mod Between
+pub mod Rooting
+pub mod Cases
+pub mod Nearest
+pub mod Examples

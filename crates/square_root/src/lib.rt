@@ -1,0 +1,63 @@
+// K4. The square root of an f64, rounded once: 55 digits by restoring steps, the last of them sticky, then one rounding.
+ghost use mathlib.Core.Path.{_≡_};
+ghost use Prim.Native.Nat.{_^_, _≤_};
+ghost use mathlib.Core.Bool.{true, cond};
+ghost use lib.Dec.{leb};
+ghost use lib.Ieee.{binary64};
+ghost use lib.Ieee.Positive.{positive};
+ghost use Rattle.rounding.specs.Operations.{root};
+ghost use Rattle.square_root.specs.Digits.{RootDigits};
+
+// 1 where t <= a
+fn digit(a: u64, t: u64) -> u64
+    ensures { λ r. ⌜ r ≡ cond (leb t a) 1 0 ⌝ }
+{
+    if t <= a { 1 } else { 0 }
+}
+
+// The root of z * 2^46, two digits of z to one of the root: s is the root of what has been brought down, r what is left of that, y what is still to come.
+fn root_digits(z: u64) -> u64
+    requires { ⌜ 2 ^ 62 ≤ z ⌝ }
+    ensures { λ w. ⌜ RootDigits z w ⌝ }
+{
+    let mut s: u64 = 0;
+    let mut r: u64 = 0;
+    let mut y: u64 = z;
+    let mut i: u64 = 0;
+    while i < 55 {
+        let a: u64 = r * 4 + (y >> 62);
+        let t: u64 = s * 4 + 1;
+        let d: u64 = digit(a, t);
+        s = s * 2 + d;
+        r = a - d * t;
+        y = y << 2;
+        i += 1;
+    }
+    digits::sticky(s, r)
+}
+
+// An even power of two is taken out: x is z * 2^46 times 4^(k - 1075).
+fn positive_root(x: f64) -> f64
+    requires { ⌜ positive x ≡ true ⌝ }
+    ensures { λ r. ⌜ r ≡ root binary64 x ⌝ }
+{
+    let p = digits::unpack(f64::to_bits(x));
+    let w = root_digits(p.m << ((p.e + 1) & 1));
+    digits::pack(0, w, (p.e + 969) >> 1)
+}
+
+// A zero, infinity and a NaN are their own roots; below zero there is none.
+pub fn square_root(x: f64) -> f64
+    ensures { λ r. ⌜ r ≡ root binary64 x ⌝ }
+{
+    if 0.0 < x {
+        if x < 1.0 / 0.0 {
+            return positive_root(x);
+        }
+        return x;
+    }
+    if x == 0.0 {
+        return x;
+    }
+    0.0 / 0.0
+}
