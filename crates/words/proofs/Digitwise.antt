@@ -4,6 +4,7 @@ use Prim.Native.Nat.{ℕ, zero, suc, _+_, _*_, _/_, _%_, _^_, _<_}
 use native.Mathlib.Nat.{pow-succ'}
 use native.Mathlib.Omega.{arith}
 use lib.Arith.{lt-one}
+use lib.Dec.{lit<}
 use lib.Bits.{bitXor, xor-step, xor-zero-l, xor-add-and, and-le-l, and-le-r, differ}
 use Rattle.words.specs.Xor.{xorTo}
 
@@ -24,6 +25,11 @@ unfolding xorTo
 xor-is zero a b ha hb = rw (lt-one ha, xor-zero-l, lt-one hb)
 xor-is (suc k) a b ha hb =
     xor-step a b ∙ rw (xor-is k (a / 2) (b / 2) (half k a ha) (half k b hb), digit (a % 2) (b % 2) (omega arith) (omega arith))
+
+pub xor-below : (k a b : ℕ) → xorTo k a b < 2 ^ k
+unfolding xorTo
+xor-below zero a b = lit< tt
+xor-below (suc k) a b = omega (arith, xor-below k (a / 2) (b / 2), pow-succ' 2 k)
 
 pub xor-zero : (a b : ℕ) → bitXor a b ≡ 0 → a ≡ b
 xor-zero a b h = omega (arith, xor-add-and a b, and-le-l a b, and-le-r a b)

@@ -1,0 +1,56 @@
+-- `smooth_random::SmoothRandom::next` meets its contract: the definition at the verdict, and of the loop at what its test found. Assumes nothing.
+use mathlib.Core.Path.{_≡_, refl}
+use Prim.Native.Nat.{ℕ, zero, suc}
+use lib.Ieee.{Float}
+use Rattle.smooth_random.specs.Draws.{zero as zer}
+use Rattle.smooth_random.specs.Drift.{settled, answer}
+use Rattle.smooth_random.specs.declared.SmoothRandom.{SmoothRandom}
+use Rattle.smooth_random.specs.declared.Next.{Next}
+use borrow.Author.Needs.{needs}
+use Rattle.smooth_random.proofs.SmoothRandom.next.Statement.{statement}
+use Rattle.smooth_random.proofs.SmoothRandom.next.Tie as tie
+
+refusal-requires : tie.Need-refusal-requires
+refusal-requires c κs = search needs
+
+refused : (k : ℕ) (r : SmoothRandom) (rate-hz sample-rate : Float) → (k ≡ 0 → ⊥) → record { random = r; value = zer; refusal = k } ≡ answer k r rate-hz sample-rate
+refused zero r rate-hz sample-rate h = absurd (h refl)
+refused (suc k) r rate-hz sample-rate h = refl
+
+returns : tie.Need-returns
+returns c = rw (← c .before .refusal .ensures) (refused _ _ _ _ (c .if1 .taken))
+
+value-requires : tie.Need-value-requires
+value-requires c κs = search needs
+
+advance-requires : tie.Need-advance-requires
+advance-requires c κs = search needs
+
+turn-requires : tie.Need-turn-requires
+turn-requires c κs = search needs
+
+returns-2 : tie.Need-returns-2
+unfolding settled
+returns-2 c =
+    let moved = c .before .before .before in
+    let test = moved .before .before in
+    rw (← test .before .refusal .ensures, test .if1 .left, moved .before .value .ensures, c .turn .ensures, ← moved .advance .ensures, c .before .if2 .taken)
+
+returns-3 : tie.Need-returns-3
+unfolding settled
+returns-3 c =
+    let moved = c .before .before in
+    let test = moved .before .before in
+    rw (← test .before .refusal .ensures, test .if1 .left, moved .before .value .ensures, ← moved .advance .ensures, c .if2 .left)
+
+pub next-spec : {M : Type 1} → statement M
+next-spec =
+    tie.close
+    (tie.spec
+    refusal-requires
+    returns
+    value-requires
+    advance-requires
+    turn-requires
+    returns-2
+    returns-3)

@@ -1,0 +1,28 @@
+-- `smooth_random::SmoothRandom::reset` meets its contract, draw by draw. Assumes nothing.
+use Rattle.smooth_random.specs.Drift.{started}
+use borrow.Author.Needs.{needs}
+use Rattle.smooth_random.proofs.SmoothRandom.reset.Statement.{statement}
+use Rattle.smooth_random.proofs.SmoothRandom.reset.Tie as tie
+
+random-bipolar-requires : tie.Need-random-bipolar-requires
+random-bipolar-requires c κs = search needs
+
+random-bipolar-requires-2 : tie.Need-random-bipolar-requires-2
+random-bipolar-requires-2 c κs = search needs
+
+random-segment-rate-scale-requires : tie.Need-random-segment-rate-scale-requires
+random-segment-rate-scale-requires c κs = search needs
+
+returns : tie.Need-returns
+unfolding started
+returns c =
+    rw (c .before .random-segment-rate-scale .ensures, c .before .before .before .random-bipolar2 .ensures, c .before .before .before .before .before .random-bipolar .ensures)
+
+pub reset-spec : {M : Type 1} → statement M
+reset-spec =
+    tie.close
+    (tie.spec
+    random-bipolar-requires
+    random-bipolar-requires-2
+    random-segment-rate-scale-requires
+    returns)

@@ -1,0 +1,15 @@
+-- `smooth_random::SmoothRandom::value` meets its contract: the definition's operations in the definition's order. Assumes nothing.
+use borrow.Author.Needs.{needs}
+use Rattle.smooth_random.specs.Drift.{valueAt}
+use Rattle.smooth_random.proofs.SmoothRandom.value.Statement.{statement}
+use Rattle.smooth_random.proofs.SmoothRandom.value.Tie as tie
+
+clamp-requires : tie.Need-clamp-requires
+clamp-requires c κs = search needs
+
+returns : tie.Need-returns
+unfolding valueAt
+returns c = rw (c .before .before .clamp .ensures)
+
+pub value-spec : {M : Type 1} → statement M
+value-spec = tie.close (tie.spec clamp-requires returns)

@@ -1,0 +1,5 @@
+pub mod Xorshift
+pub mod Seeds
+pub mod Draws
+pub mod Ranges
+pub mod Drift

@@ -1,0 +1,36 @@
+-- G8, G6, N1, N3, N9. What `next` asks of a state and of its arguments, and the number of the refusal where that fails. Definitions only.
+use Prim.Native.Nat.{ℕ}
+use mathlib.Core.Bool.{Bool, not, _&&_, cond}
+use lib.Dec.{eqb}
+use lib.Ieee.{Float, binary64, ofBits, neg, lt, le}
+use Rattle.smooth_random.specs.Draws.{zero, one}
+use Rattle.smooth_random.specs.declared.SmoothRandom.{SmoothRandom}
+
+abbrev pub within : Float → Float → Float → Bool
+within low high x = le low x && le x high
+
+-- 0.65 and 1.35, to the nearest: what 1 - 0.35 and 1 + 0.35 round to.
+abbrev pub slowest : Float
+slowest = ofBits binary64 0x3fe4_cccc_cccc_cccd
+
+abbrev pub fastest : Float
+fastest = ofBits binary64 0x3ff5_9999_9999_999a
+
+-- Position at least 0 and below 1; targets -1 to 1; segment scale 0.65 to 1.35; generator and initial seed not 0.
+unfoldable pub validOf : SmoothRandom → Bool
+validOf r =
+    (le zero (r .position) && lt (r .position) one)
+    && ((within (neg one) one (r .current) && within (neg one) one (r .next))
+    && (within slowest fastest (r .«segment_rate_scale»)
+    && (not (eqb (r .state) 0) && not (eqb (r .«initial_seed») 0))))
+
+-- Rate 0 to 1000 targets a second, sample rate 8000 to 768000.
+abbrev pub argumentsOf : Float → Float → Bool
+argumentsOf rate-hz sample-rate =
+    within zero (ofBits binary64 0x408f_4000_0000_0000) rate-hz
+    && within (ofBits binary64 0x40bf_4000_0000_0000) (ofBits binary64 0x4127_7000_0000_0000) sample-rate
+
+-- 0 where the call is accepted; an argument outside its range gives 1, a state 3, and of both the lower.
+unfoldable pub verdict : SmoothRandom → Float → Float → ℕ
+unfolding validOf
+verdict r rate-hz sample-rate = cond (argumentsOf rate-hz sample-rate) (cond (validOf r) 0 3) 1
