@@ -71,6 +71,9 @@ over-core b d yp yn yd zp zn zd h = simp ring (simp ring at (times-eq (d * b) h)
 pub over-same : {x y : Frac} (b d : ℕ) → 0 < b → Same x y → Same (over x b d) (over y b d)
 over-same {x} {y} b d B s = record { left = mul-pos (s .left) B; right = mul-pos (s .right) B; cross = over-core b d (x .p) (x .n) (x .d) (y .p) (y .n) (y .d) (s .cross) }
 
+pub plus-nil : (x : Frac) → 0 < x .d → Same (plus x nil) x
+plus-nil x X = omega arith
+
 pub times-nil : (x : Frac) → 0 < x .d → Same (times x nil) nil
 times-nil x X = omega arith
 

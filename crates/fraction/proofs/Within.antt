@@ -2,10 +2,10 @@
 -- cross products, multiplied out. Assumes nothing.
 use mathlib.Core.Path.{sym}
 use Prim.Native.Nat.{ℕ, _+_, _*_, _≤_, _<_}
-use native.Mathlib.Nat.{add-comm, add-zero, le-of-eq, mul-le-mul-right, mul-pos, le-of-mul-le-mul-right}
+use native.Mathlib.Nat.{add-comm, add-zero, zero-add, le-of-eq, mul-le-mul-right, mul-pos, le-of-mul-le-mul-right}
 use native.Mathlib.Omega.{arith}
-use Rattle.fraction.specs.Fraction.{Frac, plus, opp, Upto, Same, Within}
-use Rattle.fraction.proofs.Same.{ring}
+use Rattle.fraction.specs.Fraction.{Frac, nil, plus, opp, Upto, Same, Within}
+use Rattle.fraction.proofs.Same.{ring, same-refl, plus-nil}
 
 pub flip : {g e : ℕ} {x y : Frac} → Within g e x y → Within g e y x
 flip w = record { left = w .right; right = w .left; above = w .below; below = w .above }
@@ -75,6 +75,10 @@ within-plus {g} {e} {e'} {x} {y} {a} {b} h k =
       above = plus-core g e e' (x .p) (x .n) (x .d) (y .p) (y .n) (y .d) (a .p) (a .n) (a .d) (b .p) (b .n) (b .d) (h .above) (k .above);
       below = plus-core g e e' (a .p) (a .n) (a .d) (b .p) (b .n) (b .d) (x .p) (x .n) (x .d) (y .p) (y .n) (y .d) (h .below) (k .below);
     }
+
+-- c + t is as far from c as t is large
+pub beside : {g e : ℕ} {t : Frac} (c : Frac) → 0 < c .d → Within g e t nil → Within g e (plus c t) c
+beside {g} {e} c C w = to (plus-nil c C) (rw (zero-add e) at (within-plus (same-within g (same-refl {x = c} C)) w))
 
 pub within-opp : {g e : ℕ} {x y : Frac} → Within g e x y → Within g e (opp x) (opp y)
 within-opp w = record { left = w .left; right = w .right; above = omega (arith, w .below); below = omega (arith, w .above) }
