@@ -12,4 +12,6 @@ pub mod Jammed
 pub mod Values
 pub mod Sums
 pub mod Adding
+pub mod Mirror
 pub mod Comparing
+pub mod Nearest

@@ -1,15 +1,17 @@
 -- Rounding twice. Q counts a finer unit, 1 / (h + h) of the one that is rounded to, and the fraction is less than one of those from Q. If Q is no midpoint of two
 -- neighbours, then the fraction rounds as Q does. An odd Q is no midpoint. Assumes nothing.
-use mathlib.Core.Path.{_≡_, sym, ap, _∙_}
+use mathlib.Core.Path.{_≡_, sym, ap, _∙_, subst}
 use mathlib.Core.Logic.{inl, inr}
 use mathlib.Core.Bool.{Bool}
 use Prim.Native.Nat.{ℕ, zero, suc, _+_, _*_, _/_, _%_, _^_, _≤_, _<_}
-use native.Mathlib.Nat.{le-trans, le-of-eq, lt-of-lt-of-le, lt-of-le-of-lt, mul-comm, mul-assoc, mul-left-comm, mul-right-comm, mul-le-mul-right, lt-of-mul-lt-mul-right, add-mul, eq-or-lt-of-le, mul-add, zero-mul, suc-mul, div-add-mod'}
+use native.Mathlib.Nat.{le-trans, le-of-eq, lt-of-lt-of-le, lt-of-le-of-lt, mul-comm, mul-assoc, mul-left-comm, mul-right-comm, mul-pos, mul-le-mul-right, mul-lt-mul-of-pos-right, lt-of-mul-lt-mul-right, add-mul, eq-or-lt-of-le, two-pow-succ, mul-add, zero-mul, suc-mul, div-add-mod'}
 use native.Mathlib.Omega.{arith}
 use lib.Arith.{digits-mod}
+use lib.Pow.{pow-add, pow-pos, pow-mono}
 use lib.Ieee.{Format, units, round, prec, low, hid}
-use lib.Ieee.Nearest.{closest}
+use lib.Ieee.Nearest.{closest, closest-same}
 use Rattle.rounding.proofs.Closest.{closest-ge, closest-le}
+use Rattle.rounding.proofs.Dropped.{round-finer}
 use Rattle.rounding.proofs.Near.{round-near}
 use Rattle.rounding.proofs.Within.{closest-near}
 
@@ -79,3 +81,36 @@ odd-mid Q h o e m =
     let a : w * (h + h) + Q % (h + h) ≡ Q = div-add-mod' Q (h + h) in
     let b : w * (h + h) ≡ w * h + w * h = mul-add w h h in
     omega arith
+
+-- The same in powers of two: v of the unit 2 ^ -(low + e), less than 2 ^ j from Q * 2 ^ j, rounds as that does.
+pub again : (f : Format) (s : Bool) (v Q j e k c : ℕ) → j + suc c ≡ e + k → 1 ≤ c → (0 < k → hid f * 2 ^ suc c ≤ Q) → Q < 2 ^ prec f * 2 ^ suc c → (Q % 2 ^ suc c ≡ 2 ^ c → ⊥)
+    → Q * 2 ^ j < v + 2 ^ j → v < Q * 2 ^ j + 2 ^ j → round f s v (2 ^ (low f + e)) ≡ round f s (Q * 2 ^ j) (2 ^ (low f + e))
+again f s v Q j e k c E C L M no-mid lo hi = first ∙ sym second
+  where
+    d : 2 ^ suc c ≡ 2 ^ c + 2 ^ c
+    d = two-pow-succ c
+
+    first : round f s v (2 ^ (low f + e)) ≡ units f s (closest Q (2 ^ suc c)) k
+    first =
+        let l = 2 ^ low f in
+        let W = l * 2 ^ suc c in
+        let u = 2 ^ (low f + e) * 2 ^ k in
+        let n : low f + e + k ≡ j + (low f + suc c) = omega arith in
+        let i : u ≡ 2 ^ j * W = sym (pow-add 2 (low f + e) k) ∙ ap (λ (z : ℕ). 2 ^ z) n ∙ pow-add 2 j (low f + suc c) ∙ ap (λ (z : ℕ). 2 ^ j * z) (pow-add 2 (low f) (suc c)) in
+        let a : Q * u ≡ Q * 2 ^ j * W = ap (λ (z : ℕ). Q * z) i ∙ sym (mul-assoc Q (2 ^ j) W) in
+        let b : v * l * (2 ^ c + 2 ^ c) ≡ v * W = ap (λ (z : ℕ). v * l * z) (sym d) ∙ mul-assoc v l (2 ^ suc c) in
+        let P : 0 < W = mul-pos (pow-pos (low f)) (pow-pos (suc c)) in
+        let x : Q * 2 ^ j * W < (v + 2 ^ j) * W = mul-lt-mul-of-pos-right lo P in
+        let y : v * W < (Q * 2 ^ j + 2 ^ j) * W = mul-lt-mul-of-pos-right hi P in
+        let x' : (v + 2 ^ j) * W ≡ v * W + 2 ^ j * W = add-mul v (2 ^ j) W in
+        let y' : (Q * 2 ^ j + 2 ^ j) * W ≡ Q * 2 ^ j * W + 2 ^ j * W = add-mul (Q * 2 ^ j) (2 ^ j) W in
+        sticky f s v (2 ^ (low f + e)) Q k (2 ^ c) (pow-pos (low f + e)) (pow-mono C) (λ K. subst (λ (z : ℕ). hid f * z ≤ Q) d (L K)) (subst (λ (z : ℕ). Q < 2 ^ prec f * z) d M)
+        (λ (m : Q % (2 ^ c + 2 ^ c) ≡ 2 ^ c). no-mid (ap (λ (z : ℕ). Q % z) d ∙ m)) (omega arith) (omega arith)
+        ∙ ap (λ (z : ℕ). units f s (closest Q z) k) (sym d)
+
+    second : round f s (Q * 2 ^ j) (2 ^ (low f + e)) ≡ units f s (closest Q (2 ^ suc c)) k
+    second =
+        let n : suc c + j ≡ e + k = omega arith in
+        let i : (q : ℕ) → q * 2 ^ suc c * 2 ^ j ≡ q * 2 ^ (e + k) = λ q. mul-assoc q (2 ^ suc c) (2 ^ j) ∙ ap (λ (z : ℕ). q * z) (sym (pow-add 2 (suc c) j) ∙ ap (λ (z : ℕ). 2 ^ z) n) in
+        round-finer f s (Q * 2 ^ j) e k (λ K. le-trans (le-of-eq (sym (i (hid f)))) (mul-le-mul-right (2 ^ j) (L K))) (lt-of-lt-of-le (mul-lt-mul-of-pos-right M (pow-pos j)) (le-of-eq (i (2 ^ prec f))))
+        ∙ ap (λ (z : ℕ). units f s z k) (closest-same (Q * 2 ^ j) (2 ^ (e + k)) Q (2 ^ suc c) (pow-pos (e + k)) (pow-pos (suc c)) (mul-right-comm Q (2 ^ j) (2 ^ suc c) ∙ i Q))
