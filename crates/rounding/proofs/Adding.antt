@@ -1,13 +1,12 @@
--- `add` and `sub` of values that are given by fractions, and `add` where the product before it was exact: that is `fused`. Assumes nothing.
+-- `add` and `sub` of values that are given by fractions, and in units of 1 / L. Assumes nothing.
 use mathlib.Core.Path.{_≡_, refl, ap, _∙_}
 use mathlib.Core.Bool.{Bool, true, false, cond}
 use Prim.Native.Nat.{ℕ, _+_, _-_, _*_, _≤_, _<_}
 use native.Mathlib.Nat.{mul-comm, mul-assoc, mul-pos, mul-mul-mul-comm}
 use lib.IntN.{ℤ}
-use lib.Ieee.{Float, nan, inf, fin, Format, unlike, up, down, round, sum, add, sub, neg}
+use lib.Ieee.{Float, nan, inf, fin, Format, up, down, round, sum, add, sub, neg}
 use lib.Ieee.Fits.{down-pos}
 use lib.Ieee.Exact.{HasValue}
-use Rattle.rounding.specs.Operations.{fused}
 use Rattle.rounding.proofs.Orders.{not-lt}
 use Rattle.rounding.proofs.Sums.{sum-is, sum-like, sum-same}
 use Rattle.rounding.proofs.Values.{neg-value}
@@ -46,23 +45,3 @@ minus f x y A B L P o h k =
     add-units f x (neg y) false true A B L P h (neg-value y false B L k)
     ∙ sum-is f false A true B L
     ∙ ap (λ (z : Bool). round f (cond z true false) (cond z (B - A) (A - B)) L) (not-lt A B o)
-
--- ---- an exact product, added
-add-nan : (f : Format) (x : Float) → add f x nan ≡ nan
-unfolding add
-add-nan f nan = refl
-add-nan f (inf s) = refl
-add-nan f (fin s m e) = refl
-
-add-inf : (f : Format) (x : Float) (s : Bool) (a c : ℕ) (u : Bool) → HasValue x s a c → add f x (inf u) ≡ inf u
-unfolding add
-add-inf f nan s a c u h = absurd h
-add-inf f (inf t) s a c u h = absurd h
-add-inf f (fin t m e) s a c u h = refl
-
-pub exact-product : (f : Format) (p : Float) (s : Bool) (m : ℕ) (e : ℤ) (t : Bool) (n : ℕ) (d : ℤ) (z : Float) → HasValue p (unlike s t) (m * up e * (n * up d)) (down e * down d)
-    → add f p z ≡ fused f (fin s m e) (fin t n d) z
-unfolding fused
-exact-product f p s m e t n d nan h = add-nan f p
-exact-product f p s m e t n d (inf u) h = add-inf f p (unlike s t) (m * up e * (n * up d)) (down e * down d) u h
-exact-product f p s m e t n d (fin u k g) h = add-value f p (unlike s t) (m * up e * (n * up d)) (down e * down d) u k g (mul-pos (down-pos e) (down-pos d)) h

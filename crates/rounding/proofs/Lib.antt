@@ -12,6 +12,6 @@ pub mod Jammed
 pub mod Values
 pub mod Sums
 pub mod Adding
+pub mod Products
 pub mod Mirror
 pub mod Comparing
-pub mod Nearest

@@ -70,20 +70,26 @@ same-test true false p q = absurd (p tt)
 same-test false true p q = absurd (q tt)
 same-test false false p q = refl
 
+pub ltb-iff : (a b c d : ℕ) → (a < b → c < d) → (c < d → a < b) → ltb a b ≡ ltb c d
+ltb-iff a b c d f g = same-test (ltb a b) (ltb c d) (λ t. lt→ltb c d (f (ltb→lt a b t))) (λ t. lt→ltb a b (g (ltb→lt c d t)))
+
+pub eqb-iff : (a b c d : ℕ) → (a ≡ b → c ≡ d) → (c ≡ d → a ≡ b) → eqb a b ≡ eqb c d
+eqb-iff a b c d f g = same-test (eqb a b) (eqb c d) (λ t. eq→eqb (f (eqb→eq a b t))) (λ t. eq→eqb (g (eqb→eq c d t)))
+
 -- a / c and a' / c' are the same fraction, and b / c and b' / c'
 cross-lt : (a b c a' b' c' : ℕ) → 0 < c' → a * c' ≡ a' * c → b * c' ≡ b' * c → a < b → a' < b'
 cross-lt a b c a' b' c' C p q h = lt-of-mul-lt-mul-right c (lt-of-le-of-lt (le-of-eq (sym p)) (lt-of-lt-of-le (mul-lt-mul-of-pos-right h C) (le-of-eq q)))
 
 pub cross-ltb : (a b c a' b' c' : ℕ) → 0 < c → 0 < c' → a * c' ≡ a' * c → b * c' ≡ b' * c → ltb a b ≡ ltb a' b'
 cross-ltb a b c a' b' c' C C' p q =
-    same-test (ltb a b) (ltb a' b') (λ t. lt→ltb a' b' (cross-lt a b c a' b' c' C' p q (ltb→lt a b t))) (λ t. lt→ltb a b (cross-lt a' b' c' a b c C (sym p) (sym q) (ltb→lt a' b' t)))
+    ltb-iff a b a' b' (cross-lt a b c a' b' c' C' p q) (cross-lt a' b' c' a b c C (sym p) (sym q))
 
 cross-eq : (a b c a' b' c' : ℕ) → 0 < c → a * c' ≡ a' * c → b * c' ≡ b' * c → a ≡ b → a' ≡ b'
 cross-eq a b c a' b' c' C p q e = eq-of-mul-eq-mul-right c C a' b' (sym p ∙ ap (λ (z : ℕ). z * c') e ∙ q)
 
 pub cross-eqb : (a b c a' b' c' : ℕ) → 0 < c → 0 < c' → a * c' ≡ a' * c → b * c' ≡ b' * c → eqb a b ≡ eqb a' b'
 cross-eqb a b c a' b' c' C C' p q =
-    same-test (eqb a b) (eqb a' b') (λ t. eq→eqb (cross-eq a b c a' b' c' C p q (eqb→eq a b t))) (λ t. eq→eqb (cross-eq a' b' c' a b c C' (sym p) (sym q) (eqb→eq a' b' t)))
+    eqb-iff a b a' b' (cross-eq a b c a' b' c' C p q) (cross-eq a' b' c' a b c C' (sym p) (sym q))
 
 pub sub-mul : (a b c : ℕ) → (a - b) * c ≡ a * c - b * c
 sub-mul a b c = mul-comm (a - b) c ∙ mul-sub c a b ∙ ap (λ (z : ℕ). z - c * b) (mul-comm c a) ∙ ap (λ (z : ℕ). a * c - z) (mul-comm c b)

@@ -52,14 +52,14 @@ pub sign-no-nan : (f : Format) (s : Bool) (r : ℕ) → r ≤ ones f * hid f →
 sign-no-nan f s r h = rest-no-nan f (cond s (top f) 0 + r) (le-trans (le-of-eq (rest-is f s r (lt-of-le-of-lt h (inf-lt f)))) h)
 
 -- ---- a finite value's pattern lies below an infinity's
-no-value : (b s : Bool) → T (finite (cond b (inf s) nan)) → ⊥
-no-value true s h = h
-no-value false s h = h
+pub no-value : (b : Bool) (x y : Float) → (T (finite x) → ⊥) → (T (finite y) → ⊥) → T (finite (cond b x y)) → ⊥
+no-value true x y f g h = f h
+no-value false x y f g h = g h
 
 full : (f : Format) (s : Bool) (t : ℕ) → T (finite (ofFields f s (ones f) t)) → ⊥
 unfolding ofFields
-full binary32 s t h = no-value (eqb t 0) s h
-full binary64 s t h = no-value (eqb t 0) s h
+full binary32 s t h = no-value (eqb t 0) (inf s) nan (λ z. z) (λ z. z) h
+full binary64 s t h = no-value (eqb t 0) (inf s) nan (λ z. z) (λ z. z) h
 
 pub finite-rest : (f : Format) (n : ℕ) → T (finite (ofBits f n)) → n % top f < ones f * hid f
 finite-rest f n h =

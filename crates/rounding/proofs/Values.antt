@@ -1,5 +1,5 @@
 -- A finite value by any fraction that it equals, and what it takes to fit a format: few digits, in units of the smallest value. Assumes nothing.
-use mathlib.Core.Path.{_≡_, sym, ap, _∙_}
+use mathlib.Core.Path.{_≡_, refl, sym, ap, _∙_}
 use mathlib.Core.Bool.{Bool, not, _&&_}
 use Prim.Native.Nat.{ℕ, zero, suc, _+_, _-_, _*_, _%_, _^_, _≤_, _<_}
 use native.Mathlib.Nat.{le-trans, le-of-eq, lt-of-lt-of-le, lt-of-le-of-lt, mul-one, one-mul, mul-assoc, mul-right-comm, mul-pos, mul-le-mul-right, mul-lt-mul-of-pos-right, lt-of-mul-lt-mul-right, zero-mul, eq-of-mul-eq-mul-right}
@@ -10,6 +10,7 @@ use lib.Ieee.{Float, nan, inf, fin, Format, up, down, fits, prec, emax, low, neg
 use lib.Ieee.Digits.{back}
 use lib.Ieee.Fits.{down-pos, up-pos, and-l, and-r}
 use lib.Ieee.Exact.{HasValue}
+use lib.Ieee.Scale.{finite}
 use Rattle.rounding.proofs.Orders.{pow-le-back}
 
 pub rescale : (x : Float) (s : Bool) (a c a' c' : ℕ) → 0 < c → a * c' ≡ a' * c → HasValue x s a c → HasValue x s a' c'
@@ -32,6 +33,11 @@ unfolding isNan
 value-no-nan nan s A L h = absurd h
 value-no-nan (inf t) s A L h = absurd h
 value-no-nan (fin t m e) s A L h = tt
+
+pub value-finite : (x : Float) (s : Bool) (A L : ℕ) → HasValue x s A L → T (finite x)
+value-finite nan s A L h = h
+value-finite (inf t) s A L h = h
+value-finite (fin t m e) s A L h = tt
 
 -- ---- what it takes to fit
 pub fits-parts : (f : Format) (s : Bool) (m : ℕ) (e : ℤ) → T (fits f (fin s m e)) → (m < 2 ^ prec f) × (down e ≤ 2 ^ low f) × (m * up e < 2 ^ suc (emax f) * down e)
@@ -62,3 +68,10 @@ in-units f m e i p h =
     lt-of-mul-lt-mul-right (down e)
     (lt-of-le-of-lt (le-of-eq (mul-assoc m (2 ^ i) (down e) ∙ ap (λ (z : ℕ). m * z) (sym p) ∙ sym (mul-assoc m (up e) (2 ^ low f))))
     (lt-of-lt-of-le (mul-lt-mul-of-pos-right h (pow-pos (low f))) (le-of-eq (mul-right-comm (2 ^ suc (emax f)) (down e) (2 ^ low f)))))
+
+-- A value of the format is m * 2 ^ i of its smallest values, for an m that has no more digits than the format.
+pub fits-units : (f : Format) (s : Bool) (m : ℕ) (e : ℤ) → T (fits f (fin s m e)) → (i : ℕ) × (HasValue (fin s m e) s (m * 2 ^ i) (2 ^ low f)) × (m < 2 ^ prec f) × (m * 2 ^ i < 2 ^ suc (emax f) * 2 ^ low f)
+fits-units f s m e h =
+    let x = fits-parts f s m e h in
+    let i = place (low f) e (x .1) in
+    (i .0, (refl, mul-assoc m (up e) (2 ^ low f) ∙ ap (λ (z : ℕ). m * z) (i .1) ∙ sym (mul-assoc m (2 ^ (i .0)) (down e))), x .0, in-units f m e (i .0) (i .1) (x .2))

@@ -26,7 +26,7 @@ module _ (f : Format) (v : ℕ) where
   unit-pos : 0 < 2 ^ places f v
   unit-pos = pow-pos (places f v)
 
-  v-lt : v < 2 ^ prec f * 2 ^ places f v
+  pub v-lt : v < 2 ^ prec f * 2 ^ places f v
   v-lt =
       let c : size v ≤ prec f + places f v = omega arith in
       lt-of-lt-of-le (size-lt v) (le-trans (pow-mono c) (le-of-eq (pow-add 2 (prec f) (places f v))))

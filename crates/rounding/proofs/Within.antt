@@ -2,10 +2,10 @@
 use mathlib.Core.Path.{_≡_, ap, _∙_, subst}
 use mathlib.Core.Logic.{_⊎_, inl, inr}
 use Prim.Native.Nat.{ℕ, suc, _+_, _*_, _/_, _%_, _≤_, _<_, compare, Ordering, Ordering·lt, Ordering·eq, Ordering·gt}
-use native.Mathlib.Nat.{lt-of-mul-lt-mul-right, le-of-suc-le-suc, suc-mul, div-add-mod', mod-lt, le-antisymm}
+use native.Mathlib.Nat.{le-trans, le-of-eq, mul-le-mul-right, lt-of-mul-lt-mul-right, le-of-suc-le-suc, suc-mul, div-add-mod', mod-lt, le-antisymm}
 use native.Mathlib.Omega.{arith}
 use lib.Ieee.{nearest}
-use lib.Ieee.Nearest.{closest}
+use lib.Ieee.Nearest.{closest, closest-mono}
 use Rattle.rounding.proofs.Orders.{Cmp, bit, cmp}
 
 pub closest-near : (a d : ℕ) → 0 < d → (closest a d * d * 2 ≤ a * 2 + d) × (a * 2 ≤ closest a d * d * 2 + d)
@@ -41,3 +41,6 @@ closest-multiple w d D = closest-unique (w * d) d w D (omega arith) (omega arith
 -- less than half rounds to 0
 pub closest-none : (a d : ℕ) → a * 2 < d → closest a d ≡ 0
 closest-none a d h = closest-unique a d 0 (omega arith) (omega arith) (omega arith)
+
+pub closest-most : (a d w : ℕ) → 0 < d → a ≤ w * d → closest a d ≤ w
+closest-most a d w D h = le-trans (closest-mono a d (w * d) d D D (mul-le-mul-right d h)) (le-of-eq (closest-multiple w d D))

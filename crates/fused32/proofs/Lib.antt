@@ -1,0 +1,9 @@
+pub mod Again
+pub mod Neighbours
+pub mod Remainder
+pub mod Compared
+pub mod OddSum
+pub mod Sums
+pub mod Larger
+pub mod Parts
+pub mod Joined

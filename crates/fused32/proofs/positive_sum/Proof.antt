@@ -1,0 +1,32 @@
+-- `fused32::positive_sum` meets its contract: the larger part goes first. Assumes nothing.
+use borrow.Author.Needs.{needs}
+use mathlib.Core.Path.{sym, ap, _∙_}
+use lib.Ieee.{binary32, binary64, lt, ofBits}
+use Rattle.fused32.proofs.Larger.{first-larger, second-larger, swapped}
+use Rattle.fused32.proofs.positive_sum.Statement.{statement}
+use Rattle.fused32.proofs.positive_sum.Tie as tie
+
+odd-sum-requires : tie.Need-odd-sum-requires
+odd-sum-requires c κs =
+    let a = c .before in
+    let h = a .pre in (
+      second-larger (a .args .p) (a .args .c) (h .first) (h .second) (ap (lt (ofBits binary64 0)) (sym (h .is)) ∙ h .above) (c .if1 .taken),
+      h .is ∙ swapped (a .args .p) (a .args .c) (h .first) (h .second) binary64,
+    )
+
+returns : tie.Need-returns
+returns c =
+    let a = c .before .before in
+    c .odd-sum .ensures ∙ sym (swapped (a .args .p) (a .args .c) (a .pre .first) (a .pre .second) binary32)
+
+odd-sum-requires-2 : tie.Need-odd-sum-requires-2
+odd-sum-requires-2 c κs =
+    let a = c .before in
+    let h = a .pre in
+    (first-larger (a .args .p) (a .args .c) (h .first) (h .second) (ap (lt (ofBits binary64 0)) (sym (h .is)) ∙ h .above) (c .if1 .left), h .is)
+
+returns-2 : tie.Need-returns-2
+returns-2 c = search needs
+
+pub positive-sum-spec : {M : Type 1} → statement M
+positive-sum-spec = tie.close (tie.spec odd-sum-requires returns odd-sum-requires-2 returns-2)

@@ -1,0 +1,82 @@
+// fusedMultiplyAdd for f32: the product of two f32 is an f64 exactly, so that all lies in the sum.
+ghost use mathlib.Core.Path.{_≡_};
+ghost use lib.Ieee.{binary32, binary64, add};
+ghost use Rattle.rounding.specs.Operations.{fused};
+ghost use Rattle.fused32.specs.Parts.{Parts, Ordered, Above, Tested};
+use narrowing::narrow;
+
+// x + y rounded once, where x is not below zero, y is no larger in size, and s is x + y as an f64.
+// s - x is exact, so that it tells on which side of x + y s lies. Where s is not x + y, and its last digit is even, it gives way
+// to its neighbour towards x + y: an odd last digit is neither an f32's nor a midpoint's, and rounds as x + y does.
+fn odd_sum(x: f64, y: f64, s: f64) -> f32
+    requires { ⌜ Ordered x y ⌝ ∗ ⌜ s ≡ add binary64 x y ⌝ }
+    ensures { λ r. ⌜ r ≡ add binary32 x y ⌝ }
+{
+    let z = s - x;
+    if z == y {
+        return narrow(s);
+    }
+    let n: u64 = f64::to_bits(s);
+    if n & 1 == 1 {
+        return narrow(s);
+    }
+    if z < y {
+        return narrow(f64::from_bits(n + 1));
+    }
+    narrow(f64::from_bits(n - 1))
+}
+
+// p + c rounded once, where s, p + c as an f64, is above zero: the larger of the two then has no sign.
+fn positive_sum(p: f64, c: f64, s: f64) -> f32
+    requires { ⌜ Above p c s ⌝ }
+    ensures { λ r. ⌜ r ≡ add binary32 p c ⌝ }
+{
+    if p < c {
+        return odd_sum(c, p, s);
+    }
+    odd_sum(p, c, s)
+}
+
+// Whether s rounds to an f32 as any number does that it is nearest to: it has at least the size of a normal f32, and is no midpoint
+// of two (its lower 29 digits are no half), or is not finite.
+fn is_clear(s: f64) -> bool
+    ensures { λ r. ⌜ Tested s r ⌝ }
+{
+    if s != s {
+        return true;
+    }
+    let m: u64 = f64::to_bits(s) & 0x7fff_ffff_ffff_ffff;
+    if m < 0x3810_0000_0000_0000 {
+        return false;
+    }
+    m & 0x1fff_ffff != 0x1000_0000
+}
+
+// p + c rounded once.
+fn join(p: f64, c: f64) -> f32
+    requires { ⌜ Parts p ⌝ ∗ ⌜ Parts c ⌝ }
+    ensures { λ r. ⌜ r ≡ add binary32 p c ⌝ }
+{
+    let s = p + c;
+    if is_clear(s) {
+        return narrow(s);
+    }
+    if 0.0 < s {
+        return positive_sum(p, c, s);
+    }
+    if s < 0.0 {
+        return -positive_sum(-p, -c, -s);
+    }
+    // An exact zero, with its sign.
+    narrow(s)
+}
+
+// K4, K5. 000's mul_add for f32: a * b + c, rounded once.
+pub fn fused32(a: f32, b: f32, c: f32) -> f32
+    ensures { λ r. ⌜ r ≡ fused binary32 a b c ⌝ }
+{
+    let x = std::num::f32_to_f64_with_nan(a);
+    let y = std::num::f32_to_f64_with_nan(b);
+    let z = std::num::f32_to_f64_with_nan(c);
+    join(x * y, z)
+}
