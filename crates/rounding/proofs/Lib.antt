@@ -15,3 +15,4 @@ pub mod Adding
 pub mod Products
 pub mod Mirror
 pub mod Comparing
+pub mod Nearest
