@@ -1,7 +1,7 @@
 -- Between the order of floats and `AtMost`: what lies between two numbers of magnitude at most b has magnitude at most b itself, and what has
 -- lies between -b and b. Assumes nothing.
 use mathlib.Core.Path.{_≡_, sym, ap, _∙_, subst}
-use mathlib.Core.Bool.{Bool, true, false, cond}
+use mathlib.Core.Bool.{Bool, true, false, cond, _&&_}
 use Prim.Native.Nat.{ℕ, _+_, _*_, _≤_, _<_}
 use native.Mathlib.Omega.{arith}
 use native.Mathlib.Nat.{le-trans, le-of-eq, lt-of-le-of-lt, lt-of-lt-of-le, le-refl, mul-right-comm, mul-one, mul-le-mul-right, mul-lt-mul-of-pos-right, le-of-mul-le-mul-right}
@@ -9,7 +9,8 @@ use lib.Dec.{T, lt→ltb}
 use lib.Arith.{le→nltb}
 use lib.IntN.{ℤ}
 use lib.Ieee.{Float, nan, inf, fin, up, down, lt, le, isNan}
-use lib.Ieee.Fits.{down-pos}
+use lib.Ieee.Fits.{down-pos, and-l, and-r}
+use denote.Floats.{passes}
 use lib.Ieee.Exact.{HasValue}
 use lib.Ieee.Scale.{finite}
 use Rattle.magnitude.specs.Bounds.{AtMost}
@@ -47,6 +48,11 @@ between-at-most b (fin s n d) (inf true) (fin t l g) p q h k = h
 between-at-most b (fin s n d) (inf false) (fin t l g) p q h k = k
 between-at-most b (fin s n d) (fin false m e) (fin t l g) p q h k = through (m * up e) (down e) (l * up g) (down g) b (down-pos g) (le-not-negative m e t l g k) q
 between-at-most b (fin s n d) (fin true m e) (fin t l g) p q h k = through (m * up e) (down e) (n * up d) (down d) b (down-pos d) (le-negative s n d m e h) p
+
+pub within-at-most : (b : ℕ) (low x high : Float) → AtMost b low → AtMost b high → (le low x && le x high) ≡ true → AtMost b x
+within-at-most b low x high p q h =
+    let both = passes (le low x && le x high) h in
+    between-at-most b low x high p q (and-l (le low x) (le x high) both) (and-r (le low x) (le x high) both)
 
 -- ---- from the bound to a test against ±b: x / p ≤ a, and y / q is b
 cross : (x p a y q b : ℕ) → x ≤ a * p → y * 1 ≡ b * q → a ≤ b → x * q ≤ y * p

@@ -1,7 +1,7 @@
 -- `finite` by one subtraction and one test: a number less itself is zero, and nothing else is. Assumes nothing.
 use mathlib.Core.Path.{_≡_, refl, sym}
 use mathlib.Core.Bool.{Bool, true, false, not}
-use Prim.Native.Nat.{ℕ, _-_, _*_, _<_}
+use Prim.Native.Nat.{ℕ, _*_, _<_}
 use native.Mathlib.Nat.{le-refl, sub-self, mul-pos, zero-mul}
 use borrow.Author.Tests.{le-ltb}
 use lib.Dec.{lit<}

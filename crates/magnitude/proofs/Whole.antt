@@ -1,22 +1,24 @@
 -- Whole numbers as floats: up to 2 ^ prec each is held exactly, their difference is the whole difference, rounded, and a quotient that leaves no
 -- remainder is the whole quotient, rounded. In each the exact value is a fraction that equals a whole number over 1. Assumes nothing.
 use mathlib.Core.Path.{_≡_, refl, sym, ap, _∙_}
-use mathlib.Core.Bool.{Bool, true, false, cond, true≢false}
+use mathlib.Core.Bool.{Bool, true, false, cond, true≢false, not}
 use Prim.Native.Nat.{ℕ, zero, suc, _-_, _*_, _^_, _≤_, _<_}
 use native.Mathlib.Nat.{mul-one, mul-assoc, mul-comm, mul-sub, mul-pos, mul-le-mul-right, mul-lt-mul-of-pos-right}
 use native.Mathlib.Omega.{arith}
 use borrow.Author.Tests.{ltb-true, ltb-false, lt-ltb, le-ltb}
 use lib.Dec.{ltb, eqb·suc-zero, lit<}
-use lib.IntN.{pos, negsuc, subℕ}
+use lib.IntN.{ℤ, pos, negsuc, subℕ, natAbs}
+use lib.Signed.{nonNeg}
 use lib.Ieee.{Float, nan, inf, fin, Format, prec, up, down, round, sub, sum, div, ofInt}
 use lib.Ieee.Fits.{down-pos}
 use lib.Ieee.Exact.{HasValue}
 use lib.Ieee.Back.{round-whole}
 use lib.Ieee.Scale.{round-same}
 
-pub whole-value : (f : Format) (n : ℕ) → n ≤ 2 ^ prec f → HasValue (ofInt f (pos n)) false n 1
+pub whole-value : (f : Format) (z : ℤ) → natAbs z ≤ 2 ^ prec f → HasValue (ofInt f z) (not (nonNeg z)) (natAbs z) 1
 unfolding ofInt
-whole-value f n h = round-whole f false n h
+whole-value f (pos n) h = round-whole f false n h
+whole-value f (negsuc n) h = round-whole f true (suc n) h
 
 -- x / e is a, over the denominator e * d
 over : (x e a d : ℕ) → x * 1 ≡ a * e → x * d ≡ a * (e * d)

@@ -19,13 +19,13 @@ either-way true y = refl
 either-way false y = refl
 
 pub second : {t : Bool} (x y : Float) → t ≡ false → eq y y ≡ true → y ≡ chosen t x y
-unfolding chosen eq
+unfolding chosen eq isNan
 second x nan h k = absurd (true≢false (sym k))
 second x (inf s) h k = rw h (either-way (isNan x) (inf s))
 second x (fin s n d) h k = rw h (either-way (isNan x) (fin s n d))
 
 beside-nan : (x : Float) → x ≡ chosen false x nan
-unfolding chosen
+unfolding chosen isNan
 beside-nan nan = refl
 beside-nan (inf s) = refl
 beside-nan (fin s m e) = refl

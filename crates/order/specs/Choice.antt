@@ -4,20 +4,16 @@ use lib.Ieee.{Float, lt, isNan}
 
 -- Of two floats the one that is a number; of two numbers the first where the test `before` passed, else the second.
 unfoldable pub chosen : Bool → Float → Float → Float
-unfolding isNan
 chosen before x y = cond (isNan x) y (cond (isNan y) x (cond before x y))
 
 -- max and min. Where x and y compare equal, as 0.0 and -0.0 do, Rust leaves open which of them comes, and here it is the second. 000 and 001 always hand
 -- a constant second that is not -0.0, and there this is what the Rust's release build gives.
 unfoldable pub larger : Float → Float → Float
-unfolding chosen lt
 larger x y = chosen (lt y x) x y
 
 unfoldable pub smaller : Float → Float → Float
-unfolding chosen lt
 smaller x y = chosen (lt x y) x y
 
 -- clamp: a NaN stays a NaN, and -0.0 stays where low is 0.0.
 unfoldable pub clamped : Float → Float → Float → Float
-unfolding lt
 clamped x low high = cond (lt x low) low (cond (lt high x) high x)

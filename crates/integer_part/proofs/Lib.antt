@@ -1,0 +1,7 @@
+pub mod Signed
+pub mod Floors
+pub mod Ends
+pub mod Beyond
+pub mod Step
+pub mod Fractions
+pub mod Worked

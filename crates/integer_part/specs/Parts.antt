@@ -1,0 +1,16 @@
+-- K3. The integer part of a place is the floor towards minus infinity, and the fraction is the place minus the integer, rounded. Definitions only.
+use Prim.Native.Nat.{_+_, _-_, _*_, _/_, _^_, min}
+use mathlib.Core.Bool.{true, false, cond}
+use lib.IntN.{ℤ, pos, negℤ}
+use lib.Ieee.{Float, nan, inf, fin, binary64, up, down, sub, ofInt}
+
+-- Rust's `x.floor() as i64`: below zero the quotient is rounded away from zero. Past an end of the range it is that end, and at a NaN 0.
+unfoldable pub floorOf : Float → ℤ
+floorOf nan = pos 0
+floorOf (inf s) = cond s (negℤ (pos (2 ^ 63))) (pos (2 ^ 63 - 1))
+floorOf (fin false m e) = pos (min (m * up e / down e) (2 ^ 63 - 1))
+floorOf (fin true m e) = negℤ (pos (min ((m * up e + (down e - 1)) / down e) (2 ^ 63)))
+
+-- 000's `position - integer as f64`: it may be exactly 1.
+unfoldable pub fractionOf : Float → Float
+fractionOf x = sub binary64 x (ofInt binary64 (floorOf x))

@@ -1,0 +1,46 @@
+// K3. The integer part of a place and the fraction that is left.
+ghost use mathlib.Core.Path.{_≡_};
+ghost use Prim.Native.Nat.{_^_};
+ghost use lib.Ieee as Ieee;
+ghost use Rattle.magnitude.specs.Bounds.{AtMost};
+ghost use Rattle.integer_part.specs.Parts.{floorOf, fractionOf};
+
+// Rust's `x as i64`: towards zero, an end of the range where x lies past it, and 0 at a NaN.
+fn truncated(x: f64) -> i64
+    ensures { λ r. ⌜ r ≡ Ieee.toSigned 63 x ⌝ }
+{
+    if x < 9223372036854775808.0 {
+        if x >= -9223372036854775808.0 {
+            return std::num::truncating_f64_to_i64(x);
+        }
+        return i64::MIN;
+    }
+    if x == x { i64::MAX } else { 0 }
+}
+
+// Where x has places below the point: what is cut towards zero, and one less where that lies above x.
+fn stepped(x: f64) -> i64
+    requires { ⌜ AtMost (2 ^ 52) x ⌝ }
+    ensures { λ r. ⌜ r ≡ floorOf x ⌝ }
+{
+    let t = std::num::truncating_f64_to_i64(x);
+    if x < (t as f64) { t - 1 } else { t }
+}
+
+// Rust's `x.floor() as i64`. From 2^52 on every f64 is whole, so there is nothing to step over.
+pub fn floor(x: f64) -> i64
+    ensures { λ r. ⌜ r ≡ floorOf x ⌝ }
+{
+    if magnitude::within(x, -4503599627370496.0, 4503599627370496.0) {
+        stepped(x)
+    } else {
+        truncated(x)
+    }
+}
+
+// 000's `position - integer as f64`.
+pub fn fraction(x: f64) -> f64
+    ensures { λ r. ⌜ r ≡ fractionOf x ⌝ }
+{
+    x - std::num::nearest_i64_to_f64(floor(x))
+}
