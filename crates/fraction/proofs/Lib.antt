@@ -9,4 +9,5 @@ pub mod Exact
 pub mod Near
 pub mod Nearest
 pub mod Grid
+pub mod Compare
 pub mod Whole

@@ -1,0 +1,13 @@
+pub mod Nested
+pub mod Horner
+pub mod Squares
+pub mod CosineNear
+pub mod SineNear
+pub mod PowerNear
+pub mod Guessing
+pub mod Remaining
+pub mod Turns
+pub mod Moved
+pub mod Picked
+pub mod Shifted
+pub mod Range

@@ -1,0 +1,58 @@
+-- E2 to E4. The three functions for every argument: a value, or a refusal by number. Definitions only.
+use mathlib.Core.Bool.{Bool, true, false, cond}
+use Prim.Native.Nat.{ℕ, _+_, _*_, _%_}
+use lib.IntN.{pos, negsuc}
+use lib.Dec.{leb}
+use lib.Ieee.{Float, nan, inf, fin, binary64, up, down, neg, add, sub, mul, lt}
+use Rattle.elementary.specs.declared.Answer.{Answer}
+use Rattle.elementary.specs.declared.Answer.the-variants.{Value, Refused}
+use Rattle.elementary.specs.Horner.{sineNear, cosineNear, powerNear}
+use Rattle.elementary.specs.Reduction.{turns, reduced, fourth, pick}
+
+-- C4. The refusal's number, 0 for none.
+abbrev pub refusalOf : Answer → ℕ
+refusalOf (Value v) = 0
+refusalOf (Refused n) = n
+
+-- a number of magnitude at most b
+abbrev pub atMost : ℕ → Float → Bool
+atMost b nan = false
+atMost b (inf s) = false
+atMost b (fin s m e) = leb (m * up e) (b * down e)
+
+unfoldable pub sineAt : Float → Float
+unfolding sineNear pick fourth turns reduced
+sineAt x = cond (atMost 1 x) (sineNear x) (pick (fourth (turns x)) (reduced x))
+
+-- a cosine is the sine one quarter turn on
+unfoldable pub cosineAt : Float → Float
+unfolding cosineNear pick fourth turns reduced
+cosineAt x = cond (atMost 1 x) (cosineNear x) (pick ((fourth (turns x) + 1) % 4) (reduced x))
+
+abbrev pub one : Float
+one = fin false 1 (pos 0)
+
+abbrev pub two : Float
+two = fin false 1 (pos 1)
+
+abbrev pub half : Float
+half = fin false 1 (negsuc 0)
+
+-- 2 ^ x
+unfoldable pub powerAt : Float → Float
+unfolding powerNear
+powerAt x =
+    cond (lt half x) (mul binary64 two (powerNear (sub binary64 x one)))
+    (cond (lt x (neg half)) (mul binary64 half (powerNear (add binary64 x one))) (powerNear x))
+
+unfoldable pub sineOf : Float → Answer
+unfolding sineAt
+sineOf x = cond (atMost 256 x) (Value (sineAt x)) (Refused 1)
+
+unfoldable pub cosineOf : Float → Answer
+unfolding cosineAt
+cosineOf x = cond (atMost 256 x) (Value (cosineAt x)) (Refused 1)
+
+unfoldable pub exp2Of : Float → Answer
+unfolding powerAt
+exp2Of x = cond (atMost 1 x) (Value (powerAt x)) (Refused 1)
