@@ -5,7 +5,7 @@ use mathlib.Core.Bool.{Bool, true, false, not, cond}
 use Prim.Native.Nat.{ℕ, _+_, _*_, _≤_, _<_}
 use native.Mathlib.Nat.{lt-of-not-le, lt-of-mul-lt-mul-right, mul-le-mul-right, mul-lt-mul-of-pos-right, mul-assoc, mul-comm, mul-left-comm, add-mul, mul-add}
 use native.Mathlib.Omega.{arith}
-use lib.Dec.{T, T-not, eqb, ltb→lt, lt→ltb, eqb→eq}
+use lib.Dec.{T, T-not, not-T, eqb, ltb→lt, lt→ltb, eqb→eq}
 use lib.Arith.{le→nltb}
 use lib.Ieee.{Float, nan, inf, fin, up, down, lt, le, isNan}
 use lib.Ieee.Fits.{and-l, and-r}
@@ -89,6 +89,9 @@ of-strictly (fin false m e) (fin true n d) p q h = absurd (omega arith)
 
 pub nle→lt : (x y : Float) → T (finite x) → T (finite y) → T (not (le y x)) → T (lt x y)
 nle→lt x y p q h = of-strictly x y p q (lt-of-not-le (λ (k : right x y ≤ left x y). T-not (le y x) h (of-under y x q p k)))
+
+pub lt→nle : (x y : Float) → T (finite x) → T (finite y) → T (lt x y) → T (not (le y x))
+lt→nle x y p q h = not-T (le y x) (λ t. omega (arith, strictly x y p q h, under y x q p t))
 
 pub le-lt : (x y z : Float) → T (finite x) → T (finite y) → T (finite z) → T (le x y) → T (lt y z) → T (lt x z)
 le-lt x y z p q r h k =

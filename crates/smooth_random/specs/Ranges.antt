@@ -17,12 +17,20 @@ abbrev pub fastest : Float
 fastest = ofBits binary64 0x3ff5_9999_9999_999a
 
 -- Position at least 0 and below 1; targets -1 to 1; segment scale 0.65 to 1.35; generator and initial seed not 0.
+abbrev pub positionOf : SmoothRandom → Bool
+positionOf r = le zero (r .position) && lt (r .position) one
+
+abbrev pub targetsOf : SmoothRandom → Bool
+targetsOf r = within (neg one) one (r .current) && within (neg one) one (r .next)
+
+abbrev pub paceOf : SmoothRandom → Bool
+paceOf r = within slowest fastest (r .«segment_rate_scale»)
+
+abbrev pub seedsOf : SmoothRandom → Bool
+seedsOf r = not (eqb (r .state) 0) && not (eqb (r .«initial_seed») 0)
+
 unfoldable pub validOf : SmoothRandom → Bool
-validOf r =
-    (le zero (r .position) && lt (r .position) one)
-    && ((within (neg one) one (r .current) && within (neg one) one (r .next))
-    && (within slowest fastest (r .«segment_rate_scale»)
-    && (not (eqb (r .state) 0) && not (eqb (r .«initial_seed») 0))))
+validOf r = positionOf r && (targetsOf r && (paceOf r && seedsOf r))
 
 -- Rate 0 to 1000 targets a second, sample rate 8000 to 768000.
 abbrev pub argumentsOf : Float → Float → Bool

@@ -34,7 +34,11 @@ pub struct Next {
 pub fn normalized_seed(seed: u64) -> u64
     ensures { λ r. ⌜ r ≡ seedOf seed ⌝ }
 {
-    if seed == 0 { 0xA076_1D64_78BD_642F } else { seed }
+    if seed == 0 {
+        0xA076_1D64_78BD_642F
+    } else {
+        seed
+    }
 }
 
 // M1. The seed of 001's second generator.
@@ -85,67 +89,58 @@ impl SmoothRandom {
     }
 
     // M2. Setting the seed already held does nothing.
-    pub fn set_seed(self, seed: u64) -> SmoothRandom
+    pub fn set_seed(mut self, seed: u64) -> SmoothRandom
         ensures { λ r. ⌜ r ≡ setSeedOf self seed ⌝ }
     {
         let seed = normalized_seed(seed);
         if seed == self.initial_seed {
             return self;
         }
-        let changed = SmoothRandom {
-            initial_seed: seed,
-            state: self.state,
-            current: self.current,
-            next: self.next,
-            position: self.position,
-            segment_rate_scale: self.segment_rate_scale,
-        };
-        changed.reset()
+        self.initial_seed = seed;
+        self.reset()
     }
 
     // M3. Draws three times.
-    pub fn reset(self) -> SmoothRandom
+    pub fn reset(mut self) -> SmoothRandom
         ensures { λ r. ⌜ r ≡ resetOf self ⌝ }
     {
-        let start = SmoothRandom {
-            initial_seed: self.initial_seed,
-            state: self.initial_seed,
-            current: self.current,
-            next: self.next,
-            position: self.position,
-            segment_rate_scale: self.segment_rate_scale,
-        };
-        let current = start.random_bipolar();
-        let once = current.random;
-        let next = once.random_bipolar();
-        let twice = next.random;
-        let scale = twice.random_segment_rate_scale();
-        let random = scale.random;
-        SmoothRandom {
-            initial_seed: self.initial_seed,
-            state: random.state,
-            current: current.value,
-            next: next.value,
-            position: 0.0,
-            segment_rate_scale: scale.value,
-        }
+        self.state = self.initial_seed;
+        let first = self.random_bipolar();
+        let once = first.random;
+        let second = once.random_bipolar();
+        let twice = second.random;
+        let third = twice.random_segment_rate_scale();
+        let mut random = third.random;
+        random.current = first.value;
+        random.next = second.value;
+        random.segment_rate_scale = third.value;
+        random.position = 0.0;
+        random
     }
 
-    // M3. A number from -1 to 1.
-    pub fn random_bipolar(self) -> Drawn
-        ensures { λ r. ⌜ r ≡ bipolarDrawn self ⌝ }
+    // M5. 001's loop turns at most once: a step adds at most 1000 * 1.35 / 8000 to a position below 1. Most steps draw nothing.
+    pub fn next(self, rate_hz: f64, sample_rate: f64) -> Next
+        ensures { λ r. ⌜ r ≡ nextOf self «rate_hz» «sample_rate» ⌝ }
     {
-        let x = step(self.state);
-        Drawn {
-            random: SmoothRandom {
-                initial_seed: self.initial_seed,
-                state: x,
-                current: self.current,
-                next: self.next,
-                position: self.position,
-                segment_rate_scale: self.segment_rate_scale,
-            },
-            value: bipolar(x),
+        let refusal = self.refusal(rate_hz, sample_rate);
+        if refusal != 0 {
+            return Next {
+                random: self,
+                value: 0.0,
+                refusal,
+            };
+        }
+        let value = self.value();
+        let moved = self.advance(rate_hz, sample_rate);
+        let random = if moved.position >= 1.0 {
+            moved.turn()
+        } else {
+            moved
+        };
+        Next {
+            random,
+            value,
+            refusal: 0,
         }
     }
 
@@ -153,11 +148,20 @@ impl SmoothRandom {
     pub fn random_segment_rate_scale(self) -> Drawn
         ensures { λ r. ⌜ r ≡ scaleDrawn self ⌝ }
     {
-        let drawn = self.random_bipolar();
-        let random = drawn.random;
+        let mut drawn = self.random_bipolar();
+        drawn.value = 1.0 + 0.35 * drawn.value;
+        drawn
+    }
+
+    // M3. A number from -1 to 1.
+    pub fn random_bipolar(mut self) -> Drawn
+        ensures { λ r. ⌜ r ≡ bipolarDrawn self ⌝ }
+    {
+        let x = step(self.state);
+        self.state = x;
         Drawn {
-            random,
-            value: 1.0 + 0.35 * drawn.value,
+            random: self,
+            value: bipolar(x),
         }
     }
 
@@ -170,9 +174,9 @@ impl SmoothRandom {
             magnitude::within(self.current, -1.0, 1.0),
             magnitude::within(self.next, -1.0, 1.0),
         );
-        let scale = magnitude::within(self.segment_rate_scale, 0.65, 1.35);
+        let pace = magnitude::within(self.segment_rate_scale, 0.65, 1.35);
         let seeds = both(self.state != 0, self.initial_seed != 0);
-        both(position, both(targets, both(scale, seeds)))
+        both(position, both(targets, both(pace, seeds)))
     }
 
     // N1, N3, N9. 0, or the number of the lowest refusal that is due.
@@ -190,6 +194,7 @@ impl SmoothRandom {
         }
     }
 
+    // The value at the position, between the two targets.
     fn value(self) -> f64
         ensures { λ r. ⌜ r ≡ valueAt self ⌝ }
     {
@@ -198,56 +203,25 @@ impl SmoothRandom {
         self.current + quintic * (self.next - self.current)
     }
 
-    fn advance(self, rate_hz: f64, sample_rate: f64) -> SmoothRandom
+    fn advance(mut self, rate_hz: f64, sample_rate: f64) -> SmoothRandom
         ensures { λ r. ⌜ r ≡ advanced self «rate_hz» «sample_rate» ⌝ }
     {
-        SmoothRandom {
-            initial_seed: self.initial_seed,
-            state: self.state,
-            current: self.current,
-            next: self.next,
-            position: self.position + rate_hz * self.segment_rate_scale / sample_rate,
-            segment_rate_scale: self.segment_rate_scale,
-        }
+        self.position = self.position + rate_hz * self.segment_rate_scale / sample_rate;
+        self
     }
 
-    // The next segment, where the last one has ended.
+    // A turn of 001's loop: the next segment, where one has ended.
     fn turn(self) -> SmoothRandom
         ensures { λ r. ⌜ r ≡ turned self ⌝ }
     {
-        let next = self.random_bipolar();
-        let once = next.random;
-        let scale = once.random_segment_rate_scale();
-        let random = scale.random;
-        SmoothRandom {
-            initial_seed: self.initial_seed,
-            state: random.state,
-            current: self.next,
-            next: next.value,
-            position: self.position - 1.0,
-            segment_rate_scale: scale.value,
-        }
-    }
-
-    // M5. 001's loop turns at most once: a step adds at most 1000 * 1.35 / 8000 to a position below 1. Most steps draw nothing.
-    pub fn next(self, rate_hz: f64, sample_rate: f64) -> Next
-        ensures { λ r. ⌜ r ≡ nextOf self «rate_hz» «sample_rate» ⌝ }
-    {
-        let refusal = self.refusal(rate_hz, sample_rate);
-        if refusal != 0 {
-            return Next {
-                random: self,
-                value: 0.0,
-                refusal,
-            };
-        }
-        let value = self.value();
-        let moved = self.advance(rate_hz, sample_rate);
-        let random = if moved.position >= 1.0 { moved.turn() } else { moved };
-        Next {
-            random,
-            value,
-            refusal: 0,
-        }
+        let first = self.random_bipolar();
+        let once = first.random;
+        let second = once.random_segment_rate_scale();
+        let mut random = second.random;
+        random.position = self.position - 1.0;
+        random.current = self.next;
+        random.next = first.value;
+        random.segment_rate_scale = second.value;
+        random
     }
 }

@@ -11,7 +11,7 @@ random-bipolar-requires c κs = search needs
 
 returns : tie.Need-returns
 unfolding scaleOf
-returns c = rw (c .before .before .random-bipolar .ensures)
+returns c = rw (c .before .random-bipolar .ensures)
 
 pub random-segment-rate-scale-spec : {M : Type 1} → statement M
 random-segment-rate-scale-spec = tie.close (tie.spec random-bipolar-requires returns)

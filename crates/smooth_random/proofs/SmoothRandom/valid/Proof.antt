@@ -36,8 +36,17 @@ unfolding validOf
 returns c =
     let tests = c .before .before .before in
     let ranges = tests .before .before .before in
-    rw (c .both6 .ensures, c .before .both5 .ensures, c .before .before .both4 .ensures, tests .both3 .ensures, ranges .within3 .ensures, ranges .before .both2 .ensures,
-    ranges .before .before .within2 .ensures, ranges .before .before .before .within .ensures, ranges .before .before .before .before .both .ensures)
+    rw (
+      c .both6 .ensures,
+      c .before .both5 .ensures,
+      c .before .before .both4 .ensures,
+      tests .both3 .ensures,
+      ranges .within3 .ensures,
+      ranges .before .both2 .ensures,
+      ranges .before .before .within2 .ensures,
+      ranges .before .before .before .within .ensures,
+      ranges .before .before .before .before .both .ensures,
+    )
 
 pub valid-spec : {M : Type 1} → statement M
 valid-spec =

@@ -1,0 +1,6 @@
+pub mod Worked
+pub mod Generator
+pub mod Bounds
+pub mod Held
+pub mod Starts
+pub mod Settles
