@@ -1,0 +1,6 @@
+pub mod Masks
+pub mod Lengths
+pub mod Cleared
+pub mod Held
+pub mod Run
+pub mod Positions

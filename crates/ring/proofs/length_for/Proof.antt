@@ -1,0 +1,81 @@
+-- `ring::length_for` meets its contract: the digits that the leading zeros leave are those of need - 1, at most 24 of them. Assumes nothing.
+use borrow.Author.Needs.{needs}
+use borrow.Author.Tests.{le-leb, lt-leb}
+use mathlib.Core.Path.{_≡_, _∙_}
+use mathlib.Core.Bool.{cond}
+use Prim.Native.Nat.{ℕ, _-_, _^_, _*_, _%_, _≤_, _<_}
+use native.Mathlib.Omega.{arith}
+use native.Mathlib.Nat.{mod-eq-of-lt, lt-of-le-of-lt, one-mul}
+use lib.Dec.{lit<}
+use lib.Count.{leadingZeros, leading-le}
+use lib.Pow.{pow-mono}
+use lib.Ieee.Digits.{size-le}
+use Rattle.ring.specs.Length.{need, lengthFor, settingsOk}
+use Rattle.ring.proofs.Masks.{digits-size}
+use Rattle.ring.proofs.length_for.Statement.{statement}
+use Rattle.ring.proofs.length_for.Tie as tie
+
+-- the digits of need - 1
+abbrev digits : ℕ → ℕ → ℕ
+digits m g = 64 - leadingZeros 64 (need m g - 1)
+
+few : (m g : ℕ) → need m g ≤ 2 ^ 24 → digits m g ≤ 24
+few m g h = rw (digits-size 64 (need m g - 1) (omega arith)) (size-le (need m g - 1) 24 (omega arith))
+
+raised : (m g : ℕ) → need m g ≤ 2 ^ 24 → 1 * 2 ^ digits m g % 2 ^ 64 ≡ cond (settingsOk m g) (lengthFor m g) 0
+unfolding lengthFor
+raised m g h =
+    let fits : 1 * 2 ^ digits m g < 2 ^ 64 = omega (arith, pow-mono (few m g h)) in
+    mod-eq-of-lt fits ∙ rw (le-leb (need m g) (2 ^ 24) h, one-mul, digits-size 64 (need m g - 1) (omega arith))
+
+too-long : (m g : ℕ) → 2 ^ 24 < need m g → 0 ≡ cond (settingsOk m g) (lengthFor m g) 0
+too-long m g h = rw (lt-leb (need m g) (2 ^ 24) h)
+
+returns : tie.Need-returns
+returns c = let a = c .before .args in too-long (a .maximum) (a .margin) (omega arith)
+
+returns-2 : tie.Need-returns-2
+returns-2 c = let a = c .before .before .args in too-long (a .maximum) (a .margin) (omega arith)
+
+mul-need : tie.Need-mul-need
+mul-need c = search needs
+
+add-need : tie.Need-add-need
+add-need c = search needs
+
+add-need-2 : tie.Need-add-need-2
+add-need-2 c = search needs
+
+returns-3 : tie.Need-returns-3
+returns-3 c = let a = c .before .before .before .args in too-long (a .maximum) (a .margin) (omega arith)
+
+sub-digits : tie.Need-sub-digits
+sub-digits c = search needs
+
+cast-digits : tie.Need-cast-digits
+cast-digits c = record { fits = lt-of-le-of-lt (leading-le 64 _) (lit< tt) }
+
+sub-digits-2 : tie.Need-sub-digits-2
+sub-digits-2 c = leading-le 64 _
+
+shl-result : tie.Need-shl-result
+shl-result c = let a = c .before .before .before .args in omega (arith, few (a .maximum) (a .margin) (omega arith))
+
+returns-4 : tie.Need-returns-4
+returns-4 c = let a = c .before .before .before .args in raised (a .maximum) (a .margin) (omega arith)
+
+pub length-for-spec : {M : Type 1} → statement M
+length-for-spec =
+    tie.close
+    (tie.spec
+    returns
+    returns-2
+    mul-need
+    add-need
+    add-need-2
+    returns-3
+    sub-digits
+    cast-digits
+    sub-digits-2
+    shl-result
+    returns-4)

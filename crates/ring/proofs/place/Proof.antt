@@ -1,0 +1,28 @@
+-- `ring::place` meets its contract: the mask of a power of two is the remainder. Assumes nothing.
+use borrow.Author.Needs.{needs}
+use borrow.Author.Tests.{eq-eqb, ne-eqb}
+use native.Mathlib.Omega.{arith}
+use Rattle.ring.proofs.Masks.{mask-mod}
+use Rattle.ring.proofs.place.Statement.{statement}
+use Rattle.ring.proofs.place.Tie as tie
+
+returns : tie.Need-returns
+returns c = rw (eq-eqb _ _ (c .if1 .taken))
+
+sub-if2 : tie.Need-sub-if2
+sub-if2 c = search needs
+
+sub-result : tie.Need-sub-result
+sub-result c = search needs
+
+returns-2 : tie.Need-returns-2
+returns-2 c = rw (ne-eqb _ _ (c .before .if1 .left)) (mask-mod _ _ (omega arith) (c .if2 .taken))
+
+rem-result : tie.Need-rem-result
+rem-result c = search needs
+
+returns-3 : tie.Need-returns-3
+returns-3 c = rw (ne-eqb _ _ (c .before .if1 .left))
+
+pub place-spec : {M : Type 1} → statement M
+place-spec = tie.close (tie.spec returns sub-if2 sub-result returns-2 rem-result returns-3)

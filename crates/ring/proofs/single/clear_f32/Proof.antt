@@ -1,0 +1,43 @@
+-- `ring::clear_f32` meets its contract: before each turn the first i places are zeroed. Assumes nothing.
+use borrow.Author.Needs.{needs}
+use Prim.Native.Nat.{_-_}
+use native.Mathlib.Omega.{arith}
+use lib.ListN.{length}
+use lib.Ieee.{ofBits}
+use Rattle.ring.proofs.Cleared.{Cleared, none-yet, one-more, all}
+use Rattle.ring.proofs.single.clear_f32.Statement.{statement}
+use Rattle.ring.proofs.single.clear_f32.Tie as tie
+
+abbrev Inv-loop : tie.InvT-loop
+Inv-loop ring₀ i₀ ring i = Cleared ring₀ ring i
+
+abbrev μ-loop : tie.MeasureT-loop
+μ-loop ring₀ i₀ ring i = length ring₀ - i
+
+loop-holds : tie.Need-loop-holds Inv-loop μ-loop
+loop-holds c = none-yet _
+
+mul-ring : tie.Need-mul-ring Inv-loop μ-loop
+mul-ring c = search needs
+
+slice-write-ring : tie.Need-slice-write-ring Inv-loop μ-loop
+slice-write-ring c = omega arith
+
+add-i : tie.Need-add-i Inv-loop μ-loop
+add-i c = omega arith
+
+loop-less : tie.Need-loop-less Inv-loop μ-loop
+loop-less c = omega arith
+
+loop-again : tie.Need-loop-again Inv-loop μ-loop
+unfolding ofBits
+loop-again c = one-more _ _ _ (c .before .loop .inv) (omega arith)
+
+same-length : tie.Need-same-length Inv-loop μ-loop
+same-length c = c .before .loop .inv .long
+
+returns : tie.Need-returns Inv-loop μ-loop
+returns c = all _ _ _ (c .before .loop .inv) (omega arith)
+
+pub clear-f32-spec : {M : Type 1} → statement M
+clear-f32-spec = tie.close (tie.spec Inv-loop μ-loop loop-holds mul-ring slice-write-ring add-i loop-less loop-again same-length returns)

@@ -1,0 +1,24 @@
+-- G1, K1. How long a lent ring must be, and what it holds when a reader is opened. Definitions only.
+use Prim.Native.Nat.{ℕ, _+_, _-_, _*_, _^_}
+use mathlib.Core.Bool.{Bool, false}
+use mathlib.Core.List.{List}
+use lib.Dec.{leb}
+use lib.IntN.{pos}
+use lib.ListN.{replicate}
+use lib.Ieee.{Float, fin, size}
+
+-- maximum delay + 2 × margin + 8
+abbrev pub need : ℕ → ℕ → ℕ
+need delay margin = delay + 2 * margin + 8
+
+-- raised to the next power of two: `size` counts binary digits
+unfoldable pub lengthFor : ℕ → ℕ → ℕ
+lengthFor delay margin = 2 ^ size (need delay margin - 1)
+
+-- at most 2^24, which the power is exactly when the sum is
+abbrev pub settingsOk : ℕ → ℕ → Bool
+settingsOk delay margin = leb (need delay margin) (2 ^ 24)
+
+-- K1. Opening zeroes the ring: +0.0 at every place.
+abbrev pub zeros : ℕ → List Float
+zeros n = replicate n (fin false 0 (pos 0))

@@ -1,0 +1,120 @@
+// A lent ring of samples: how long it is, where a sample stands in it, and what a tap reads. 000's RingView, RingViewF32 and SliceSource.
+mod single;
+
+pub use single::clear_f32;
+pub use single::tap_f32;
+ghost use mathlib.Core.Path.{_≡_};
+ghost use mathlib.Core.Bool.{cond};
+ghost use lib.ListN.{length};
+ghost use Rattle.ring.specs.Length.{settingsOk, lengthFor, zeros};
+ghost use Rattle.ring.specs.Taps.{tapOf};
+ghost use Rattle.ring.specs.Places.{positionOk, placeOf, startOf};
+
+// G1. The length that the settings need, and 0 where they are out of range. No setting wraps: each is tested before it is added.
+pub fn length_for(maximum: usize, margin: usize) -> usize
+    ensures { λ r. ⌜ r ≡ cond (settingsOk maximum margin) (lengthFor maximum margin) 0 ⌝ }
+{
+    if maximum > 0x100_0000 {
+        return 0;
+    }
+    if margin > 0x100_0000 {
+        return 0;
+    }
+    let need: u64 = (maximum + 2 * margin + 8) as u64;
+    if need > 0x100_0000 {
+        return 0;
+    }
+    let digits: u64 = 64 - u64::leading_zeros(need - 1) as u64;
+    (1u64 << digits) as usize
+}
+
+// K1. Zeroes a ring, as opening and reset do.
+pub fn clear(ring: &mut [f64])
+    ensures { λ r. ⌜ now (ring .exit) ≡ zeros (length (now (ring .entry))) ⌝ }
+{
+    let mut i: usize = 0;
+    while i < ring.len() {
+        ring[i] = 0.0;
+        i += 1;
+    }
+}
+
+// K1. An index modulo the length: a mask where the length is a power of two, as a reader's ring is.
+pub fn place(index: u64, len: usize) -> usize
+    ensures { λ r. ⌜ r ≡ placeOf index len ⌝ }
+{
+    let n = len as u64;
+    if n == 0 {
+        return 0;
+    }
+    if n & (n - 1) == 0 {
+        return (index & (n - 1)) as usize;
+    }
+    (index % n) as usize
+}
+
+// K2. A tap of a ring that has accepted `count` samples; absent ones read zero.
+pub fn tap(source: &[f64], count: u64, index: i64) -> f64
+    ensures { λ r. ⌜ r ≡ tapOf (now (source .entry)) count index ⌝ }
+{
+    if index < 0 {
+        return 0.0;
+    }
+    let k = index as u64;
+    if count <= k {
+        return 0.0;
+    }
+    let n = source.len();
+    if count - 1 - k >= n as u64 {
+        return 0.0;
+    }
+    let at = place(k, n);
+    source[at]
+}
+
+pub struct Start {
+    pub held: bool,
+    pub place: usize,
+}
+
+// Whether all of a run of taps are held, and where the first stands: the kernels' quick way, with no test for each tap.
+pub fn run_start(len: usize, count: u64, index: i64, taps: u64) -> Start
+    ensures { λ r. ⌜ r ≡ startOf len count index taps ⌝ }
+{
+    if index < 0 {
+        return Start {
+            held: false,
+            place: 0,
+        };
+    }
+    let k = index as u64;
+    if count < taps {
+        return Start {
+            held: false,
+            place: 0,
+        };
+    }
+    if count - taps < k {
+        return Start {
+            held: false,
+            place: 0,
+        };
+    }
+    if count - k > len as u64 {
+        return Start {
+            held: false,
+            place: 0,
+        };
+    }
+    Start {
+        held: true,
+        place: place(k, len),
+    }
+}
+
+// G3. Whether a position is finite and from -2^36 to 2^36.
+pub fn position_ok(position: f64) -> bool
+    ensures { λ r. ⌜ r ≡ positionOk position ⌝ }
+{
+    magnitude::within(position, -68719476736.0, 68719476736.0)
+}

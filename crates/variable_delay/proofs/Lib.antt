@@ -1,0 +1,4 @@
+pub mod Settings
+pub mod Taken
+pub mod Refused
+pub mod Calls

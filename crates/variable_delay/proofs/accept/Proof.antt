@@ -1,0 +1,58 @@
+-- `variable_delay::accept` meets its contract: by its refusal, or, where every test passed, by the store at the sample's place. Assumes nothing.
+use borrow.Author.Needs.{needs, scaled-fits}
+use mathlib.Core.Path.{_≡_, sym, _∙_}
+use Prim.Native.Nat.{_<_}
+use native.Mathlib.Omega.{arith}
+use lib.ListN.{length}
+use lib.Ieee.{ofBits}
+use denote.Ref.{now}
+use Rattle.ring.proofs.Held.{place-mod, place-inside}
+use Rattle.variable_delay.specs.Reader.{verdict}
+use Rattle.variable_delay.proofs.Taken.{Taken, taken, ring-some}
+use Rattle.variable_delay.proofs.Refused.{not-accepted, same-ring}
+use Rattle.variable_delay.proofs.accept.Statement.{statement}
+use Rattle.variable_delay.proofs.accept.Tie as tie
+
+refusal-requires : tie.Need-refusal-requires
+refusal-requires c κs = search needs
+
+returns : tie.Need-returns
+unfolding ofBits
+returns c = let e = c .before .refusal .ensures in (not-accepted _ e (c .if1 .taken) _ _, same-ring _ e (c .if1 .taken) _ _ _)
+
+place-requires : tie.Need-place-requires
+place-requires c κs = search needs
+
+-- the call is accepted
+none : (c : tie.Else1) → let a = c .before .before .before .args in verdict (a .own) (a .lent) (a .state) (length (now (a .ring))) (a .input) (a .delay) ≡ 0
+none c = sym (c .before .refusal .ensures) ∙ c .if1 .left
+
+passed : (c : tie.Else1) → let a = c .before .before .before .args in Taken (a .own) (a .lent) (a .state) (length (now (a .ring))) (a .input) (a .delay)
+passed c = taken _ _ _ _ _ _ (none c)
+
+inside : (c : tie.After-place) → c .place .result < length (now (c .before .before .before .before .args .ring))
+inside c = place-inside _ _ (ring-some (passed (c .before))) (c .place .ensures)
+
+mul-ring : tie.Need-mul-ring
+mul-ring c = scaled-fits _ _ 8 (inside c) (c .before .before .before .before .good .1 .1 .1 .0 .1)
+
+slice-write-ring : tie.Need-slice-write-ring
+slice-write-ring c = inside c
+
+add-t14 : tie.Need-add-t14
+add-t14 c = omega (arith, passed (c .before) .room)
+
+nearest-u64-to-f64-requires : tie.Need-nearest-u64-to-f64-requires
+nearest-u64-to-f64-requires c κs = search needs
+
+same-length : tie.Need-same-length
+same-length c = search needs
+
+returns-2 : tie.Need-returns-2
+returns-2 c =
+    let e = c .before .before in
+    let p = c .before .place .ensures ∙ place-mod _ _ (ring-some (passed e)) in
+    (rw (none e, c .nearest-u64-to-f64 .ensures), rw (none e, p))
+
+pub accept-spec : {M : Type 1} → statement M
+accept-spec = tie.close (tie.spec refusal-requires returns place-requires mul-ring slice-write-ring add-t14 nearest-u64-to-f64-requires same-length returns-2)

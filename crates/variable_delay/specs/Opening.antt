@@ -1,0 +1,48 @@
+-- K1. Opening a reader over a lent ring, and resetting one: both zero the ring and the count. Definitions only.
+use Prim.Native.Nat.{ℕ, zero, suc, _^_}
+use mathlib.Core.Bool.{true}
+use mathlib.Core.List.{List}
+use lib.Dec.{eqb, leb}
+use lib.ListN.{length}
+use lib.Ieee.{Float}
+use Rattle.answer.specs.Refusals.{firstOf}
+use Rattle.ring.specs.Length.{settingsOk, lengthFor, zeros}
+use Rattle.variable_delay.specs.declared.VariableDelay.{VariableDelay}
+use Rattle.variable_delay.specs.declared.Opened.{Opened}
+use Rattle.variable_delay.specs.declared.Opened.the-variants.{Reader, Refused}
+
+-- the state of a reader that has accepted nothing
+abbrev pub fresh : ℕ → ℕ → VariableDelay
+fresh maximum margin = record { maximum = maximum; margin = margin; accepted = 0 }
+
+-- N1 to N3. The refusal that is due at a reset, 0 for none; a full state may be reset.
+abbrev pub resetVerdict : VariableDelay → ℕ → ℕ
+resetVerdict d len =
+    firstOf (settingsOk (d .maximum) (d .margin)) (eqb len (lengthFor (d .maximum) (d .margin))) (leb (d .accepted) (2 ^ 36)) true true true true true
+
+-- The reader that a verdict leaves, and its ring: a refusal leaves every element (D1c).
+abbrev pub openedBy : ℕ → VariableDelay → Opened
+openedBy zero d = Reader (fresh (d .maximum) (d .margin))
+openedBy (suc k) d = Refused (suc k)
+
+abbrev pub clearedBy : ℕ → List Float → List Float
+clearedBy zero xs = zeros (length xs)
+clearedBy (suc k) xs = xs
+
+abbrev pub resetOf : VariableDelay → ℕ → Opened
+resetOf d len = openedBy (resetVerdict d len) d
+
+abbrev pub ringReset : VariableDelay → List Float → List Float
+ringReset d xs = clearedBy (resetVerdict d (length xs)) xs
+
+-- Opening is the reset of a state that has accepted nothing, so that only 1 and 2 can be due.
+abbrev pub openedOf : ℕ → ℕ → ℕ → Opened
+openedOf maximum margin len = resetOf (fresh maximum margin) len
+
+abbrev pub ringOpened : ℕ → ℕ → List Float → List Float
+ringOpened maximum margin xs = ringReset (fresh maximum margin) xs
+
+-- C4. 01's number for each case, 0 for a reader.
+abbrev pub numberOf : Opened → ℕ
+numberOf (Reader d) = 0
+numberOf (Refused k) = k

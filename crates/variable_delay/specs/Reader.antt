@@ -1,0 +1,65 @@
+-- A delay reader, defined once: over what its kernel reads and over what its kernel asks of its own settings (01, 'Reading a ring'). A kernel with none asks nothing.
+-- Samples are floats of either width. Definitions only.
+use Prim.Native.Nat.{ℕ, zero, suc, _+_, _%_, _^_}
+use mathlib.Core.Bool.{Bool, true, false, _&&_}
+use mathlib.Core.List.{List}
+use lib.Dec.{eqb, leb, ltb}
+use lib.IntN.{pos}
+use lib.ListN.{length, set}
+use lib.Ieee.{Float, fin, binary64, sub, le, ofInt}
+use lib.Ieee.Scale.{finite}
+use Rattle.answer.specs.Refusals.{firstOf}
+use Rattle.answer.specs.Answers.{answerOf}
+use Rattle.ring.specs.Length.{settingsOk, lengthFor}
+use Rattle.variable_delay.specs.declared.VariableDelay.{VariableDelay}
+use Rattle.variable_delay.specs.declared.Accepted.{Accepted}
+use Rattle.variable_delay.specs.declared.Processed.{Processed}
+
+-- What a kernel reads: from the ring, the number of samples accepted with the newest, and the position.
+abbrev pub Reading : Type 0
+Reading = List Float → ℕ → Float → Float
+
+-- N1 to N6, N8. The refusal that is due, 0 for none. `own` says that the kernel's own settings are in range, `lent` that its lent table has its length.
+abbrev pub verdict : Bool → Bool → VariableDelay → ℕ → Float → Float → ℕ
+verdict own lent d len x y =
+    firstOf (settingsOk (d .maximum) (d .margin) && own)
+    (eqb len (lengthFor (d .maximum) (d .margin)) && lent)
+    (leb (d .accepted) (2 ^ 36))
+    (finite x)
+    (finite y && le (fin false 0 (pos 0)) y)
+    (le y (fin false 1 (pos 36)))
+    true
+    (ltb (d .accepted) (2 ^ 36))
+
+-- K1. Accepted sample i goes to place i modulo the length.
+abbrev pub stored : ℕ → List Float → Float → List Float
+stored i xs x = set xs (i % length xs) x
+
+-- K1. The position is i minus the delay, rounded once.
+abbrev pub positionOf : ℕ → Float → Float
+positionOf i y = sub binary64 (ofInt binary64 (pos i)) y
+
+-- The ring, and the state, after a call with a verdict: a refusal changes neither (D1c).
+abbrev pub ringAfter : ℕ → VariableDelay → List Float → Float → List Float
+ringAfter zero d xs x = stored (d .accepted) xs x
+ringAfter (suc k) d xs x = xs
+
+abbrev pub stateAfter : ℕ → VariableDelay → VariableDelay
+stateAfter zero d = record { maximum = d .maximum; margin = d .margin; accepted = d .accepted + 1 }
+stateAfter (suc k) d = d
+
+-- What the kernel is handed: the samples accepted with this one, and the position.
+abbrev pub acceptedOf : ℕ → VariableDelay → Float → Accepted
+acceptedOf zero d y = record { refusal = 0; count = d .accepted + 1; position = positionOf (d .accepted) y }
+acceptedOf (suc k) d y = record { refusal = suc k; count = 0; position = fin false 0 (pos 0) }
+
+-- A call: refused with the state as it was, or stored, then read.
+abbrev pub processedBy : Reading → ℕ → VariableDelay → List Float → Float → Float → Processed
+processedBy read v d xs x y = record {
+  state = stateAfter v d;
+  answer = answerOf v (read (stored (d .accepted) xs x) (d .accepted + 1) (positionOf (d .accepted) y));
+}
+
+-- A reader whose kernel has no settings of its own.
+abbrev pub processed : Reading → VariableDelay → List Float → Float → Float → Processed
+processed read d xs x y = processedBy read (verdict true true d (length xs) x y) d xs x y
