@@ -29,7 +29,7 @@ sub-result c =
 
 returns : tie.Need-returns
 returns c =
-    toZ-ofZ w64 (toZ w64 (ofZ w64 (c .before .before .truncating-f64-to-i64 .result)) -ℤ pos 1) (sub-result c)
+    toZ-ofZ w64 _ (sub-result c)
     ∙ ap (λ (z : ℤ). z -ℤ pos 1) (cut (c .before .before))
     ∙ step (c .before .before .before .args .x) true (c .before .before .before .pre) (rw (cut (c .before .before)) at (c .if1 .taken))
 
