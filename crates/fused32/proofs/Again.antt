@@ -1,12 +1,14 @@
 -- v units, and Q * 2 ^ j units that are less than 2 ^ j away, round to the same f32 if Q is odd, or if they are normal as an f32 and no midpoint of two. Assumes nothing.
 use mathlib.Core.Path.{_≡_, refl, sym, ap, _∙_}
-use mathlib.Core.Bool.{Bool, true, false, not}
+use mathlib.Core.Logic.{inl, inr}
+use mathlib.Core.Bool.{Bool}
 use Prim.Native.Nat.{ℕ, suc, _+_, _-_, _*_, _%_, _^_, _≤_, _<_}
 use native.Mathlib.Nat.{le-trans, le-of-eq, lt-of-lt-of-le, two-pow-succ, lt-irrefl}
 use native.Mathlib.Omega.{arith}
-use lib.Dec.{T, ltb, ltb→lt, nltb→le, lit≤}
+use lib.Dec.{lit≤}
 use lib.Pow.{pow-add, pow-mono}
 use lib.Ieee.{binary32, round}
+use Rattle.rounding.proofs.Orders.{lt-or-ge}
 use Rattle.rounding.proofs.Sticky.{again, odd-mid}
 
 module _ (s : Bool) (v Q j : ℕ) (few : Q < 2 ^ 53) (lead : 0 < j → 2 ^ 52 ≤ Q) (lo : Q * 2 ^ j < v + 2 ^ j) (hi : v < Q * 2 ^ j + 2 ^ j) where
@@ -25,8 +27,4 @@ module _ (s : Bool) (v Q j : ℕ) (few : Q < 2 ^ 53) (lead : 0 < j → 2 ^ 52 �
       (λ m. odd-mid Q (2 ^ c) o (omega arith) (ap (λ (z : ℕ). Q % z) (sym (two-pow-succ c)) ∙ m)) lo hi
 
   pub again-odd : Q % 2 ≡ 1 → round binary32 s v (2 ^ 1074) ≡ round binary32 s (Q * 2 ^ j) (2 ^ 1074)
-  again-odd o = go (ltb j 896) (ltb→lt j 896) (nltb→le j 896)
-    where
-      go : (b : Bool) → (T b → j < 896) → (T (not b) → 896 ≤ j) → round binary32 s v (2 ^ 1074) ≡ round binary32 s (Q * 2 ^ j) (2 ^ 1074)
-      go true a b = again-low (a tt) o
-      go false a b = again-normal (b tt) (odd-mid Q (2 ^ 28) o refl)
+  again-odd o = elim (lt-or-ge j 896) [ inl l ↦ again-low l o | inr g ↦ again-normal g (odd-mid Q (2 ^ 28) o refl) ]

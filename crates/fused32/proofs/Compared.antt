@@ -9,10 +9,11 @@ use lib.Dec.{ltb, eqb}
 use lib.Pow.{pow-pos}
 use lib.Ieee.{Float, binary64, round, sum, ofBits, sub, neg, lt, eq}
 use lib.Ieee.Exact.{HasValue, round-exact}
+use borrow.Author.Tests.{le-ltb}
 use Rattle.fused32.proofs.Remainder.{Few}
 use Rattle.rounding.proofs.Adding.{minus, add-units}
 use Rattle.rounding.proofs.Comparing.{eq-units, lt-units}
-use Rattle.rounding.proofs.Orders.{and-true, eqb-iff, ltb-iff, not-lt}
+use Rattle.rounding.proofs.Orders.{and-true, eqb-iff, ltb-iff}
 use Rattle.rounding.proofs.Sums.{sum-level, sum-over}
 use Rattle.rounding.proofs.Values.{neg-value}
 
@@ -64,7 +65,7 @@ module _ (s x y : Float) (G X Y : ℕ) (fine : G < 2 ^ (1074 + 1024)) (bound : X
 
     lt-minus : lt (sub binary64 s x) y ≡ ltb G (X - Y)
     lt-minus = elim (eq-or-lt-of-le o) [
-      | inl e ↦ lt-units (sub binary64 s x) y false true 0 Y L (pow-pos 1074) (none-value e) k ∙ sym (not-lt G (X - Y) (omega arith))
+      | inl e ↦ lt-units (sub binary64 s x) y false true 0 Y L (pow-pos 1074) (none-value e) k ∙ sym (le-ltb G (X - Y) (omega arith))
       | inr l ↦ lt-units (sub binary64 s x) y true true (X - G) Y L (pow-pos 1074) (under-value l) k ∙ ltb-iff Y (X - G) G (X - Y) (λ a. omega arith) (λ a. omega arith)
     ]
 

@@ -1,12 +1,11 @@
--- The cases of `join`, of `is_clear` and of `positive_sum`, as they meet them. Assumes nothing.
-use mathlib.Core.Path.{_≡_, refl, sym, ap, _∙_, subst}
+-- The cases of `join` where the f64 sum is clear or not finite, and those of `is_clear`. Assumes nothing.
+use mathlib.Core.Path.{_≡_, refl, sym, _∙_, subst}
 use mathlib.Core.Bool.{Bool, true, false, not, Bool·beq, cond, true≢false, false≢true}
-use Prim.Native.Nat.{ℕ, _-_, _*_, _%_, _^_, _≤_, _<_}
-use native.Mathlib.Nat.{le-refl, le-of-eq, lt-of-le-of-lt}
+use Prim.Native.Nat.{ℕ, _-_, _%_, _^_, _≤_, _<_}
 use native.Mathlib.Omega.{arith}
 use lib.Dec.{T, eqb}
 use lib.Bits.{bitAnd, and-mask}
-use lib.Ieee.{Float, nan, inf, fin, Format, binary32, binary64, add, fits, toBits, isNan, ne, hid, top, ones}
+use lib.Ieee.{Float, nan, inf, fin, binary32, binary64, add, fits, toBits, ne}
 use lib.Ieee.Compare.{differs-from-itself}
 use lib.Ieee.Scale.{finite}
 use borrow.Author.Tests.{not-true, not-false, eqb-true, eqb-false}
@@ -14,9 +13,7 @@ use Rattle.fused32.specs.Parts.{Clear, Parts, Tested}
 use Rattle.rounding.specs.Operations.{narrowed}
 use Rattle.fused32.proofs.Sums.{clear-sum}
 use Rattle.rounding.proofs.Comparing.{differs-no-nan}
-use Rattle.rounding.proofs.Orders.{clash}
-use Rattle.rounding.proofs.Patterns.{inf-lt, no-nan-rest, no-value, rest-is, value-bits}
-use Rattle.rounding.proofs.Units.{toBits-inf}
+use Rattle.rounding.proofs.Patterns.{bits-finite, no-nan-rest, no-value, value-bits}
 
 -- ---- what is not finite is not rounded
 narrowed-pick : (b : Bool) (s : Bool) → narrowed (cond b (inf s) nan) ≡ cond b (inf s) nan
@@ -59,24 +56,17 @@ nan-no-value s e h = subst (λ (z : Float). T (finite z)) (differs-from-itself s
 pub nan-tested : (s : Float) → ne s s ≡ true → Tested s true
 nan-tested s e = record { clear = λ _ h. absurd (nan-no-value s e h); plain = λ h. absurd (true≢false h) }
 
--- below an infinity's pattern
-finite-bits : (f : Format) (x : Float) → T (fits f x) → T (not (isNan x)) → toBits f x % top f < ones f * hid f → T (finite x)
-unfolding isNan
-finite-bits f nan held n h = n
-finite-bits f (inf s) held n h = clash (ones f * hid f) (ones f * hid f) (lt-of-le-of-lt (le-of-eq (sym (ap (λ (z : ℕ). z % top f) (toBits-inf f s) ∙ rest-is f s (ones f * hid f) (inf-lt f)))) h) (le-refl (ones f * hid f))
-finite-bits f (fin s m e) held n h = tt
-
 module _ (s : Float) (held : T (fits binary64 s)) (d : ne s s ≡ false) where
   abbrev n : ℕ
   n = toBits binary64 s
 
   pub small-tested : bitAnd n (2 ^ 63 - 1) < 0x3810_0000_0000_0000 → Tested s false
-  small-tested h = record { clear = λ e. absurd (false≢true e); plain = λ _. finite-bits binary64 s held (differs-no-nan s d) (omega (arith, and-mask n 63)) }
+  small-tested h = record { clear = λ e. absurd (false≢true e); plain = λ _. bits-finite binary64 s (differs-no-nan s d) (omega (arith, and-mask n 63)) }
 
   pub other-tested : 0x3810_0000_0000_0000 ≤ bitAnd n (2 ^ 63 - 1) → Tested s (not (eqb (bitAnd (bitAnd n (2 ^ 63 - 1)) (2 ^ 29 - 1)) 0x1000_0000))
   other-tested h = record {
     clear = λ e _. (omega (arith, and-mask n 63), λ m. eqb-false (bitAnd (bitAnd n (2 ^ 63 - 1)) (2 ^ 29 - 1)) 0x1000_0000 (not-true (eqb (bitAnd (bitAnd n (2 ^ 63 - 1)) (2 ^ 29 - 1)) 0x1000_0000) e) (lower ∙ m));
-    plain = λ e. finite-bits binary64 s held (differs-no-nan s d) (small (eqb-true (bitAnd (bitAnd n (2 ^ 63 - 1)) (2 ^ 29 - 1)) 0x1000_0000 (not-false (eqb (bitAnd (bitAnd n (2 ^ 63 - 1)) (2 ^ 29 - 1)) 0x1000_0000) e)));
+    plain = λ e. bits-finite binary64 s (differs-no-nan s d) (small (eqb-true (bitAnd (bitAnd n (2 ^ 63 - 1)) (2 ^ 29 - 1)) 0x1000_0000 (not-false (eqb (bitAnd (bitAnd n (2 ^ 63 - 1)) (2 ^ 29 - 1)) 0x1000_0000) e)));
   }
     where
       lower : bitAnd (bitAnd n (2 ^ 63 - 1)) (2 ^ 29 - 1) ≡ n % 2 ^ 29

@@ -3,7 +3,7 @@ use mathlib.Core.Path.{_≡_, refl, sym, ap, _∙_}
 use mathlib.Core.Logic.{inl, inr}
 use mathlib.Core.Bool.{Bool, true, false, not, cond, true≢false, false≢true}
 use Prim.Native.Nat.{ℕ, _+_, _-_, _^_, _≤_, _<_, zero-le}
-use native.Mathlib.Nat.{le-of-eq, le-of-lt, zero-mul}
+use native.Mathlib.Nat.{le-of-eq, le-of-lt, zero-mul, eq-zero-or-pos}
 use native.Mathlib.Omega.{arith}
 use lib.Dec.{ltb}
 use lib.Pow.{pow-pos}
@@ -12,11 +12,10 @@ use borrow.Author.Tests.{lt-ltb, ltb-true, ltb-false}
 use Rattle.fused32.specs.Parts.{Ordered, Short, amount}
 use Rattle.fused32.proofs.Compared.{zero-value}
 use Rattle.fused32.proofs.Sums.{G, S, s-value, to-zero, v, zero-to}
-use Rattle.narrowing.proofs.Patterns.{value}
-use Rattle.rounding.proofs.Adding.{add-units, plus}
+use Rattle.rounding.proofs.Adding.{add-units}
 use Rattle.rounding.proofs.Comparing.{lt-units}
 use Rattle.rounding.proofs.Mirror.{add-swap, sum-neg}
-use Rattle.rounding.proofs.Orders.{clash, zero-or-pos}
+use Rattle.rounding.proofs.Orders.{clash}
 use Rattle.rounding.proofs.Sums.{sum-sign, sum-size}
 use Rattle.rounding.proofs.Values.{neg-value}
 use Rattle.rounding.proofs.Whole.{exact-multiple, places}
@@ -50,7 +49,7 @@ module _ (p c : Float) (P : Short p) (C : Short c) where
   some : 0 < G p c P C → 0 < v p c P C
   some h =
       let w = v p c P C in
-      elim (zero-or-pos w) [
+      elim (eq-zero-or-pos w) [
         | inl e ↦ absurd (clash 0 (G p c P C) h (le-of-eq (exact-multiple binary64 w 0 (e ∙ sym (zero-mul (2 ^ places binary64 w))) ∙ e)))
         | inr g ↦ g
       ]

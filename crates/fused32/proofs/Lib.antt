@@ -2,6 +2,7 @@ pub mod Again
 pub mod Neighbours
 pub mod Remainder
 pub mod Compared
+pub mod Totals
 pub mod OddSum
 pub mod Sums
 pub mod Larger

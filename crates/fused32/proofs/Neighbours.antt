@@ -4,7 +4,7 @@ use mathlib.Core.Path.{_≡_, sym, ap, _∙_, subst}
 use mathlib.Core.Logic.{_⊎_, inl, inr}
 use mathlib.Core.Bool.{Bool, false, cond}
 use Prim.Native.Nat.{ℕ, suc, _+_, _-_, _*_, _%_, _^_, _≤_, _<_}
-use native.Mathlib.Nat.{le-refl, le-trans, le-of-lt, lt-of-lt-of-le, lt-of-le-of-lt, lt-of-mul-lt-mul-right, eq-or-lt-of-le, two-pow-succ, mul-le-mul, suc-mul, zero-add, le-suc}
+use native.Mathlib.Nat.{le-refl, le-trans, le-of-lt, lt-of-lt-of-le, lt-of-le-of-lt, lt-of-mul-lt-mul-right, eq-or-lt-of-le, two-pow-succ, mul-le-mul, suc-mul, zero-add, le-suc, eq-zero-or-pos}
 use native.Mathlib.Omega.{arith}
 use lib.Dec.{lit<}
 use lib.Pow.{pow-pos, pow-mono}
@@ -14,7 +14,6 @@ use lib.Ieee.Exact.{HasValue, units-val}
 use Rattle.rounding.specs.Operations.{narrowed}
 use Rattle.fused32.proofs.Again.{again-normal, again-odd}
 use Rattle.narrowing.proofs.Narrowed.{narrowed-value}
-use Rattle.rounding.proofs.Orders.{zero-or-pos}
 use Rattle.rounding.proofs.Pack.{pack}
 use Rattle.rounding.proofs.Units.{up-hid}
 use Rattle.rounding.proofs.Whole.{exact-short, near, near-ge, near-le, places, rounded-bits, rounded-value, v-ge, v-lt}
@@ -94,7 +93,7 @@ module _ (v : ℕ) (bound : v < 2 ^ 1401) where
 
   -- ---- the neighbours, for a sum that is not below zero
   inexact : (Q * u ≡ v → ⊥) → 0 < j
-  inexact n = elim (zero-or-pos j) [ inl e ↦ absurd (n (exact-short binary64 v e)) | inr p ↦ p ]
+  inexact n = elim (eq-zero-or-pos j) [ inl e ↦ absurd (n (exact-short binary64 v e)) | inr p ↦ p ]
 
   neighbour : (q n : ℕ) → n ≡ j * 2 ^ 52 + q → q % 2 ≡ 1 → 2 ^ 52 ≤ q → q < 2 ^ 53 → q * u < v + u → v < q * u + u → narrowed (ofBits binary64 n) ≡ round binary32 false v (2 ^ 1074)
   neighbour q n e o ge few lo hi =

@@ -10,12 +10,9 @@ use lib.Ieee.{Float, nan, inf, fin, binary32, binary64, unlike, up, down, round,
 use lib.Ieee.Exact.{HasValue, round-exact}
 use Rattle.fused32.specs.Parts.{Parts, Short}
 use Rattle.rounding.specs.Operations.{fused}
-use Rattle.fused32.proofs.Sums.{v}
-use Rattle.narrowing.proofs.Patterns.{value}
 use Rattle.rounding.proofs.Patterns.{no-value}
 use Rattle.rounding.proofs.Products.{exact-product, mul-value}
 use Rattle.rounding.proofs.Values.{fits-units, rescale}
-use Rattle.rounding.proofs.Whole.{places}
 
 -- m * 2 ^ i of the units 2 ^ -l, in the units 2 ^ -1074
 finer : (x : Float) (s : Bool) (m i l k : ℕ) → HasValue x s (m * 2 ^ i) (2 ^ l) → l + k ≡ 1074 → m < 2 ^ 48 → m * 2 ^ i * 2 ^ k < 2 ^ 1400 → Short x

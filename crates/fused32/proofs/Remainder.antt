@@ -2,17 +2,16 @@
 -- or the unit that was rounded to divides the larger, and so what is left, which is no more than the smaller and half that unit. Assumes nothing.
 use mathlib.Core.Path.{_≡_, sym, ap, _∙_, subst}
 use mathlib.Core.Logic.{_⊎_, inl, inr}
-use mathlib.Core.Bool.{Bool, true, false, not}
 use Prim.Native.Nat.{ℕ, _+_, _-_, _*_, _^_, _≤_, _<_}
-use native.Mathlib.Nat.{le-trans, le-of-eq, le-of-lt, lt-of-lt-of-le, mul-assoc, mul-le-mul-right, mul-le-mul-left, mul-lt-mul-of-pos-right, lt-of-mul-lt-mul-right}
+use native.Mathlib.Nat.{le-trans, le-of-eq, le-of-lt, lt-of-lt-of-le, mul-assoc, mul-le-mul-right, mul-le-mul-left, mul-lt-mul-of-pos-right, lt-of-mul-lt-mul-right, eq-zero-or-pos}
 use native.Mathlib.Omega.{arith}
-use lib.Dec.{T, ltb, ltb→lt, nltb→le, lit≤}
+use lib.Dec.{lit≤}
 use lib.Pow.{pow-add, pow-pos, pow-mono}
 use lib.Ieee.{Float, binary64}
 use lib.Ieee.Digits.{back}
 use Rattle.fused32.specs.Parts.{Short, amount}
 use Rattle.rounding.proofs.Closest.{closest-ge}
-use Rattle.rounding.proofs.Orders.{pow-lt-back, sub-mul, zero-or-pos}
+use Rattle.rounding.proofs.Orders.{lt-or-ge, pow-lt-back, sub-mul}
 use Rattle.rounding.proofs.Whole.{exact-multiple, exact-short, near, places, v-ge}
 use Rattle.rounding.proofs.Within.{closest-most, closest-near}
 
@@ -54,13 +53,15 @@ module _ {x y : Float} (p : Short x) (q : Short y) (o : amount q ≤ amount p) w
         omega (arith, pow-lt-back (52 + j) (49 + s) c)
 
     aligned : (G ≡ v) ⊎ ((w : ℕ) × (X ≡ w * u) × (q .places < j))
-    aligned = elim (zero-or-pos j) [ inl e ↦ inl (exact-short binary64 v e) | inr h ↦ pick h (ltb (q .places) j) (ltb→lt (q .places) j) (nltb→le (q .places) j) ]
-      where
-        pick : 0 < j → (b : Bool) → (T b → q .places < j) → (T (not b) → j ≤ q .places) → (G ≡ v) ⊎ ((w : ℕ) × (X ≡ w * u) × (q .places < j))
-        pick h true a b = inr (p .digits * 2 ^ (p .places - j), whole (p .digits) (p .places) j (above h), a tt)
-        pick h false a b =
-            let m = mult j (above h) (b tt) in
+    aligned = elim (eq-zero-or-pos j) [
+      | inl e ↦ inl (exact-short binary64 v e)
+      | inr h ↦ elim (lt-or-ge (q .places) j) [
+        | inl l ↦ inr (p .digits * 2 ^ (p .places - j), whole (p .digits) (p .places) j (above h), l)
+        | inr g ↦
+            let m = mult j (above h) g in
             inl (exact-multiple binary64 v (m .0) (m .1))
+      ]
+    ]
 
     -- what is left, D, where it is d of the unit
     rest : (D d : ℕ) → q .places < j → D ≡ d * u → D * 2 ≤ Y * 2 + u → Few D

@@ -3,7 +3,7 @@ use mathlib.Core.Path.{_≡_, sym, ap, _∙_, subst}
 use mathlib.Core.Logic.{inl, inr}
 use mathlib.Core.Bool.{Bool, true, false, Bool·beq, cond}
 use Prim.Native.Nat.{ℕ, _+_, _-_, _*_, _%_, _^_, _≤_, _<_}
-use native.Mathlib.Nat.{le-refl, le-trans, le-of-lt, lt-of-lt-of-le, lt-of-le-of-lt, mul-pos, le-add-right, sub-le, le-add-left, add-lt-add-of-lt-of-le}
+use native.Mathlib.Nat.{le-refl, le-trans, le-of-lt, lt-of-lt-of-le, lt-of-le-of-lt, mul-pos, le-add-right, sub-le, eq-zero-or-pos, le-add-left, add-lt-add-of-lt-of-le}
 use native.Mathlib.Omega.{arith}
 use lib.Dec.{ltb}
 use lib.Pow.{pow-pos}
@@ -16,7 +16,7 @@ use Rattle.fused32.proofs.Compared.{zero-value}
 use Rattle.fused32.proofs.Neighbours.{as-clear, as-exact, bits, j-le, rounds}
 use Rattle.rounding.proofs.Adding.{add-units}
 use Rattle.rounding.proofs.Comparing.{lt-units}
-use Rattle.rounding.proofs.Orders.{clash, zero-or-pos}
+use Rattle.rounding.proofs.Orders.{clash}
 use Rattle.rounding.proofs.Patterns.{rest-is}
 use Rattle.rounding.proofs.Sums.{sum-is, sum-sign, sum-size}
 use Rattle.rounding.proofs.Values.{value-finite}
@@ -73,7 +73,7 @@ module _ (p c : Float) (P : Short p) (C : Short c) where
 
   -- ---- a sum that is zero
   pub zero-sum : lt (ofBits binary64 0) (add binary64 p c) ≡ false → lt (add binary64 p c) (ofBits binary64 0) ≡ false → narrowed (add binary64 p c) ≡ add binary32 p c
-  zero-sum a b = narrow-sum (as-exact v fine S (exact-short binary64 v (elim (zero-or-pos (places binary64 v)) [ inl e ↦ e | inr h ↦ absurd (full h) ])))
+  zero-sum a b = narrow-sum (as-exact v fine S (exact-short binary64 v (elim (eq-zero-or-pos (places binary64 v)) [ inl e ↦ e | inr h ↦ absurd (full h) ])))
     where
       none : (s : Bool) → below false 0 s G ≡ false → below s G false 0 ≡ false → G ≤ 0
       none true x y = omega (arith, ltb-false 0 (G + 0) y)

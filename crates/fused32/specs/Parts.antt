@@ -41,6 +41,7 @@ pub record Above (p c s : Float) : Type 0 where
 abbrev pub Clear : Float → Type 0
 Clear s = T (finite s) → (0x3810_0000_0000_0000 ≤ toBits binary64 s % 2 ^ 63) × (toBits binary64 s % 2 ^ 29 ≡ 2 ^ 28 → ⊥)
 
+-- What a test for that finds: a sum that is not clear is finite.
 pub record Tested (s : Float) (r : Bool) : Type 0 where
   pub clear : r ≡ true → Clear s
   pub plain : r ≡ false → T (finite s)

@@ -67,8 +67,7 @@ fn join(p: f64, c: f64) -> f32
     if s < 0.0 {
         return -positive_sum(-p, -c, -s);
     }
-    // An exact zero, with its sign.
-    narrow(s)
+    narrow(s) // an exact zero, with its sign
 }
 
 // K4, K5. 000's mul_add for f32: a * b + c, rounded once.

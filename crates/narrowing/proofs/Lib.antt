@@ -1,3 +1,4 @@
 pub mod Narrowed
 pub mod Patterns
+pub mod Subnormal
 pub mod Signed

@@ -7,7 +7,7 @@ use lib.IntN.{ℤ}
 use lib.Ieee.{Float, nan, inf, fin, Format, up, down, round, sum, add, sub, neg}
 use lib.Ieee.Fits.{down-pos}
 use lib.Ieee.Exact.{HasValue}
-use Rattle.rounding.proofs.Orders.{not-lt}
+use borrow.Author.Tests.{le-ltb}
 use Rattle.rounding.proofs.Sums.{sum-is, sum-like, sum-same}
 use Rattle.rounding.proofs.Values.{neg-value}
 
@@ -44,4 +44,4 @@ unfolding sub
 minus f x y A B L P o h k =
     add-units f x (neg y) false true A B L P h (neg-value y false B L k)
     ∙ sum-is f false A true B L
-    ∙ ap (λ (z : Bool). round f (cond z true false) (cond z (B - A) (A - B)) L) (not-lt A B o)
+    ∙ ap (λ (z : Bool). round f (cond z true false) (cond z (B - A) (A - B)) L) (le-ltb A B o)

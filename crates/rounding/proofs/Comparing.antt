@@ -57,12 +57,6 @@ differs-no-nan nan h = absurd (true≢false h)
 differs-no-nan (inf s) h = tt
 differs-no-nan (fin s m e) h = tt
 
-pub equal-no-nan : (x : Float) → eq x x ≡ true → T (not (isNan x))
-unfolding eq isNan
-equal-no-nan nan h = absurd (false≢true h)
-equal-no-nan (inf s) h = tt
-equal-no-nan (fin s m e) h = tt
-
 -- ---- finite or not, by two comparisons with the infinities 1.0 / 0.0 and -1.0 / 0.0
 plus-inf : div binary64 (ofBits binary64 0x3ff0_0000_0000_0000) (ofBits binary64 0) ≡ inf false
 unfolding div ofBits

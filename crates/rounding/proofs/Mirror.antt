@@ -10,8 +10,9 @@ use lib.Ieee.Fits.{round-is}
 use lib.Ieee.Exact.{HasValue}
 use lib.Ieee.Order.{drop, kept}
 use lib.Ieee.Scale.{overflow}
+use borrow.Author.Tests.{lt-ltb}
 use Rattle.rounding.proofs.Adding.{add-units}
-use Rattle.rounding.proofs.Orders.{Cmp, cmp, is-lt}
+use Rattle.rounding.proofs.Orders.{Cmp, cmp}
 use Rattle.rounding.proofs.Sums.{sum-is, sum-less, sum-level, sum-like, sum-over, sum-sign, sum-size}
 
 -- ---- the other way round
@@ -75,12 +76,12 @@ sign-neg true false a b h = go (ltb a b) h
   where
     go : (x : Bool) → 0 < cond x (b - a) (a - b) → cond x true false ≡ not (cond x false (ltb b a))
     go true h = refl
-    go false h = ap not (sym (is-lt b a (omega arith)))
+    go false h = ap not (sym (lt-ltb b a (omega arith)))
 sign-neg false true a b h = go (ltb a b) h
   where
     go : (x : Bool) → 0 < cond x (b - a) (a - b) → cond x false (ltb b a) ≡ not (cond x true false)
     go true h = refl
-    go false h = is-lt b a (omega arith)
+    go false h = lt-ltb b a (omega arith)
 
 size-neg : (s t : Bool) (a b : ℕ) → sum-size (not s) a (not t) b ≡ sum-size s a t b
 size-neg true true a b = refl

@@ -1,19 +1,20 @@
 -- `round` by what is near: q * 2 ^ k units within half a unit of the fraction, where at the least q with a leading digit the unit below counts, half as large. Assumes nothing.
 use mathlib.Core.Path.{_≡_, sym, ap, _∙_, subst}
-use mathlib.Core.Bool.{Bool, true, false, not}
+use mathlib.Core.Logic.{inl, inr}
+use mathlib.Core.Bool.{Bool}
 use Prim.Native.Nat.{ℕ, zero, suc, _+_, _-_, _*_, _^_, _≤_, _<_}
 use native.Mathlib.Nat.{le-trans, le-of-eq, zero-lt-suc, one-mul, mul-left-comm, mul-pos, mul-le-mul-right, lt-of-mul-lt-mul-right, add-mul, two-pow-succ, mul-add, le-of-suc-le-suc, lt-irrefl, suc-mul, le-antisymm}
 use native.Mathlib.Omega.{arith}
-use lib.Dec.{T, ltb, ltb→lt, nltb→le}
 use lib.Pow.{pow-pos}
 use lib.Ieee.{Format, units, round, prec, low, hid}
 use Rattle.rounding.proofs.Dropped.{prec-pos, round-at}
+use Rattle.rounding.proofs.Orders.{lt-or-ge}
 use Rattle.rounding.proofs.Pack.{units-carry}
 use Rattle.rounding.proofs.Units.{twice-hid, up-hid}
 use Rattle.rounding.proofs.Within.{closest-unique}
 
 module _ (f : Format) (s : Bool) (num den : ℕ) (D : 0 < den) where
-  pub double : (k : ℕ) → den * 2 ^ suc k ≡ den * 2 ^ k + den * 2 ^ k
+  double : (k : ℕ) → den * 2 ^ suc k ≡ den * 2 ^ k + den * 2 ^ k
   double k = ap (λ (z : ℕ). den * z) (two-pow-succ k) ∙ mul-add den (2 ^ k) (2 ^ k)
 
   -- hid of the unit 2 ^ (k + 1) are 2 ^ prec of the unit 2 ^ k
@@ -60,26 +61,26 @@ module _ (f : Format) (s : Bool) (num den : ℕ) (D : 0 < den) where
   at-most : (q w u : ℕ) → q * u < w * u + u → q ≤ w
   at-most q w u h = le-of-suc-le-suc (lt-of-mul-lt-mul-right u (subst (λ (z : ℕ). q * u < z) (sym (suc-mul w u)) h))
 
+  full : (q k : ℕ) → q ≤ 2 ^ prec f → num * 2 ^ low f * 2 < q * (den * 2 ^ k) * 2 + den * 2 ^ k → 2 ^ prec f * (den * 2 ^ k) ≤ num * 2 ^ low f → round f s num den ≡ units f s q k
+  full q k Q b g =
+      let e : q ≡ 2 ^ prec f = le-antisymm Q (at-most (2 ^ prec f) q (den * 2 ^ k) (omega arith)) in
+      above k g (subst (λ (z : ℕ). num * 2 ^ low f * 2 < z * (den * 2 ^ k) * 2 + den * 2 ^ k) e b) ∙ ap (λ (z : ℕ). units f s z k) (sym e)
+
   pub round-near : (q k : ℕ) → q ≤ 2 ^ prec f → (0 < k → hid f ≤ q)
       → q * (den * 2 ^ k) * 2 < num * 2 ^ low f * 2 + den * 2 ^ k
       → num * 2 ^ low f * 2 < q * (den * 2 ^ k) * 2 + den * 2 ^ k
       → (0 < k → q ≡ hid f → hid f * (den * 2 ^ k) * 4 < num * 2 ^ low f * 4 + den * 2 ^ k)
       → round f s num den ≡ units f s q k
-  round-near q k Q N a b edge = go k N a b edge (ltb (num * 2 ^ low f) (2 ^ prec f * (den * 2 ^ k))) (ltb→lt (num * 2 ^ low f) (2 ^ prec f * (den * 2 ^ k))) (nltb→le (num * 2 ^ low f) (2 ^ prec f * (den * 2 ^ k)))
-    where
-      go : (k : ℕ) → (0 < k → hid f ≤ q) → q * (den * 2 ^ k) * 2 < num * 2 ^ low f * 2 + den * 2 ^ k → num * 2 ^ low f * 2 < q * (den * 2 ^ k) * 2 + den * 2 ^ k
-          → (0 < k → q ≡ hid f → hid f * (den * 2 ^ k) * 4 < num * 2 ^ low f * 4 + den * 2 ^ k)
-          → (t : Bool) → (T t → num * 2 ^ low f < 2 ^ prec f * (den * 2 ^ k)) → (T (not t) → 2 ^ prec f * (den * 2 ^ k) ≤ num * 2 ^ low f) → round f s num den ≡ units f s q k
-      go k N a b edge false x y =
-          let l : 2 ^ prec f * (den * 2 ^ k) ≤ num * 2 ^ low f = y tt in
-          let e : q ≡ 2 ^ prec f = le-antisymm Q (at-most (2 ^ prec f) q (den * 2 ^ k) (omega arith)) in
-          above k l (subst (λ (z : ℕ). num * 2 ^ low f * 2 < z * (den * 2 ^ k) * 2 + den * 2 ^ k) e b) ∙ ap (λ (z : ℕ). units f s z k) (sym e)
-      go zero N a b edge true x y = inside q zero (λ (h : 0 < 0). absurd (lt-irrefl 0 h)) (x tt) a b
-      go (suc k) N a b edge true x y = pick (ltb (num * 2 ^ low f) (hid f * (den * 2 ^ suc k))) (ltb→lt (num * 2 ^ low f) (hid f * (den * 2 ^ suc k))) (nltb→le (num * 2 ^ low f) (hid f * (den * 2 ^ suc k)))
-        where
-          pick : (t : Bool) → (T t → num * 2 ^ low f < hid f * (den * 2 ^ suc k)) → (T (not t) → hid f * (den * 2 ^ suc k) ≤ num * 2 ^ low f) → round f s num den ≡ units f s q (suc k)
-          pick true c d =
-              let l : num * 2 ^ low f < hid f * (den * 2 ^ suc k) = c tt in
-              let e : q ≡ hid f = le-antisymm (at-most q (hid f) (den * 2 ^ suc k) (omega arith)) (N (zero-lt-suc k)) in
-              under k l (edge (zero-lt-suc k) e) ∙ ap (λ (z : ℕ). units f s z (suc k)) (sym e)
-          pick false c d = inside q (suc k) (λ _. d tt) (x tt) a b
+  round-near q zero Q N a b edge = elim (lt-or-ge (num * 2 ^ low f) (2 ^ prec f * (den * 2 ^ 0))) [
+    | inl l ↦ inside q 0 (λ (h : 0 < 0). absurd (lt-irrefl 0 h)) l a b
+    | inr g ↦ full q 0 Q b g
+  ]
+  round-near q (suc k) Q N a b edge = elim (lt-or-ge (num * 2 ^ low f) (2 ^ prec f * (den * 2 ^ suc k))) [
+    | inr g ↦ full q (suc k) Q b g
+    | inl l ↦ elim (lt-or-ge (num * 2 ^ low f) (hid f * (den * 2 ^ suc k))) [
+      | inr g ↦ inside q (suc k) (λ _. g) l a b
+      | inl c ↦
+          let e : q ≡ hid f = le-antisymm (at-most q (hid f) (den * 2 ^ suc k) (omega arith)) (N (zero-lt-suc k)) in
+          under k c (edge (zero-lt-suc k) e) ∙ ap (λ (z : ℕ). units f s z (suc k)) (sym e)
+    ]
+  ]

@@ -6,10 +6,10 @@ use Prim.Native.Nat.{ℕ, zero, suc, _-_, _*_, _%_, _^_, _≤_, _<_, compare, Or
 use native.Mathlib.Nat.{le-refl, le-of-eq, lt-of-lt-of-le, lt-of-le-of-lt, zero-lt-suc, mul-comm, mul-lt-mul-of-pos-right, lt-of-mul-lt-mul-right, mul-sub, le-of-suc-le-suc, lt-of-not-le, lt-irrefl, eq-of-mul-eq-mul-right, mod-lt}
 use native.Mathlib.Omega.{arith}
 use lib.Dec.{T, ltb, eqb, ltb→lt, lt→ltb, leb→le, eqb→eq, isLe, isEq, nleb→lt, eqb-refl}
-use lib.Arith.{le→nltb, lt-of-le-ne}
+use lib.Arith.{lt-of-le-ne}
 use lib.Pow.{pow-mono, pow-lt}
 use lib.Ieee.Fits.{eq→eqb}
-use lib.Ieee.Bits.{is-true, is-false}
+use borrow.Author.Tests.{ltb-true, ltb-false}
 
 abbrev pub Cmp : Ordering → ℕ → ℕ → Type 0
 Cmp Ordering·lt a b = a < b
@@ -27,12 +27,12 @@ cmp a b = go (compare a b) (leb→le a b) (nleb→lt a b) (eqb→eq a b) (λ (e 
 pub clash : (a b : ℕ) → a < b → b ≤ a → ⊥
 clash a b h k = omega arith
 
--- a test that failed, the other way round
-pub not-lt : (a b : ℕ) → b ≤ a → ltb a b ≡ false
-not-lt a b h = is-false (ltb a b) (le→nltb a b h)
-
-pub is-lt : (a b : ℕ) → a < b → ltb a b ≡ true
-is-lt a b h = is-true (ltb a b) (lt→ltb a b h)
+pub lt-or-ge : (a b : ℕ) → (a < b) ⊎ (b ≤ a)
+lt-or-ge a b = go (ltb a b) refl
+  where
+    go : (t : Bool) → ltb a b ≡ t → (a < b) ⊎ (b ≤ a)
+    go true e = inl (ltb-true a b e)
+    go false e = inr (ltb-false a b e)
 
 -- the last digit is 0 or 1
 pub bit : (q : ℕ) → (q % 2 ≡ 0) ⊎ (q % 2 ≡ 1)
@@ -44,10 +44,6 @@ bit q = go (q % 2) refl (mod-lt q (zero-lt-suc 1))
     go : (z : ℕ) → q % 2 ≡ z → q % 2 < 2 → (q % 2 ≡ 0) ⊎ (q % 2 ≡ 1)
     go zero e h = inl e
     go (suc z) e h = inr (one z e h)
-
-pub zero-or-pos : (j : ℕ) → (j ≡ 0) ⊎ (0 < j)
-zero-or-pos zero = inl refl
-zero-or-pos (suc j) = inr (zero-lt-suc j)
 
 pub pow-lt-back : (i p : ℕ) → 2 ^ i < 2 ^ p → i < p
 pow-lt-back i p h = lt-of-not-le (λ (g : p ≤ i). lt-irrefl (2 ^ i) (lt-of-lt-of-le h (pow-mono g)))

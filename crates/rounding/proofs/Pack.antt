@@ -1,11 +1,12 @@
 -- A pattern put together is read as it was meant: sign and k * hid + q as q * 2 ^ k units, carry and overflow included; and sign, exponent's field and digits as
 -- those three fields. Assumes nothing.
 use mathlib.Core.Path.{_≡_, refl, sym, ap, _∙_, subst}
-use mathlib.Core.Bool.{Bool, true, false, not, cond}
+use mathlib.Core.Logic.{inl, inr}
+use mathlib.Core.Bool.{Bool, true, false, cond}
 use Prim.Native.Nat.{ℕ, suc, _+_, _*_, _/_, _%_, _^_, _≤_, _<_}
 use native.Mathlib.Nat.{le-refl, le-trans, le-of-eq, lt-of-le-of-lt, mul-comm, mul-le-mul-right, add-mul, le-of-mul-le-mul-right, zero-add, le-add-right, mod-eq-of-lt, le-antisymm, add-mod-left, mul-add-mod-self-left}
 use native.Mathlib.Omega.{arith}
-use lib.Dec.{T, leb, ltb, ltb→lt, nltb→le, le→leb}
+use lib.Dec.{T, leb, le→leb}
 use lib.Arith.{digits-mod, digits-div, digits-lt, lt→nleb}
 use lib.Pow.{pow-add, pow-pos, pow-lt}
 use lib.Ieee.{Float, inf, Format, units, fits, prec, emax, low, ofBits, ofFields, hid, top, ones}
@@ -14,7 +15,7 @@ use lib.Ieee.Exact.{units-val}
 use lib.Ieee.Bits.{is-true, is-false, ofBits-toBits}
 use lib.Ieee.Scale.{overflow}
 use Rattle.rounding.proofs.Dropped.{prec-pos}
-use Rattle.rounding.proofs.Orders.{pow-le-back, pow-lt-back}
+use Rattle.rounding.proofs.Orders.{lt-or-ge, pow-le-back, pow-lt-back}
 use Rattle.rounding.proofs.Units.{bits-units, carried, hid-le, toBits-inf, twice-hid, units-finite, units-over, up-hid}
 
 -- ---- sign + (k * hid + q)
@@ -37,26 +38,23 @@ pack-over f q k Q K h =
     i ∙ ap (λ (z : ℕ). z * hid f) e
 
 pub pack : (f : Format) (s : Bool) (q k : ℕ) → q ≤ 2 ^ prec f → (0 < k → hid f ≤ q) → k < 2 * emax f → ofBits f (cond s (top f) 0 + (k * hid f + q)) ≡ units f s q k
-pack f s q k Q N K = go (ltb (q * 2 ^ k) (overflow f)) (ltb→lt (q * 2 ^ k) (overflow f)) (nltb→le (q * 2 ^ k) (overflow f))
-  where
-    go : (b : Bool) → (T b → q * 2 ^ k < overflow f) → (T (not b) → overflow f ≤ q * 2 ^ k) → ofBits f (cond s (top f) 0 + (k * hid f + q)) ≡ units f s q k
-    go true h g =
-        ap (ofBits f) (sym (bits-units f (units f s q k) s q k Q N (units-val f s q k (h tt)))) ∙ ofBits-toBits f (units f s q k) (units-fits f s q k Q (h tt))
-    go false h g =
-        ap (λ (z : ℕ). ofBits f (cond s (top f) 0 + z)) (pack-over f q k Q K (g tt)) ∙ ap (ofBits f) (sym (toBits-inf f s)) ∙ ofBits-toBits f (inf s) (inf-fits f s) ∙ sym (units-over f s q k (g tt))
+pack f s q k Q N K = elim (lt-or-ge (q * 2 ^ k) (overflow f)) [
+  | inl h ↦ ap (ofBits f) (sym (bits-units f (units f s q k) s q k Q N (units-val f s q k h))) ∙ ofBits-toBits f (units f s q k) (units-fits f s q k Q h)
+  | inr g ↦
+      ap (λ (z : ℕ). ofBits f (cond s (top f) 0 + z)) (pack-over f q k Q K g) ∙ ap (ofBits f) (sym (toBits-inf f s)) ∙ ofBits-toBits f (inf s) (inf-fits f s) ∙ sym (units-over f s q k g)
+]
 
 -- 2 ^ prec units at k are hid units at k + 1
 pub units-carry : (f : Format) (s : Bool) (k : ℕ) → units f s (hid f) (suc k) ≡ units f s (2 ^ prec f) k
-units-carry f s k = go (ltb (2 ^ prec f * 2 ^ k) (overflow f)) (ltb→lt (2 ^ prec f * 2 ^ k) (overflow f)) (nltb→le (2 ^ prec f * 2 ^ k) (overflow f))
-  where
-    go : (b : Bool) → (T b → 2 ^ prec f * 2 ^ k < overflow f) → (T (not b) → overflow f ≤ 2 ^ prec f * 2 ^ k) → units f s (hid f) (suc k) ≡ units f s (2 ^ prec f) k
-    go false h g = units-over f s (hid f) (suc k) (le-trans (g tt) (le-of-eq (sym (up-hid f k)))) ∙ sym (units-over f s (2 ^ prec f) k (g tt))
-    go true h g =
-        let P : 2 ≤ prec f = two f in
-        let l : prec f + k < low f + suc (emax f) = pow-lt-back (prec f + k) (low f + suc (emax f)) (lt-of-le-of-lt (le-of-eq (pow-add 2 (prec f) k)) (h tt)) in
-        sym (pack f s (hid f) (suc k) (hid-le f) (λ _. le-refl (hid f)) (omega arith))
-        ∙ ap (λ (z : ℕ). ofBits f (cond s (top f) 0 + z)) (carried f k)
-        ∙ pack f s (2 ^ prec f) k (le-refl (2 ^ prec f)) (λ _. hid-le f) (omega arith)
+units-carry f s k = elim (lt-or-ge (2 ^ prec f * 2 ^ k) (overflow f)) [
+  | inl h ↦
+      let P : 2 ≤ prec f = two f in
+      let l : prec f + k < low f + suc (emax f) = pow-lt-back (prec f + k) (low f + suc (emax f)) (lt-of-le-of-lt (le-of-eq (pow-add 2 (prec f) k)) h) in
+      sym (pack f s (hid f) (suc k) (hid-le f) (λ _. le-refl (hid f)) (omega arith))
+      ∙ ap (λ (z : ℕ). ofBits f (cond s (top f) 0 + z)) (carried f k)
+      ∙ pack f s (2 ^ prec f) k (le-refl (2 ^ prec f)) (λ _. hid-le f) (omega arith)
+  | inr g ↦ units-over f s (hid f) (suc k) (le-trans g (le-of-eq (sym (up-hid f k)))) ∙ sym (units-over f s (2 ^ prec f) k g)
+]
 
 -- ---- sign, exponent's field and digits
 pub ofBits-is : (f : Format) (b : ℕ) → ofBits f b ≡ ofFields f (leb (top f) b) (b % top f / hid f) (b % hid f)

@@ -8,12 +8,12 @@ use native.Mathlib.Omega.{arith}
 use lib.Dec.{T, leb, eqb, nltb→le, lit<, leb→le, nleb→lt}
 use lib.Arith.{le→nltb}
 use lib.Pow.{pow-pos}
-use lib.Ieee.{Float, nan, inf, Format, binary32, binary64, units, fits, toBits, prec, emax, ofBits, isNan, nanBits, ofFields, hid, top, ones}
+use lib.Ieee.{Float, nan, inf, fin, Format, binary32, binary64, units, fits, toBits, prec, emax, ofBits, isNan, nanBits, ofFields, hid, top, ones}
 use lib.Ieee.Bits.{nanBits-above, ofBits-toBits, nanBits-is}
 use lib.Ieee.Scale.{finite}
 use Rattle.rounding.proofs.Dropped.{prec-pos}
 use Rattle.rounding.proofs.Pack.{ofBits-is, pack}
-use Rattle.rounding.proofs.Units.{twice-hid}
+use Rattle.rounding.proofs.Units.{toBits-inf, twice-hid}
 
 pub top-pos : (f : Format) → 0 < top f
 top-pos f = mul-pos (pow-pos (prec f - 1)) (zero-lt-suc (ones f))
@@ -69,6 +69,12 @@ finite-rest f n h =
       | inl e ↦ absurd (full f (leb (top f) n) (n % hid f) (subst (λ (z : ℕ). T (finite (ofFields f (leb (top f) n) z (n % hid f)))) e (subst (λ (v : Float). T (finite v)) (ofBits-is f n) h)))
       | inr g ↦ div-lt-iff-lt-mul (pow-pos (prec f - 1)) .0 g
     ]
+
+pub bits-finite : (f : Format) (x : Float) → T (not (isNan x)) → toBits f x % top f < ones f * hid f → T (finite x)
+unfolding isNan
+bits-finite f nan n h = n
+bits-finite f (inf s) n h = lt-irrefl (ones f * hid f) (subst (λ (z : ℕ). z < ones f * hid f) (ap (λ (z : ℕ). z % top f) (toBits-inf f s) ∙ rest-is f s (ones f * hid f) (inf-lt f)) h)
+bits-finite f (fin s m e) n h = tt
 
 -- a finite value's pattern without its sign, b, is b / hid - 1 in its unit's exponent, and the rest of b counts that unit
 pub unpacked : (f : Format) (s : Bool) (b : ℕ) → b < ones f * hid f → ofBits f (cond s (top f) 0 + b) ≡ units f s (b - (b / hid f - 1) * hid f) (b / hid f - 1)

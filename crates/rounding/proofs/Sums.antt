@@ -9,8 +9,9 @@ use lib.Dec.{ltb}
 use lib.Pow.{pow-pos}
 use lib.Ieee.{fin, Format, binary32, binary64, units, round, sum, prec, emax, low, ofBits, odd}
 use lib.Ieee.Scale.{round-same}
+use borrow.Author.Tests.{lt-ltb, le-ltb}
 use Rattle.rounding.proofs.Dropped.{round-low}
-use Rattle.rounding.proofs.Orders.{and-false, and-true, cross-ltb, is-lt, not-lt, sub-mul}
+use Rattle.rounding.proofs.Orders.{and-false, and-true, cross-ltb, sub-mul}
 use Rattle.rounding.proofs.Units.{units-finite}
 use Rattle.rounding.proofs.Within.{closest-none}
 
@@ -30,10 +31,10 @@ sum-unlike f S W x y a b c e p q =
     ∙ ap (λ (z : Bool). cond x (round f W (b - a) c) (round f (S && z) (a - b) c)) q
 
 pub sum-less : (f : Format) (S W : Bool) (a b c : ℕ) → Bool·beq S W ≡ false → b < a → sum f S a W b c ≡ round f S (a - b) c
-sum-less f S W a b c e l = sum-unlike f S W false true a b c e (not-lt a b (le-of-lt l)) (is-lt b a l) ∙ ap (λ (z : Bool). round f z (a - b) c) (and-true S)
+sum-less f S W a b c e l = sum-unlike f S W false true a b c e (le-ltb a b (le-of-lt l)) (lt-ltb b a l) ∙ ap (λ (z : Bool). round f z (a - b) c) (and-true S)
 
 pub sum-over : (f : Format) (S W : Bool) (a b c : ℕ) → Bool·beq S W ≡ false → a < b → sum f S a W b c ≡ round f W (b - a) c
-sum-over f S W a b c e l = sum-unlike f S W true false a b c e (is-lt a b l) (not-lt b a (le-of-lt l))
+sum-over f S W a b c e l = sum-unlike f S W true false a b c e (lt-ltb a b l) (le-ltb b a (le-of-lt l))
 
 -- an exact zero has the sign of plus
 pub round-zero : (f : Format) (s : Bool) (c : ℕ) → 0 < c → round f s 0 c ≡ fin s 0 (pos 0)
@@ -53,7 +54,7 @@ zero-bits binary64 = refl
 pub sum-level : (f : Format) (S W : Bool) (a b c : ℕ) → 0 < c → Bool·beq S W ≡ false → a ≡ b → sum f S a W b c ≡ ofBits f 0
 sum-level f S W a b c C e l =
     let z : a - b ≡ 0 = omega arith in
-    sum-unlike f S W false false a b c e (not-lt a b (le-of-eq (sym l))) (not-lt b a (le-of-eq l))
+    sum-unlike f S W false false a b c e (le-ltb a b (le-of-eq (sym l))) (le-ltb b a (le-of-eq l))
     ∙ ap (λ (z : Bool). round f z (a - b) c) (and-false S)
     ∙ ap (λ (v : ℕ). round f false v c) z
     ∙ round-zero f false c C

@@ -12,16 +12,16 @@ use lib.Ieee.Digits.{size-le}
 use lib.Ieee.Fits.{down-pos}
 use lib.Ieee.Exact.{HasValue}
 use lib.Ieee.Scale.{overflow}
+use borrow.Author.Tests.{lt-ltb, le-ltb}
 use Rattle.rounding.proofs.Dropped.{prec-pos, size-at}
-use Rattle.rounding.proofs.Orders.{is-lt, not-lt}
 
 pub units-finite : (f : Format) (s : Bool) (q k : ℕ) → q * 2 ^ k < overflow f → units f s q k ≡ odd (suc (prec f)) s q k (low f)
 unfolding units
-units-finite f s q k h = ap (λ (b : Bool). cond b (odd (suc (prec f)) s q k (low f)) (inf s)) (is-lt (q * 2 ^ k) (overflow f) h)
+units-finite f s q k h = ap (λ (b : Bool). cond b (odd (suc (prec f)) s q k (low f)) (inf s)) (lt-ltb (q * 2 ^ k) (overflow f) h)
 
 pub units-over : (f : Format) (s : Bool) (q k : ℕ) → overflow f ≤ q * 2 ^ k → units f s q k ≡ inf s
 unfolding units
-units-over f s q k h = ap (λ (b : Bool). cond b (odd (suc (prec f)) s q k (low f)) (inf s)) (not-lt (q * 2 ^ k) (overflow f) h)
+units-over f s q k h = ap (λ (b : Bool). cond b (odd (suc (prec f)) s q k (low f)) (inf s)) (le-ltb (q * 2 ^ k) (overflow f) h)
 
 -- ---- 2 ^ prec is twice the weight of the leading digit
 pub twice-hid : (p : ℕ) → 0 < p → 2 ^ p ≡ 2 ^ (p - 1) + 2 ^ (p - 1)

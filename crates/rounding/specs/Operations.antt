@@ -1,5 +1,5 @@
 -- K4, K5. The three operations of IEEE 754 that Rattle lacks: each is the exact value, rounded once by `lib.Ieee.round`, over the format. Definitions only.
-use mathlib.Core.Bool.{Bool, true, false, cond}
+use mathlib.Core.Bool.{false, cond}
 use Prim.Native.Nat.{ℕ, zero, suc, _+_, _*_, _/_, _^_}
 use lib.Dec.{leb, eqb}
 use lib.Ieee.{Float, nan, inf, fin, Format, binary32, low, unlike, up, down, size, round, sum, add, mul}

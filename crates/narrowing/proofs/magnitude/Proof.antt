@@ -1,11 +1,12 @@
--- `narrowing::magnitude` meets its contract. `proofs/Patterns.antt` says what each branch computes. Assumes nothing.
+-- `narrowing::magnitude` meets its contract. `proofs/Patterns.antt` and `proofs/Subnormal.antt` say what each branch computes. Assumes nothing.
 use borrow.Author.Needs.{needs}
 use native.Mathlib.Omega.{arith}
 use Prim.Native.Nat.{_/_, _^_}
 use lib.Bits.{mask-lt}
 use lib.Ieee.{binary64, nanBits}
 use Rattle.rounding.proofs.Patterns.{rest-no-nan}
-use Rattle.narrowing.proofs.Patterns.{over-code, normal-code, low-code, sum-no-nan, bits-ge}
+use Rattle.narrowing.proofs.Patterns.{over-code, normal-code}
+use Rattle.narrowing.proofs.Subnormal.{low-code, sum-no-nan, bits-ge}
 use Rattle.narrowing.proofs.magnitude.Statement.{statement}
 use Rattle.narrowing.proofs.magnitude.Tie as tie
 
