@@ -1,12 +1,14 @@
 -- The length of a number in binary digits: the zeros above it fill the word, and moved up to a length it fills that. Assumes nothing.
-use mathlib.Core.Path.{_≡_, refl, ap, _∙_, subst}
+use mathlib.Core.Path.{_≡_, refl, sym, ap, _∙_, subst}
 use Prim.Native.Nat.{ℕ, zero, suc, _+_, _-_, _*_, _^_, _≤_, _<_}
-use native.Mathlib.Nat.{le-trans, le-of-eq, mul-le-mul-right, pow-suc}
+use native.Mathlib.Nat.{le-trans, le-of-eq, le-add-right, lt-of-lt-of-le, lt-of-le-of-lt, mul-le-mul-right, pow-suc}
 use native.Mathlib.Omega.{arith}
+use lib.Arith.{digits-lt}
 use lib.Pow.{pow-add, shl-lt}
 use lib.Count.{leadingZeros, leading-unique}
 use lib.Ieee.{size}
 use lib.Ieee.Digits.{back, size-lt, size-reaches, size-le}
+use Rattle.rounding.proofs.Orders.{pow-lt-back}
 
 size-reach : (a z : ℕ) → size a ≡ z → 2 ^ z ≤ 2 * a + 1
 size-reach a zero e = omega arith
@@ -27,6 +29,15 @@ size-some d h = go (size d) (size-lt d)
     go : (z : ℕ) → d < 2 ^ z → 1 ≤ z
     go zero l = omega arith
     go (suc z) l = omega arith
+
+-- a number of k digits under another
+pub size-over : (k hi lo : ℕ) → 0 < hi → lo < 2 ^ k → size (hi * 2 ^ k + lo) ≡ size hi + k
+size-over k hi lo H L =
+    let s = size-some hi H in
+    let n = hi * 2 ^ k + lo in
+    let e : size hi - 1 + k < size n = pow-lt-back (size hi - 1 + k) (size n) (lt-of-le-of-lt (le-trans (le-of-eq (pow-add 2 (size hi - 1) k)) (le-trans (mul-le-mul-right (2 ^ k) (size-reaches hi (size hi - 1) (omega arith))) (le-add-right (hi * 2 ^ k) lo))) (size-lt n)) in
+    let u : size n ≤ size hi + k = size-le n (size hi + k) (lt-of-lt-of-le (digits-lt (size-lt hi) L) (le-of-eq (sym (pow-add 2 (size hi) k)))) in
+    omega arith
 
 -- d, moved up until it has k digits
 module _ (d k : ℕ) (D : 0 < d) (K : size d ≤ k) where

@@ -16,3 +16,4 @@ pub mod Products
 pub mod Mirror
 pub mod Comparing
 pub mod Nearest
+pub mod Fusing

@@ -9,14 +9,14 @@ use native.Mathlib.Decide.{decLe}
 use native.Mathlib.Omega.{arith}
 use lib.Dec.{T}
 use lib.Pow.{pow-add, pow-pos, pow-mono, shl-lt}
-use lib.Ieee.{Float, nan, inf, fin, Format, up, down, round, fits, prec, low, hid}
+use lib.Ieee.{Float, nan, inf, fin, Format, down, round, fits, prec, low, hid}
 use lib.Ieee.Digits.{back, size-reaches}
 use lib.Ieee.Fits.{down-pos}
 use lib.Ieee.Exact.{HasValue}
 use lib.Ieee.Order.{drop, kept}
-use lib.Ieee.Scale.{grid, finite, round-val, round-under}
+use lib.Ieee.Scale.{grid, round-val, round-under}
 use Rattle.rounding.proofs.Dropped.{prec-pos, kept-ge}
-use Rattle.rounding.proofs.Values.{fits-parts, place}
+use Rattle.rounding.proofs.Values.{value-finite, fits-units}
 use Rattle.rounding.proofs.Within.{closest-near}
 
 -- q of the unit u is as near to n as a whole number of them can be: v of them lie on the far side of the middle
@@ -81,24 +81,18 @@ module _ (f : Format) (num den : ℕ) (D : 0 < den) where
   ]
 
 -- ---- in values
-value-one : (x : Float) (s : Bool) (a b c : ℕ) → HasValue x s a c → HasValue x s b c → a ≡ b
-value-one nan s a b c p q = absurd p
-value-one (inf t) s a b c p q = absurd p
-value-one (fin t m e) s a b c p q = eq-of-mul-eq-mul-right (down e) (down-pos e) a b (sym (p .1) ∙ q .1)
-
-value-finite : (x : Float) (s : Bool) (a c : ℕ) → HasValue x s a c → T (finite x)
-value-finite nan s a c h = h
-value-finite (inf t) s a c h = h
-value-finite (fin t m e) s a c h = tt
+value-one : (x : Float) (s t : Bool) (a b c : ℕ) → HasValue x s a c → HasValue x t b c → a ≡ b
+value-one nan s t a b c p q = absurd p
+value-one (inf u) s t a b c p q = absurd p
+value-one (fin u m e) s t a b c p q = eq-of-mul-eq-mul-right (down e) (down-pos e) a b (sym (p .1) ∙ q .1)
 
 -- a value of the format is a number of at most prec digits, at some place
 few-digits : (f : Format) (y : Float) (Y : ℕ) → T (fits f y) → HasValue y false Y (2 ^ low f) → (w : ℕ) × (j : ℕ) × (Y ≡ w * 2 ^ j) × (w < 2 ^ prec f)
 few-digits f nan Y h v = absurd v
 few-digits f (inf t) Y h v = absurd v
 few-digits f (fin t m e) Y h v =
-    let z = fits-parts f t m e h in
-    let i = place (low f) e (z .1) in
-    (m, i .0, eq-of-mul-eq-mul-right (down e) (down-pos e) Y (m * 2 ^ (i .0)) (sym (v .1) ∙ mul-assoc m (up e) (2 ^ low f) ∙ ap (λ (x : ℕ). m * x) (i .1) ∙ sym (mul-assoc m (2 ^ (i .0)) (down e))), z .0)
+    let z = fits-units f t m e h in
+    (m, z .0, value-one (fin t m e) false t Y (m * 2 ^ (z .0)) (2 ^ low f) v (z .1), z .2)
 
 -- In units of the smallest value the result is R and any other value Y: the fraction lies on R's side of their middle.
 pub round-nearest : (f : Format) (num den R Y : ℕ) (y : Float) → 0 < den → HasValue (round f false num den) false R (2 ^ low f) → T (fits f y) → HasValue y false Y (2 ^ low f)
@@ -106,5 +100,5 @@ pub round-nearest : (f : Format) (num den R Y : ℕ) (y : Float) → 0 < den →
 round-nearest f num den R Y y D r held v =
     let z = few-digits f y Y held v in
     let x = round f false num den in
-    let e : R ≡ grid f num den = value-one x false R (grid f num den) (2 ^ low f) r (round-val f num den (round-under f num den (value-finite x false R (2 ^ low f) r))) in
+    let e : R ≡ grid f num den = value-one x false false R (grid f num den) (2 ^ low f) r (round-val f num den (round-under f num den (value-finite x false R (2 ^ low f) r))) in
     rw e (grid-nearest f num den D Y (z .0) (z .1) (z .2) (z .3))

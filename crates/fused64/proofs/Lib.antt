@@ -1,0 +1,9 @@
+pub mod Words
+pub mod Dropping
+pub mod Columns
+pub mod Cutting
+pub mod Aligning
+pub mod Totals
+pub mod Finishing
+pub mod Cases
+pub mod Terms
