@@ -9,7 +9,7 @@ use lib.IntN.{pos}
 use lib.Ieee.{Float, nan, inf, fin, Format, neg, add, sub, ofInt, le}
 use lib.Ieee.Order.{round-mono}
 use lib.Ieee.Scale.{finite}
-use Rattle.interval.proofs.Signed.{of-under, Ordered}
+use Rattle.interval.proofs.Signed.{of-under, le-le, Ordered}
 use Rattle.interval.proofs.Rounded.{le-neg}
 use Rattle.interval.proofs.Grows.{sum-grows}
 
@@ -56,3 +56,7 @@ neg-between {a} {b} {x} u = between (still b (u .below .second)) (still a (u .ab
 pub difference-between : (f : Format) {a b x c d y l h : Float} → Between a b x → Between c d y → sub f a d ≡ l → sub f b c ≡ h → T (finite l) → T (finite h) → Between l h (sub f x y)
 unfolding sub
 difference-between f u v el eh p q = sum-between f u (neg-between v) el eh p q
+
+pub widen : {a b x l h : Float} → Between a b x → T (finite l) → T (finite h) → T (le l a) → T (le b h) → Between l h x
+widen {a} {b} {x} {l} {h} u p q lo hi =
+    between p q (le-le l a x p (u .above .first) (u .above .second) lo (u .above .order)) (le-le x b h (u .below .first) (u .below .second) q (u .below .order) hi)

@@ -4,3 +4,4 @@ pub mod Operations
 pub mod Grows
 pub mod Between
 pub mod Products
+pub mod Pieces

@@ -16,7 +16,7 @@ use Rattle.interval.proofs.Rounded.{none}
 use Rattle.interval.proofs.Grows.{product-grows, product-shrinks, quotient-grows}
 use Rattle.interval.proofs.Between.{Between, between}
 
-abbrev zero : Float
+abbrev pub zero : Float
 zero = fin false 0 (pos 0)
 
 not-negative : (x : Float) → T (finite x) → T (le zero x) → loss x ≡ 0
@@ -53,6 +53,13 @@ falls {x} {y} o n = go x (o .first) (rw n at (bound o))
 rises-above : {x y : Float} → Ordered x y → loss x ≡ 0 → 0 < gain x → 0 < gain y
 rises-above {x} {y} o n g = first-pos (gain y) (den x) (omega (arith, mul-pos g (den-pos y), rw n at (bound o)))
 
+-- The ends of a product whose first factor lies in [a, b] and is not negative: where the other begins at c, and where it ends at d.
+abbrev pub least : Format → Float → Float → Float → Float
+least f a b c = mul f (cond (le zero c) a b) c
+
+abbrev pub most : Format → Float → Float → Float → Float
+most f a b d = mul f (cond (le zero d) b a) d
+
 module _ (f : Format) {a b x c d y : Float} (z : T (le zero a)) (u : Between a b x) (v : Between c d y) where
   na : loss a ≡ 0
   na = not-negative a (u .above .first) z
@@ -71,7 +78,7 @@ module _ (f : Format) {a b x c d y : Float} (z : T (le zero a)) (u : Between a b
   high true j k = product-grows f (u .below) (v .below) nx nb (not-negative d (v .below .second) (j tt))
   high false j k = product-shrinks f (u .above) (v .below) na nx (falls (v .below) (not-positive d (v .below .second) (lt→le d zero (nle→lt d zero (v .below .second) tt (k tt)))))
 
-  pub product-between : {l h : Float} → mul f (cond (le zero c) a b) c ≡ l → mul f (cond (le zero d) b a) d ≡ h → T (finite l) → T (finite h) → Between l h (mul f x y)
+  pub product-between : {l h : Float} → least f a b c ≡ l → most f a b d ≡ h → T (finite l) → T (finite h) → Between l h (mul f x y)
   product-between el eh p q = between p q (rw el at (low (le zero c) (λ t. t) (λ t. t))) (rw eh at (high (le zero d) (λ t. t) (λ t. t)))
 
   pub quotient-between : {l h : Float} → T (lt zero c) → div f a d ≡ l → div f b c ≡ h → T (finite l) → T (finite h) → Between l h (div f x y)

@@ -1,9 +1,8 @@
 -- The order of finite floats as one of whole numbers. A float is (gain - loss) / den, one of gain and loss being 0, so that no sign is left
 -- and `omega` reads the rest. Assumes nothing.
-use mathlib.Core.Path.{_≡_}
 use mathlib.Core.Bool.{Bool, true, false, not, cond}
 use Prim.Native.Nat.{ℕ, _+_, _*_, _≤_, _<_}
-use native.Mathlib.Nat.{lt-of-not-le, lt-of-mul-lt-mul-right, mul-le-mul-right, mul-lt-mul-of-pos-right, mul-assoc, mul-comm, mul-left-comm, add-mul, mul-add}
+use native.Mathlib.Nat.{lt-of-not-le, lt-of-mul-lt-mul-right, le-of-mul-le-mul-right, mul-le-mul-right, mul-lt-mul-of-pos-right, mul-assoc, mul-comm, mul-left-comm, add-mul, mul-add}
 use native.Mathlib.Omega.{arith}
 use lib.Dec.{T, T-not, not-T, eqb, ltb→lt, lt→ltb, eqb→eq}
 use lib.Arith.{le→nltb}
@@ -92,6 +91,12 @@ nle→lt x y p q h = of-strictly x y p q (lt-of-not-le (λ (k : right x y ≤ le
 
 pub lt→nle : (x y : Float) → T (finite x) → T (finite y) → T (lt x y) → T (not (le y x))
 lt→nle x y p q h = not-T (le y x) (λ t. omega (arith, strictly x y p q h, under y x q p t))
+
+pub le-le : (x y z : Float) → T (finite x) → T (finite y) → T (finite z) → T (le x y) → T (le y z) → T (le x z)
+le-le x y z p q r h k =
+    of-under x z p r
+    (le-of-mul-le-mul-right
+    (simp ring (omega (arith, simp ring at (mul-le-mul-right (den z) (under x y p q h)), simp ring at (mul-le-mul-right (den x) (under y z q r k))))) (den-pos y))
 
 pub le-lt : (x y z : Float) → T (finite x) → T (finite y) → T (finite z) → T (le x y) → T (lt y z) → T (lt x z)
 le-lt x y z p q r h k =

@@ -1,11 +1,11 @@
 -- G8. Every target lies from -1 to 1 and every scale from 0.65 to 1.35, by the ends: each operation keeps the order. Assumes nothing.
-use mathlib.Core.Path.{_≡_, refl}
+use mathlib.Core.Path.{refl}
 use Prim.Native.Nat.{ℕ, _/_, _^_, _≤_, zero-le}
 use native.Mathlib.Omega.{arith}
 use lib.Count.{trailingZeros}
 use lib.Ieee.{binary64, size, span, climb, odd, units, round, neg, sum, add, sub, mul, div, lt, eq, le, ofInt, ofFields, ofBits}
 use Rattle.interval.proofs.Between.{Between, point, whole-between, sum-between, difference-between}
-use Rattle.interval.proofs.Products.{product-between, quotient-between}
+use Rattle.interval.proofs.Products.{product-between}
 use Rattle.smooth_random.specs.Xorshift.{valueOf}
 use Rattle.smooth_random.specs.Draws.{one, two, scale53, spread, bipolarOf, scaleOf}
 use Rattle.smooth_random.specs.Ranges.{slowest, fastest}

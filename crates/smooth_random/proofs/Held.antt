@@ -1,10 +1,10 @@
 -- G8. What a valid state holds, field by field, and that this is all. Assumes nothing.
 use mathlib.Core.Path.{_≡_}
-use mathlib.Core.Bool.{Bool, not, _&&_}
+use mathlib.Core.Bool.{not, _&&_}
 use Prim.Native.Nat.{ℕ}
 use lib.Dec.{T, eqb, eqb→eq, T-not, not-T}
 use lib.Count.{trailingZeros}
-use lib.Ieee.{Float, binary64, odd, neg, lt, le, ofFields, ofBits}
+use lib.Ieee.{Float, odd, neg, lt, le, ofFields, ofBits}
 use lib.Ieee.Fits.{and-i, and-l, and-r, eq→eqb}
 use lib.Ieee.Scale.{finite}
 use Rattle.interval.proofs.Between.{Between, between}

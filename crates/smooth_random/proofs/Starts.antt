@@ -1,23 +1,23 @@
 -- G8, M1, M2. Whatever seed it starts from, a generator is valid; a draw and another seed keep it so. Setting the seed already held does nothing, and to reset a new
 -- state does nothing. Assumes nothing.
 use mathlib.Core.Path.{_≡_, refl, sym}
-use mathlib.Core.Bool.{Bool, true, false, not, cond}
+use mathlib.Core.Bool.{Bool, true, false, cond}
 use Prim.Native.Nat.{ℕ, _^_, _<_}
 use native.Mathlib.Omega.{arith}
-use lib.Dec.{T, eqb, lit<, eqb→eq}
+use lib.Dec.{T, eqb, lit<}
 use lib.Count.{trailingZeros}
-use lib.Ieee.{binary64, odd, neg, lt, eq, le, ofFields, ofBits}
+use lib.Ieee.{odd, lt, eq, le, ofFields, ofBits}
 use borrow.Author.Tests.{eq-eqb, ne-eqb, eqb-false}
 use Rattle.words.specs.Xor.{xorTo}
 use Rattle.smooth_random.specs.Xorshift.{stepOf}
 use Rattle.smooth_random.specs.Seeds.{seedOf, flutterSeedOf}
-use Rattle.smooth_random.specs.Draws.{at, bipolarOf}
+use Rattle.smooth_random.specs.Draws.{at}
 use Rattle.smooth_random.specs.Ranges.{validOf}
 use Rattle.smooth_random.specs.Drift.{started, newOf, resetOf, setSeedOf}
 use Rattle.smooth_random.specs.declared.SmoothRandom.{SmoothRandom}
 use Rattle.smooth_random.proofs.Generator.{step-word, step-zero}
 use Rattle.smooth_random.proofs.Bounds.{bipolar-between, scale-between}
-use Rattle.smooth_random.proofs.Held.{Held, held, valid}
+use Rattle.smooth_random.proofs.Held.{held, valid}
 
 pub seed-some : (s : ℕ) → seedOf s ≡ 0 → ⊥
 seed-some s = go (eqb s 0) refl

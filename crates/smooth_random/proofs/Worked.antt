@@ -1,7 +1,7 @@
 -- P7, P9. Document 01's worked numbers of the generator and of the seeds, computed. Assumes nothing.
 use mathlib.Core.Path.{_≡_, refl}
-use mathlib.Core.List.{List, [], _∷_}
-use Prim.Native.Nat.{ℕ, _/_, _^_}
+use mathlib.Core.List.{[], _∷_}
+use Prim.Native.Nat.{_/_, _^_}
 use Rattle.words.specs.Xor.{xorTo}
 use Rattle.smooth_random.specs.Xorshift.{stepOf, valueOf}
 use Rattle.smooth_random.specs.Seeds.{flutterSeedOf}

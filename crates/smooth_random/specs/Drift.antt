@@ -30,15 +30,18 @@ newOf seed = started (seedOf seed)
 abbrev pub setSeedOf : SmoothRandom → ℕ → SmoothRandom
 setSeedOf r seed = cond (eqb (seedOf seed) (r .«initial_seed»)) r (newOf seed)
 
--- The value between the two targets, by 001's quintic of the position.
-unfoldable pub valueAt : SmoothRandom → Float
-valueAt r =
-    let t = clamped (r .position) draws.zero one in
+-- 001's quintic: 0 at 0, 1 at 1, and level at both.
+unfoldable pub quinticOf : Float → Float
+quinticOf t =
     let six = ofBits binary64 0x4018_0000_0000_0000 in
     let fifteen = ofBits binary64 0x402e_0000_0000_0000 in
     let ten = ofBits binary64 0x4024_0000_0000_0000 in
-    let quintic = mul binary64 (mul binary64 (mul binary64 t t) t) (add binary64 (mul binary64 t (sub binary64 (mul binary64 t six) fifteen)) ten) in
-    add binary64 (r .current) (mul binary64 quintic (sub binary64 (r .next) (r .current)))
+    mul binary64 (mul binary64 (mul binary64 t t) t) (add binary64 (mul binary64 t (sub binary64 (mul binary64 t six) fifteen)) ten)
+
+-- The value at the position, between the two targets.
+unfoldable pub valueAt : SmoothRandom → Float
+unfolding quinticOf
+valueAt r = add binary64 (r .current) (mul binary64 (quinticOf (clamped (r .position) draws.zero one)) (sub binary64 (r .next) (r .current)))
 
 -- The position moved on by one sample.
 unfoldable pub advanced : SmoothRandom → Float → Float → SmoothRandom

@@ -32,11 +32,20 @@ seedsOf r = not (eqb (r .state) 0) && not (eqb (r .«initial_seed») 0)
 unfoldable pub validOf : SmoothRandom → Bool
 validOf r = positionOf r && (targetsOf r && (paceOf r && seedsOf r))
 
--- Rate 0 to 1000 targets a second, sample rate 8000 to 768000.
+-- 1000, 8000 and 768000.
+abbrev pub mostTargets : Float
+mostTargets = ofBits binary64 0x408f_4000_0000_0000
+
+abbrev pub leastSamples : Float
+leastSamples = ofBits binary64 0x40bf_4000_0000_0000
+
+abbrev pub mostSamples : Float
+mostSamples = ofBits binary64 0x4127_7000_0000_0000
+
+-- Sample rate 8000 to 768000. 01 has no range for the rate at which targets come: 001 hands in 0.025 to 3, and any rate that lets the position grow by less than 1
+-- is served here, 0 to 1000.
 abbrev pub argumentsOf : Float → Float → Bool
-argumentsOf rate-hz sample-rate =
-    within zero (ofBits binary64 0x408f_4000_0000_0000) rate-hz
-    && within (ofBits binary64 0x40bf_4000_0000_0000) (ofBits binary64 0x4127_7000_0000_0000) sample-rate
+argumentsOf rate-hz sample-rate = within zero mostTargets rate-hz && within leastSamples mostSamples sample-rate
 
 -- 0 where the call is accepted; an argument outside its range gives 1, a state 3, and of both the lower.
 unfoldable pub verdict : SmoothRandom → Float → Float → ℕ

@@ -1,12 +1,13 @@
 // 001's SmoothRandom: a generator, the two targets that it drew last, and the way from one to the other.
 // F8. Each method takes the state by value and hands it back, with the number where there is one.
+mod draws; // the generator, and the numbers that are made of it
+mod drift; // a step from one target towards the next
+
 ghost use mathlib.Core.Path.{_≡_};
 ghost use mathlib.Core.Bool.{_&&_};
-ghost use Rattle.smooth_random.specs.Xorshift.{stepOf};
 ghost use Rattle.smooth_random.specs.Seeds.{seedOf, flutterSeedOf};
-ghost use Rattle.smooth_random.specs.Draws.{bipolarOf, bipolarDrawn, scaleDrawn};
-ghost use Rattle.smooth_random.specs.Ranges.{validOf, argumentsOf, verdict};
-ghost use Rattle.smooth_random.specs.Drift.{newOf, resetOf, setSeedOf, valueAt, turned, advanced, settled, nextOf};
+ghost use Rattle.smooth_random.specs.Ranges.{validOf};
+ghost use Rattle.smooth_random.specs.Drift.{newOf, resetOf, setSeedOf};
 
 pub struct SmoothRandom {
     pub initial_seed: u64,
@@ -46,24 +47,6 @@ pub fn flutter_seed(seed: u64) -> u64
     ensures { λ r. ⌜ r ≡ flutterSeedOf seed ⌝ }
 {
     normalized_seed(seed ^ 0xD1B5_4A32_D192_ED03)
-}
-
-// M3. One step of xorshift64*.
-fn step(x: u64) -> u64
-    ensures { λ r. ⌜ r ≡ stepOf x ⌝ }
-{
-    let a = x ^ (x >> 12);
-    let b = a ^ words::shl(a, 25);
-    b ^ (b >> 27)
-}
-
-// M3. The number drawn where the state has become x. The value's 53 highest digits are a whole number that a float holds.
-fn bipolar(x: u64) -> f64
-    ensures { λ r. ⌜ r ≡ bipolarOf x ⌝ }
-{
-    let value = words::wrapping_mul(x, 0x2545_F491_4F6C_DD1D);
-    let unit = (value >> 11) as f64 * (1.0 / 9007199254740992.0);
-    unit * 2.0 - 1.0
 }
 
 fn both(a: bool, b: bool) -> bool
@@ -118,53 +101,6 @@ impl SmoothRandom {
         random
     }
 
-    // M5. 001's loop turns at most once: a step adds at most 1000 * 1.35 / 8000 to a position below 1. Most steps draw nothing.
-    pub fn next(self, rate_hz: f64, sample_rate: f64) -> Next
-        ensures { λ r. ⌜ r ≡ nextOf self «rate_hz» «sample_rate» ⌝ }
-    {
-        let refusal = self.refusal(rate_hz, sample_rate);
-        if refusal != 0 {
-            return Next {
-                random: self,
-                value: 0.0,
-                refusal,
-            };
-        }
-        let value = self.value();
-        let moved = self.advance(rate_hz, sample_rate);
-        let random = if moved.position >= 1.0 {
-            moved.turn()
-        } else {
-            moved
-        };
-        Next {
-            random,
-            value,
-            refusal: 0,
-        }
-    }
-
-    // M3. A number from 0.65 to 1.35, so that the targets do not come at a steady beat.
-    pub fn random_segment_rate_scale(self) -> Drawn
-        ensures { λ r. ⌜ r ≡ scaleDrawn self ⌝ }
-    {
-        let mut drawn = self.random_bipolar();
-        drawn.value = 1.0 + 0.35 * drawn.value;
-        drawn
-    }
-
-    // M3. A number from -1 to 1.
-    pub fn random_bipolar(mut self) -> Drawn
-        ensures { λ r. ⌜ r ≡ bipolarDrawn self ⌝ }
-    {
-        let x = step(self.state);
-        self.state = x;
-        Drawn {
-            random: self,
-            value: bipolar(x),
-        }
-    }
-
     // G8. Whether every field is in its range.
     pub fn valid(self) -> bool
         ensures { λ r. ⌜ r ≡ validOf self ⌝ }
@@ -177,51 +113,5 @@ impl SmoothRandom {
         let pace = magnitude::within(self.segment_rate_scale, 0.65, 1.35);
         let seeds = both(self.state != 0, self.initial_seed != 0);
         both(position, both(targets, both(pace, seeds)))
-    }
-
-    // N1, N3, N9. 0, or the number of the lowest refusal that is due.
-    fn refusal(self, rate_hz: f64, sample_rate: f64) -> u8
-        ensures { λ r. ⌜ r ≡ verdict self «rate_hz» «sample_rate» ⌝ }
-    {
-        let arguments = both(
-            magnitude::within(rate_hz, 0.0, 1000.0),
-            magnitude::within(sample_rate, 8000.0, 768000.0),
-        );
-        if arguments {
-            if self.valid() { 0 } else { 3 }
-        } else {
-            1
-        }
-    }
-
-    // The value at the position, between the two targets.
-    fn value(self) -> f64
-        ensures { λ r. ⌜ r ≡ valueAt self ⌝ }
-    {
-        let t = order::clamp(self.position, 0.0, 1.0);
-        let quintic = t * t * t * (t * (t * 6.0 - 15.0) + 10.0);
-        self.current + quintic * (self.next - self.current)
-    }
-
-    fn advance(mut self, rate_hz: f64, sample_rate: f64) -> SmoothRandom
-        ensures { λ r. ⌜ r ≡ advanced self «rate_hz» «sample_rate» ⌝ }
-    {
-        self.position = self.position + rate_hz * self.segment_rate_scale / sample_rate;
-        self
-    }
-
-    // A turn of 001's loop: the next segment, where one has ended.
-    fn turn(self) -> SmoothRandom
-        ensures { λ r. ⌜ r ≡ turned self ⌝ }
-    {
-        let first = self.random_bipolar();
-        let once = first.random;
-        let second = once.random_segment_rate_scale();
-        let mut random = second.random;
-        random.position = self.position - 1.0;
-        random.current = self.next;
-        random.next = first.value;
-        random.segment_rate_scale = second.value;
-        random
     }
 }

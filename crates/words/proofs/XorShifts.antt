@@ -1,8 +1,8 @@
 -- A word exclusive or itself shifted, either way and by any number of digits above 0, is 0 only of the word 0: it would equal itself shifted. To the right
 -- that halves it; to the left, where 2^j divides it so does 2^(j + 1). Assumes nothing.
-use mathlib.Core.Path.{_≡_, sym, _∙_}
+use mathlib.Core.Path.{_≡_, _∙_}
 use mathlib.Core.Logic.{inl, inr}
-use Prim.Native.Nat.{ℕ, zero, suc, _+_, _-_, _*_, _/_, _%_, _^_, _≤_, _<_, _∣_}
+use Prim.Native.Nat.{ℕ, zero, suc, _-_, _*_, _/_, _%_, _^_, _≤_, _<_, _∣_}
 use native.Mathlib.Nat.{eq-zero-or-pos, not-le-of-lt, lt-of-le-of-lt, mod-lt, sub-add-cancel, one-dvd, dvd-mul-left, dvd-mod-iff, mul-dvd-mul, le-of-dvd, pow-suc}
 use native.Mathlib.Numerals.{one-add}
 use native.Mathlib.Omega.{arith}

@@ -5,7 +5,6 @@ use lib.Ieee.{Float}
 use Rattle.smooth_random.specs.Draws.{zero as zer}
 use Rattle.smooth_random.specs.Drift.{settled, answer}
 use Rattle.smooth_random.specs.declared.SmoothRandom.{SmoothRandom}
-use Rattle.smooth_random.specs.declared.Next.{Next}
 use borrow.Author.Needs.{needs}
 use Rattle.smooth_random.proofs.SmoothRandom.next.Statement.{statement}
 use Rattle.smooth_random.proofs.SmoothRandom.next.Tie as tie

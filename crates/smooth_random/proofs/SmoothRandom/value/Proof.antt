@@ -1,6 +1,6 @@
 -- `smooth_random::SmoothRandom::value` meets its contract: the definition's operations in the definition's order. Assumes nothing.
 use borrow.Author.Needs.{needs}
-use Rattle.smooth_random.specs.Drift.{valueAt}
+use Rattle.smooth_random.specs.Drift.{quinticOf, valueAt}
 use Rattle.smooth_random.proofs.SmoothRandom.value.Statement.{statement}
 use Rattle.smooth_random.proofs.SmoothRandom.value.Tie as tie
 
@@ -8,7 +8,7 @@ clamp-requires : tie.Need-clamp-requires
 clamp-requires c κs = search needs
 
 returns : tie.Need-returns
-unfolding valueAt
+unfolding valueAt quinticOf
 returns c = rw (c .before .before .clamp .ensures)
 
 pub value-spec : {M : Type 1} → statement M

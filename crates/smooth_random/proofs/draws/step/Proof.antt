@@ -1,4 +1,4 @@
--- `smooth_random::step` meets its contract: from the inside out, the machine's exclusive or of two words is the definition's. Assumes nothing.
+-- `smooth_random::draws::step` meets its contract: from the inside out, the machine's exclusive or of two words is the definition's. Assumes nothing.
 use Prim.Native.Nat.{ℕ, _*_, _/_, _%_, _^_, _<_}
 use mathlib.Core.Path.{_≡_}
 use native.Mathlib.Nat.{lt-of-le-of-lt, mod-lt}
@@ -8,8 +8,8 @@ use borrow.Author.Needs.{needs}
 use Rattle.words.specs.Xor.{xor}
 use Rattle.words.proofs.Digitwise.{xor-is, xor-below}
 use Rattle.smooth_random.specs.Xorshift.{stepOf}
-use Rattle.smooth_random.proofs.step.Statement.{statement}
-use Rattle.smooth_random.proofs.step.Tie as tie
+use Rattle.smooth_random.proofs.draws.step.Statement.{statement}
+use Rattle.smooth_random.proofs.draws.step.Tie as tie
 
 shl-requires : tie.Need-shl-requires
 shl-requires c κs = search needs

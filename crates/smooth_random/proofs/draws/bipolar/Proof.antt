@@ -1,12 +1,12 @@
--- `smooth_random::bipolar` meets its contract: a word shifted by 11 has 53 digits, which the cast keeps. Assumes nothing.
+-- `smooth_random::draws::bipolar` meets its contract: a word shifted by 11 has 53 digits, which the cast keeps. Assumes nothing.
 use native.Mathlib.Omega.{arith}
 use Prim.Native.Nat.{_/_, _^_}
 use lib.Dec.{le→leb}
 use lib.Ieee.{inFloat}
 use borrow.Author.Needs.{needs}
 use Rattle.smooth_random.specs.Draws.{bipolarOf}
-use Rattle.smooth_random.proofs.bipolar.Statement.{statement}
-use Rattle.smooth_random.proofs.bipolar.Tie as tie
+use Rattle.smooth_random.proofs.draws.bipolar.Statement.{statement}
+use Rattle.smooth_random.proofs.draws.bipolar.Tie as tie
 
 wrapping-mul-requires : tie.Need-wrapping-mul-requires
 wrapping-mul-requires c κs = search needs
