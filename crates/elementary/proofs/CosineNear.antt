@@ -1,7 +1,6 @@
 -- E1. The cosine's polynomial is within 2 ^ -45 of Taylor's fraction through x ^ 20, for |x| ≤ 1: nine steps of Horner's rule, 101 units of 2 ^ -54 where 512
 -- are allowed. Assumes nothing.
-use mathlib.Core.Path.{_≡_}
-use Prim.Native.Nat.{ℕ, _<_, _^_}
+use Prim.Native.Nat.{_<_, _^_}
 use native.Mathlib.Omega.{arith}
 use lib.Dec.{T, lit≤, lit<}
 use lib.Ieee.{Float}
@@ -11,7 +10,7 @@ use Rattle.fraction.proofs.Same.{same-trans}
 use Rattle.fraction.proofs.Within.{to, rescale}
 use Rattle.fraction.proofs.Value.{val-pos}
 use Rattle.elementary.specs.Taylor.{factorial, power, cosineFraction}
-use Rattle.elementary.specs.Horner.{cosineNear}
+use Rattle.elementary.specs.Horner.{cosineSteps, cosineNear}
 use Rattle.elementary.specs.Answers.{atMost}
 use Rattle.elementary.proofs.Nested.{nested, alternates}
 use Rattle.elementary.proofs.Horner.{cost, last}
@@ -23,5 +22,5 @@ once y P = omega arith
 pub cosine-close : (x : Float) → T (atMost 1 x) → Rounds (2 ^ 45) 1 (cosineNear x) (cosineFraction (val x))
 unfolding cosineNear cost last factorial power
 cosine-close x h =
-    let w = in-square x h 0 9 10 1 (lit< tt) (lit≤ tt) (lit≤ tt) in
+    let w = in-square x h 0 cosineSteps 10 1 (lit< tt) (lit≤ tt) (lit≤ tt) in
     record { real = w .real; near = rescale (lit< tt) (lit≤ tt) (to (same-trans (once (nested 2 (squared x) 0 10) (w .near .right)) (alternates (val x) 0 10 (val-pos x))) (w .near)) }

@@ -1,6 +1,6 @@
 -- The quick guess: x times the rounded 1 / H, plus 256.5, cut to a whole number j, has |x - (j - 256) * H| ≤ 8/10. What is cut lies within 1/2 of j + 1/2; the
 -- rest is two roundings and the constant's own error. Assumes nothing.
-use mathlib.Core.Path.{_≡_, refl, sym, subst}
+use mathlib.Core.Path.{_≡_, subst}
 use mathlib.Core.Bool.{true, false}
 use Prim.Native.Nat.{ℕ, _+_, _-_, _*_, _/_, _^_, _≤_, _<_}
 use native.Mathlib.Nat.{mul-pos, mul-comm, le-trans, min-eq-left, div-mul-le-self, lt-mul-div-succ}
@@ -10,20 +10,16 @@ use lib.Dec.{T, lt→ltb, lit≤, lit<}
 use lib.Ieee.{Float, nan, inf, fin, binary64, up, down, add, mul, lt, toUnsigned}
 use lib.Ieee.Fits.{down-pos}
 use Rattle.fraction.specs.Fraction.{Frac, frac, nil, plus, times, Same, Within, Mag}
-use Rattle.fraction.specs.Value.{val, Is, Rounds}
-use Rattle.fraction.proofs.Same.{sums, same-refl, same-sym, same-trans, plus-comm, times-comm, times-one}
+use Rattle.fraction.specs.Value.{val, Rounds}
+use Rattle.fraction.proofs.Same.{sums, same-refl, same-sym, plus-comm, times-comm, times-one}
 use Rattle.fraction.proofs.Within.{flip, chain, from, to, rescale, same-within, within-plus, beside}
 use Rattle.fraction.proofs.Product.{within-times, within-times-at, mag-times}
 use Rattle.fraction.proofs.Value.{is-val, is-near}
 use Rattle.fraction.proofs.Near.{add-approx, mul-approx}
 use Rattle.elementary.specs.Reduction.{H}
 use Rattle.elementary.specs.Answers.{atMost}
-use Rattle.elementary.specs.Steps.{Guess}
+use Rattle.elementary.specs.Steps.{inverse, Guess}
 use Rattle.elementary.proofs.Squares.{at-most-finite, at-most-mag}
-
--- 3FE45F306DC9C883, next to 1 / H
-abbrev inverse : Float
-inverse = fin false 5734161139222659 (negsuc 52)
 
 abbrev middle : Float
 middle = fin false 513 (negsuc 0)

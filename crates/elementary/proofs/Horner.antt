@@ -1,14 +1,13 @@
 -- Horner's rule in f64 lies near the exact nest. Errors are counted in units of 2 ^ -54. A step takes the error e of what stands inside to e / K + 11, where
 -- |Z| ≤ 1 / K; terms that are left out count as an error of the innermost constant. Every nest is at most 2 / n!. Assumes nothing.
-use mathlib.Core.Path.{_≡_, refl}
 use mathlib.Core.Bool.{false}
 use Prim.Native.Nat.{ℕ, zero, suc, _+_, _*_, _/_, _^_, _≤_, _<_}
-use native.Mathlib.Nat.{le-trans, le-of-lt, mul-comm, mul-pos, mul-le-mul-left, lt-mul-div-succ, div-le-self, div-mul-le-self}
+use native.Mathlib.Nat.{le-of-lt, mul-comm, mul-pos, mul-le-mul-left, lt-mul-div-succ, div-le-self, div-mul-le-self}
 use native.Mathlib.Omega.{arith}
 use lib.Dec.{lit≤, lit<}
 use lib.Ieee.{Float, binary64, add, mul}
 use Rattle.rounding.proofs.Orders.{clash}
-use Rattle.fraction.specs.Fraction.{Frac, frac, nil, plus, times, Same, Within, Mag}
+use Rattle.fraction.specs.Fraction.{Frac, frac, nil, plus, times, Within, Mag}
 use Rattle.fraction.specs.Value.{val, Rounds}
 use Rattle.fraction.proofs.Same.{same-refl, times-comm}
 use Rattle.fraction.proofs.Within.{flip, chain, from, to, weaken, rescale, within-plus, beside}

@@ -11,3 +11,4 @@ pub mod Moved
 pub mod Picked
 pub mod Shifted
 pub mod Range
+pub mod Worked

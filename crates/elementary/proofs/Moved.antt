@@ -5,29 +5,20 @@ use mathlib.Core.Bool.{true, false}
 use Prim.Native.Nat.{ℕ, _+_, _*_, _^_, _≤_, _<_}
 use native.Mathlib.Nat.{le-of-mul-le-mul-right, lt-of-mul-lt-mul-right, mul-le-mul-right, mul-lt-mul-of-pos-right, mul-pos}
 use native.Mathlib.Omega.{arith}
-use lib.IntN.{negsuc}
 use lib.Dec.{T, lit<}
-use lib.Ieee.{Float, fin, lt}
-use Rattle.fraction.specs.Fraction.{Frac, frac, times, Within}
+use lib.Ieee.{Float, lt}
 use Rattle.fraction.specs.Value.{val}
 use Rattle.fraction.proofs.Value.{val-pos}
 use Rattle.fraction.proofs.Compare.{is-below, not-below}
 use Rattle.elementary.specs.Reduction.{H}
 use Rattle.elementary.specs.Answers.{atMost}
-use Rattle.elementary.specs.Steps.{Guess, left, Rest}
+use Rattle.elementary.specs.Steps.{eighth, eighthBack, Guess, left, Rest}
 use Rattle.elementary.proofs.Guessing.{guess-of}
 use Rattle.elementary.proofs.Turns.{Halves, leftP, leftN}
 
--- H / 2 and -H / 2
-abbrev eighth : Float
-eighth = fin false 884279719003555 (negsuc 49)
-
-abbrev back : Float
-back = fin true 884279719003555 (negsuc 49)
-
 -- ---- the guess stands
-pub stands : {x r : Float} {j : ℕ} → Rest x j r → lt r eighth ≡ true → lt r back ≡ false → Halves (left x j)
-stands w t s = record { low = omega (arith, not-below back tt (w .is) s); high = omega (arith, is-below eighth tt (w .is) t) }
+pub stands : {x r : Float} {j : ℕ} → Rest x j r → lt r eighth ≡ true → lt r eighthBack ≡ false → Halves (left x j)
+stands w t s = record { low = omega (arith, not-below eighthBack tt (w .is) s); high = omega (arith, is-below eighth tt (w .is) t) }
 
 -- ---- one more or one less
 pub record Moved (x : Float) (i : ℕ) : Type 0 where
@@ -80,5 +71,5 @@ module _ (x : Float) (b : T (atMost 256 x)) where
   pub one-more : {r : Float} (j : ℕ) → Guess x j → Rest x j r → lt r eighth ≡ false → Moved x (j + 1)
   one-more j g w t = moved (j + 1) (more-core (val x .p) (val x .n) (val x .d) j (H .p) (H .d) (lit< tt) unit most least (g .near .above) (omega (arith, not-below eighth tt (w .is) t)))
 
-  pub one-less : {r : Float} (i : ℕ) → Guess x (i + 1) → Rest x (i + 1) r → lt r back ≡ true → Moved x i
-  one-less i g w t = moved i (less-core (val x .p) (val x .n) (val x .d) i (H .p) (H .d) (lit< tt) unit most least (g .near .below) (omega (arith, is-below back tt (w .is) t)))
+  pub one-less : {r : Float} (i : ℕ) → Guess x (i + 1) → Rest x (i + 1) r → lt r eighthBack ≡ true → Moved x i
+  one-less i g w t = moved i (less-core (val x .p) (val x .n) (val x .d) i (H .p) (H .d) (lit< tt) unit most least (g .near .below) (omega (arith, is-below eighthBack tt (w .is) t)))

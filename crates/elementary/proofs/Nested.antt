@@ -1,18 +1,18 @@
 -- Horner's exact nest 1 / n! + z * (1 / (d + n)! + ..) is Taylor's fraction: with z = -(x * x) and d = 2 the alternating one, with z = x and d = 1 the
 -- rising one. A power is spread over the nest, and moved into it step by step. Assumes nothing.
-use mathlib.Core.Path.{_≡_, refl, sym, subst}
+use mathlib.Core.Path.{_≡_}
 use Prim.Native.Nat.{ℕ, zero, suc, _+_, _*_, _<_}
-use native.Mathlib.Nat.{zero-lt-suc, mul-pos, mul-one, one-mul, zero-mul, mul-zero, add-zero, zero-add}
+use native.Mathlib.Nat.{mul-pos}
 use native.Mathlib.Omega.{arith}
 use lib.Dec.{lit<}
 use Rattle.fraction.specs.Fraction.{Frac, frac, plus, times, opp, Same}
-use Rattle.fraction.proofs.Same.{ring, sums, same-refl, same-sym, same-trans, plus-same, times-same, opp-same}
+use Rattle.fraction.proofs.Same.{sums, same-refl, same-sym, same-trans, plus-same, times-same, opp-same}
 use Rattle.elementary.specs.Taylor.{factorial, power, term, alternating, rising}
 
 pub factorial-pos : (n : ℕ) → 0 < factorial n
 unfolding factorial
 factorial-pos zero = lit< tt
-factorial-pos (suc n) = mul-pos (zero-lt-suc n) (factorial-pos n)
+factorial-pos (suc n) = mul-pos (omega arith) (factorial-pos n)
 
 unfoldable pub nested : ℕ → Frac → ℕ → ℕ → Frac
 nested d z n zero = frac 1 0 (factorial n)

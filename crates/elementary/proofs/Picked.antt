@@ -1,8 +1,8 @@
 -- E1, E2. The values of sine and cosine are as near as `Close` says: within 1 by the polynomials, beyond 1 by what k modulo 4 picks, which is the polynomial of a
 -- number that lost nothing. Assumes nothing.
-use mathlib.Core.Path.{_≡_, sym, ap, _∙_, subst}
+use mathlib.Core.Path.{_≡_, ap, _∙_, subst}
 use mathlib.Core.Bool.{Bool, true, false, not}
-use Prim.Native.Nat.{ℕ, zero, suc, _+_, _-_, _*_, _%_, _^_, _≤_, _<_}
+use Prim.Native.Nat.{ℕ, zero, suc, _+_, _-_, _%_, _^_}
 use native.Mathlib.Nat.{mul-pos}
 use native.Mathlib.Omega.{arith}
 use lib.Dec.{T, ltb, lit<}
@@ -14,7 +14,7 @@ use Rattle.fraction.specs.Value.{val, Rounds, nearestTo}
 use Rattle.fraction.proofs.Same.{opp-same}
 use Rattle.fraction.proofs.Within.{to, rescale}
 use Rattle.fraction.proofs.Value.{val-pos, neg-near}
-use Rattle.elementary.specs.Taylor.{sineFraction, cosineFraction}
+use Rattle.elementary.specs.Taylor.{sineFraction}
 use Rattle.elementary.specs.Horner.{sineNear, cosineNear}
 use Rattle.elementary.specs.Reduction.{pick, fourth, turns, remainder, reduced}
 use Rattle.elementary.specs.Answers.{atMost, sineAt, cosineAt}
@@ -78,9 +78,10 @@ sine-long {x} {v} {q} h w e = (
   record { near = λ t. absurd (clash (atMost 1 x) t h); far = λ t. subst (λ (p : ℕ). Far x p v) (w .quarter) (far q w e) },
 )
 
-pub cosine-long : {x v : Float} {q : ℕ} {r : Float} → T (not (atMost 1 x)) → Settled x q r → v ≡ pick ((q + 1) % 4) r → (v ≡ cosineAt x) × CosineClose x v
+pub cosine-long : {x v : Float} {q p : ℕ} {r : Float} → T (not (atMost 1 x)) → Settled x q r → p ≡ (q + 1) % 4 → v ≡ pick p r → (v ≡ cosineAt x) × CosineClose x v
 unfolding cosineAt
-cosine-long {x} {v} {q} h w e = (
-  rw (is-false (atMost 1 x) h) (e ∙ ap (pick ((q + 1) % 4)) (w .rest) ∙ ap (λ (p : ℕ). pick ((p + 1) % 4) (reduced x)) (w .quarter)),
-  record { near = λ t. absurd (clash (atMost 1 x) t h); far = λ t. subst (λ (p : ℕ). Far x ((p + 1) % 4) v) (w .quarter) (far ((q + 1) % 4) w e) },
-)
+cosine-long {x} {v} {q} {p} h w n e =
+    let m : p ≡ (fourth (turns x) + 1) % 4 = n ∙ ap (λ (i : ℕ). (i + 1) % 4) (w .quarter) in (
+      rw (is-false (atMost 1 x) h) (e ∙ ap (pick p) (w .rest) ∙ ap (λ (i : ℕ). pick i (reduced x)) m),
+      record { near = λ t. absurd (clash (atMost 1 x) t h); far = λ t. subst (λ (i : ℕ). Far x i v) m (far p w e) },
+    )

@@ -1,21 +1,20 @@
 -- E4. The polynomial of 2 ^ x is within 53 units of 2 ^ -54 of the exponential fraction through the 16th power of L * x, for |x| ≤ 1/2: thirteen steps of
 -- Horner's rule, each halving what the terms left out weigh. The fraction lies within 7/10 of 1, so that is 2 ^ -45 of it. Assumes nothing.
 use mathlib.Core.Path.{_≡_}
-use mathlib.Core.Bool.{false}
-use Prim.Native.Nat.{ℕ, suc, _+_, _-_, _*_, _^_, _≤_, _<_}
-use native.Mathlib.Nat.{mul-pos, mul-le-mul-right}
+use Prim.Native.Nat.{ℕ, suc, _+_, _*_, _^_, _≤_}
+use native.Mathlib.Nat.{mul-pos}
 use native.Mathlib.Omega.{arith}
-use lib.Dec.{T, lit≤, lit<}
+use lib.Dec.{lit≤, lit<}
 use lib.Ieee.{Float, binary64, mul}
-use Rattle.fraction.specs.Fraction.{Frac, frac, nil, plus, times, Same, Within, Mag}
+use Rattle.fraction.specs.Fraction.{Frac, frac, nil, times, Same, Within, Mag}
 use Rattle.fraction.specs.Value.{val, Is, Rounds}
 use Rattle.fraction.proofs.Same.{same-refl, same-trans}
 use Rattle.fraction.proofs.Within.{from, to, rescale, beside}
 use Rattle.fraction.proofs.Product.{mag-times}
 use Rattle.fraction.proofs.Value.{is-near}
 use Rattle.fraction.proofs.Near.{mul-approx}
-use Rattle.elementary.specs.Taylor.{factorial, power, expFraction}
-use Rattle.elementary.specs.Horner.{ln2, powerNear}
+use Rattle.elementary.specs.Taylor.{factorial, power}
+use Rattle.elementary.specs.Horner.{ln2, powerSteps, powerNear}
 use Rattle.elementary.specs.Answers.{two, half}
 use Rattle.elementary.specs.Close.{Part, powerFraction}
 use Rattle.elementary.proofs.Nested.{nested, rises}
@@ -62,7 +61,7 @@ module _ (x : Float) (X : Frac) (x-is : Is x X) (half : Within 2 1 X nil) where
   pub power-tight : Tight (powerNear x) (powerFraction X)
   unfolding powerNear cost last factorial
   power-tight =
-      let w = horner-near 1 2 (lit< tt) one-on (mul binary64 ln2 x) Y Y-half Y-near 0 13 16 (2 ^ 18) (lit< tt) (lit≤ tt) (lit≤ tt) (lit≤ tt) in
+      let w = horner-near 1 2 (lit< tt) one-on (mul binary64 ln2 x) Y Y-half Y-near 0 powerSteps 16 (2 ^ 18) (lit< tt) (lit≤ tt) (lit≤ tt) (lit≤ tt) in
       record { near = record { real = w .real; near = to fraction-is (w .near) }; about = from fraction-is nest-about }
 
 -- ---- u units are 2 ^ -45 of a fraction that is u / 512 at least; as it is, doubled and halved

@@ -1,19 +1,18 @@
 -- E3. Two comparisons tell whether a magnitude is at most 2 ^ k; a NaN and the infinities fail. And an answer from its value, or a refusal. Assumes nothing.
-use mathlib.Core.Path.{_≡_, refl, sym, ap, _∙_, subst}
+use mathlib.Core.Path.{_≡_, refl, subst}
 use mathlib.Core.Bool.{Bool, true, false, _&&_, cond}
 use Prim.Native.Nat.{ℕ, _*_, _^_, _≤_}
 use native.Mathlib.Omega.{arith}
 use lib.IntN.{ℤ, pos}
-use lib.Dec.{T, leb, leb→le, le→leb}
-use lib.Ieee.{Float, nan, inf, fin, up, down, neg, lt, le, eq}
+use lib.Dec.{leb, leb→le, le→leb}
+use lib.Ieee.{Float, nan, inf, fin, up, down, neg, le}
 use lib.Ieee.Fits.{and-l, and-r, and-i}
 use Rattle.rounding.proofs.Orders.{same-test}
 use Rattle.fraction.specs.Fraction.{Frac, frac}
 use Rattle.fraction.specs.Value.{signed}
 use Rattle.fraction.proofs.Compare.{side, le-is}
-use Rattle.elementary.specs.declared.Answer.{Answer}
 use Rattle.elementary.specs.declared.Answer.the-variants.{Value, Refused}
-use Rattle.elementary.specs.Answers.{atMost}
+use Rattle.elementary.specs.Answers.{refusalOf, atMost, sineAt, cosineAt, powerAt, sineOf, cosineOf, exp2Of}
 use Rattle.elementary.specs.Close.{Each}
 
 both : (a b c d m n : ℕ) → (a ≤ b → c ≤ d → m ≤ n) → (m ≤ n → (a ≤ b) × (c ≤ d)) → leb a b && leb c d ≡ leb m n
@@ -55,3 +54,20 @@ given {v} {P = P} b t e p = (rw (t, e), record { each = λ u q. let s : v ≡ u 
 
 pub refused : {P : Float → Type 0} (b : Bool) (w : Float) → b ≡ false → (Refused 1 ≡ cond b (Value w) (Refused 1)) × Each (Refused 1) P
 refused b w t = (rw t, record { each = λ u q. let e : _≡_ {A = ℕ} 0 1 = cc in absurd (omega arith) })
+
+-- ---- exactly when the refusal is 1
+refusal : (b : Bool) (v : Float) → refusalOf (cond b (Value v) (Refused 1)) ≡ cond b 0 1
+refusal true v = refl
+refusal false v = refl
+
+pub sine-refuses : (x : Float) → refusalOf (sineOf x) ≡ cond (atMost 256 x) 0 1
+unfolding sineOf
+sine-refuses x = refusal (atMost 256 x) (sineAt x)
+
+pub cosine-refuses : (x : Float) → refusalOf (cosineOf x) ≡ cond (atMost 256 x) 0 1
+unfolding cosineOf
+cosine-refuses x = refusal (atMost 256 x) (cosineAt x)
+
+pub exp2-refuses : (x : Float) → refusalOf (exp2Of x) ≡ cond (atMost 1 x) 0 1
+unfolding exp2Of
+exp2-refuses x = refusal (atMost 1 x) (powerAt x)

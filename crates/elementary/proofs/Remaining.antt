@@ -1,39 +1,33 @@
 -- E2. x - k * H in four exact steps, for 1 < |x| ≤ 256 and a guess k = j - 256. H is 26353589 / 2 ^ 24 + 8947107 / 2 ^ 49, so k times either part has few digits;
 -- x is a whole number of 2 ^ -52, as k * H is, and both differences are below 1 in magnitude or nearly. So the last step rounds x - k * H itself. Assumes nothing.
-use mathlib.Core.Path.{_≡_, refl, sym, ap, _∙_, subst}
+use mathlib.Core.Path.{_≡_, refl, ap, _∙_, subst}
 use mathlib.Core.Logic.{_⊎_, inl, inr}
 use mathlib.Core.Bool.{Bool, true, false, not}
 use Prim.Native.Nat.{ℕ, zero, suc, _+_, _*_, _^_, _≤_, _<_}
 use native.Mathlib.Nat.{le-trans, lt-of-mul-lt-mul-right, mul-lt-mul-of-pos-right, mul-one, mul-pos}
 use native.Mathlib.Omega.{arith}
-use lib.IntN.{ℤ, pos, negsuc}
+use lib.IntN.{pos}
 use lib.Dec.{T, nleb→lt, lit≤, lit<}
 use lib.Ieee.{Float, nan, inf, fin, binary64, up, down, round, neg, sub, mul, fits, ofInt}
 use lib.Ieee.Back.{round-whole}
 use Rattle.rounding.proofs.Values.{fits-parts}
-use Rattle.fraction.specs.Fraction.{Frac, frac, nil, plus, times, opp, Same, Within}
+use Rattle.fraction.specs.Fraction.{Frac, frac, plus, times, opp, Same, Within}
 use Rattle.fraction.specs.Value.{signed, val, Is, nearestTo}
 use Rattle.fraction.proofs.Same.{sums, same-refl, same-sym, same-trans, plus-same, opp-same}
 use Rattle.fraction.proofs.Within.{from}
 use Rattle.fraction.proofs.Value.{val-pos, is-val, value-is, neg-val, neg-finite}
-use Rattle.fraction.proofs.Exact.{Fits, sub-is, mul-is}
+use Rattle.fraction.proofs.Exact.{sub-is, mul-is}
 use Rattle.fraction.proofs.Nearest.{nearest-same, add-nearest}
-use Rattle.fraction.proofs.Grid.{Grid, grid-of}
+use Rattle.fraction.proofs.Grid.{grid-of}
 use Rattle.elementary.specs.Reduction.{H}
 use Rattle.elementary.specs.Answers.{atMost}
-use Rattle.elementary.specs.Steps.{Guess, left, Rest}
-
-abbrev hi : Float
-hi = fin false 26353589 (negsuc 23)
-
-abbrev lo : Float
-lo = fin false 8947107 (negsuc 48)
+use Rattle.elementary.specs.Steps.{highPart, lowPart, Guess, left, Rest}
 
 abbrev pub count : ℕ → Float
 count j = sub binary64 (ofInt binary64 (pos j)) (fin false 1 (pos 8))
 
 abbrev pub minusTurns : Float → Float → Float
-minusTurns x k = sub binary64 (sub binary64 x (mul binary64 k hi)) (mul binary64 k lo)
+minusTurns x k = sub binary64 (sub binary64 x (mul binary64 k highPart)) (mul binary64 k lowPart)
 
 count-is : (j : ℕ) → j ≤ 511 → Is (count j) (frac j 256 1)
 unfolding ofInt
@@ -47,11 +41,11 @@ less-same : (p n a b D E F : ℕ) → E * D ≡ F → 0 < D → 0 < F → Same (
 less-same p n a b D E F e P Q = record { left = mul-pos Q P; right = Q; cross = subst (λ (F : ℕ). (p * D + b * F) * F + (n + a * E) * (F * D) ≡ (p + b * E) * (F * D) + (n * D + a * F) * F) e (less-core p n a b D E) }
 
 module _ (x : Float) (j p n : ℕ) (k : Float) (x-is : Is x (frac p n (2 ^ 52))) (k-is : Is k (frac j 256 1)) (high : j ≤ 511) (near : Within 10 8 (frac p n (2 ^ 52)) (times (frac j 256 1) H)) where
-  k-hi : Is (mul binary64 k hi) (frac (j * 26353589) (256 * 26353589) (2 ^ 24))
-  k-hi = mul-is {t = 24} k-is (is-val hi tt) (omega arith) (omega arith)
+  k-hi : Is (mul binary64 k highPart) (frac (j * 26353589) (256 * 26353589) (2 ^ 24))
+  k-hi = mul-is {t = 24} k-is (is-val highPart tt) (omega arith) (omega arith)
 
-  k-lo : Is (mul binary64 k lo) (frac (j * 8947107) (256 * 8947107) (2 ^ 49))
-  k-lo = mul-is {t = 49} k-is (is-val lo tt) (omega arith) (omega arith)
+  k-lo : Is (mul binary64 k lowPart) (frac (j * 8947107) (256 * 8947107) (2 ^ 49))
+  k-lo = mul-is {t = 49} k-is (is-val lowPart tt) (omega arith) (omega arith)
 
   -- x less the high part, over 2 ^ 52
   P : ℕ
@@ -60,7 +54,7 @@ module _ (x : Float) (j p n : ℕ) (k : Float) (x-is : Is x (frac p n (2 ^ 52)))
   N : ℕ
   N = n + j * 26353589 * 2 ^ 28
 
-  x-hi : Is (sub binary64 x (mul binary64 k hi)) (frac P N (2 ^ 52))
+  x-hi : Is (sub binary64 x (mul binary64 k highPart)) (frac P N (2 ^ 52))
   unfolding P N
   x-hi = sub-is {t = 52} x-is k-hi (less-same p n (j * 26353589) (256 * 26353589) (2 ^ 24) (2 ^ 28) (2 ^ 52) refl (lit< tt) (lit< tt)) (record { hi = omega (arith, near .above, near .below); lo = omega (arith, near .above, near .below); deep = lit≤ tt })
 
@@ -84,8 +78,8 @@ module _ (x : Float) (j p n : ℕ) (k : Float) (x-is : Is x (frac p n (2 ^ 52)))
   rest-once : (j < 256) ⊎ (256 < j) → minusTurns x k ≡ nearestTo binary64 (left x j)
   unfolding sub
   rest-once away =
-      let d = sub binary64 x (mul binary64 k hi) in
-      let l = mul binary64 k lo in
+      let d = sub binary64 x (mul binary64 k highPart) in
+      let l = mul binary64 k lowPart in
       add-nearest binary64 d (neg l) (x-hi .real) (neg-finite l (k-lo .real)) (rw (neg-val l) (some (val l .p) (val l .n) (val l .d) (val-pos l) (k-lo .same .cross) away))
       ∙ ap (λ (q : Frac). nearestTo binary64 (plus (val d) q)) (neg-val l)
       ∙ nearest-same binary64 (same-trans (plus-same (x-hi .same) (opp-same (k-lo .same))) (same-trans last-same x-left))

@@ -1,27 +1,27 @@
 -- E4. 2 ^ x in its three parts. Beyond 1/2 in magnitude x is a whole number of 2 ^ -53, so x - 1 and x + 1 are exact, at most 1/2, and the value is doubled or halved.
 -- Assumes nothing.
-use mathlib.Core.Path.{_≡_, sym, ap, _∙_, subst}
+use mathlib.Core.Path.{_≡_, sym, subst}
 use mathlib.Core.Bool.{Bool, true, false, not}
 use Prim.Native.Nat.{ℕ, zero, suc, _+_, _*_, _^_, _≤_, _<_}
-use native.Mathlib.Nat.{le-of-mul-le-mul-right, mul-pos}
+use native.Mathlib.Nat.{le-of-mul-le-mul-right}
 use native.Mathlib.Omega.{arith}
 use lib.IntN.{ℤ, negsuc}
-use lib.Dec.{T, leb→le, ltb→lt, lit≤, lit<}
+use lib.Dec.{T, leb→le, lit≤, lit<}
 use lib.Ieee.{Float, nan, inf, fin, binary64, up, down, neg, add, sub, mul, lt, fits}
 use lib.Ieee.Fits.{down-pos}
 use Rattle.rounding.proofs.Values.{fits-parts}
-use Rattle.fraction.specs.Fraction.{Frac, frac, nil, plus, times, opp, Same, Within}
+use Rattle.fraction.specs.Fraction.{frac, nil, plus, times, Same, Within}
 use Rattle.fraction.specs.Value.{val, signed, Is}
 use Rattle.fraction.proofs.Same.{same-refl, same-sym, same-trans, plus-same}
 use Rattle.fraction.proofs.Value.{val-pos, is-val}
 use Rattle.fraction.proofs.Exact.{add-is, sub-is}
-use Rattle.fraction.proofs.Grid.{Grid, grid-of}
+use Rattle.fraction.proofs.Grid.{grid-of}
 use Rattle.fraction.proofs.Compare.{is-below, not-below}
 use Rattle.elementary.specs.Horner.{powerNear}
 use Rattle.elementary.specs.Answers.{atMost, one, two, half, powerAt}
 use Rattle.elementary.specs.Close.{Part, powerFraction, PowerClose}
-use Rattle.elementary.proofs.Squares.{at-most-finite, at-most-mag}
-use Rattle.elementary.proofs.PowerNear.{Tight, power-tight, as-it-is, doubled, halved}
+use Rattle.elementary.proofs.Squares.{at-most-finite}
+use Rattle.elementary.proofs.PowerNear.{power-tight, as-it-is, doubled, halved}
 use Rattle.elementary.proofs.Picked.{clash}
 
 -- ---- x = N / 2 ^ 53, or its opposite, with 0 < N ≤ 2 ^ 53

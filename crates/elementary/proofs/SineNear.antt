@@ -1,29 +1,28 @@
 -- E1. The sine's polynomial is within 2 ^ -45 * |x| of Taylor's fraction through x ^ 21, for |x| ≤ 1. From 2 ^ -1000 on the last product's rounding is a part
 -- of |x|; below, x * x rounds to nothing, the nest is 1 and the answer is x. Assumes nothing.
-use mathlib.Core.Path.{_≡_, refl, sym, ap, _∙_, subst}
+use mathlib.Core.Path.{_≡_, refl, sym}
 use mathlib.Core.Bool.{Bool, true, false, not}
-use Prim.Native.Nat.{ℕ, suc, _+_, _*_, _^_, _≤_, _<_}
+use Prim.Native.Nat.{ℕ, suc, _+_, _-_, _*_, _^_, _≤_, _<_}
 use native.Mathlib.Nat.{le-trans, le-of-eq, le-of-lt, lt-of-le-of-lt, mul-one, one-mul, mul-comm, mul-pos, mul-assoc, mul-le-mul, mul-le-mul-left, mul-le-mul-right}
 use native.Mathlib.Omega.{arith}
-use lib.IntN.{ℤ, pos, negsuc}
+use lib.IntN.{pos, negsuc}
 use lib.Dec.{T, leb, leb→le, nleb→lt, lit≤, lit<}
 use lib.Pow.{pow-pos}
-use lib.Ieee.{Float, nan, inf, fin, binary64, up, down, round, neg, add, mul, fits}
-use lib.Ieee.Fits.{down-pos}
+use lib.Ieee.{Float, nan, inf, fin, binary64, round, mul, fits}
 use Rattle.rounding.proofs.Orders.{pow-le-back}
 use Rattle.rounding.proofs.Values.{fits-parts}
-use Rattle.fraction.specs.Fraction.{Frac, frac, nil, plus, times, opp, Same, Within, Mag}
+use Rattle.fraction.specs.Fraction.{Frac, frac, nil, times, Same, Within, Mag}
 use Rattle.fraction.specs.Value.{signed, val, Is, Rounds}
 use Rattle.fraction.proofs.Same.{same-refl, same-sym, same-trans, times-same, times-one}
 use Rattle.fraction.proofs.Within.{flip, chain, from, to, rescale, within-opp, beside}
-use Rattle.fraction.proofs.Product.{within-times-at, mag-times, mag-signed}
-use Rattle.fraction.proofs.Value.{signed-d, val-pos, is-val, neg-is}
+use Rattle.fraction.proofs.Product.{within-times-at, mag-times}
+use Rattle.fraction.proofs.Value.{val-pos, is-val, neg-is}
 use Rattle.fraction.proofs.Operations.{mul-rounded}
-use Rattle.fraction.proofs.Exact.{Fits, add-is, mul-is}
+use Rattle.fraction.proofs.Exact.{add-is, mul-is}
 use Rattle.fraction.proofs.Near.{rounded-relative}
 use Rattle.fraction.proofs.Grid.{rounded-none}
 use Rattle.elementary.specs.Taylor.{factorial, power, sineFraction}
-use Rattle.elementary.specs.Horner.{reciprocal, horner, sineNear}
+use Rattle.elementary.specs.Horner.{reciprocal, horner, sineSteps, sineNear}
 use Rattle.elementary.specs.Answers.{atMost}
 use Rattle.elementary.proofs.Nested.{nested, alternates}
 use Rattle.elementary.proofs.Horner.{g, cost, last}
@@ -39,23 +38,24 @@ fraction-is x h = same-trans (times-same (unit (val x) (val-pos x)) (same-refl (
 
 -- ---- |x| = A / C from 2 ^ -1000 on
 module _ (x : Float) (h : T (atMost 1 x)) (A C : ℕ) (C-pos : 0 < C) (mag : Within C A (val x) nil) where
-  q-near : Rounds g 90 (horner 2 (square x) 1 8) (nested 2 (squared x) 1 10)
+  q-near : Rounds g (cost 1 2 sineSteps) (horner 2 (square x) 1 sineSteps) (nested 2 (squared x) 1 10)
   unfolding cost last factorial
-  q-near = in-square x h 1 8 10 1 (lit< tt) (lit≤ tt) (lit≤ tt)
+  q-near = in-square x h 1 sineSteps 10 1 (lit< tt) (lit≤ tt) (lit≤ tt)
 
-  rounding : A ≤ C → C ≤ A * 2 ^ 1000 → Rounds (C * 2 ^ 53) (A * 3) (sineNear x) (times (val x) (val (horner 2 (square x) 1 8)))
-  unfolding sineNear factorial
+  rounding : A ≤ C → C ≤ A * 2 ^ 1000 → Rounds (C * 2 ^ 53) (A * 3) (sineNear x) (times (val x) (val (horner 2 (square x) 1 sineSteps)))
+  unfolding sineNear factorial cost
   rounding l t =
-      let three : Mag 3 (val (horner 2 (square x) 1 8)) = rescale (lit< tt) (lit≤ tt) (chain (q-near .near) (rescale {g' = g} {e' = 2 * g} (lit< tt) (lit≤ tt) (in-square-mag x h 1 10))) in
+      let three : Mag 3 (val (horner 2 (square x) 1 sineSteps)) = rescale (lit< tt) (lit≤ tt) (chain (q-near .near) (rescale {g' = g} {e' = 2 * g} (lit< tt) (lit≤ tt) (in-square-mag x h 1 10))) in
       rounded-relative C-pos (rw (one-mul C) at (mag-times mag three))
       (le-trans (mul-le-mul-right (2 ^ 53) t) (le-trans (le-of-eq (mul-assoc A (2 ^ 1000) (2 ^ 53))) (le-trans (mul-le-mul-left A (lit≤ tt)) (le-of-eq (sym (mul-assoc A 3 (2 ^ 1074 * 2)))))))
-      (mul-le-mul l (lit≤ tt)) (mul-rounded binary64 x (horner 2 (square x) 1 8) (at-most-finite 1 x h) (q-near .real))
+      (mul-le-mul l (lit≤ tt)) (mul-rounded binary64 x (horner 2 (square x) 1 sineSteps) (at-most-finite 1 x h) (q-near .real))
 
   not-tiny : A ≤ C → C ≤ A * 2 ^ 1000 → Rounds (C * 2 ^ 45) A (sineNear x) (times (val x) (nested 2 (squared x) 1 10))
+  unfolding cost
   not-tiny l t =
       let r = rounding l t in
-      let a : Within (C * 2 ^ 54) (A * 6) (val (sineNear x)) (times (val x) (val (horner 2 (square x) 1 8))) = rescale (mul-pos C-pos (lit< tt)) (omega arith) (r .near) in
-      let b : Within (C * 2 ^ 54) (A * 90) (times (val x) (val (horner 2 (square x) 1 8))) (times (val x) (nested 2 (squared x) 1 10)) = rw (mul-comm (2 ^ 54) C) at (within-times-at mag (q-near .near)) in
+      let a : Within (C * 2 ^ 54) (A * 6) (val (sineNear x)) (times (val x) (val (horner 2 (square x) 1 sineSteps))) = rescale (mul-pos C-pos (lit< tt)) (omega arith) (r .near) in
+      let b : Within (C * 2 ^ 54) (A * cost 1 2 sineSteps) (times (val x) (val (horner 2 (square x) 1 sineSteps))) (times (val x) (nested 2 (squared x) 1 10)) = rw (mul-comm (2 ^ 54) C) at (within-times-at mag (q-near .near)) in
       record { real = r .real; near = rescale (mul-pos C-pos (lit< tt)) (omega arith) (chain a b) }
 
 -- ---- below 2 ^ -1000
@@ -87,11 +87,11 @@ module _ (x : Float) (h : T (atMost 1 x)) (f : T (fits binary64 x)) (t : (val x 
   no-square : Is (square x) nil
   no-square = let r = at-most-finite 1 x h in neg-is (rounded-none (mag-times tiny-mag tiny-mag) (lit< tt) (mul-rounded binary64 x x r r))
 
-  nest-is-one : Is (horner 2 (square x) 1 8) (frac 1 0 1)
+  nest-is-one : Is (horner 2 (square x) 1 sineSteps) (frac 1 0 1)
   unfolding horner reciprocal round factorial cost last
   nest-is-one =
-      let q = horner 2 (square x) 3 7 in
-      let i = is-val q (in-square x h 3 7 10 1 (lit< tt) (lit≤ tt) (lit≤ tt) .real) in
+      let q = horner 2 (square x) 3 (sineSteps - 1) in
+      let i = is-val q (in-square x h 3 (sineSteps - 1) 10 1 (lit< tt) (lit≤ tt) (lit≤ tt) .real) in
       let p : Is (mul binary64 (square x) q) (frac 0 0 (2 ^ 0)) = mul-is {t = 0} no-square i (omega (arith, val-pos q)) (omega arith) in
       let u : Is (reciprocal 1) (frac 1 0 1) = record { real = tt; same = omega arith } in
       add-is {t = 0} u p (omega arith) (omega arith)
@@ -99,7 +99,7 @@ module _ (x : Float) (h : T (atMost 1 x)) (f : T (fits binary64 x)) (t : (val x 
   tiny : Rounds (val x .d * 2 ^ 45) (val x .p + val x .n) (sineNear x) (times (val x) (nested 2 (squared x) 1 10))
   unfolding sineNear nested factorial
   tiny =
-      let i = kept x (horner 2 (square x) 1 8) f t h nest-is-one in
+      let i = kept x (horner 2 (square x) 1 sineSteps) f t h nest-is-one in
       let z : Within (2 ^ 1000 * 2 ^ 1000) 1 (squared x) nil = within-opp (mag-times tiny-mag tiny-mag) in
       let w : Within (2 ^ 45) 1 (nested 2 (squared x) 1 10) (frac 1 0 1) = beside (frac 1 0 1) (lit< tt) (rescale (lit< tt) (lit≤ tt) (mag-times z (in-square-mag x h 3 9))) in
       let v = to (times-one (val x) (val-pos x)) (within-times-at (own-mag (val x) (val-pos x)) w) in

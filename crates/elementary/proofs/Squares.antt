@@ -3,12 +3,11 @@ use mathlib.Core.Path.{_≡_}
 use mathlib.Core.Bool.{true, false}
 use Prim.Native.Nat.{ℕ, suc, _+_, _*_, _^_, _≤_, _<_}
 use native.Mathlib.Omega.{arith}
-use lib.IntN.{ℤ}
 use lib.Dec.{T, leb→le, lit≤, lit<}
 use lib.Ieee.{Float, nan, inf, fin, binary64, up, down, neg, mul}
 use lib.Ieee.Scale.{finite}
-use Rattle.fraction.specs.Fraction.{Frac, frac, nil, times, opp, Within, Mag}
-use Rattle.fraction.specs.Value.{signed, val, Rounds}
+use Rattle.fraction.specs.Fraction.{Frac, nil, times, opp, Within, Mag}
+use Rattle.fraction.specs.Value.{val, Rounds}
 use Rattle.fraction.proofs.Same.{same-refl}
 use Rattle.fraction.proofs.Within.{rescale, within-opp}
 use Rattle.fraction.proofs.Product.{mag-times}

@@ -8,7 +8,6 @@ use native.Mathlib.Omega.{arith}
 use lib.IntN.{ℤ, pos, negsuc, negℤ, subℕ}
 use lib.Dec.{T, leb, ltb, leb→le, le→leb, nleb→lt, ltb→lt, nltb→le, lit<}
 use lib.Ieee.{Float, nan, inf, fin, binary64, up, down}
-use lib.Ieee.Fits.{down-pos}
 use Rattle.fraction.specs.Fraction.{Frac, frac, plus, times, opp, over, whole, zp, zn, Same}
 use Rattle.fraction.specs.Value.{val, Is, nearestTo}
 use Rattle.fraction.proofs.Same.{same-sym, same-trans}

@@ -1,5 +1,5 @@
 -- E2 to E4. The three functions for every argument: a value, or a refusal by number. Definitions only.
-use mathlib.Core.Bool.{Bool, true, false, cond}
+use mathlib.Core.Bool.{Bool, false, cond}
 use Prim.Native.Nat.{ℕ, _+_, _*_, _%_}
 use lib.IntN.{pos, negsuc}
 use lib.Dec.{leb}

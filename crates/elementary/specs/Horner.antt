@@ -16,21 +16,30 @@ unfolding reciprocal
 horner d z n zero = reciprocal n
 horner d z n (suc k) = add binary64 (reciprocal n) (mul binary64 z (horner d z (d + n) k))
 
--- through x ^ 17, in z = -(x * x); what is left out of Taylor's fraction is below the last digit
+-- through x ^ 17, x ^ 18 and y ^ 13: the terms of Taylor's fractions that are left out lie below the last digit
+abbrev pub sineSteps : ℕ
+sineSteps = 8
+
+abbrev pub cosineSteps : ℕ
+cosineSteps = 9
+
+abbrev pub powerSteps : ℕ
+powerSteps = 13
+
+-- in z = -(x * x)
 unfoldable pub sineNear : Float → Float
 unfolding horner
-sineNear x = mul binary64 x (horner 2 (neg (mul binary64 x x)) 1 8)
+sineNear x = mul binary64 x (horner 2 (neg (mul binary64 x x)) 1 sineSteps)
 
--- through x ^ 18
 unfoldable pub cosineNear : Float → Float
 unfolding horner
-cosineNear x = horner 2 (neg (mul binary64 x x)) 0 9
+cosineNear x = horner 2 (neg (mul binary64 x x)) 0 cosineSteps
 
 -- 3FE62E42FEFA39EF
 abbrev pub ln2 : Float
 ln2 = fin false 6243314768165359 (negsuc 52)
 
--- through y ^ 13, in y = ln2 * x
+-- in y = ln2 * x
 unfoldable pub powerNear : Float → Float
 unfolding horner
-powerNear x = horner 1 (mul binary64 ln2 x) 0 13
+powerNear x = horner 1 (mul binary64 ln2 x) 0 powerSteps

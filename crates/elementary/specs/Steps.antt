@@ -1,12 +1,32 @@
--- What the private functions of the reduction promise one another. Definitions only.
+-- The constants of the reduction, and what its private functions promise one another. Definitions only.
 use mathlib.Core.Path.{_≡_}
+use mathlib.Core.Bool.{true, false}
 use Prim.Native.Nat.{ℕ, _≤_}
+use lib.IntN.{negsuc}
 use lib.Dec.{T}
-use lib.Ieee.{Float, binary64}
+use lib.Ieee.{Float, fin, binary64}
 use Rattle.fraction.specs.Fraction.{Frac, frac, plus, times, opp, Within}
 use Rattle.fraction.specs.Value.{val, Is, nearestTo}
 use Rattle.elementary.specs.Reduction.{H, turns, remainder, reduced, fourth}
 use Rattle.elementary.specs.Answers.{atMost}
+
+-- next to 1 / H
+abbrev pub inverse : Float
+inverse = fin false 5734161139222659 (negsuc 52)
+
+-- H in two parts of 25 and 24 digits, so that k times either is exact
+abbrev pub highPart : Float
+highPart = fin false 26353589 (negsuc 23)
+
+abbrev pub lowPart : Float
+lowPart = fin false 8947107 (negsuc 48)
+
+-- H / 2, and -H / 2
+abbrev pub eighth : Float
+eighth = fin false 884279719003555 (negsuc 49)
+
+abbrev pub eighthBack : Float
+eighthBack = fin true 884279719003555 (negsuc 49)
 
 -- |x - (j - 256) * H| ≤ 8 / 10: j - 256 is k, or one beside it
 pub record Guess (x : Float) (j : ℕ) : Type 0 where

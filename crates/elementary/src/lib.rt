@@ -1,4 +1,4 @@
-// E1 to E5. Sine, cosine and powers of two, the port's own: no division on the way of a sample. docs/ELEMENTARY.md writes the steps out.
+// E1 to E5. Sine, cosine and powers of two, the port's own, without a division: the night job calls the cosine a dozen times a sample. docs/ELEMENTARY.md has the steps.
 ghost use mathlib.Core.Path.{_≡_};
 ghost use mathlib.Core.Bool.{not, _&&_};
 ghost use lib.Dec.{T};

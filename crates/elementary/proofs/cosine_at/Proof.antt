@@ -39,7 +39,7 @@ add-choose : tie.Need-add-choose
 add-choose c = let e = c .before .turn .ensures .quarter in let l = fourth-small (turns (c .before .before .before .before .args .x)) in omega arith
 
 returns-2 : tie.Need-returns-2
-returns-2 c = cosine-long (beyond (c .before .before .before)) (c .before .before .turn .ensures) (c .choose .ensures)
+returns-2 c = cosine-long (beyond (c .before .before .before)) (c .before .before .turn .ensures) (omega arith) (c .choose .ensures)
 
 pub cosine-at-spec : {M : Type 1} → statement M
 cosine-at-spec = tie.close (tie.spec inside-requires cosine-near-requires returns turn-requires add-choose choose-requires returns-2)
