@@ -5,12 +5,12 @@ use mathlib.Core.Bool.{Bool, true, false, not, _&&_, _||_}
 use Prim.Native.Nat.{ℕ, _+_, _*_, _≤_, _<_}
 use native.Mathlib.Nat.{zero-mul, zero-add, add-zero, add-comm, mul-lt-mul-of-pos-right, mul-le-mul-right, lt-of-mul-lt-mul-right, le-of-mul-le-mul-right}
 use native.Mathlib.Omega.{arith}
-use borrow.Author.Tests.{ltb-true, ltb-false}
+use borrow.Author.Tests.{ltb-true, ltb-false, le-ltb}
 use lib.Dec.{T, leb, ltb, eqb, leb→le, le→leb, ltb→lt, nltb→le, eqb→eq}
 use lib.Ieee.{Float, nan, inf, fin, up, down, below, level, lt, le}
 use lib.Ieee.Fits.{and-l, and-r, and-i, eq→eqb}
 use lib.Ieee.Scale.{finite}
-use Rattle.rounding.proofs.Orders.{same-test, not-lt}
+use Rattle.rounding.proofs.Orders.{same-test}
 use Rattle.fraction.specs.Fraction.{Frac}
 use Rattle.fraction.specs.Value.{signed, val, Is}
 
@@ -20,7 +20,7 @@ side x y = x .p * y .d + y .n * x .d
 
 below-is : (s t : Bool) (a c b d : ℕ) → below s (a * d) t (b * c) ≡ ltb (side (signed s a c) (signed t b d)) (side (signed t b d) (signed s a c))
 below-is false false a c b d = simp (zero-mul, add-zero)
-below-is false true a c b d = sym (not-lt (a * d + b * c) (0 * c + 0 * d) (omega arith))
+below-is false true a c b d = sym (le-ltb (a * d + b * c) (0 * c + 0 * d) (omega arith))
 below-is true false a c b d = simp (zero-mul, add-comm)
 below-is true true a c b d = simp (zero-mul, zero-add)
 

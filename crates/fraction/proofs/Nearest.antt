@@ -9,7 +9,8 @@ use lib.Dec.{T, ltb, ltb→lt, nltb→le}
 use lib.Ieee.{Float, nan, inf, fin, Format, up, down, round, sum, add}
 use lib.Ieee.Fits.{down-pos}
 use lib.Ieee.Scale.{finite, round-same}
-use Rattle.rounding.proofs.Orders.{clash, is-lt, not-lt}
+use borrow.Author.Tests.{lt-ltb, le-ltb}
+use Rattle.rounding.proofs.Orders.{clash}
 use Rattle.rounding.proofs.Sums.{sum-sign, sum-size, sum-is}
 use Rattle.fraction.specs.Fraction.{Frac, plus, Same}
 use Rattle.fraction.specs.Value.{signed, val, nearestTo}
@@ -33,8 +34,8 @@ nearest-same {q} {r} f e = go (ltb (q .p) (q .n)) (ltb (r .p) (r .n)) (ltb→lt 
 -- ---- one rounding, where a minus stands before no zero
 nearest-signed : (f : Format) (s : Bool) (a c : ℕ) → (T s → 0 < a) → round f s a c ≡ nearestTo f (signed s a c)
 unfolding nearestTo
-nearest-signed f false a c h = rw (not-lt a 0 (omega arith)) (ap (λ (z : ℕ). round f false z c) (omega arith))
-nearest-signed f true a c h = rw (is-lt 0 a (h tt)) (ap (λ (z : ℕ). round f true z c) (omega arith))
+nearest-signed f false a c h = rw (le-ltb a 0 (omega arith)) (ap (λ (z : ℕ). round f false z c) (omega arith))
+nearest-signed f true a c h = rw (lt-ltb 0 a (h tt)) (ap (λ (z : ℕ). round f true z c) (omega arith))
 
 -- ---- a sum
 minus : (s : Bool) (a : ℕ) (t : Bool) (b : ℕ) → 0 < b → T (sum-sign s a t b) → 0 < sum-size s a t b
