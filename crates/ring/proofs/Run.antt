@@ -11,8 +11,9 @@ use lib.Dec.{leb}
 use lib.IntN.{ℤ, pos, negsuc, _+ℤ_}
 use lib.ListN.{length, getD}
 use lib.Ieee.{Float, nan}
-use Rattle.ring.specs.Taps.{held, tapAt}
+use Rattle.ring.specs.Taps.{held, valueOf, tapAt, tapOf}
 use Rattle.ring.specs.Places.{placeOf, pickStart, startOf}
+use Rattle.ring.proofs.Held.{place-inside}
 use Rattle.ring.specs.declared.Start.{Start}
 
 -- the run of `taps` taps from number `first` on is held in a ring of length len
@@ -40,22 +41,36 @@ at-number : (xs : List Float) (count i k : ℕ) → i + k < count → count ≤ 
 at-number xs count i k a b =
     rw (lt-ltb (i + k) count a, le-leb count (i + k + length xs) (omega arith), ne-eqb (length xs) 0 (λ z. omega arith), mod-add-mod i (length xs) k)
 
-module _ (xs : List Float) (count taps : ℕ) (i : ℤ) (all : startOf (length xs) count i taps .held ≡ true) where
-  run : Run (length xs) count taps i (startOf (length xs) count i taps .place)
-  run = run-of (length xs) count taps i all
-
-  pub fits : taps ≤ length xs
-  fits = omega (arith, run .written, run .not-gone)
-
-  pub each : (k : ℕ) → k < taps → tapAt xs count (i +ℤ pos k) ≡ held (getD xs ((startOf (length xs) count i taps .place + k) % length xs) nan)
-  each k h =
-      ap (λ (z : ℤ). tapAt xs count (z +ℤ pos k)) (run .from)
-      ∙ at-number xs count (run .first) k (omega (arith, run .written)) (run .not-gone)
-      ∙ ap (λ (p : ℕ). held (getD xs ((p + k) % length xs) nan)) (sym (run .at))
-
 -- a place and the places after it, once round
 pub on : {p n : ℕ} → p < n → p % n ≡ p
 on = mod-eq-of-lt
 
 pub round : (p n : ℕ) → n ≤ p → p < n + n → p % n ≡ p - n
 round p n h l = let e : p ≡ p - n + n = omega arith in ap (λ (k : ℕ). k % n) e ∙ add-mod-right (p - n) n ∙ mod-eq-of-lt (omega arith)
+
+-- s is what `run_start` gave for the taps from index i on
+module _ (xs : List Float) (count taps : ℕ) (i : ℤ) (s : Start) (start : s ≡ startOf (length xs) count i taps) (all : s .held ≡ true) where
+  run : Run (length xs) count taps i (startOf (length xs) count i taps .place)
+  run = run-of (length xs) count taps i (sym (ap (λ (s : Start). s .held) start) ∙ all)
+
+  at : s .place ≡ placeOf (run .first) (length xs)
+  at = ap (λ (s : Start). s .place) start ∙ run .at
+
+  pub fits : taps ≤ length xs
+  fits = omega (arith, run .written, run .not-gone)
+
+  pub inside : 0 < taps → s .place < length xs
+  inside h = place-inside (run .first) (length xs) (omega (arith, fits)) at
+
+  pub each : (k : ℕ) → k < taps → tapAt xs count (i +ℤ pos k) ≡ held (getD xs ((s .place + k) % length xs) nan)
+  each k h =
+      ap (λ (z : ℤ). tapAt xs count (z +ℤ pos k)) (run .from)
+      ∙ at-number xs count (run .first) k (omega (arith, run .written)) (run .not-gone)
+      ∙ ap (λ (p : ℕ). held (getD xs ((p + k) % length xs) nan)) (sym at)
+
+  -- what tap k reads: before the ring's end, and round it
+  pub straight : (k : ℕ) → k < taps → s .place + k < length xs → tapOf xs count (i +ℤ pos k) ≡ getD xs (s .place + k) nan
+  straight k h l = ap valueOf (each k h) ∙ ap (λ (p : ℕ). getD xs p nan) (on l)
+
+  pub wrapped : (k : ℕ) → k < taps → length xs ≤ s .place + k → tapOf xs count (i +ℤ pos k) ≡ getD xs (s .place + k - length xs) nan
+  wrapped k h l = ap valueOf (each k h) ∙ ap (λ (p : ℕ). getD xs p nan) (round _ (length xs) l (omega (arith, inside (omega arith), fits)))

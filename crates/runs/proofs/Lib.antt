@@ -1,0 +1,4 @@
+pub mod Determined
+pub mod Filled
+pub mod Counted
+pub mod Opened

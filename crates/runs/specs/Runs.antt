@@ -1,0 +1,55 @@
+-- K8. A run of a reader's calls: state and ring are handed on as the last call left them. Over what the kernel asks of its own settings and of its lent table
+-- (`own`, `lent`), and whatever it reads. Definitions only.
+use Prim.Native.Nat.{ℕ, zero, suc}
+use mathlib.Core.Bool.{Bool}
+use mathlib.Core.List.{List, [], _∷_, map}
+use lib.ListN.{length}
+use lib.Ieee.{Float}
+use Rattle.ring.specs.Length.{zeros}
+use Rattle.variable_delay.specs.Reader.{verdict, stateAfter, ringAfter}
+use Rattle.variable_delay.specs.Opening.{fresh}
+use Rattle.variable_delay.specs.declared.VariableDelay.{VariableDelay}
+
+pub record Call : Type 0 where
+  pub input : Float
+  pub delay : Float
+
+-- A reader between two calls.
+pub record Reader : Type 0 where
+  pub state : VariableDelay
+  pub ring : List Float
+
+-- as opening and reset leave it
+abbrev pub opened : ℕ → ℕ → ℕ → Reader
+opened maximum margin len = record { state = fresh maximum margin; ring = zeros len }
+
+-- what a call leaves, by the refusal that is due, 0 for none
+abbrev pub afterBy : ℕ → Reader → Call → Reader
+afterBy v r c = record { state = stateAfter v (r .state); ring = ringAfter v (r .state) (r .ring) (c .input) }
+
+abbrev pub keep : ℕ → Call → List Call → List Call
+keep zero c cs = c ∷ cs
+keep (suc k) c cs = cs
+
+module _ (own lent : Bool) where
+  abbrev pub due : Reader → Call → ℕ
+  due r c = verdict own lent (r .state) (length (r .ring)) (c .input) (c .delay)
+
+  abbrev pub after : Reader → Call → Reader
+  after r c = afterBy (due r c) r c
+
+  -- a run, and its calls that are accepted
+  unfoldable pub run : Reader → List Call → Reader
+  run r [] = r
+  run r (c ∷ cs) = run (after r c) cs
+
+  unfoldable pub accepted : Reader → List Call → List Call
+  accepted r [] = []
+  accepted r (c ∷ cs) = keep (due r c) c (accepted (after r c) cs)
+
+abbrev pub samples : List Call → List Float
+samples cs = map (λ c. c .input) cs
+
+-- a state with another count
+abbrev pub withCount : VariableDelay → ℕ → VariableDelay
+withCount d n = record { maximum = d .maximum; margin = d .margin; accepted = n }
