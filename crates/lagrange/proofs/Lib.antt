@@ -1,0 +1,4 @@
+pub mod Nodes
+pub mod Loops
+pub mod Shifted
+pub mod Ranges

@@ -1,0 +1,20 @@
+-- Signed sums near a place: a small unsigned number read as a signed one, and a difference that stays in the range of an `i64`. Assumes nothing.
+use mathlib.Core.Path.{_≡_}
+use Prim.Native.Nat.{ℕ, zero, suc, _+_, _^_, _≤_, _<_}
+use native.Mathlib.Omega.{arith}
+use lib.IntN.{ℤ, pos, negsuc, _-ℤ_}
+use lib.Signed.{mag}
+use mir.Syntax.{w64}
+use mir.Val.{toZ, SFits}
+use mir.ValLaws.{toZ-ofZ}
+use Rattle.integer_part.proofs.Signed.{mag-sum}
+
+pub small : (k : ℕ) → k < 2 ^ 63 → toZ w64 k ≡ pos k
+small k h = toZ-ofZ w64 (pos k) (record { sfits = h })
+
+pub minus-mag : (z : ℤ) (k : ℕ) → mag (z -ℤ pos k) ≤ mag z + k + 1
+minus-mag z zero = omega (arith, mag-sum z (pos 0))
+minus-mag z (suc k) = omega (arith, mag-sum z (negsuc k))
+
+pub minus-fits : (z : ℤ) (k : ℕ) → mag z + k + 1 < 2 ^ 63 → SFits w64 (z -ℤ pos k)
+minus-fits z k h = record { sfits = omega (arith, minus-mag z k) }

@@ -1,0 +1,84 @@
+-- `lagrange::read` meets its contract: in range the base is exact, and the loops are the definition's. Assumes nothing.
+use borrow.Author.Needs.{needs}
+use mathlib.Core.Path.{_≡_, refl, sym, _∙_, ap, subst}
+use Prim.Native.Nat.{_+_, _-_, _/_, _^_, _≤_}
+use native.Mathlib.Omega.{arith}
+use lib.IntN.{ℤ, pos, _-ℤ_}
+use lib.Signed.{mag}
+use lib.Ieee.{binary64, ofBits}
+use mir.Syntax.{w64}
+use mir.Val.{toZ, ofZ, SFits}
+use mir.ValLaws.{toZ-ofZ}
+use lib.Dec.{lit<}
+use Rattle.integer_part.specs.Parts.{floorOf}
+use Rattle.integer_part.proofs.Floors.{floor-mag}
+use Rattle.lagrange.specs.Kernel.{fold, baseOf, lagrangeAt, zero-f}
+use Rattle.lagrange.proofs.Ranges.{Within, within}
+use Rattle.lagrange.proofs.Shifted.{small, minus-mag, minus-fits}
+use Rattle.lagrange.proofs.read.Statement.{statement}
+use Rattle.lagrange.proofs.read.Tie as tie
+
+in-range-requires : tie.Need-in-range-requires
+in-range-requires c κs = search needs
+
+floor-requires : tie.Need-floor-requires
+floor-requires c κs = search needs
+
+-- what the test says
+ranges : (c : tie.Then1) → let a = c .before .before .before .args in Within (a .taps) (a .position)
+ranges c = within _ _ (sym (c .before .in-range .ensures) ∙ c .if1 .taken)
+
+sub-base : tie.Need-sub-base
+sub-base c = let r = ranges (c .before) in omega (arith, r .least)
+
+cast-base : tie.Need-cast-base
+cast-base c = search needs
+
+-- the base as the machine has it
+exact : (c : tie.After-floor) → let a = c .before .before .before .before .args in
+    toZ w64 (ofZ w64 (c .floor .result)) -ℤ toZ w64 (a .taps / 2 - 1) ≡ baseOf (a .position) (a .taps)
+exact c =
+    let a = c .before .before .before .before .args in
+    let r = ranges (c .before) in
+    rw (toZ-ofZ w64 (c .floor .result) (record { sfits = c .floor .ok }), c .floor .ensures, small (a .taps / 2 - 1) (omega (arith, r .most)))
+
+floor-near : (c : tie.After-floor) → mag (floorOf (c .before .before .before .before .args .position)) ≤ 2 ^ 36
+floor-near c = floor-mag (2 ^ 36) _ (lit< tt) (ranges (c .before) .near)
+
+sub-base-2 : tie.Need-sub-base-2
+sub-base-2 c =
+    let a = c .before .before .before .before .args in
+    let r = ranges (c .before) in
+    subst (λ (z : ℤ). SFits w64 z) (sym (exact c)) (minus-fits (floorOf (a .position)) (a .taps / 2 - 1) (omega (arith, floor-near c, r .most)))
+
+nearest-i64-to-f64-requires : tie.Need-nearest-i64-to-f64-requires
+nearest-i64-to-f64-requires c κs = search needs
+
+based : (c : tie.After-floor) → let a = c .before .before .before .before .args in
+    toZ w64 (ofZ w64 (toZ w64 (ofZ w64 (c .floor .result)) -ℤ toZ w64 (a .taps / 2 - 1))) ≡ baseOf (a .position) (a .taps)
+based c = toZ-ofZ w64 _ (sub-base-2 c) ∙ exact c
+
+sum-requires : tie.Need-sum-requires
+sum-requires c κs =
+    let f = c .before in
+    let a = f .before .before .before .before .args in
+    let r = ranges (f .before) in
+    (subst (λ (z : ℤ). mag z ≤ 2 ^ 37) (sym (based f)) (omega (arith, minus-mag (floorOf (a .position)) (a .taps / 2 - 1), floor-near f, r .most)), r .most)
+
+returns : tie.Need-returns
+unfolding lagrangeAt
+returns c =
+    let n = c .before in
+    let f = n .before in
+    let t = f .before in
+    rw (← t .before .in-range .ensures, t .if1 .taken) (c .sum .ensures ∙ rw (n .nearest-i64-to-f64 .ensures, based f))
+
+nothing : ofBits binary64 0 ≡ zero-f
+unfolding ofBits
+nothing = refl
+
+returns-2 : tie.Need-returns-2
+returns-2 c = rw (← c .before .in-range .ensures, c .if1 .left) nothing
+
+pub read-spec : {M : Type 1} → statement M
+read-spec = tie.close (tie.spec in-range-requires floor-requires sub-base cast-base sub-base-2 nearest-i64-to-f64-requires sum-requires returns returns-2)

@@ -1,0 +1,52 @@
+-- K4, K7. 000's Lagrange<TAPS>: its two loops, each step rounded, in 000's order. The taps come as a number. Definitions only.
+use Prim.Native.Nat.{ℕ, zero, suc, _-_, _/_, _%_}
+use mathlib.Core.Bool.{Bool, true, false, _&&_, cond}
+use mathlib.Core.List.{List}
+use lib.Dec.{eqb, leb}
+use lib.IntN.{ℤ, pos, _+ℤ_, _-ℤ_}
+use lib.Ieee.{Float, fin, binary64, add, sub, mul, div, ofInt}
+use Rattle.ring.specs.Taps.{tapOf}
+use Rattle.ring.specs.Places.{positionOk}
+use Rattle.integer_part.specs.Parts.{floorOf}
+
+-- G5. Taps: even, 2 to 16.
+abbrev pub tapsOk : ℕ → Bool
+tapsOk taps = leb taps 16 && leb 2 taps && eqb (taps % 2) 0
+
+-- a loop over 0 .. n: `step k` is turn k
+unfoldable pub fold : (ℕ → Float → Float) → Float → ℕ → Float
+fold step a zero = a
+fold step a (suc n) = step n (fold step a n)
+
+abbrev pub one-f : Float
+one-f = fin false 1 (pos 0)
+
+abbrev pub zero-f : Float
+zero-f = fin false 0 (pos 0)
+
+abbrev pub num : ℕ → Float
+num n = ofInt binary64 (pos n)
+
+-- `if j != k { weight *= (local - j) / (k - j) }`
+abbrev pub factor : Float → ℕ → ℕ → Float → Float
+factor local k j w = cond (eqb j k) w (mul binary64 w (div binary64 (sub binary64 local (num j)) (sub binary64 (num k) (num j))))
+
+abbrev pub weightOf : ℕ → Float → ℕ → Float
+weightOf taps local k = fold (factor local k) one-f taps
+
+-- `sum += source.at(base + k) * weight`
+abbrev pub turnOf : List Float → ℕ → ℤ → Float → ℕ → ℕ → Float → Float
+turnOf xs count base local taps k sum = add binary64 sum (mul binary64 (tapOf xs count (base +ℤ pos k)) (weightOf taps local k))
+
+-- The first tap stands taps / 2 - 1 before the integer part; `local` is the position from there.
+abbrev pub baseOf : Float → ℕ → ℤ
+baseOf p taps = floorOf p -ℤ pos (taps / 2 - 1)
+
+unfoldable pub lagrangeAt : ℕ → List Float → ℕ → Float → Float
+unfolding fold
+lagrangeAt taps xs count p =
+    let base = baseOf p taps in
+    fold (turnOf xs count base (sub binary64 p (ofInt binary64 base)) taps) zero-f taps
+
+abbrev pub readOf : ℕ → List Float → ℕ → Float → Float
+readOf taps xs count p = cond (tapsOk taps && positionOk p) (lagrangeAt taps xs count p) zero-f
