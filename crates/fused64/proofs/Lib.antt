@@ -2,6 +2,7 @@ pub mod Words
 pub mod Dropping
 pub mod Columns
 pub mod Cutting
+pub mod Beside
 pub mod Aligning
 pub mod Totals
 pub mod Finishing

@@ -36,7 +36,7 @@ fn root_digits(z: u64) -> u64
     digits::sticky(s, r)
 }
 
-// An even power of two is taken out: x is z * 2^46 times 4^(k - 1075).
+// An even power of two is taken out: x is z * 2^46 * 4^(k - 1076), where z is m or 2 m and k what is packed.
 fn positive_root(x: f64) -> f64
     requires { ⌜ positive x ≡ true ⌝ }
     ensures { λ r. ⌜ r ≡ root binary64 x ⌝ }
