@@ -57,8 +57,25 @@ def far_apart(f, d):
 def cancelled(f, d):
     """z is the product's negative, rounded, or a neighbour of it: what is left is tiny, or an exact zero."""
     x, y = d.float(f, -f.low // 3, f.low // 3), d.float(f, -f.low // 3, f.low // 3)
+    if d.bits(1):                                               # (m + n)(o - n) - m * o, where m * o is a value of f: a little above zero is left, or below
+        half = f.digits // 2
+        m = (d.bits(half - 2) + 2) << half
+        o, n = m + (d.between(-1, 1) << half), d.bits(d.between(1, half)) + 1
+        x, y = f.near(Fraction(m + n)), f.near(Fraction(d.of([1, -1]) * (o - n)))
+        return x, y, f.near(-f.value(x) * f.value(y))
     z = f.near(-f.value(x) * f.value(y))
     return x, y, d.of(beside(f, z, (0, 0, 0, 1, -1)))
+
+
+def completed(f, d):
+    """z makes the digits of the product that rounding would lose into a half, into nothing or into a whole, or misses that by a last place of its own."""
+    a, b = f.hidden + d.bits(f.digits - 1), f.hidden + d.bits(f.digits - 1)
+    lost = (a * b).bit_length() - f.digits
+    z = d.of([1 << (lost - 1), 1 << (lost - 1), 0, 1 << lost]) - a * b % (1 << lost)
+    i, k = split(f, d, d.between(-f.low // 2, f.low // 2))
+    x, y = scaled(f, d, a, i), scaled(f, d, b, k)
+    z = f.rounded((x ^ y) // f.sign ^ (z < 0), abs(z) * Fraction(2) ** (i + k))
+    return x, y, d.of(beside(f, z, (0, 0, 1, -1)))
 
 
 def below(f, d):
@@ -92,5 +109,5 @@ def anything(f, d):
 def to_fuse(f, d):
     yield from special_triples(f, d)
     while True:
-        for kind in (ties, ties, ties, far_apart, cancelled, below, over, anything):
+        for kind in (ties, ties, completed, far_apart, cancelled, below, over, anything):
             yield kind(f, d)
