@@ -1,4 +1,4 @@
--- Both ways of a reading, taps one by one and taps side by side, are the definition's, at the integer part z and its float i that the code holds. Assumes nothing.
+-- Both ways of a reading, taps one by one and taps side by side, are the definition's, at the integer part z that the code holds. Assumes nothing.
 use mathlib.Core.Path.{_≡_, sym, _∙_, ap}
 use mathlib.Core.Bool.{true}
 use mathlib.Core.List.{List}
@@ -16,16 +16,16 @@ use Rattle.ring.specs.declared.Start.{Start}
 use Rattle.ring.proofs.Run.{straight}
 use Rattle.cubic_farrow.specs.Cubic.{weighed, cubicAt}
 
-module _ (xs : List Float) (count : ℕ) (p : Float) (z : ℤ) (whole : z ≡ floorOf p) (i : Float) (float : i ≡ ofInt binary64 z) where
-  pub one-by-one : {r : Float} → r ≡ weighed binary64 (sub binary64 p i) (tapOf xs count (z -ℤ pos 1)) (tapOf xs count z) (tapOf xs count (z +ℤ pos 1)) (tapOf xs count (z +ℤ pos 2)) → r ≡ cubicAt xs count p
+module _ (xs : List Float) (count : ℕ) (p : Float) (z : ℤ) (whole : z ≡ floorOf p) where
+  pub one-by-one : {r : Float} → r ≡ weighed binary64 (sub binary64 p (ofInt binary64 z)) (tapOf xs count (z -ℤ pos 1)) (tapOf xs count z) (tapOf xs count (z +ℤ pos 1)) (tapOf xs count (z +ℤ pos 2)) → r ≡ cubicAt xs count p
   unfolding cubicAt fractionOf
-  one-by-one e = e ∙ rw (float, whole)
+  one-by-one e = e ∙ rw whole
 
   module _ (s : Start) (start : s ≡ startOf (length xs) count (z -ℤ pos 1) 4) (all : s .held ≡ true) (fits : s .place + 4 ≤ length xs) where
     tap : (k : ℕ) → k < 4 → {j : ℤ} → z -ℤ pos 1 +ℤ pos k ≡ j → getD xs (s .place + k) nan ≡ tapOf xs count j
     tap k h e = sym (straight xs count 4 (z -ℤ pos 1) s start all k h (omega arith)) ∙ ap (tapOf xs count) e
 
-    pub side-by-side : {r : Float} → r ≡ weighed binary64 (sub binary64 p i) (getD xs (s .place) nan) (getD xs (s .place + 1) nan) (getD xs (s .place + 2) nan) (getD xs (s .place + 3) nan) → r ≡ cubicAt xs count p
+    pub side-by-side : {r : Float} → r ≡ weighed binary64 (sub binary64 p (ofInt binary64 z)) (getD xs (s .place) nan) (getD xs (s .place + 1) nan) (getD xs (s .place + 2) nan) (getD xs (s .place + 3) nan) → r ≡ cubicAt xs count p
     side-by-side e =
         one-by-one
         (e

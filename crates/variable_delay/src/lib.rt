@@ -121,6 +121,6 @@ pub fn accept(
     Accepted {
         refusal: 0,
         count: i + 1,
-        position: std::num::nearest_u64_to_f64(i) - delay,
+        position: (i as i64) as f64 - delay,
     }
 }

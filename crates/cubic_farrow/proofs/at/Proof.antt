@@ -3,8 +3,9 @@
 use borrow.Author.Needs.{needs}
 use mathlib.Core.Path.{_≡_, _∙_}
 use Prim.Native.Nat.{_^_, _<_, _≤_}
+use native.Mathlib.Nat.{le-trans}
 use native.Mathlib.Omega.{arith}
-use lib.Dec.{lit<}
+use lib.Dec.{lit<, lit≤}
 use lib.IntN.{ℤ, pos, negsuc, _-ℤ_}
 use lib.ListN.{length}
 use lib.Signed.{mag}
@@ -14,6 +15,7 @@ use mir.ValLaws.{toZ-ofZ}
 use denote.Ref.{now}
 use Rattle.integer_part.specs.Parts.{floorOf}
 use Rattle.integer_part.proofs.Floors.{floor-mag}
+use Rattle.integer_part.proofs.Step.{in-float}
 use Rattle.integer_part.proofs.Signed.{sum-fits}
 use Rattle.ring.specs.Places.{startOf}
 use Rattle.ring.proofs.Positions.{position-at-most}
@@ -35,8 +37,8 @@ whole c = toZ-ofZ w64 (c .floor .result) (record { sfits = c .floor .ok }) ∙ c
 small : (c : tie.After-floor) → mag (Z c) ≤ 2 ^ 36
 small c = rw (whole c) (floor-mag (2 ^ 36) _ (lit< tt) (position-at-most _ (c .before .before .pre)))
 
-nearest-i64-to-f64-requires : tie.Need-nearest-i64-to-f64-requires
-nearest-i64-to-f64-requires c κs = search needs
+int-to-float-mu : tie.Need-int-to-float-mu
+int-to-float-mu c = in-float (Z (c .before)) (le-trans (small (c .before)) (lit≤ tt))
 
 sub-run-start : tie.Need-sub-run-start
 sub-run-start c = sum-fits (Z (c .before)) (negsuc 0) (omega (arith, small (c .before)))
@@ -60,7 +62,7 @@ returns : tie.Need-returns
 returns c =
     let r = c .before .before .before in
     let n = r .before in
-    ways.side-by-side _ _ _ (Z (n .before)) (whole (n .before)) _ (n .nearest-i64-to-f64 .ensures) (r .run-start .result) (start r) (c .before .before .if1 .taken) (c .before .if2 .taken) (c .side-by-side .ensures)
+    ways.side-by-side _ _ _ (Z (n .before)) (whole (n .before)) (r .run-start .result) (start r) (c .before .before .if1 .taken) (c .before .if2 .taken) (c .side-by-side .ensures)
 
 one-by-one-requires : tie.Need-one-by-one-requires
 one-by-one-requires c κs = small (c .before .before .before)
@@ -68,7 +70,7 @@ one-by-one-requires c κs = small (c .before .before .before)
 returns-2 : tie.Need-returns-2
 returns-2 c =
     let n = c .before .before .before in
-    ways.one-by-one _ _ _ (Z (n .before)) (whole (n .before)) _ (n .nearest-i64-to-f64 .ensures) (c .one-by-one .ensures)
+    ways.one-by-one _ _ _ (Z (n .before)) (whole (n .before)) (c .one-by-one .ensures)
 
 pub at-spec : {M : Type 1} → statement M
-at-spec = tie.close (tie.spec floor-requires nearest-i64-to-f64-requires sub-run-start run-start-requires add-if2 side-by-side-requires returns one-by-one-requires returns-2)
+at-spec = tie.close (tie.spec floor-requires int-to-float-mu sub-run-start run-start-requires add-if2 side-by-side-requires returns one-by-one-requires returns-2)

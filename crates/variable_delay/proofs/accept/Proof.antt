@@ -3,9 +3,14 @@ use borrow.Author.Needs.{needs, scaled-fits}
 use mathlib.Core.Path.{_≡_, sym, _∙_}
 use Prim.Native.Nat.{_<_}
 use native.Mathlib.Omega.{arith}
+use lib.IntN.{pos}
 use lib.ListN.{length}
 use lib.Ieee.{ofBits}
+use mir.Syntax.{w64}
+use mir.Val.{toZ}
+use mir.ValLaws.{toZ-ofZ}
 use denote.Ref.{now}
+use Rattle.integer_part.proofs.Step.{in-float}
 use Rattle.ring.proofs.Held.{place-mod, place-inside}
 use Rattle.variable_delay.specs.Reader.{verdict}
 use Rattle.variable_delay.proofs.Taken.{Taken, taken, ring-some}
@@ -42,8 +47,17 @@ slice-write-ring c = inside c
 add-t14 : tie.Need-add-t14
 add-t14 c = omega (arith, passed (c .before) .room)
 
-nearest-u64-to-f64-requires : tie.Need-nearest-u64-to-f64-requires
-nearest-u64-to-f64-requires c κs = search needs
+-- the count is small, so both casts are exact
+cast-t15 : tie.Need-cast-t15
+cast-t15 c = record { sfits = omega (arith, passed (c .before) .room) }
+
+count-is : (c : tie.After-row-known) → toZ w64 (c .before .before .before .before .before .args .state .accepted) ≡ pos (c .before .before .before .before .before .args .state .accepted)
+count-is c = toZ-ofZ w64 (pos _) (cast-t15 (c .before))
+
+int-to-float-t16 : tie.Need-int-to-float-t16
+int-to-float-t16 c =
+    let n = c .before .before .before .before .before .args .state .accepted in
+    rw (count-is c) (in-float (pos n) (omega (arith, passed (c .before .before) .room)))
 
 same-length : tie.Need-same-length
 same-length c = search needs
@@ -52,7 +66,7 @@ returns-2 : tie.Need-returns-2
 returns-2 c =
     let e = c .before .before in
     let p = c .before .place .ensures ∙ place-mod _ _ (ring-some (passed e)) in
-    (rw (none e, c .nearest-u64-to-f64 .ensures), rw (none e, p))
+    (rw (none e, count-is c), rw (none e, p))
 
 pub accept-spec : {M : Type 1} → statement M
-accept-spec = tie.close (tie.spec refusal-requires returns place-requires mul-ring slice-write-ring add-t14 nearest-u64-to-f64-requires same-length returns-2)
+accept-spec = tie.close (tie.spec refusal-requires returns place-requires mul-ring slice-write-ring add-t14 cast-t15 int-to-float-t16 same-length returns-2)
