@@ -4,6 +4,7 @@ use mathlib.Core.Path.{_≡_, sym, _∙_, ap}
 use mathlib.Core.Bool.{Bool, true}
 use mathlib.Core.List.{List}
 use Prim.Native.Nat.{ℕ, zero, suc}
+use lib.Ieee.Bits.{is-true}
 use lib.ListN.{length}
 use lib.Ieee.{Float}
 use Rattle.answer.specs.Answers.{answerOf}
@@ -38,6 +39,10 @@ module _ (read : Reading) (own lent : Bool) (d : VariableDelay) (xs : List Float
 
     pub position-ok : positionOk (a .position) ≡ true
     position-ok = rw accepted-is (position-in-range (taken own lent d (length xs) x y verdict-none))
+
+    -- the kernel's own settings passed their test
+    pub settings-ok : own ≡ true
+    settings-ok = is-true own (taken own lent d (length xs) x y verdict-none .owned)
 
     pub taken-call : {ys : List Float} {z : Float} → ys ≡ ringAfter (verdict own lent d (length xs) x y) d xs x → z ≡ read ys (a .count) (a .position)
         → _≡_ {A = Processed} (record { state = record { maximum = d .maximum; margin = d .margin; accepted = a .count }; answer = answerOf 0 z }) (processedBy read (verdict own lent d (length xs) x y) d xs x y)

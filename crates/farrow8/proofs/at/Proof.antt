@@ -1,0 +1,80 @@
+-- `farrow8::at` meets its contract: each way is the definition's, by `Ways`, and the indices fit since a position in range has a small integer part.
+-- Assumes nothing.
+use borrow.Author.Needs.{needs}
+use mathlib.Core.Path.{_≡_, _∙_}
+use Prim.Native.Nat.{_^_, _<_, _≤_}
+use native.Mathlib.Omega.{arith}
+use lib.Dec.{lit<}
+use lib.IntN.{ℤ, pos, negsuc, _-ℤ_}
+use lib.ListN.{length}
+use lib.Signed.{mag}
+use mir.Syntax.{w64}
+use mir.Val.{toZ, ofZ}
+use mir.ValLaws.{toZ-ofZ}
+use denote.Ref.{now}
+use Rattle.integer_part.specs.Parts.{floorOf}
+use Rattle.integer_part.proofs.Floors.{floor-mag}
+use Rattle.integer_part.proofs.Signed.{sum-fits}
+use Rattle.ring.specs.Places.{startOf}
+use Rattle.ring.proofs.Positions.{position-at-most}
+use Rattle.ring.proofs.Run.{inside}
+use Rattle.farrow8.proofs.Ways as ways
+use Rattle.farrow8.proofs.at.Statement.{statement}
+use Rattle.farrow8.proofs.at.Tie as tie
+
+floor-requires : tie.Need-floor-requires
+floor-requires c κs = search needs
+
+-- the integer part, as the code holds it
+abbrev Z : tie.After-floor → ℤ
+Z c = toZ w64 (ofZ w64 (c .floor .result))
+
+whole : (c : tie.After-floor) → Z c ≡ floorOf (c .before .before .args .position)
+whole c = toZ-ofZ w64 (c .floor .result) (record { sfits = c .floor .ok }) ∙ c .floor .ensures
+
+small : (c : tie.After-floor) → mag (Z c) ≤ 2 ^ 36
+small c = rw (whole c) (floor-mag (2 ^ 36) _ (lit< tt) (position-at-most _ (c .before .before .pre)))
+
+nearest-i64-to-f64-requires : tie.Need-nearest-i64-to-f64-requires
+nearest-i64-to-f64-requires c κs = search needs
+
+sub-run-start : tie.Need-sub-run-start
+sub-run-start c = sum-fits (Z (c .before)) (negsuc 2) (omega (arith, small (c .before)))
+
+run-start-requires : tie.Need-run-start-requires
+run-start-requires c κs = search needs
+
+-- where the run starts
+start : (c : tie.After-run-start) → let a = c .before .before .before .before .args in c .run-start .result ≡ startOf (length (now (a .source))) (a .count) (Z (c .before .before) -ℤ pos 3) 8
+start c = rw (toZ-ofZ w64 _ (sub-run-start (c .before))) at (c .run-start .ensures)
+
+add-if2 : tie.Need-add-if2
+add-if2 c =
+    let a = c .before .before .before .before .before .args in
+    omega (arith, inside (now (a .source)) (a .count) 8 (Z (c .before .before .before) -ℤ pos 3) (c .before .run-start .result) (start (c .before)) (c .if1 .taken) (lit< tt))
+
+side-by-side-requires : tie.Need-side-by-side-requires
+side-by-side-requires c κs = search needs
+
+polynomial-requires : tie.Need-polynomial-requires
+polynomial-requires c κs = search needs
+
+returns : tie.Need-returns
+returns c =
+    let r = c .before .before .before .before in
+    let n = r .before in
+    ways.side-by-side _ _ _ (Z (n .before)) (whole (n .before)) _ (n .nearest-i64-to-f64 .ensures) (r .run-start .result) (start r) (c .before .before .before .if1 .taken) (c .before .before .if2 .taken) (c .polynomial .ensures) (c .before .side-by-side .ensures)
+
+one-by-one-requires : tie.Need-one-by-one-requires
+one-by-one-requires c κs = small (c .before .before .before)
+
+polynomial-requires-2 : tie.Need-polynomial-requires-2
+polynomial-requires-2 c κs = search needs
+
+returns-2 : tie.Need-returns-2
+returns-2 c =
+    let n = c .before .before .before .before in
+    ways.one-by-one _ _ _ (Z (n .before)) (whole (n .before)) _ (n .nearest-i64-to-f64 .ensures) (rw (c .before .one-by-one .ensures) at (c .polynomial2 .ensures))
+
+pub at-spec : {M : Type 1} → statement M
+at-spec = tie.close (tie.spec floor-requires nearest-i64-to-f64-requires sub-run-start run-start-requires add-if2 side-by-side-requires polynomial-requires returns one-by-one-requires polynomial-requires-2 returns-2)

@@ -1,0 +1,52 @@
+-- K3, K4, K6. 000's Farrow8: a sum by each column, then fused steps in the fraction, in 000's order. Definitions only.
+use Prim.Native.Nat.{ℕ}
+use mathlib.Core.Bool.{true, false, cond}
+use mathlib.Core.List.{List, [], _∷_}
+use lib.IntN.{ℤ, pos, _+ℤ_, _-ℤ_}
+use lib.ListN.{getD}
+use lib.Ieee.{Float, nan, fin, binary64, add, mul}
+use Rattle.rounding.specs.Operations.{fused}
+use Rattle.ring.specs.Taps.{tapOf}
+use Rattle.ring.specs.Places.{positionOk}
+use Rattle.integer_part.specs.Parts.{floorOf, fractionOf}
+use Rattle.farrow8.specs.Table.{quotient}
+
+-- one product of 000's `dot!`
+abbrev pub term : List Float → List Float → ℕ → Float
+term x c k = mul binary64 (getD x k nan) (getD c k nan)
+
+-- 000's `dot!`: eight samples by eight quotients, added from the first on
+unfoldable pub dotOf : List Float → List Float → Float
+dotOf x c =
+    add binary64 (add binary64 (add binary64 (add binary64 (add binary64 (add binary64 (add binary64 (term x c 0) (term x c 1)) (term x c 2)) (term x c 3)) (term x c 4)) (term x c 5)) (term x c 6)) (term x c 7)
+
+-- the quotients of one power of the fraction
+abbrev pub column : ℕ → List Float
+column n = quotient 0 n ∷ quotient 1 n ∷ quotient 2 n ∷ quotient 3 n ∷ quotient 4 n ∷ quotient 5 n ∷ quotient 6 n ∷ quotient 7 n ∷ []
+
+-- the sum of one power
+abbrev pub power : List Float → ℕ → Float
+power x n = dotOf x (column n)
+
+-- value = value * mu + the next power's sum, rounded once
+abbrev pub step : Float → Float → Float → Float
+step mu value next = fused binary64 value mu next
+
+-- from the seventh power down to the sample itself
+unfoldable pub polynomialOf : List Float → Float → Float
+unfolding dotOf
+polynomialOf x mu =
+    step mu (step mu (step mu (step mu (step mu (step mu (step mu (power x 7) (power x 6)) (power x 5)) (power x 4)) (power x 3)) (power x 2)) (power x 1)) (getD x 3 nan)
+
+-- the taps integer - 3 to integer + 4
+abbrev pub tapsAt : List Float → ℕ → ℤ → List Float
+tapsAt xs count i =
+    tapOf xs count (i -ℤ pos 3) ∷ tapOf xs count (i -ℤ pos 2) ∷ tapOf xs count (i -ℤ pos 1) ∷ tapOf xs count i ∷ tapOf xs count (i +ℤ pos 1)
+    ∷ tapOf xs count (i +ℤ pos 2) ∷ tapOf xs count (i +ℤ pos 3) ∷ tapOf xs count (i +ℤ pos 4) ∷ []
+
+unfoldable pub farrowAt : List Float → ℕ → Float → Float
+unfolding polynomialOf
+farrowAt xs count p = polynomialOf (tapsAt xs count (floorOf p)) (fractionOf p)
+
+abbrev pub readOf : List Float → ℕ → Float → Float
+readOf xs count p = cond (positionOk p) (farrowAt xs count p) (fin false 0 (pos 0))

@@ -1,0 +1,309 @@
+// 000's Farrow8, over a slice, a count and a position: eight-point Lagrange interpolation in fixed Farrow form.
+ghost use mathlib.Core.Path.{_≡_};
+ghost use mathlib.Core.Bool.{true, cond};
+ghost use Prim.Native.Nat.{_+_, _^_, _≤_};
+ghost use mathlib.Core.List.{[], _∷_};
+ghost use lib.ListN.{length, getD};
+ghost use lib.Ieee.{nan};
+ghost use lib.Signed.{mag};
+ghost use Rattle.answer.specs.Answers.{answerOf};
+ghost use Rattle.ring.specs.Places.{positionOk};
+ghost use Rattle.farrow8.specs.Kernel.{dotOf, step, column, polynomialOf, tapsAt, farrowAt, readOf};
+use answer::Answer;
+
+// F7, K6. A row for each node from -3 to 4, a column for each power of the fraction. Indexed by literals alone, so that no copy of it is made.
+const C: [[f64; 8]; 8] = [
+    [
+        0.0,
+        -1.0 / 105.0,
+        1.0 / 180.0,
+        1.0 / 90.0,
+        -1.0 / 144.0,
+        -1.0 / 720.0,
+        1.0 / 720.0,
+        -1.0 / 5040.0,
+    ],
+    [
+        0.0,
+        1.0 / 10.0,
+        -3.0 / 40.0,
+        -71.0 / 720.0,
+        1.0 / 12.0,
+        -1.0 / 360.0,
+        -1.0 / 120.0,
+        1.0 / 720.0,
+    ],
+    [
+        0.0,
+        -3.0 / 5.0,
+        3.0 / 4.0,
+        1.0 / 15.0,
+        -13.0 / 48.0,
+        3.0 / 80.0,
+        1.0 / 48.0,
+        -1.0 / 240.0,
+    ],
+    [
+        1.0,
+        -1.0 / 4.0,
+        -49.0 / 36.0,
+        49.0 / 144.0,
+        7.0 / 18.0,
+        -7.0 / 72.0,
+        -1.0 / 36.0,
+        1.0 / 144.0,
+    ],
+    [
+        0.0,
+        1.0,
+        3.0 / 4.0,
+        -11.0 / 18.0,
+        -13.0 / 48.0,
+        17.0 / 144.0,
+        1.0 / 48.0,
+        -1.0 / 144.0,
+    ],
+    [
+        0.0,
+        -3.0 / 10.0,
+        -3.0 / 40.0,
+        89.0 / 240.0,
+        1.0 / 12.0,
+        -3.0 / 40.0,
+        -1.0 / 120.0,
+        1.0 / 240.0,
+    ],
+    [
+        0.0,
+        1.0 / 15.0,
+        1.0 / 180.0,
+        -4.0 / 45.0,
+        -1.0 / 144.0,
+        17.0 / 720.0,
+        1.0 / 720.0,
+        -1.0 / 720.0,
+    ],
+    [
+        0.0,
+        -1.0 / 140.0,
+        0.0,
+        7.0 / 720.0,
+        0.0,
+        -1.0 / 360.0,
+        0.0,
+        1.0 / 5040.0,
+    ],
+];
+
+// 000's `dot!`.
+fn dot(x: [f64; 8], c: [f64; 8]) -> f64
+    ensures { λ r. ⌜ r ≡ dotOf x c ⌝ }
+{
+    x[0] * c[0]
+        + x[1] * c[1]
+        + x[2] * c[2]
+        + x[3] * c[3]
+        + x[4] * c[4]
+        + x[5] * c[5]
+        + x[6] * c[6]
+        + x[7] * c[7]
+}
+
+fn column_1() -> [f64; 8]
+    ensures { λ r. ⌜ r ≡ column 1 ⌝ }
+{
+    [
+        C[0][1],
+        C[1][1],
+        C[2][1],
+        C[3][1],
+        C[4][1],
+        C[5][1],
+        C[6][1],
+        C[7][1],
+    ]
+}
+
+fn column_2() -> [f64; 8]
+    ensures { λ r. ⌜ r ≡ column 2 ⌝ }
+{
+    [
+        C[0][2],
+        C[1][2],
+        C[2][2],
+        C[3][2],
+        C[4][2],
+        C[5][2],
+        C[6][2],
+        C[7][2],
+    ]
+}
+
+fn column_3() -> [f64; 8]
+    ensures { λ r. ⌜ r ≡ column 3 ⌝ }
+{
+    [
+        C[0][3],
+        C[1][3],
+        C[2][3],
+        C[3][3],
+        C[4][3],
+        C[5][3],
+        C[6][3],
+        C[7][3],
+    ]
+}
+
+fn column_4() -> [f64; 8]
+    ensures { λ r. ⌜ r ≡ column 4 ⌝ }
+{
+    [
+        C[0][4],
+        C[1][4],
+        C[2][4],
+        C[3][4],
+        C[4][4],
+        C[5][4],
+        C[6][4],
+        C[7][4],
+    ]
+}
+
+fn column_5() -> [f64; 8]
+    ensures { λ r. ⌜ r ≡ column 5 ⌝ }
+{
+    [
+        C[0][5],
+        C[1][5],
+        C[2][5],
+        C[3][5],
+        C[4][5],
+        C[5][5],
+        C[6][5],
+        C[7][5],
+    ]
+}
+
+fn column_6() -> [f64; 8]
+    ensures { λ r. ⌜ r ≡ column 6 ⌝ }
+{
+    [
+        C[0][6],
+        C[1][6],
+        C[2][6],
+        C[3][6],
+        C[4][6],
+        C[5][6],
+        C[6][6],
+        C[7][6],
+    ]
+}
+
+fn column_7() -> [f64; 8]
+    ensures { λ r. ⌜ r ≡ column 7 ⌝ }
+{
+    [
+        C[0][7],
+        C[1][7],
+        C[2][7],
+        C[3][7],
+        C[4][7],
+        C[5][7],
+        C[6][7],
+        C[7][7],
+    ]
+}
+
+// One power less: value * mu + the power's sum, rounded once.
+fn next(value: f64, mu: f64, x: [f64; 8], c: [f64; 8]) -> f64
+    ensures { λ r. ⌜ r ≡ step mu value (dotOf x c) ⌝ }
+{
+    fused64::fused64(value, mu, dot(x, c))
+}
+
+// The polynomial in the fraction, from the seventh power down.
+fn polynomial(x: [f64; 8], mu: f64) -> f64
+    ensures { λ r. ⌜ r ≡ polynomialOf x mu ⌝ }
+{
+    let p7 = dot(x, column_7());
+    let p6 = next(p7, mu, x, column_6());
+    let p5 = next(p6, mu, x, column_5());
+    let p4 = next(p5, mu, x, column_4());
+    let p3 = next(p4, mu, x, column_3());
+    let p2 = next(p3, mu, x, column_2());
+    let p1 = next(p2, mu, x, column_1());
+    fused64::fused64(p1, mu, x[3])
+}
+
+// The eight taps from a place on, side by side.
+fn side_by_side(source: &[f64], p: usize) -> [f64; 8]
+    requires { ⌜ p + 8 ≤ length (now source) ⌝ }
+    ensures { λ r. ⌜ r ≡ getD (now (source .entry)) p nan ∷ getD (now (source .entry)) (p + 1) nan ∷ getD (now (source .entry)) (p + 2) nan ∷ getD (now (source .entry)) (p + 3) nan ∷ getD (now (source .entry)) (p + 4) nan ∷ getD (now (source .entry)) (p + 5) nan ∷ getD (now (source .entry)) (p + 6) nan ∷ getD (now (source .entry)) (p + 7) nan ∷ [] ⌝ }
+{
+    [
+        source[p],
+        source[p + 1],
+        source[p + 2],
+        source[p + 3],
+        source[p + 4],
+        source[p + 5],
+        source[p + 6],
+        source[p + 7],
+    ]
+}
+
+// The eight taps around an index, with a test for each.
+fn one_by_one(source: &[f64], count: u64, i: i64) -> [f64; 8]
+    requires { ⌜ mag i ≤ 2 ^ 36 ⌝ }
+    ensures { λ r. ⌜ r ≡ tapsAt (now (source .entry)) count i ⌝ }
+{
+    [
+        ring::tap(source, count, i - 3),
+        ring::tap(source, count, i - 2),
+        ring::tap(source, count, i - 1),
+        ring::tap(source, count, i),
+        ring::tap(source, count, i + 1),
+        ring::tap(source, count, i + 2),
+        ring::tap(source, count, i + 3),
+        ring::tap(source, count, i + 4),
+    ]
+}
+
+// The reading at a position in range. Where the eight taps are held side by side they are read without a test each.
+fn at(source: &[f64], count: u64, position: f64) -> f64
+    requires { ⌜ positionOk position ≡ true ⌝ }
+    ensures { λ r. ⌜ r ≡ farrowAt (now (source .entry)) count position ⌝ }
+{
+    let i = integer_part::floor(position);
+    let mu = position - std::num::nearest_i64_to_f64(i);
+    let s = ring::run_start(source.len(), count, i - 3, 8);
+    let p = s.place;
+    if s.held {
+        if p + 8 <= source.len() {
+            return polynomial(side_by_side(source, p), mu);
+        }
+    }
+    polynomial(one_by_one(source, count, i), mu)
+}
+
+// The reading at a position; zero outside the positions' range.
+pub fn read(source: &[f64], count: u64, position: f64) -> f64
+    ensures { λ r. ⌜ r ≡ readOf (now (source .entry)) count position ⌝ }
+{
+    if ring::position_ok(position) {
+        at(source, count, position)
+    } else {
+        0.0
+    }
+}
+
+// The reading of a lent slice: refusal 1 outside the positions' range.
+pub fn sample(source: &[f64], count: u64, position: f64) -> Answer
+    ensures { λ r. ⌜ r ≡ answerOf (cond (positionOk position) 0 1) (readOf (now (source .entry)) count position) ⌝ }
+{
+    if ring::position_ok(position) {
+        answer::answered(0, at(source, count, position))
+    } else {
+        answer::answered(1, 0.0)
+    }
+}

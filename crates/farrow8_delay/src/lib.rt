@@ -1,0 +1,31 @@
+// 000's VariableDelay<Farrow8>::process_sample: refuses by number, or stores the sample and reads behind it.
+ghost use mathlib.Core.Path.{_≡_};
+ghost use mathlib.Core.Bool.{true};
+ghost use lib.ListN.{length};
+ghost use Rattle.variable_delay.specs.Reader.{processed, verdict, ringAfter};
+ghost use Rattle.farrow8.specs.Kernel.{farrowAt};
+use variable_delay::Processed;
+use variable_delay::VariableDelay;
+
+pub fn process_sample(state: VariableDelay, ring: &mut [f64], input: f64, delay: f64) -> Processed
+    ensures { λ r. ⌜ r ≡ processed farrowAt state (now (ring .entry)) input delay ⌝ }
+    ensures { λ r. ⌜ now (ring .exit) ≡ ringAfter (verdict true true state (length (now (ring .entry))) input delay) state (now (ring .entry)) input ⌝ }
+{
+    let a = variable_delay::accept(state, true, true, &mut ring[..], input, delay);
+    let no = a.refusal;
+    if no != 0 {
+        return Processed {
+            state: state,
+            answer: answer::answered(no, 0.0),
+        };
+    }
+    let y = farrow8::read(&ring[..], a.count, a.position);
+    Processed {
+        state: VariableDelay {
+            maximum: state.maximum,
+            margin: state.margin,
+            accepted: a.count,
+        },
+        answer: answer::answered(0, y),
+    }
+}

@@ -1,0 +1,38 @@
+// 000's VariableDelay<Lagrange<TAPS>>::process_sample: refuses by number, or stores the sample and reads behind it. The taps are a setting that is handed in.
+ghost use mathlib.Core.Path.{_≡_};
+ghost use mathlib.Core.Bool.{true};
+ghost use lib.ListN.{length};
+ghost use Rattle.variable_delay.specs.Reader.{processedBy, verdict, ringAfter};
+ghost use Rattle.lagrange.specs.Kernel.{tapsOk, lagrangeAt};
+use variable_delay::Processed;
+use variable_delay::VariableDelay;
+
+pub fn process_sample(
+    state: VariableDelay,
+    ring: &mut [f64],
+    input: f64,
+    delay: f64,
+    taps: u64,
+) -> Processed
+    ensures { λ r. ⌜ r ≡ processedBy (lagrangeAt taps) (verdict (tapsOk taps) true state (length (now (ring .entry))) input delay) state (now (ring .entry)) input delay ⌝ }
+    ensures { λ r. ⌜ now (ring .exit) ≡ ringAfter (verdict (tapsOk taps) true state (length (now (ring .entry))) input delay) state (now (ring .entry)) input ⌝ }
+{
+    let own = lagrange::taps_ok(taps);
+    let a = variable_delay::accept(state, own, true, &mut ring[..], input, delay);
+    let no = a.refusal;
+    if no != 0 {
+        return Processed {
+            state: state,
+            answer: answer::answered(no, 0.0),
+        };
+    }
+    let y = lagrange::read(&ring[..], a.count, a.position, taps);
+    Processed {
+        state: VariableDelay {
+            maximum: state.maximum,
+            margin: state.margin,
+            accepted: a.count,
+        },
+        answer: answer::answered(0, y),
+    }
+}
