@@ -23,8 +23,8 @@ fetch_packages() { # PACKAGES.. -- PACKAGES..
     while [ "$1" != -- ]; do alone="$alone $1" && shift; done
     shift
     # shellcheck disable=SC2086
-    (cd "$part/apt/cache/archives" && apt get download $alone) >"$part/log" 2>&1 || cannot "Debian's packages$alone cannot be had: $(tail -n 1 "$part/log")"
-    apt get install --download-only --no-install-recommends -y "$@" >"$part/log" 2>&1 || cannot "Debian's packages $* cannot be had: $(tail -n 1 "$part/log")"
+    [ -z "$alone" ] || (cd "$part/apt/cache/archives" && apt get download $alone) >"$part/log" 2>&1 || cannot "Debian's packages$alone cannot be had: is there a network? $(tail -n 1 "$part/log")"
+    apt get install --download-only --no-install-recommends -y "$@" >"$part/log" 2>&1 || cannot "Debian's packages $* cannot be had: is there a network? $(tail -n 1 "$part/log")"
     for d in "$part"/apt/cache/archives/*.deb; do dpkg -x "$d" "$part/root" || cannot "$d cannot be unpacked"; done
     rm -rf "$part/apt" "$part/log" "$part/root/usr/share"
 }

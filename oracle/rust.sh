@@ -7,6 +7,8 @@ flags='--edition 2021 -C opt-level=3'
 # `port` from the day on which the library exports sine, cosine and exp2; until then the original keeps the standard library's
 elementary=std
 
+export RUST_BACKTRACE=0
+
 missing() { echo "$me: $1" >&2; exit 2; }
 failed() { echo "$me: $1" >&2; exit 1; }
 
@@ -22,10 +24,12 @@ find_all() {
     x86_64)
         command -v rustc >/dev/null || missing "there is no rustc on the PATH: install Rust, one whose integers have is_multiple_of"
         command -v cc >/dev/null || missing "there is no cc on the PATH, by which rustc links: install a C compiler"
-        x64_rustc=rustc x64_run= ;;
+        compile() { rustc "$@"; }
+        launch() { "$@"; } ;;
     aarch64)
         [ -x "$out/rust-x64/rustc-x64" ] || "$root/oracle/fetch-rust" "$out/rust-x64" || exit 2
-        x64_rustc=$out/rust-x64/rustc-x64 x64_run=$out/rust-x64/run-x64 ;;
+        compile() { "$root/target/oracle/rust-x64/rustc-x64" "$@"; }
+        launch() { "$root/target/oracle/rust-x64/run-x64" "$@"; } ;;
     *) missing "this machine is $(uname -m): this runs on x86_64 and aarch64" ;;
     esac
 }
@@ -44,16 +48,16 @@ signatures() { # FILES
 
 # The static library, proved, and the crate `boundary` over it.
 build_boundary() {
-    lib=$root/target/staticlib/libfugnadri.a
-    if [ ! -f "$lib" ] || [ -n "$(find "$root/crates" "$root/crates.txt" "$kit/KIT-ID" -newer "$lib" | head -n 1)" ]; then
-        (cd "$root" && rt staticlib fugnadri) >"$out/staticlib.log" 2>&1 || failed "rt staticlib fugnadri fails: see target/oracle/staticlib.log"
-    fi
     signatures "$root"/crates/fugnadri/src/*.rt >"$out/exported"
     signatures "$root/oracle/src/boundary.rs" >"$out/declared"
     if ! cmp -s "$out/exported" "$out/declared"; then
         echo "$me: what crates/fugnadri exports (<) is not what oracle/src/boundary.rs declares (>):" >&2
         diff "$out/exported" "$out/declared" | grep '^[<>]' >&2
         exit 1
+    fi
+    lib=$root/target/staticlib/libfugnadri.a
+    if [ ! -f "$lib" ] || [ -n "$(find "$root/crates" "$root/crates.txt" "$kit/KIT-ID" -newer "$lib" | head -n 1)" ]; then
+        (cd "$root" && rt staticlib fugnadri) >"$out/staticlib.log" 2>&1 || failed "rt staticlib fugnadri fails: see target/oracle/staticlib.log"
     fi
     build_boundary_crate "$root/target/staticlib"
 }
@@ -109,6 +113,6 @@ build() {
     file=$out/$name
     [ "$kind" = bin ] || file=$out/lib$name.rlib
     # shellcheck disable=SC2086
-    $x64_rustc $flags --crate-type "$kind" --crate-name "$name" "$source" -L "$out" "$@" -o "$file" 2>"$out/$name.log" ||
-        missing "$($x64_rustc --version) does not build $name: see target/oracle/$name.log"
+    compile $flags --crate-type "$kind" --crate-name "$name" "$source" -L "$out" "$@" -o "$file" 2>"$out/$name.log" ||
+        missing "$(compile --version) does not build $name: see ${out#"$root/"}/$name.log"
 }

@@ -65,12 +65,7 @@ pub extern "C" fn main(_: i32, _: *const *const u8) -> i32 {
 fn time(passes: u32) -> i32 {
     let mut wrong = 0;
     for workload in WORKLOADS {
-        let Workload {
-            name,
-            answers,
-            mut rust,
-            mut port,
-        } = workload();
+        let Workload { name, answers, mut rust, mut port } = workload();
         let (mut theirs, mut ours) = (vec![0; answers], vec![1; answers]);
         let (mut best_rust, mut best_port) = (f64::MAX, f64::MAX);
         for _ in 0..passes {
@@ -79,11 +74,7 @@ fn time(passes: u32) -> i32 {
         }
         let differ = theirs.iter().zip(&ours).filter(|(a, b)| a != b).count();
         let each = 1e9 / answers as f64;
-        println!(
-            "{name} {:.2} {:.2} {differ}",
-            best_rust * each,
-            best_port * each
-        );
+        println!("{name} {:.2} {:.2} {differ}", best_rust * each, best_port * each);
         wrong += differ;
     }
     (wrong > 0) as i32
@@ -97,16 +88,8 @@ fn seconds(side: &mut Side, answers: &mut [u64]) -> f64 {
 
 /// Passes of one side alone. The number of answers in a pass is printed.
 fn count(name: &str, side: &str, passes: u32) {
-    let found = WORKLOADS
-        .iter()
-        .map(|w| w())
-        .find(|w| w.name == name)
-        .expect("a workload");
-    let mut pass = if side == "rust" {
-        found.rust
-    } else {
-        found.port
-    };
+    let found = WORKLOADS.iter().map(|w| w()).find(|w| w.name == name).expect("a workload");
+    let mut pass = if side == "rust" { found.rust } else { found.port };
     let mut answers = vec![0; found.answers];
     for _ in 0..passes {
         pass(black_box(&mut answers));

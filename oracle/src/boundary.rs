@@ -21,24 +21,34 @@ macro_rules! numbers {
 }
 
 numbers! {
-    /// x as the nearest f32.
+    /// Rust's `as f32`.
     fn fugnadri_narrow as narrow(x: f64) -> f32;
     fn fugnadri_narrow_bits as narrow_bits(x: u64) -> u32;
-    /// a * b + c, rounded once.
+    /// Rust's `mul_add`: a * b + c, rounded once.
     fn fugnadri_fused32 as fused32(a: f32, b: f32, c: f32) -> f32;
     fn fugnadri_fused32_bits as fused32_bits(a: u32, b: u32, c: u32) -> u32;
     fn fugnadri_fused64 as fused64(a: f64, b: f64, c: f64) -> f64;
     fn fugnadri_fused64_bits as fused64_bits(a: u64, b: u64, c: u64) -> u64;
-    /// The square root, correctly rounded.
+    /// Rust's `sqrt`.
     fn fugnadri_square_root as square_root(x: f64) -> f64;
     fn fugnadri_square_root_bits as square_root_bits(x: u64) -> u64;
-    /// The integer part, towards minus infinity.
+    /// Rust's `floor() as i64`.
     fn fugnadri_floor as floor(x: f64) -> i64;
-    /// x minus its integer part.
+    /// x minus its floor.
     fn fugnadri_fraction as fraction(x: f64) -> f64;
     fn fugnadri_fraction_bits as fraction_bits(x: u64) -> u64;
-    /// a * b modulo 2^64.
+    /// Rust's `max`, `min` and `clamp`.
+    fn fugnadri_max as max(x: f64, least: f64) -> f64;
+    fn fugnadri_min as min(x: f64, most: f64) -> f64;
+    fn fugnadri_min_f32 as min_f32(a: f32, b: f32) -> f32;
+    fn fugnadri_clamp as clamp(x: f64, low: f64, high: f64) -> f64;
+    fn fugnadri_clamp_f32 as clamp_f32(a: f32, low: f32, high: f32) -> f32;
+    /// Rust's `wrapping_mul` and `<<`.
     fn fugnadri_wrapping_mul as wrapping_mul(a: u64, b: u64) -> u64;
-    /// a * 2^n modulo 2^64.
     fn fugnadri_shl as shl(a: u64, n: u64) -> u64;
+    /// Rust's `to_bits` and `from_bits`, with one pattern for every NaN.
+    fn fugnadri_bits_of as bits_of(x: f64) -> u64;
+    fn fugnadri_float_of as float_of(n: u64) -> f64;
+    fn fugnadri_bits_of_f32 as bits_of_f32(a: f32) -> u32;
+    fn fugnadri_float_of_f32 as float_of_f32(n: u32) -> f32;
 }

@@ -13,7 +13,7 @@ struct Count {
     subject: &'static str,
     kind: &'static str,
     compared: u64,
-    tempted: u64,
+    told: Option<u64>,
 }
 
 impl Context {
@@ -21,54 +21,37 @@ impl Context {
     pub const BATCH: u64 = 1 << 16;
 
     pub fn new(seed: u64) -> Self {
-        Context {
-            random: Random::new(seed),
-            round: 0,
-            counts: Vec::new(),
-        }
+        Context { random: Random::new(seed), round: 0, counts: Vec::new() }
     }
 
-    /// Adds to what was compared: of these, `tempted` inputs tell the right answer from a reading
-    /// that only looks right.
-    pub fn count(
-        &mut self,
-        subject: &'static str,
-        kind: &'static str,
-        compared: u64,
-        tempted: u64,
-    ) {
+    /// A batch of inputs by the generator.
+    pub fn draw<T>(&mut self, input: impl Fn(&mut Random) -> T) -> Vec<T> {
+        (0..Self::BATCH).map(|_| input(&mut self.random)).collect()
+    }
+
+    /// Adds to what was compared: `told` of these inputs tell the right answer from a reading that
+    /// only looks right, where there is one.
+    pub fn count(&mut self, subject: &'static str, kind: &'static str, compared: u64, told: Option<u64>) {
         let same = |c: &&mut Count| c.subject == subject && c.kind == kind;
         match self.counts.iter_mut().find(same) {
             Some(c) => {
                 c.compared += compared;
-                c.tempted += tempted;
+                c.told = c.told.zip(told).map(|(a, b)| a + b);
             }
-            None => self.counts.push(Count {
-                subject,
-                kind,
-                compared,
-                tempted,
-            }),
+            None => self.counts.push(Count { subject, kind, compared, told }),
         }
     }
 
     pub fn report(&self) {
-        println!(
-            "{:<18} {:<34} {:>12} {:>12}",
-            "compared", "inputs", "how many", "telling"
-        );
+        println!("{:<18} {:<38} {:>12} {:>12}", "", "inputs", "compared", "telling");
+        let mut last = "";
         for c in &self.counts {
-            let tempted = if c.tempted == 0 {
-                String::new()
-            } else {
-                c.tempted.to_string()
-            };
-            println!(
-                "{:<18} {:<34} {:>12} {:>12}",
-                c.subject, c.kind, c.compared, tempted
-            );
+            let name = if c.subject == last { "" } else { c.subject };
+            let told = c.told.map_or(String::new(), |n| n.to_string());
+            println!("{name:<18} {:<38} {:>12} {told:>12}", c.kind, c.compared);
+            last = c.subject;
         }
         let total: u64 = self.counts.iter().map(|c| c.compared).sum();
-        println!("{:<18} {:<34} {:>12}", "", "", total);
+        println!("{:<18} {:<38} {:>12}", "", "", total);
     }
 }

@@ -7,14 +7,8 @@ pub struct Format {
     pub bias: u64,
 }
 
-pub const BINARY64: Format = Format {
-    digits: 52,
-    bias: 1023,
-};
-pub const BINARY32: Format = Format {
-    digits: 23,
-    bias: 127,
-};
+pub const BINARY64: Format = Format { digits: 52, bias: 1023 };
+pub const BINARY32: Format = Format { digits: 23, bias: 127 };
 
 impl Format {
     pub fn top(&self) -> u64 {

@@ -32,11 +32,7 @@ impl Random {
 
     /// Any pattern at all, NaNs and infinities among them.
     pub fn pattern(&mut self, format: &Format) -> u64 {
-        format.pattern(
-            self.coin(),
-            self.word() & format.top(),
-            self.word() & format.all_digits(),
-        )
+        format.pattern(self.coin(), self.word() & format.top(), self.word() & format.all_digits())
     }
 
     /// A pattern at most `reach` places from another.
@@ -47,37 +43,19 @@ impl Random {
 
 /// Every kind of special value with its neighbours: zeros, the smallest and largest subnormal and
 /// normal numbers, 1 and 2 and what lies beside them, infinities, quiet and signalling NaNs.
-pub fn specials(format: &Format) -> Vec<u64> {
+pub fn specials(format: &Format) -> impl Iterator<Item = u64> + '_ {
     let (bias, top, all) = (format.bias, format.top(), format.all_digits());
     let half = all / 2 + 1;
-    let mut list = Vec::new();
-    for field in [
-        0,
-        1,
-        2,
-        bias - 1,
-        bias,
-        bias + 1,
-        bias + format.digits as u64,
-        top - 2,
-        top - 1,
-        top,
-    ] {
-        for digits in [0, 1, 2, half - 1, half, half + 1, all] {
-            for negative in [false, true] {
-                list.push(format.pattern(negative, field, digits));
-            }
-        }
-    }
-    list
+    let fields = [0, 1, 2, bias - 1, bias, bias + 1, bias + format.digits as u64, top - 2, top - 1, top];
+    let digits = [0, 1, 2, half - 1, half, half + 1, all];
+    fields.into_iter().flat_map(move |field| digits.into_iter().flat_map(move |d| both_signs(format, field, d)))
 }
 
 /// Every exponent's field with both signs and the given digits.
 pub fn ladder<'a>(format: &'a Format, digits: &'a [u64]) -> impl Iterator<Item = u64> + 'a {
-    let one = move |field, negative| {
-        digits
-            .iter()
-            .map(move |d| format.pattern(negative, field, *d))
-    };
-    (0..=format.top()).flat_map(move |field| one(field, false).chain(one(field, true)))
+    (0..=format.top()).flat_map(move |field| digits.iter().flat_map(move |d| both_signs(format, field, *d)))
+}
+
+fn both_signs(format: &Format, field: u64, digits: u64) -> [u64; 2] {
+    [false, true].map(|negative| format.pattern(negative, field, digits))
 }

@@ -11,10 +11,14 @@ mod format;
 mod inputs;
 mod pair;
 mod random;
+mod shape;
+mod triples;
 mod subjects {
     pub mod fused;
     pub mod integer_part;
     pub mod narrow;
+    pub mod order;
+    pub mod patterns;
     pub mod square_root;
     pub mod words;
 }
@@ -23,7 +27,9 @@ use context::Context;
 use std::time::{Duration, Instant};
 
 /// A file of subjects/ each. `run` compares one batch of every kind of input that it has.
-const SUBJECTS: [fn(&mut Context); 5] = [
+const SUBJECTS: [fn(&mut Context); 7] = [
+    subjects::patterns::run,
+    subjects::order::run,
     subjects::narrow::run,
     subjects::fused::run,
     subjects::square_root::run,
@@ -51,10 +57,6 @@ pub extern "C" fn main(_: i32, _: *const *const u8) -> i32 {
         context.round += 1;
     }
     context.report();
-    println!(
-        "no difference: seed {seed}, {} rounds, {:.1} s",
-        context.round,
-        start.elapsed().as_secs_f64()
-    );
+    println!("no difference: seed {seed}, {} rounds, {:.1} s", context.round, start.elapsed().as_secs_f64());
     0
 }

@@ -1,4 +1,5 @@
 //! The generator of every input: xorshift64*, started by a seed of any value.
+#![allow(dead_code)] // three programs use it, each in part
 
 pub struct Random(u64);
 

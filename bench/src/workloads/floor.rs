@@ -10,9 +10,7 @@ fn rust(x: f64) -> i64 {
 
 pub fn workload() -> Workload {
     let mut random = Random::new(1);
-    let inputs: Vec<f64> = (0..20000)
-        .map(|_| random.unit() * 48000.0 - 100.0)
-        .collect();
+    let inputs: Vec<f64> = (0..20000).map(|_| random.unit() * 48000.0 - 100.0).collect();
     Workload {
         name: "floor",
         answers: inputs.len(),

@@ -10,9 +10,7 @@ fn rust(a: f64, b: f64, c: f64) -> f64 {
 
 pub fn workload() -> Workload {
     let mut random = Random::new(1);
-    let inputs: Vec<[f64; 3]> = (0..20000)
-        .map(|_| [0; 3].map(|_| random.unit() * 2.0 - 1.0))
-        .collect();
+    let inputs: Vec<[f64; 3]> = (0..20000).map(|_| [0; 3].map(|_| random.unit() * 2.0 - 1.0)).collect();
     Workload {
         name: "fused64",
         answers: inputs.len(),

@@ -17,8 +17,7 @@ pub fn write(list: &mut List) {
         let at = halves as f64 / 2.0;
         positions.extend([at, at.next_down(), at.next_up()]);
     }
-    positions
-        .extend((0..168).map(|_| random.within(-2 << 44, 9 << 44) as f64 / (1u64 << 44) as f64));
+    positions.extend((0..168).map(|_| random.within(-2 << 44, 9 << 44) as f64 / (1u64 << 44) as f64));
     for position in positions {
         let samples: Vec<f64> = (0..8).map(|_| sample(&mut random)).collect();
         let answer = CubicFarrow.sample(&SliceSource(&samples), position);
