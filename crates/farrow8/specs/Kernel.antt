@@ -9,7 +9,7 @@ use Rattle.rounding.specs.Operations.{fused}
 use Rattle.ring.specs.Taps.{tapOf}
 use Rattle.ring.specs.Places.{positionOk}
 use Rattle.integer_part.specs.Parts.{floorOf, fractionOf}
-use Rattle.farrow8.specs.Table.{quotient}
+use Rattle.farrow8.specs.Table.{quotients, columnIn}
 
 -- one product of 000's `dot!`
 abbrev pub term : List Float → List Float → ℕ → Float
@@ -20,13 +20,9 @@ unfoldable pub dotOf : List Float → List Float → Float
 dotOf x c =
     add binary64 (add binary64 (add binary64 (add binary64 (add binary64 (add binary64 (add binary64 (term x c 0) (term x c 1)) (term x c 2)) (term x c 3)) (term x c 4)) (term x c 5)) (term x c 6)) (term x c 7)
 
--- the quotients of one power of the fraction
-abbrev pub column : ℕ → List Float
-column n = quotient 0 n ∷ quotient 1 n ∷ quotient 2 n ∷ quotient 3 n ∷ quotient 4 n ∷ quotient 5 n ∷ quotient 6 n ∷ quotient 7 n ∷ []
-
 -- the sum of one power
 abbrev pub power : List Float → ℕ → Float
-power x n = dotOf x (column n)
+power x n = dotOf x (columnIn quotients n)
 
 -- value = value * mu + the next power's sum, rounded once
 abbrev pub step : Float → Float → Float → Float

@@ -43,3 +43,9 @@ quotients = quotientRows nums dens
 
 abbrev pub quotient : ℕ → ℕ → Float
 quotient i j = getD (getD quotients i []) j nan
+
+-- the quotients of the n-th power, in such a table
+abbrev pub columnIn : List (List Float) → ℕ → List Float
+columnIn c n =
+    getD (getD c 0 []) n nan ∷ getD (getD c 1 []) n nan ∷ getD (getD c 2 []) n nan ∷ getD (getD c 3 []) n nan ∷ getD (getD c 4 []) n nan
+    ∷ getD (getD c 5 []) n nan ∷ getD (getD c 6 []) n nan ∷ getD (getD c 7 []) n nan ∷ []

@@ -1,17 +1,18 @@
 // 000's Farrow8, over a slice, a count and a position: eight-point Lagrange interpolation in fixed Farrow form.
 ghost use mathlib.Core.Path.{_≡_};
 ghost use mathlib.Core.Bool.{true, cond};
-ghost use Prim.Native.Nat.{_+_, _^_, _≤_};
+ghost use Prim.Native.Nat.{_+_, _^_, _≤_, _<_};
 ghost use mathlib.Core.List.{[], _∷_};
 ghost use lib.ListN.{length, getD};
 ghost use lib.Ieee.{nan};
 ghost use lib.Signed.{mag};
 ghost use Rattle.answer.specs.Answers.{answerOf};
 ghost use Rattle.ring.specs.Places.{positionOk};
-ghost use Rattle.farrow8.specs.Kernel.{dotOf, step, column, polynomialOf, tapsAt, farrowAt, readOf};
+ghost use Rattle.farrow8.specs.Kernel.{dotOf, step, polynomialOf, tapsAt, farrowAt, readOf};
+ghost use Rattle.farrow8.specs.Table.{columnIn};
 use answer::Answer;
 
-// F7, K6. A row for each node from -3 to 4, a column for each power of the fraction. Indexed by literals alone, so that no copy of it is made.
+// F7, K6. A row for each node from -3 to 4, a column for each power of the fraction. It is named once and its columns are taken at literal powers, so that the compiler keeps no copy of it.
 const C: [[f64; 8]; 8] = [
     [
         0.0,
@@ -109,108 +110,20 @@ fn dot(x: [f64; 8], c: [f64; 8]) -> f64
         + x[7] * c[7]
 }
 
-fn column_1() -> [f64; 8]
-    ensures { λ r. ⌜ r ≡ column 1 ⌝ }
+// A column of such a table: the quotients of the n-th power.
+fn column(c: [[f64; 8]; 8], n: usize) -> [f64; 8]
+    requires { ⌜ n < 8 ⌝ }
+    ensures { λ r. ⌜ r ≡ columnIn c n ⌝ }
 {
     [
-        C[0][1],
-        C[1][1],
-        C[2][1],
-        C[3][1],
-        C[4][1],
-        C[5][1],
-        C[6][1],
-        C[7][1],
-    ]
-}
-
-fn column_2() -> [f64; 8]
-    ensures { λ r. ⌜ r ≡ column 2 ⌝ }
-{
-    [
-        C[0][2],
-        C[1][2],
-        C[2][2],
-        C[3][2],
-        C[4][2],
-        C[5][2],
-        C[6][2],
-        C[7][2],
-    ]
-}
-
-fn column_3() -> [f64; 8]
-    ensures { λ r. ⌜ r ≡ column 3 ⌝ }
-{
-    [
-        C[0][3],
-        C[1][3],
-        C[2][3],
-        C[3][3],
-        C[4][3],
-        C[5][3],
-        C[6][3],
-        C[7][3],
-    ]
-}
-
-fn column_4() -> [f64; 8]
-    ensures { λ r. ⌜ r ≡ column 4 ⌝ }
-{
-    [
-        C[0][4],
-        C[1][4],
-        C[2][4],
-        C[3][4],
-        C[4][4],
-        C[5][4],
-        C[6][4],
-        C[7][4],
-    ]
-}
-
-fn column_5() -> [f64; 8]
-    ensures { λ r. ⌜ r ≡ column 5 ⌝ }
-{
-    [
-        C[0][5],
-        C[1][5],
-        C[2][5],
-        C[3][5],
-        C[4][5],
-        C[5][5],
-        C[6][5],
-        C[7][5],
-    ]
-}
-
-fn column_6() -> [f64; 8]
-    ensures { λ r. ⌜ r ≡ column 6 ⌝ }
-{
-    [
-        C[0][6],
-        C[1][6],
-        C[2][6],
-        C[3][6],
-        C[4][6],
-        C[5][6],
-        C[6][6],
-        C[7][6],
-    ]
-}
-
-fn column_7() -> [f64; 8]
-    ensures { λ r. ⌜ r ≡ column 7 ⌝ }
-{
-    [
-        C[0][7],
-        C[1][7],
-        C[2][7],
-        C[3][7],
-        C[4][7],
-        C[5][7],
-        C[6][7],
-        C[7][7],
+        c[0][n],
+        c[1][n],
+        c[2][n],
+        c[3][n],
+        c[4][n],
+        c[5][n],
+        c[6][n],
+        c[7][n],
     ]
 }
 
@@ -225,13 +138,14 @@ fn next(value: f64, mu: f64, x: [f64; 8], c: [f64; 8]) -> f64
 fn polynomial(x: [f64; 8], mu: f64) -> f64
     ensures { λ r. ⌜ r ≡ polynomialOf x mu ⌝ }
 {
-    let p7 = dot(x, column_7());
-    let p6 = next(p7, mu, x, column_6());
-    let p5 = next(p6, mu, x, column_5());
-    let p4 = next(p5, mu, x, column_4());
-    let p3 = next(p4, mu, x, column_3());
-    let p2 = next(p3, mu, x, column_2());
-    let p1 = next(p2, mu, x, column_1());
+    let c = C;
+    let p7 = dot(x, column(c, 7));
+    let p6 = next(p7, mu, x, column(c, 6));
+    let p5 = next(p6, mu, x, column(c, 5));
+    let p4 = next(p5, mu, x, column(c, 4));
+    let p3 = next(p4, mu, x, column(c, 3));
+    let p2 = next(p3, mu, x, column(c, 2));
+    let p1 = next(p2, mu, x, column(c, 1));
     fused64::fused64(p1, mu, x[3])
 }
 
