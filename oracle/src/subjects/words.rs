@@ -33,7 +33,7 @@ const FACTORS: [Kind<2>; 4] = [
 
 const SHIFTS: [Kind<2>; 2] = [
     ("any word, counts to 80", |r| [r.word(), r.within(0, 80) as u64]),
-    ("words of any length, counts below 64", |r| [r.word() >> r.within(0, 63), r.within(0, 63) as u64]),
+    ("words of any length, counts to 130", |r| [r.word() >> r.within(0, 63), r.within(0, 130) as u64]),
 ];
 
 pub fn run(context: &mut Context) {
