@@ -1,0 +1,88 @@
+-- `text::put` meets its contract. The loop's invariant: what is left of the text from k on, put at the place `to`, gives the same as the whole text put at `at`.
+-- Assumes nothing.
+use borrow.Author.Needs.{needs}
+use mathlib.Core.Path.{_≡_, sym, _∙_}
+use Prim.Native.Nat.{_+_, _-_, _≤_}
+use native.Mathlib.Nat.{min-eq-left, min-eq-right}
+use native.Mathlib.Numerals.{add-one}
+use native.Mathlib.Omega.{arith}
+use lib.ListN.{length, drop, length-set}
+use lib.Seq.{drop-length}
+use Rattle.text.specs.Text.{putAt}
+use Rattle.text.proofs.Texts.{put-out, put-next}
+use Rattle.text.proofs.put.Statement.{statement}
+use Rattle.text.proofs.put.Tie as tie
+
+abbrev Inv-loop : tie.InvT-loop
+Inv-loop out₀ at text to₀ k₀ out to k =
+    (length out ≡ length out₀) × (to ≡ at + k) × (to ≤ length out) × (k ≤ length text) × (putAt out₀ at text ≡ putAt out to (drop k text))
+
+abbrev μ-loop : tie.MeasureT-loop
+μ-loop out₀ at text to₀ k₀ out to k = length text - k
+
+returns : tie.Need-returns Inv-loop μ-loop
+returns c = (omega arith ∙ sym (min-eq-left (omega arith)), sym (put-out (c .before .args .text .now) _ _ (omega arith)))
+
+loop-holds : tie.Need-loop-holds Inv-loop μ-loop
+loop-holds c = search needs
+
+same-length : tie.Need-same-length Inv-loop μ-loop
+same-length c = search needs
+
+returns-2 : tie.Need-returns-2 Inv-loop μ-loop
+returns-2 c =
+    let l = c .before .before .loop in
+    (omega arith ∙ sym (min-eq-left (omega arith)), sym (l .inv .4 ∙ put-out (drop (l .k) (c .before .before .before .before .args .text .now)) _ _ (omega arith)))
+
+shared-slice-read-out : tie.Need-shared-slice-read-out Inv-loop μ-loop
+shared-slice-read-out c = search needs
+
+slice-write-out : tie.Need-slice-write-out Inv-loop μ-loop
+slice-write-out c = search needs
+
+add-to : tie.Need-add-to Inv-loop μ-loop
+add-to c = search needs
+
+add-k : tie.Need-add-k Inv-loop μ-loop
+add-k c = search needs
+
+loop-less : tie.Need-loop-less Inv-loop μ-loop
+loop-less c = search needs
+
+loop-again : tie.Need-loop-again Inv-loop μ-loop
+loop-again c =
+    let l = c .before .before .before .loop in (
+      simp length-set (omega arith),
+      omega arith,
+      simp length-set (omega arith),
+      omega arith,
+      rw (add-one, add-one) (l .inv .4 ∙ put-next (l .out) _ (l .to) (l .k) (omega arith)),
+    )
+
+same-length-2 : tie.Need-same-length-2 Inv-loop μ-loop
+same-length-2 c = search needs
+
+returns-3 : tie.Need-returns-3 Inv-loop μ-loop
+returns-3 c =
+    let l = c .before .loop in
+    let e : l .k ≡ length (c .before .before .before .args .text .now) = omega arith in
+    (omega arith ∙ sym (min-eq-right (omega arith)), sym (rw (e, drop-length) at (l .inv .4)))
+
+pub put-spec : {M : Type 1} → statement M
+put-spec =
+    tie.close
+    (tie.spec
+    Inv-loop
+    μ-loop
+    returns
+    loop-holds
+    same-length
+    returns-2
+    shared-slice-read-out
+    slice-write-out
+    add-to
+    add-k
+    loop-less
+    loop-again
+    same-length-2
+    returns-3)

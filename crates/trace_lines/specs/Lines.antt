@@ -1,0 +1,57 @@
+-- X1. What the program `trace` writes: a line for each sample that it reads. Definitions only.
+use Prim.Native.Nat.{ℕ, zero, suc, _/_}
+use mathlib.Core.Bool.{true, false}
+use mathlib.Core.List.{List, [], _∷_, _++_, map}
+use lib.IntN.{negsuc}
+use lib.ListN.{length, take, drop}
+use lib.Ieee.{Float, fin, binary64, ofBits, toBits}
+use Rattle.answer.specs.declared.Answer.{Answer}
+use Rattle.answer.specs.declared.Answer.the-variants.{Sample, Refused}
+use Rattle.word_bytes.specs.Hex.{hexDigits}
+use Rattle.word_bytes.specs.Bytes.{bytesValue}
+use Rattle.text.specs.Text.{ascii, decimal}
+use Rattle.variable_delay.specs.Reader.{processed}
+use Rattle.variable_delay.specs.declared.VariableDelay.{VariableDelay}
+use Rattle.cubic_farrow.specs.Cubic.{cubicAt}
+use Rattle.runs.specs.Runs.{Call, Reader, after, run}
+
+-- the answer's 16 hex digits in capitals, or `refused`, a blank and the number in place of the digits
+abbrev pub answerText : Answer → List ℕ
+answerText (Sample y) = hexDigits 16 (toBits binary64 y)
+answerText (Refused k) = ascii "refused " ++ decimal k
+
+-- the accepted count before the call in decimal, a blank, and the answer
+abbrev pub lineOf : ℕ → Answer → List ℕ
+lineOf count a = decimal count ++ (ascii " " ++ (answerText a ++ ascii "\n"))
+
+-- a sample is read at the delay 1.5
+abbrev pub call : Float → Call
+call x = record { input = x; delay = fin false 3 (negsuc 0) }
+
+-- what the cubic reader answers
+abbrev pub answerTo : Reader → Call → Answer
+answerTo r c = processed cubicAt (r .state) (r .ring) (c .input) (c .delay) .answer
+
+-- the lines for samples, and the reader after them
+unfoldable pub linesOf : Reader → List Float → List ℕ
+linesOf r [] = []
+linesOf r (x ∷ xs) = lineOf (r .state .accepted) (answerTo r (call x)) ++ linesOf (after true true r (call x)) xs
+
+abbrev pub readerAfter : Reader → List Float → Reader
+readerAfter r xs = run true true r (map call xs)
+
+-- headerless binary64, low byte first: the first n samples
+unfoldable pub samplesOf : ℕ → List ℕ → List Float
+samplesOf zero bytes = []
+samplesOf (suc n) bytes = ofBits binary64 (bytesValue (take 8 bytes)) ∷ samplesOf n (drop 8 bytes)
+
+-- a trailing part of fewer than 8 bytes is ignored
+abbrev pub samplesIn : List ℕ → List Float
+samplesIn bytes = samplesOf (length bytes / 8) bytes
+
+-- A block of bytes: the reader that it leaves, and the text for it.
+abbrev pub afterBlock : VariableDelay → List Float → List ℕ → Reader
+afterBlock d ring bytes = readerAfter (record { state = d; ring = ring }) (samplesIn bytes)
+
+abbrev pub textOf : VariableDelay → List Float → List ℕ → List ℕ
+textOf d ring bytes = linesOf (record { state = d; ring = ring }) (samplesIn bytes)
