@@ -11,3 +11,4 @@ pub mod Nearest
 pub mod Grid
 pub mod Compare
 pub mod Whole
+pub mod Integers

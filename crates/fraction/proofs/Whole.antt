@@ -56,6 +56,13 @@ core a b c d p n q m h k = omega (arith, ap (λ (x : ℕ). x * c) h, ap (λ (x :
 pub rep-mul : {x y : ℤ} {p n p' n' : ℕ} → Rep x p n → Rep y p' n' → Rep (x *ℤ y) (p * p' + n * n') (p * n' + n * p')
 rep-mul {x} {y} {p} {n} {p'} {n'} r s = rep-to (own-mul x y) (core (zp x) (zn x) (zp y) (zn y) p n p' n' (r .is) (s .is))
 
+-- the difference of two naturals is one integer
+pub rep-unique : {z w : ℤ} {p n : ℕ} → Rep z p n → Rep w p n → z ≡ w
+rep-unique {z = pos a} {w = pos b} r s = ap pos (omega arith)
+rep-unique {z = pos a} {w = negsuc b} r s = absurd (omega arith)
+rep-unique {z = negsuc a} {w = pos b} r s = absurd (omega arith)
+rep-unique {z = negsuc a} {w = negsuc b} r s = ap negsuc (omega arith)
+
 -- z / d as (p - n) / d
 pub rep-same : {z : ℤ} {p n : ℕ} (d : ℕ) → 0 < d → Rep z p n → Same (frac p n d) (whole z d)
 rep-same d D r = record { left = D; right = D; cross = omega (arith, ap (λ (x : ℕ). x * d) (r .is)) }

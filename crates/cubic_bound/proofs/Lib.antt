@@ -1,0 +1,9 @@
+pub mod Nodes
+pub mod Weights
+pub mod Sums
+pub mod Places
+pub mod Neighbours
+pub mod Accepted
+pub mod Started
+pub mod Demand
+pub mod ShutOut

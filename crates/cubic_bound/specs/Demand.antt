@@ -1,0 +1,42 @@
+-- D3. Demand 3, of a delay reader and runs of its calls: what it supposes and what it promises. Definitions only.
+use Prim.Native.Nat.{ℕ, _^_, _≤_, _<_}
+use mathlib.Core.Path.{_≡_}
+use mathlib.Core.Bool.{true}
+use mathlib.Core.List.{List}
+use lib.IntN.{ℤ}
+use lib.ListN.{length}
+use lib.Ieee.{Float}
+use Rattle.answer.specs.declared.Answer.{Answer}
+use Rattle.answer.specs.declared.Answer.the-variants.{Sample}
+use Rattle.fraction.specs.Fraction.{Frac}
+use Rattle.fraction.specs.Value.{Rounds}
+use Rattle.ring.specs.Length.{need, lengthFor}
+use Rattle.variable_delay.specs.Reader.{Reading, processed}
+use Rattle.runs.specs.Runs.{Call, Reader, opened, run, accepted, samples}
+use Rattle.cubic_bound.specs.Desk.{WholeSample, WholeSamples, WholeDelay, exactAt}
+
+-- A reader opened, or reset, on a ring of the length that its settings need.
+abbrev pub start : ℕ → ℕ → Reader
+start maximum margin = opened maximum margin (lengthFor maximum margin)
+
+-- What is supposed: settings in range; the samples accepted in the calls before are the whole numbers ss, fewer than 2^36; the input is s and the delay is d.
+pub record Desk (maximum margin : ℕ) (before : List Call) (c : Call) (ss : List ℤ) (s : ℤ) (d : ℕ) : Type 0 where
+  pub settings : need maximum margin ≤ 2 ^ 24
+  pub earlier : WholeSamples (samples (accepted true true (start maximum margin) before)) ss
+  pub fewer : length ss < 2 ^ 36
+  pub input : WholeSample (c .input) s
+  pub delay : WholeDelay (c .delay) d
+
+-- What is promised: the answer is a sample, a finite number within 2^-50 of q.
+pub record Close (a : Answer) (q : Frac) : Type 0 where
+  pub value : Float
+  pub given : a ≡ Sample value
+  pub near : Rounds (2 ^ 50) 1 value q
+
+-- Demand 3 of the answer a to a call on a reader: whatever run of calls, from opening or the last reset, left the reader so.
+pub record Demand3 (r : Reader) (c : Call) (a : Answer) : Type 0 where
+  pub close : (maximum margin : ℕ) (before : List Call) (ss : List ℤ) (s : ℤ) (d : ℕ) → Desk maximum margin before c ss s d → r ≡ run true true (start maximum margin) before → Close a (exactAt (lengthFor maximum margin) ss s d)
+
+-- A reader whose every answer meets it.
+abbrev pub Meets : Reading → Type 0
+Meets read = (r : Reader) (c : Call) → Demand3 r c (processed read (r .state) (r .ring) (c .input) (c .delay) .answer)

@@ -1,0 +1,4 @@
+pub mod Exact
+pub mod Desk
+pub mod Demand
+pub mod Readers
