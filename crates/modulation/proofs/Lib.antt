@@ -1,0 +1,6 @@
+pub mod Held
+pub mod Paces
+pub mod Ready
+pub mod Kept
+pub mod Running
+pub mod Runs

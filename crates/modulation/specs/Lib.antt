@@ -1,0 +1,4 @@
+pub mod Settings
+pub mod Engine
+pub mod Step
+pub mod Runs

@@ -1,0 +1,5 @@
+pub mod Squares
+pub mod Inside
+pub mod Powers
+pub mod Cycle
+pub mod Worked

@@ -1,0 +1,12 @@
+-- `oscillators::ranges::cycle_ok` meets its contract: the second test counts where the first has passed. Assumes nothing.
+use Rattle.oscillators.proofs.ranges.cycle_ok.Statement.{statement}
+use Rattle.oscillators.proofs.ranges.cycle_ok.Tie as tie
+
+returns : tie.Need-returns
+returns c = rw (c .if1 .taken)
+
+returns-2 : tie.Need-returns-2
+returns-2 c = rw (c .if1 .left)
+
+pub cycle-ok-spec : {M : Type 1} → statement M
+cycle-ok-spec = tie.close (tie.spec returns returns-2)

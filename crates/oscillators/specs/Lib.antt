@@ -1,0 +1,4 @@
+pub mod Constants
+pub mod Ranges
+pub mod Waves
+pub mod Answers

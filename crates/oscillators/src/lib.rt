@@ -1,0 +1,119 @@
+// 001's oscillators: what stands outside its engine, each function total. Where an argument is outside 01's range the answer is refusal 1.
+pub mod plain; // the arithmetic, for every float
+pub mod ranges; // what is in range
+
+ghost use mathlib.Core.Path.{_≡_};
+ghost use mathlib.Core.Bool.{_&&_};
+ghost use Rattle.oscillators.specs.Answers.{answeredBy, speedDeltaOf, advancePhaseOf, shapePrimitiveOf, oscillatorDelayOf, excursionOf, rateDeltaOf};
+use elementary::Answer;
+
+pub const TAU: f64 = 6.283185307179586;
+
+// The greatest magnitude of a shape: the rounded square reaches it at phase zero.
+pub const MAX_SHAPE_PRIMITIVE: f64 = 7.0 / 6.0;
+
+fn both(a: bool, b: bool) -> bool
+    ensures { λ r. ⌜ r ≡ (a && b) ⌝ }
+{
+    if a { b } else { false }
+}
+
+// The value, or refusal 1 where what was asked is out of range.
+fn answered(ok: bool, value: f64) -> Answer
+    ensures { λ r. ⌜ r ≡ answeredBy ok value ⌝ }
+{
+    if ok {
+        Answer::Value(value)
+    } else {
+        Answer::Refused(1)
+    }
+}
+
+// How much faster, or slower below zero, a depth in cents makes the playback.
+pub fn speed_delta(depth_cents: f64) -> Answer
+    ensures { λ r. ⌜ r ≡ speedDeltaOf «depth_cents» ⌝ }
+{
+    answered(
+        ranges::depth_ok(depth_cents),
+        plain::speed_delta(depth_cents),
+    )
+}
+
+pub fn advance_phase(phase: f64, rate_hz: f64, sample_rate: f64) -> Answer
+    ensures { λ r. ⌜ r ≡ advancePhaseOf phase «rate_hz» «sample_rate» ⌝ }
+{
+    let rates = both(
+        ranges::rate_ok(rate_hz),
+        ranges::sample_rate_ok(sample_rate),
+    );
+    answered(
+        both(ranges::cycle_ok(phase), rates),
+        plain::advance_phase(phase, rate_hz, sample_rate),
+    )
+}
+
+// Analytic antiderivatives of the speed waves: a rounded square at -1, a sine at 0, a triangle at 1, blended between.
+pub fn shape_primitive(phase: f64, shape: f64) -> Answer
+    ensures { λ r. ⌜ r ≡ shapePrimitiveOf phase shape ⌝ }
+{
+    answered(
+        both(ranges::phase_ok(phase), magnitude::is_finite(shape)),
+        plain::shape_primitive(phase, shape),
+    )
+}
+
+pub fn oscillator_delay(
+    phase: f64,
+    rate_hz: f64,
+    depth_cents: f64,
+    shape: f64,
+    sample_rate: f64,
+) -> Answer
+    ensures { λ r. ⌜ r ≡ oscillatorDelayOf phase «rate_hz» «depth_cents» shape «sample_rate» ⌝ }
+{
+    let wave = both(ranges::phase_ok(phase), magnitude::is_finite(shape));
+    let swing = both(ranges::rate_ok(rate_hz), ranges::depth_ok(depth_cents));
+    let amplitude = plain::amplitude(rate_hz, depth_cents, sample_rate);
+    answered(
+        both(wave, both(swing, ranges::sample_rate_ok(sample_rate))),
+        amplitude * plain::shape_primitive(phase, shape),
+    )
+}
+
+// Conservative delay excursion for one oscillator across every shape.
+pub fn maximum_delay_excursion_samples(
+    max_depth_cents: f64,
+    min_rate_hz: f64,
+    sample_rate: f64,
+) -> Answer
+    ensures { λ r. ⌜ r ≡ excursionOf «max_depth_cents» «min_rate_hz» «sample_rate» ⌝ }
+{
+    let rates = both(
+        ranges::minimum_rate_ok(min_rate_hz),
+        ranges::sample_rate_ok(sample_rate),
+    );
+    let delta = plain::speed_delta(max_depth_cents);
+    answered(
+        both(ranges::depth_ok(max_depth_cents), rates),
+        delta * sample_rate * MAX_SHAPE_PRIMITIVE / (TAU * min_rate_hz),
+    )
+}
+
+// M4. Conservative maximum positive playback-rate delta for the constant-power blend at the maximum drift.
+pub fn maximum_rate_delta(depths_cents: &[f64]) -> Answer
+    ensures { λ r. ⌜ r ≡ rateDeltaOf (now («depths_cents» .entry)) ⌝ }
+{
+    let mut sum: f64 = -0.0;
+    let mut i: usize = 0;
+    while i < depths_cents.len() {
+        let depth = depths_cents[i];
+        if ranges::depth_ok(depth) {
+            let delta = plain::speed_delta(depth);
+            sum = sum + delta * delta;
+            i += 1;
+        } else {
+            return Answer::Refused(1);
+        }
+    }
+    Answer::Value(square_root::square_root(sum) * 1.4142135623730951)
+}

@@ -1,0 +1,17 @@
+-- Rust's rem_euclid of f64 by its `%`, which is `lib.Ieee.rem`: x - n * y, where n is x / y cut to a whole number. Definitions only.
+use mathlib.Core.Bool.{false, cond}
+use lib.IntN.{pos}
+use lib.Ieee.{Float, nan, inf, fin, binary64, add, rem, lt}
+
+abbrev pub zero : Float
+zero = fin false 0 (pos 0)
+
+-- f64::abs
+abbrev pub absoluteOf : Float → Float
+absoluteOf nan = nan
+absoluteOf (inf s) = inf false
+absoluteOf (fin s m e) = fin false m e
+
+-- `let r = self % rhs; if r < 0.0 { r + rhs.abs() } else { r }`
+unfoldable pub remEuclid : Float → Float → Float
+remEuclid x y = let r = rem binary64 x y in cond (lt r zero) (add binary64 r (absoluteOf y)) r
