@@ -1,5 +1,6 @@
 // The program `trace` (X1): binary64 samples, low byte first, from standard input go to the cubic reader with ring 8 and delay 1.5, and for each a line goes to
-// standard output. It stops where the input ends, or where the output takes no more. What the lines are is proved in the crate trace_lines.
+// standard output. What the lines are is proved in the crate trace_lines.
+use libc::STDERR_FILENO;
 use libc::STDIN_FILENO;
 use libc::STDOUT_FILENO;
 use variable_delay::Opened;
@@ -13,6 +14,21 @@ struct Turn {
     more: bool,
 }
 
+// Whether to go on after a block of n bytes. A read or a write that failed is said on standard error: there is no exit status to say it by.
+fn goes_on(n: usize, written: bool, spare: &mut [u8]) -> bool {
+    if !written {
+        io::write_all(STDERR_FILENO, b"trace: standard output takes no more\n");
+        return false;
+    }
+    if n < BLOCK {
+        if libc::read(STDIN_FILENO, spare) < 0 {
+            io::write_all(STDERR_FILENO, b"trace: standard input cannot be read\n");
+        }
+        return false;
+    }
+    true
+}
+
 // One block. With 50 bytes for each sample no line is cut off (trace_lines, proofs/Whole.antt).
 fn block(state: VariableDelay, ring: &mut [f64]) -> Turn {
     let mut samples = [0u8; BLOCK];
@@ -20,11 +36,11 @@ fn block(state: VariableDelay, ring: &mut [f64]) -> Turn {
     let n = io::read_full(STDIN_FILENO, &mut samples);
     let t = trace_lines::put_lines(state, ring, &samples[..n], &mut lines);
     let m = t.length;
-    let taken = io::write_all(STDOUT_FILENO, &lines[..m]);
+    let written = io::write_all(STDOUT_FILENO, &lines[..m]);
     let after = t.state;
     Turn {
         state: after,
-        more: if taken { n == BLOCK } else { false },
+        more: goes_on(n, written, &mut samples),
     }
 }
 

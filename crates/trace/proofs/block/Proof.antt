@@ -32,17 +32,17 @@ slice-aggregate-write-all c = sym (length-take-le _ _ (search needs))
 write-all-requires : tie.Need-write-all-requires
 write-all-requires c κs = search needs
 
+slice-aggregate-goes-on : tie.Need-slice-aggregate-goes-on
+slice-aggregate-goes-on c = search needs
+
+goes-on-requires : tie.Need-goes-on-requires
+goes-on-requires c κs = search needs
+
 same-length : tie.Need-same-length
 same-length c = search needs
 
 returns : tie.Need-returns
 returns c = search needs
-
-same-length-2 : tie.Need-same-length-2
-same-length-2 c = search needs
-
-returns-2 : tie.Need-returns-2
-returns-2 c = search needs
 
 pub block-spec : {M : Type 1} → statement M
 block-spec =
@@ -57,7 +57,7 @@ block-spec =
     array-share-prefix-lines
     slice-aggregate-write-all
     write-all-requires
+    slice-aggregate-goes-on
+    goes-on-requires
     same-length
-    returns
-    same-length-2
-    returns-2)
+    returns)
