@@ -1,18 +1,18 @@
 //! The original's answers as lists: `store DIR` writes DIR/replay_NAME/stdin and stdout for each.
 //!
-//! A line of stdin is one call: its arguments as words of 16 hex digits in capitals, one blank
-//! between two. The line of stdout beside it is the answer, likewise. A float is its pattern, an
-//! f32's in the low half of the word; a NaN's is 7FF8000000000000 or 000000007FC00000. Every line
-//! of a list has the same length.
+//! A line of stdin is one call: its letter and its arguments as words of 16 hex digits in capitals,
+//! one blank between two. The line of stdout beside it is the answer, in words likewise. A float is
+//! its pattern; a NaN that is an answer is 7FF8000000000000. Every line of a list has the same
+//! length.
 #![no_main]
 
 mod random;
 mod lists {
-    pub mod cubic_farrow;
+    pub mod delays;
 }
 
 /// A file of lists/ each.
-const LISTS: [(&str, fn(&mut List)); 1] = [("cubic_farrow", lists::cubic_farrow::write)];
+const LISTS: [(&str, fn(&mut List)); 1] = [("delays", lists::delays::write)];
 
 pub struct List {
     stdin: String,
@@ -20,12 +20,15 @@ pub struct List {
 }
 
 impl List {
-    pub fn line(&mut self, call: &[f64], answer: f64) {
-        let words: Vec<String> = call.iter().map(|x| format!("{:016X}", x.to_bits())).collect();
-        let answer = if answer.is_nan() { 0x7FF8_0000_0000_0000 } else { answer.to_bits() };
-        self.stdin += &(words.join(" ") + "\n");
-        self.stdout += &format!("{answer:016X}\n");
+    pub fn line(&mut self, letter: char, call: [u64; 3], answer: u64, count: u64) {
+        let [a, b, c] = call;
+        self.stdin += &format!("{letter} {a:016X} {b:016X} {c:016X}\n");
+        self.stdout += &format!("{answer:016X} {count:016X}\n");
     }
+}
+
+pub fn pattern(x: f64) -> u64 {
+    if x.is_nan() { 0x7FF8_0000_0000_0000 } else { x.to_bits() }
 }
 
 #[no_mangle]
