@@ -1,14 +1,12 @@
 -- G7. What settings in range hold, one by one. Assumes nothing.
 use mathlib.Core.Bool.{_&&_}
-use lib.Count.{trailingZeros}
-use lib.Dec.{T, lit≤}
-use lib.Ieee.{Float, odd, neg, le, ofFields, ofBits}
+use lib.Dec.{T}
 use lib.Ieee.Fits.{and-l, and-r}
+use lib.Ieee.Bits.{is-true}
 use lib.Ieee.Scale.{finite}
 use Rattle.magnitude.specs.Bounds.{AtMost}
-use Rattle.magnitude.proofs.Between.{between-at-most}
-use Rattle.oscillators.specs.Constants.{octave}
-use Rattle.oscillators.specs.Ranges.{rateOk, depthOk, fastest}
+use Rattle.oscillators.specs.Ranges.{rateOk, depthOk}
+use Rattle.oscillators.proofs.Inside.{rate-at-most, depth-at-most}
 use Rattle.modulation.specs.Settings.{paramsOk}
 use Rattle.modulation.specs.declared.ModulationParams.{ModulationParams}
 
@@ -21,14 +19,6 @@ pub record Held (p : ModulationParams) : Type 0 where
   pub flutter-shape : T (finite (p .«flutter_shape»))
   pub drift : T (finite (p .«drift_amount»))
   pub stereo : T (finite (p .«stereo_amount»))
-
-rate-at-most : (x : Float) → T (rateOk x) → AtMost 1000 x
-unfolding trailingZeros odd neg ofFields ofBits
-rate-at-most x h = between-at-most 1000 (neg fastest) x fastest (lit≤ tt) (lit≤ tt) (and-l (le (neg fastest) x) (le x fastest) h) (and-r (le (neg fastest) x) (le x fastest) h)
-
-depth-at-most : (x : Float) → T (depthOk x) → AtMost 1200 x
-unfolding trailingZeros odd neg ofFields ofBits
-depth-at-most x h = between-at-most 1200 (neg octave) x octave (lit≤ tt) (lit≤ tt) (and-l (le (neg octave) x) (le x octave) h) (and-r (le (neg octave) x) (le x octave) h)
 
 pub held : (p : ModulationParams) → T (paramsOk p) → Held p
 unfolding paramsOk
@@ -44,10 +34,10 @@ held p h =
     let s = and-l shapes amounts rest in
     let a = and-r shapes amounts rest in
     record {
-      wow-rate = rate-at-most _ (and-l (rateOk (p .«wow_rate_hz»)) (depthOk (p .«wow_depth_cents»)) w);
-      wow-depth = depth-at-most _ (and-r (rateOk (p .«wow_rate_hz»)) (depthOk (p .«wow_depth_cents»)) w);
-      flutter-rate = rate-at-most _ (and-l (rateOk (p .«flutter_rate_hz»)) (depthOk (p .«flutter_depth_cents»)) f);
-      flutter-depth = depth-at-most _ (and-r (rateOk (p .«flutter_rate_hz»)) (depthOk (p .«flutter_depth_cents»)) f);
+      wow-rate = rate-at-most (p .«wow_rate_hz») (is-true (rateOk (p .«wow_rate_hz»)) (and-l (rateOk (p .«wow_rate_hz»)) (depthOk (p .«wow_depth_cents»)) w));
+      wow-depth = depth-at-most (p .«wow_depth_cents») (is-true (depthOk (p .«wow_depth_cents»)) (and-r (rateOk (p .«wow_rate_hz»)) (depthOk (p .«wow_depth_cents»)) w));
+      flutter-rate = rate-at-most (p .«flutter_rate_hz») (is-true (rateOk (p .«flutter_rate_hz»)) (and-l (rateOk (p .«flutter_rate_hz»)) (depthOk (p .«flutter_depth_cents»)) f));
+      flutter-depth = depth-at-most (p .«flutter_depth_cents») (is-true (depthOk (p .«flutter_depth_cents»)) (and-r (rateOk (p .«flutter_rate_hz»)) (depthOk (p .«flutter_depth_cents»)) f));
       wow-shape = and-l (finite (p .«wow_shape»)) (finite (p .«flutter_shape»)) s;
       flutter-shape = and-r (finite (p .«wow_shape»)) (finite (p .«flutter_shape»)) s;
       drift = and-l (finite (p .«drift_amount»)) (finite (p .«stereo_amount»)) a;

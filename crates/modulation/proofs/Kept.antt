@@ -1,23 +1,17 @@
--- G8. What an engine in range holds, part by part, words of 64 digits included: `Sound`. Opening gives it, and each method keeps it: the phases by
--- `advance-cycle`, the generators by smooth_random's laws. Assumes nothing.
-use mathlib.Core.Path.{refl, sym, subst}
-use mathlib.Core.Bool.{Bool, true, false, _&&_, cond}
+-- G8. What an engine in range holds: `Sound`. Opening gives it, and each method keeps it: the phases by `advance-cycle`, the generators by what stands in
+-- Generators. Assumes nothing.
+use mathlib.Core.Path.{refl}
+use mathlib.Core.Bool.{_&&_}
 use Prim.Native.Nat.{ℕ, _^_, _<_}
 use lib.Count.{trailingZeros}
-use lib.Dec.{T, eqb, lit≤}
+use lib.Dec.{T, lit≤}
 use lib.Ieee.{Float, binary64, odd, mul, lt, eq, le, ofFields, ofBits}
 use lib.Ieee.Fits.{and-i}
-use Rattle.words.proofs.Digitwise.{xor-below}
 use Rattle.magnitude.specs.Bounds.{AtMost}
 use Rattle.magnitude.proofs.Between.{at-most-mono, at-most-le}
 use Rattle.magnitude.proofs.Operations.{mul-at-most}
-use Rattle.smooth_random.specs.Seeds.{seedOf, flutterSeedOf}
+use Rattle.smooth_random.specs.Seeds.{flutterSeedOf}
 use Rattle.smooth_random.specs.Ranges.{validOf}
-use Rattle.smooth_random.specs.Drift as drift
-use Rattle.smooth_random.specs.declared.SmoothRandom.{SmoothRandom}
-use Rattle.smooth_random.proofs.Generator.{step-word}
-use Rattle.smooth_random.proofs.Starts.{seed-word, new-valid, reset-valid}
-use Rattle.smooth_random.proofs.Settles.{next-valid, next-kept}
 use Rattle.oscillators.specs.Ranges.{cycleOk, sampleRateOk}
 use Rattle.oscillators.proofs.Powers.{pow2-at-most}
 use Rattle.oscillators.proofs.Cycle.{huge, advance-cycle}
@@ -27,37 +21,8 @@ use Rattle.modulation.specs.Step.{multiplierOf, wowPace, flutterPace, st
 use Rattle.modulation.specs.declared.ModulationEngine.{ModulationEngine}
 use Rattle.modulation.specs.declared.ModulationParams.{ModulationParams}
 use Rattle.modulation.proofs.Held.{held}
+use Rattle.modulation.proofs.Generators.{Steady, new-steady, reset-steady, set-seed-steady, next-steady, flutter-word}
 
--- ---- a generator
-pub record Steady (r : SmoothRandom) : Type 0 where
-  pub valid : T (validOf r)
-  pub state : r .state < 2 ^ 64
-  pub seed : r .«initial_seed» < 2 ^ 64
-
-new-steady : (seed : ℕ) → seed < 2 ^ 64 → Steady (drift.newOf seed)
-unfolding drift.started
-new-steady seed w = record { valid = new-valid seed w; state = step-word _; seed = seed-word seed w }
-
-reset-steady : (r : SmoothRandom) → Steady r → Steady (drift.resetOf r)
-unfolding drift.started
-reset-steady r h = record { valid = reset-valid r (h .seed) (h .valid); state = step-word _; seed = h .seed }
-
-set-seed-steady : (r : SmoothRandom) (seed : ℕ) → seed < 2 ^ 64 → Steady r → Steady (drift.setSeedOf r seed)
-set-seed-steady r seed w h = go (eqb (seedOf seed) (r .«initial_seed»))
-  where
-    go : (b : Bool) → Steady (cond b r (drift.newOf seed))
-    go true = h
-    go false = new-steady seed w
-
-next-steady : (r : SmoothRandom) (pace sample-rate : Float) → Steady r → Steady (drift.nextOf r pace sample-rate .random)
-next-steady r pace sample-rate h =
-    let kept = next-kept r pace sample-rate (h .state) in
-    record { valid = next-valid r pace sample-rate (h .state) (h .valid); state = kept .0; seed = subst (λ (s : ℕ). s < 2 ^ 64) (sym (kept .1)) (h .seed) }
-
-flutter-word : (seed : ℕ) → flutterSeedOf seed < 2 ^ 64
-flutter-word seed = seed-word _ (xor-below 64 _ _)
-
--- ---- an engine
 pub record Sound (e : ModulationEngine) : Type 0 where
   pub rate : T (sampleRateOk (e .«sample_rate»))
   pub wow-phase : T (cycleOk (e .«wow_phase»))

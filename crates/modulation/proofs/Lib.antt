@@ -1,6 +1,12 @@
 pub mod Held
 pub mod Paces
 pub mod Ready
+pub mod Pieces
+pub mod Terms
+pub mod Quintic
+pub mod Wander
+pub mod Generators
 pub mod Kept
 pub mod Running
 pub mod Runs
+pub mod Answered

@@ -14,7 +14,7 @@ use Rattle.order.specs.Choice.{larger}
 use Rattle.order.proofs.Choices.{chosen-keeps}
 use Rattle.elementary.specs.Answers.{atMost, cosineAt, powerAt, cosineOf, exp2Of}
 use Rattle.oscillators.specs.Constants.{zero, one, three, five, octave}
-use Rattle.oscillators.specs.Ranges.{phaseOk, depthOk}
+use Rattle.oscillators.specs.Ranges.{rateOk, phaseOk, depthOk}
 use Rattle.oscillators.specs.Waves.{cos, pow2, speedDelta}
 
 test : (b : ℕ) (x : Float) → AtMost b x → atMost b x ≡ true
@@ -36,17 +36,23 @@ pub record Cosines (phase : Float) : Type 0 where
   pub third : cos (mul binary64 three phase) ≡ cosineAt (mul binary64 three phase)
   pub fifth : cos (mul binary64 five phase) ≡ cosineAt (mul binary64 five phase)
 
-pub cosines-answer : (phase : Float) → phaseOk phase ≡ true → Cosines phase
+pub phase-at-most : (phase : Float) → phaseOk phase ≡ true → AtMost 51 phase
 unfolding trailingZeros odd neg ofFields ofBits
-cosines-answer phase h =
-    let p : AtMost 51 phase = within-at-most 51 _ phase _ (lit≤ tt) (lit≤ tt) h in
-    record {
-      first = cosine-answers phase (at-most-mono phase (lit≤ tt) p);
-      third = cosine-answers (mul binary64 three phase) (at-most-mono (mul binary64 three phase) (lit≤ tt) (mul-at-most binary64 3 51 three phase (lit≤ tt) (lit≤ tt) p));
-      fifth = cosine-answers (mul binary64 five phase) (at-most-mono (mul binary64 five phase) (lit≤ tt) (mul-at-most binary64 5 51 five phase (lit≤ tt) (lit≤ tt) p));
-    }
+phase-at-most phase h = within-at-most 51 _ phase _ (lit≤ tt) (lit≤ tt) h
 
--- ---- the depth
+pub cosines-answer : (phase : Float) → AtMost 51 phase → Cosines phase
+unfolding trailingZeros odd ofFields ofBits
+cosines-answer phase p = record {
+  first = cosine-answers phase (at-most-mono phase (lit≤ tt) p);
+  third = cosine-answers (mul binary64 three phase) (at-most-mono (mul binary64 three phase) (lit≤ tt) (mul-at-most binary64 3 51 three phase (lit≤ tt) (lit≤ tt) p));
+  fifth = cosine-answers (mul binary64 five phase) (at-most-mono (mul binary64 five phase) (lit≤ tt) (mul-at-most binary64 5 51 five phase (lit≤ tt) (lit≤ tt) p));
+}
+
+-- ---- the rate and the depth
+pub rate-at-most : (rate : Float) → rateOk rate ≡ true → AtMost 1000 rate
+unfolding trailingZeros odd neg ofFields ofBits
+rate-at-most rate h = within-at-most 1000 _ rate _ (lit≤ tt) (lit≤ tt) h
+
 pub depth-at-most : (depth : Float) → depthOk depth ≡ true → AtMost 1200 depth
 unfolding trailingZeros odd neg ofFields ofBits
 depth-at-most depth h = within-at-most 1200 _ depth _ (lit≤ tt) (lit≤ tt) h

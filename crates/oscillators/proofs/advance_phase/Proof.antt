@@ -25,9 +25,7 @@ answered-requires : tie.Need-answered-requires
 answered-requires c κs = search needs
 
 returns : tie.Need-returns
-returns c =
-    let a = c .before .before .before in
-    rw (c .answered .ensures, c .before .advance-phase .ensures, c .before .before .both2 .ensures, a .cycle-ok .ensures, a .before .both .ensures, a .before .before .sample-rate-ok .ensures, a .before .before .before .rate-ok .ensures)
+returns c = cc
 
 pub advance-phase-spec : {M : Type 1} → statement M
 advance-phase-spec = tie.close (tie.spec rate-ok-requires sample-rate-ok-requires both-requires cycle-ok-requires both-requires-2 advance-phase-requires answered-requires returns)

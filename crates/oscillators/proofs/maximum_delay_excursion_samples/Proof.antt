@@ -36,10 +36,7 @@ ratio = refl
 
 returns : tie.Need-returns
 unfolding excursion
-returns c =
-    let a = c .before .before in
-    let b = a .before .before in
-    rw (c .answered .ensures, c .before .both2 .ensures, a .depth-ok .ensures, a .before .speed-delta .ensures, b .both .ensures, b .before .sample-rate-ok .ensures, b .before .before .minimum-rate-ok .ensures, ratio)
+returns c = cc ratio
 
 pub maximum-delay-excursion-samples-spec : {M : Type 1} → statement M
 maximum-delay-excursion-samples-spec = tie.close (tie.spec minimum-rate-ok-requires sample-rate-ok-requires both-requires speed-delta-requires depth-ok-requires both-requires-2 answered-requires returns)

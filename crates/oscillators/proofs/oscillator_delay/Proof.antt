@@ -42,24 +42,7 @@ answered-requires c κs = search needs
 
 returns : tie.Need-returns
 unfolding oscillatorDelay
-returns c =
-    let a = c .before .before in
-    let b = a .before .before .before in
-    let d = b .before .before .before in
-    rw (
-      c .answered .ensures,
-      c .before .shape-primitive .ensures,
-      a .both4 .ensures,
-      a .before .both3 .ensures,
-      a .before .before .sample-rate-ok .ensures,
-      b .amplitude .ensures,
-      b .before .both2 .ensures,
-      b .before .before .depth-ok .ensures,
-      d .rate-ok .ensures,
-      d .before .both .ensures,
-      d .before .before .is-finite .ensures,
-      d .before .before .before .phase-ok .ensures,
-    )
+returns c = cc
 
 pub oscillator-delay-spec : {M : Type 1} → statement M
 oscillator-delay-spec = tie.close (tie.spec phase-ok-requires is-finite-requires both-requires rate-ok-requires depth-ok-requires both-requires-2 amplitude-requires sample-rate-ok-requires both-requires-3 both-requires-4 shape-primitive-requires answered-requires returns)

@@ -19,7 +19,7 @@ answered-requires : tie.Need-answered-requires
 answered-requires c κs = search needs
 
 returns : tie.Need-returns
-returns c = let a = c .before .before in rw (c .answered .ensures, c .before .shape-primitive .ensures, a .both .ensures, a .before .is-finite .ensures, a .before .before .phase-ok .ensures)
+returns c = cc
 
 pub shape-primitive-spec : {M : Type 1} → statement M
 shape-primitive-spec = tie.close (tie.spec phase-ok-requires is-finite-requires both-requires shape-primitive-requires answered-requires returns)

@@ -13,7 +13,7 @@ answered-requires : tie.Need-answered-requires
 answered-requires c κs = search needs
 
 returns : tie.Need-returns
-returns c = rw (c .answered .ensures, c .before .speed-delta .ensures, c .before .before .depth-ok .ensures)
+returns c = cc
 
 pub speed-delta-spec : {M : Type 1} → statement M
 speed-delta-spec = tie.close (tie.spec depth-ok-requires speed-delta-requires answered-requires returns)

@@ -12,7 +12,7 @@ rem-euclid-requires c κs = search needs
 
 returns : tie.Need-returns
 unfolding advancePhase
-returns c = rw (c .rem-euclid .ensures, c .before .max .ensures)
+returns c = cc
 
 pub advance-phase-spec : {M : Type 1} → statement M
 advance-phase-spec = tie.close (tie.spec max-requires rem-euclid-requires returns)

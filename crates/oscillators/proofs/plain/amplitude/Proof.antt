@@ -15,7 +15,7 @@ max-requires-2 c κs = search needs
 
 returns : tie.Need-returns
 unfolding amplitudeOf
-returns c = rw (c .max2 .ensures, c .before .speed-delta .ensures, c .before .before .max .ensures)
+returns c = cc
 
 pub amplitude-spec : {M : Type 1} → statement M
 amplitude-spec = tie.close (tie.spec max-requires speed-delta-requires max-requires-2 returns)

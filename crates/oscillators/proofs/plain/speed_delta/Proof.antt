@@ -9,7 +9,7 @@ power-of-two-requires c κs = search needs
 
 returns : tie.Need-returns
 unfolding speedDelta
-returns c = rw (c .power-of-two .ensures)
+returns c = cc
 
 pub speed-delta-spec : {M : Type 1} → statement M
 speed-delta-spec = tie.close (tie.spec power-of-two-requires returns)

@@ -1,11 +1,11 @@
--- `modulation::handed_back` meets its contract: the definition at the refusal. Assumes nothing.
+-- `modulation::engine::handed_back` meets its contract: the definition at the refusal. Assumes nothing.
 use mathlib.Core.Path.{_≡_, refl}
 use Prim.Native.Nat.{ℕ, zero, suc}
 use Rattle.modulation.specs.declared.ModulationEngine.{ModulationEngine}
 use Rattle.modulation.specs.declared.Opened.the-variants.{Refused}
 use Rattle.modulation.specs.Engine.{openedBy}
-use Rattle.modulation.proofs.handed_back.Statement.{statement}
-use Rattle.modulation.proofs.handed_back.Tie as tie
+use Rattle.modulation.proofs.engine.handed_back.Statement.{statement}
+use Rattle.modulation.proofs.engine.handed_back.Tie as tie
 
 refused : (k : ℕ) (e : ModulationEngine) → (k ≡ 0 → ⊥) → Refused k ≡ openedBy k e
 refused zero e h = absurd (h refl)
