@@ -1,161 +1,30 @@
 // Tries Demand 3 (docs/DEMAND3.md): runs of random and of worst-looking whole samples and delays through the cubic reader, and beside each answer the exact value in
 // whole numbers, worked out from the samples alone. Writes how many calls were made, how many answers were no samples or lay further than 2^-50 away, and the largest
 // distance seen, in 2^-54. The ring is 64 long.
+mod distance;
+mod exact;
+mod kinds;
+mod whole;
+
 use answer::Answer;
+use distance::UNIT;
+use distance::distance;
+use exact::RING;
+use exact::exact;
+use kinds::delay;
+use kinds::next;
+use kinds::sample;
+use kinds::sample_float;
 use libc::STDOUT_FILENO;
+use variable_delay::Opened;
 use variable_delay::VariableDelay;
+use whole::Wide;
+use whole::plus;
+use whole::times;
 
 const RUNS: u64 = 256;
 
 const CALLS: usize = 4096;
-
-const RING: usize = 64;
-
-// Distances are counted in 1 / (6 * 65536^3 * 2^23), of which 2^-54 has this many.
-const UNIT: u64 = 786432;
-
-// Whole numbers are words modulo 2^64; those from 2^63 on stand for the ones below zero.
-fn plus(a: u64, b: u64) -> u64 {
-    std::num::wrapping_add_u64(a, b)
-}
-
-fn minus(a: u64, b: u64) -> u64 {
-    std::num::wrapping_sub_u64(a, b)
-}
-
-fn times(a: u64, b: u64) -> u64 {
-    words::wrapping_mul(a, b)
-}
-
-fn below_zero(a: u64) -> bool {
-    a >= 0x8000_0000_0000_0000
-}
-
-fn size(a: u64) -> u64 {
-    if below_zero(a) { minus(0, a) } else { a }
-}
-
-// A whole number a * 2^32 + b.
-struct Wide {
-    a: u64,
-    b: u64,
-}
-
-// The floor of w / 2^32; w % 2^32 is the rest.
-fn upper(w: u64) -> u64 {
-    let q = w / 0x1_0000_0000;
-    if below_zero(w) {
-        minus(q, 0x1_0000_0000)
-    } else {
-        q
-    }
-}
-
-// 01's weights for the fraction m / 65536, over 6 * 65536^3.
-fn weight(k: u64, m: u64) -> u64 {
-    let a = plus(m, 65536);
-    let b = minus(m, 65536);
-    let c = minus(m, 131072);
-    match k {
-        0 => minus(0, times(times(m, b), c)),
-        1 => times(3, times(times(a, b), c)),
-        2 => minus(0, times(3, times(times(a, m), c))),
-        _ => times(times(a, m), b),
-    }
-}
-
-// The sample of number z among the first `count` that were told, 0 where a ring does not hold it. A number below zero is above every count.
-fn neighbour(told: &[u64], count: u64, z: u64) -> u64 {
-    if z >= count {
-        return 0;
-    }
-    if count - z > RING as u64 {
-        return 0;
-    }
-    let at = z as usize;
-    if at < told.len() { told[at] } else { 0 }
-}
-
-// One term more: s * w, by the halves of w.
-fn with(e: Wide, s: u64, w: u64) -> Wide {
-    Wide {
-        a: plus(e.a, times(s, upper(w))),
-        b: plus(e.b, times(s, w % 0x1_0000_0000)),
-    }
-}
-
-// The exact value at the delay d / 65536 behind the last of `count` samples, in 1 / (6 * 65536^3 * 2^23).
-fn exact(told: &[u64], count: u64, d: u64) -> Wide {
-    let n = minus(times(minus(count, 1), 65536), d);
-    let m = n % 65536;
-    let q = n / 65536;
-    let i = if below_zero(n) {
-        minus(q, 0x1_0000_0000_0000)
-    } else {
-        q
-    };
-    let e0 = with(
-        Wide { a: 0, b: 0 },
-        neighbour(told, count, minus(i, 1)),
-        weight(0, m),
-    );
-    let e1 = with(e0, neighbour(told, count, i), weight(1, m));
-    let e2 = with(e1, neighbour(told, count, plus(i, 1)), weight(2, m));
-    with(e2, neighbour(told, count, plus(i, 2)), weight(3, m))
-}
-
-// What an answer's bits say: its magnitude, in 2^-71, and 1 where digits below that were cut off.
-struct Given {
-    magnitude: Wide,
-    cut: u64,
-}
-
-// The digits d at the binary exponent e, that is d * 2^(e - 1075), for a magnitude below 8.
-fn taken_apart(d: u64, e: u64) -> Given {
-    if e >= 1004 {
-        let k = e - 1004;
-        let low = words::shl(d % 0x1_0000_0000, k);
-        return Given {
-            magnitude: Wide {
-                a: plus(words::shl(d / 0x1_0000_0000, k), low / 0x1_0000_0000),
-                b: low % 0x1_0000_0000,
-            },
-            cut: 0,
-        };
-    }
-    let k = 1004 - e;
-    let w = if k < 64 { d >> k } else { 0 };
-    Given {
-        magnitude: Wide {
-            a: w / 0x1_0000_0000,
-            b: w % 0x1_0000_0000,
-        },
-        cut: if words::shl(w, k) == d { 0 } else { 1 },
-    }
-}
-
-// How far an answer lies from the exact value, in 1 / (6 * 65536^3 * 2^23): at most 6 more where digits were cut off. The largest word stands for farther than all that.
-fn distance(v: f64, e: Wide) -> u64 {
-    let bits = patterns::bits_of(v);
-    let exponent = bits / 0x10_0000_0000_0000 % 0x800;
-    if exponent >= 1026 {
-        return u64::MAX;
-    }
-    let digits = if exponent == 0 {
-        0
-    } else {
-        bits % 0x10_0000_0000_0000 + 0x10_0000_0000_0000
-    };
-    let g = taken_apart(digits, exponent);
-    let w = g.magnitude;
-    let six = if below_zero(bits) { minus(0, 6) } else { 6 };
-    let p = minus(times(six, w.a), e.a);
-    let q = minus(times(six, w.b), e.b);
-    if size(p) >= 0x800_0000 {
-        return u64::MAX;
-    }
-    plus(size(plus(times(p, 0x1_0000_0000), q)), times(6, g.cut))
-}
 
 struct Seen {
     calls: u64,
@@ -189,45 +58,6 @@ fn seen_too(seen: Seen, answer: Answer, e: Wide) -> Seen {
             }
         }
     }
-}
-
-// Knuth's congruential generator; its upper digits are used.
-fn next(g: u64) -> u64 {
-    plus(times(g, 6364136223846793005), 1442695040888963407)
-}
-
-// Whole samples of a kind, in 2^-23: any, the two ends, ends and nearly ends with the signs of the weights, and small ones.
-fn sample(kind: u64, i: usize, g: u64) -> u64 {
-    let at = i % 4;
-    let up = at == 1 || at == 2;
-    match kind {
-        0 => minus(g >> 40, 8388608),
-        1 => if below_zero(g) {
-            8388608
-        } else {
-            minus(0, 8388608)
-        },
-        2 => {
-            let s = minus(8388608, g >> 54);
-            if up { s } else { minus(0, s) }
-        }
-        _ => minus(g >> 60, 8),
-    }
-}
-
-// Whole delays of a kind, in 2^-16: below four samples, within the ring, about the ring's end, and any.
-fn delay(kind: u64, g: u64) -> u64 {
-    let r = g >> 12;
-    match kind {
-        0 => r % 262144,
-        1 => r % 4194304,
-        2 => 3932160 + r % 524288,
-        _ => r,
-    }
-}
-
-fn sample_float(s: u64) -> f64 {
-    (std::num::nearest_u64_to_f64(plus(s, 8388608)) - 8388608.0) / 8388608.0
 }
 
 // Between two calls of a run: the generator, the reader, and what was seen.
@@ -270,17 +100,25 @@ fn call(
     }
 }
 
+fn opened(ring: &mut [f64]) -> VariableDelay {
+    let o = variable_delay::open(40, 4, &mut ring[..]);
+    match o {
+        Opened::Reader(d) => d,
+        Opened::Refused(_) => VariableDelay {
+            maximum: 40,
+            margin: 4,
+            accepted: 0,
+        },
+    }
+}
+
 // A run from opening, with samples and delays of a kind.
 fn run(samples: u64, delays: u64, seed: u64, seen: Seen) -> Seen {
     let mut ring = [0.0f64; RING];
     let mut told = [0u64; CALLS];
     let mut turn = Turn {
         g: seed,
-        state: VariableDelay {
-            maximum: 40,
-            margin: 4,
-            accepted: 0,
-        },
+        state: opened(&mut ring),
         seen: seen,
     };
     let mut i: usize = 0;

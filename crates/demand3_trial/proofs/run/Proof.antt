@@ -12,6 +12,12 @@ Inv-loop samples delays seed ring₀ told₀ turn₀ i₀ ring told turn i = (le
 abbrev μ-loop : tie.MeasureT-loop
 μ-loop samples delays seed ring₀ told₀ turn₀ i₀ ring told turn i = 4096 - i
 
+slice-aggregate-opened : tie.Need-slice-aggregate-opened Inv-loop μ-loop
+slice-aggregate-opened c = search needs
+
+opened-requires : tie.Need-opened-requires Inv-loop μ-loop
+opened-requires c κs = search needs
+
 loop-holds : tie.Need-loop-holds Inv-loop μ-loop
 loop-holds c = search needs
 
@@ -37,4 +43,4 @@ returns : tie.Need-returns Inv-loop μ-loop
 returns c = search needs
 
 pub run-spec : {M : Type 1} → statement M
-run-spec = tie.close (tie.spec Inv-loop μ-loop loop-holds slice-aggregate-call slice-aggregate-call-2 call-requires add-i loop-less loop-again returns)
+run-spec = tie.close (tie.spec Inv-loop μ-loop slice-aggregate-opened opened-requires loop-holds slice-aggregate-call slice-aggregate-call-2 call-requires add-i loop-less loop-again returns)
