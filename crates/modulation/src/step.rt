@@ -38,9 +38,10 @@ impl ModulationEngine {
             );
             let drifts = both(wow.refusal == 0, flutter.refusal == 0);
             if both(self.phases_ok(), drifts) {
+                let engine = self.stepped(params, wow, flutter);
                 let offset = self.render(params);
                 return Next {
-                    engine: self.stepped(params, wow, flutter),
+                    engine,
                     offset: Offset::Delay(offset),
                 };
             }

@@ -41,11 +41,11 @@ phases-ok-requires c κs = search needs
 both-requires-3 : tie.Need-both-requires-3
 both-requires-3 c κs = search needs
 
-render-requires : tie.Need-render-requires
-render-requires c κs = search needs
-
 stepped-requires : tie.Need-stepped-requires
 stepped-requires c κs = search needs
+
+render-requires : tie.Need-render-requires
+render-requires c κs = search needs
 
 settings : (c : tie.After-both) → let a = c .before .before .before .args in c .both .result ≡ (sampleRateOk (a .self .«sample_rate») && paramsOk (a .params))
 settings c = cc
@@ -72,8 +72,8 @@ returns c =
     let drawn = second .before .before .before in
     rw (
       found _ _ (sym (settings (t .before)) ∙ t .if1 .taken) true (sym (valid b) ∙ c .before .before .if2 .taken),
-      c .stepped .ensures,
-      c .before .render .ensures,
+      c .render .ensures,
+      c .before .stepped .ensures,
       second .next2 .ensures,
       second .before .clamp2 .ensures,
       drawn .next .ensures,
@@ -90,4 +90,4 @@ returns-3 : tie.Need-returns-3
 returns-3 c = let a = c .before .before .before .before .args in rw (outside (a .self) (a .params) (sym (settings (c .before)) ∙ c .if1 .left))
 
 pub next-spec : {M : Type 1} → statement M
-next-spec = tie.close (tie.spec sample-rate-ok-requires in-range-requires both-requires clamp-requires next-requires clamp-requires-2 next-requires-2 both-requires-2 phases-ok-requires both-requires-3 render-requires stepped-requires returns returns-2 returns-3)
+next-spec = tie.close (tie.spec sample-rate-ok-requires in-range-requires both-requires clamp-requires next-requires clamp-requires-2 next-requires-2 both-requires-2 phases-ok-requires both-requires-3 stepped-requires render-requires returns returns-2 returns-3)
