@@ -28,7 +28,11 @@ impl List {
 }
 
 pub fn pattern(x: f64) -> u64 {
-    if x.is_nan() { 0x7FF8_0000_0000_0000 } else { x.to_bits() }
+    if x.is_nan() {
+        0x7FF8_0000_0000_0000
+    } else {
+        x.to_bits()
+    }
 }
 
 #[no_mangle]

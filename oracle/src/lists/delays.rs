@@ -5,8 +5,9 @@
 //! the delay and 0, is a call; `r` and three zeros a reset. Beside each stand the answer (0 for `o`
 //! and `r`) and `write_index` afterwards.
 //!
-//! Twice 45 calls for each kernel and ring, by the generator: 12 plain ones, and then every kind of
-//! sample and delay, refused ones too. Each reader has its own seed.
+//! For each kernel and ring there are two runs, long enough to go round the ring: a first call whose
+//! fraction is 1, 11 plain ones, and then every kind of sample and delay, refused ones too. They
+//! are drawn by the generator, for each reader from a seed of its own.
 
 use crate::random::Random;
 use crate::List;
@@ -39,10 +40,12 @@ fn runs<K: Kernel>(list: &mut List, n: u64, kernel: u64, (maximum, margin): (usi
     let mut reader = VariableDelay::new(maximum, margin, k);
     list.line('o', [kernel, maximum as u64, margin as u64], 0, 0);
     for largest in [false, true] {
-        for call in 0..45 {
-            let held = (reader.write_index + 1).min(reader.buffer.len() as i64);
+        let ring = reader.buffer.len() as i64;
+        for call in 0..24 + ring {
+            let held = (reader.write_index + 1).min(ring);
             let (sample, delay) = match call {
-                0..12 => (fine(&mut random), near(&mut random, held)),
+                0 => (fine(&mut random), 1e-300),
+                1..12 => (fine(&mut random), near(&mut random, held)),
                 _ => (sample(&mut random, largest), delay(&mut random, held)),
             };
             let answer = reader.process_sample(sample, delay);
@@ -70,7 +73,7 @@ fn sample(random: &mut Random, largest: bool) -> f64 {
         1 | 2 => -0.0,
         3 => f64::from_bits(random.word() >> 12),
         4 => -5e-324,
-        5 => fine(random) * 2.0f64.powi(-1040),
+        5 => fine(random) * f64::MIN_POSITIVE,
         6 => fine(random) * 1e300,
         7 => f64::NAN,
         8 => f64::INFINITY.copysign(fine(random)),
