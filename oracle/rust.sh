@@ -4,8 +4,8 @@
 out=$root/target/oracle
 # cargo's release profile: opt-level 3, no fast-math, no target features beyond x86-64's own
 flags='--edition 2021 -C opt-level=3'
-# `port` from the day on which the library exports sine, cosine and exp2; until then the original keeps the standard library's
-elementary=std
+# O1. The original's sin, cos and powf are the port's own three (`port`); `std` leaves it the standard library's
+elementary=port
 
 export RUST_BACKTRACE=0
 
@@ -49,9 +49,9 @@ signatures() { # FILES
 # The static library, proved, and the crate `boundary` over it.
 build_boundary() {
     signatures "$root"/crates/fugnadri/src/*.rt >"$out/exported"
-    signatures "$root/oracle/src/boundary.rs" >"$out/declared"
+    signatures "$root/oracle/src/boundary.rs" "$root"/oracle/src/boundary/*.rs >"$out/declared"
     if ! cmp -s "$out/exported" "$out/declared"; then
-        echo "$me: what crates/fugnadri exports (<) is not what oracle/src/boundary.rs declares (>):" >&2
+        echo "$me: what crates/fugnadri exports (<) is not what oracle/src/boundary.rs and boundary/ declare (>):" >&2
         diff "$out/exported" "$out/declared" | grep '^[<>]' >&2
         exit 1
     fi

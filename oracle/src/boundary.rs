@@ -1,8 +1,12 @@
 //! The static library's exported functions: one safe function for each.
 //!
-//! The only place that declares them for Rust. `oracle/run` holds these lines to the signatures in
-//! crates/fugnadri before it builds, and its subjects call every one. Each function there is total
-//! (no `requires`), so a call is safe at every argument.
+//! The only place that declares them for Rust, with boundary/. `oracle/run` holds these lines to the
+//! signatures in crates/fugnadri before it builds, and its subjects call every one. Each function
+//! there is total (no `requires`), so a call is safe at every argument.
+
+#[path = "boundary/readers.rs"]
+mod readers;
+pub use readers::*;
 
 /// Declares functions over numbers, and wraps each under its name without the prefix.
 macro_rules! numbers {
@@ -51,4 +55,11 @@ numbers! {
     fn fugnadri_float_of as float_of(n: u64) -> f64;
     fn fugnadri_bits_of_f32 as bits_of_f32(a: f32) -> u32;
     fn fugnadri_float_of_f32 as float_of_f32(n: u32) -> f32;
+    /// The port's sine, cosine and 2^x: 0.0 where the argument is refused, or the refusal's number too.
+    fn fugnadri_sine_value as sine(x: f64) -> f64;
+    fn fugnadri_sine as sine_or_refusal(x: f64, result: &mut f64) -> u8;
+    fn fugnadri_cosine_value as cosine(x: f64) -> f64;
+    fn fugnadri_cosine as cosine_or_refusal(x: f64, result: &mut f64) -> u8;
+    fn fugnadri_exp2_value as exp2(x: f64) -> f64;
+    fn fugnadri_exp2 as exp2_or_refusal(x: f64, result: &mut f64) -> u8;
 }

@@ -1,0 +1,64 @@
+// K1. A reader's ring and count, opened and reset: the refusal's number, 0 for none. The kernel is not named: every reader is opened alike.
+ghost use mathlib.Core.Path.{_≡_};
+ghost use lib.ListN.{length};
+ghost use Rattle.variable_delay.specs.Opening.{openedOf, ringOpened, resetOf, ringReset, numberOf};
+ghost use Rattle.fugnadri.specs.Doors.{stateOf, countOf};
+use variable_delay::Opened;
+use variable_delay::VariableDelay;
+
+fn number(o: Opened) -> u8
+    ensures { λ r. ⌜ r ≡ numberOf o ⌝ }
+{
+    match o {
+        Opened::Reader(_) => 0,
+        Opened::Refused(k) => k,
+    }
+}
+
+fn count(before: u64, o: Opened) -> u64
+    ensures { λ r. ⌜ r ≡ countOf before o ⌝ }
+{
+    match o {
+        Opened::Reader(d) => d.accepted,
+        Opened::Refused(_) => before,
+    }
+}
+
+#[no_mangle]
+pub extern "C" fn fugnadri_open(
+    maximum: usize,
+    margin: usize,
+    accepted: &mut u64,
+    ring: &mut [f64],
+) -> u8
+    ensures { λ r. ⌜ r ≡ numberOf (openedOf maximum margin (length (now (ring .entry)))) ⌝ }
+    ensures { λ r. ⌜ now (accepted .exit) ≡ countOf (now (accepted .entry)) (openedOf maximum margin (length (now (ring .entry)))) ⌝ }
+    ensures { λ r. ⌜ now (ring .exit) ≡ ringOpened maximum margin (now (ring .entry)) ⌝ }
+{
+    let before = *accepted;
+    let o = variable_delay::open(maximum, margin, &mut ring[..]);
+    *accepted = count(before, o);
+    number(o)
+}
+
+#[no_mangle]
+pub extern "C" fn fugnadri_reset(
+    maximum: usize,
+    margin: usize,
+    accepted: &mut u64,
+    ring: &mut [f64],
+) -> u8
+    ensures { λ r. ⌜ r ≡ numberOf (resetOf (stateOf maximum margin (now (accepted .entry))) (length (now (ring .entry)))) ⌝ }
+    ensures { λ r. ⌜ now (accepted .exit) ≡ countOf (now (accepted .entry)) (resetOf (stateOf maximum margin (now (accepted .entry))) (length (now (ring .entry)))) ⌝ }
+    ensures { λ r. ⌜ now (ring .exit) ≡ ringReset (stateOf maximum margin (now (accepted .entry))) (now (ring .entry)) ⌝ }
+{
+    let before = *accepted;
+    let state = VariableDelay {
+        maximum: maximum,
+        margin: margin,
+        accepted: before,
+    };
+    let o = variable_delay::reset(state, &mut ring[..]);
+    *accepted = count(before, o);
+    number(o)
+}
