@@ -25,8 +25,20 @@ struct Function {
 
 const FUNCTIONS: [Function; 3] = [
     Function { name: "sine", range: 256.0, rust: f64::sin, value: boundary::sine, port: boundary::sine_or_refusal },
-    Function { name: "cosine", range: 256.0, rust: f64::cos, value: boundary::cosine, port: boundary::cosine_or_refusal },
-    Function { name: "exp2", range: 1.0, rust: |x| 2.0_f64.powf(x), value: boundary::exp2, port: boundary::exp2_or_refusal },
+    Function {
+        name: "cosine",
+        range: 256.0,
+        rust: f64::cos,
+        value: boundary::cosine,
+        port: boundary::cosine_or_refusal,
+    },
+    Function {
+        name: "exp2",
+        range: 1.0,
+        rust: |x| 2.0_f64.powf(x),
+        value: boundary::exp2,
+        port: boundary::exp2_or_refusal,
+    },
 ];
 
 /// What was compared so far, and the largest difference with its argument.
@@ -44,7 +56,11 @@ impl Function {
         // a NaN is above every bound
         if refusal != 0 || value.to_bits() != (self.value)(x).to_bits() || !(difference <= MOST) {
             let rust = (self.rust)(x);
-            println!("{} of {x:e} ({:016X}): refusal {refusal}, the port's {value:e}, Rust's {rust:e}", self.name, x.to_bits());
+            println!(
+                "{} of {x:e} ({:016X}): refusal {refusal}, the port's {value:e}, Rust's {rust:e}",
+                self.name,
+                x.to_bits()
+            );
             std::process::exit(1);
         }
         worst.compared += 1;
@@ -104,7 +120,13 @@ pub extern "C" fn main(_: i32, _: *const *const u8) -> i32 {
     for function in FUNCTIONS {
         let worst = function.run(&mut random, millions);
         let (share, difference) = (worst.difference / MOST, worst.difference);
-        println!("{:<10} {:>12}  {difference:<22e} {share:<12.2e} {:e} ({:016X})", function.name, worst.compared, worst.at, worst.at.to_bits());
+        println!(
+            "{:<10} {:>12}  {difference:<22e} {share:<12.2e} {:e} ({:016X})",
+            function.name,
+            worst.compared,
+            worst.at,
+            worst.at.to_bits()
+        );
     }
     0
 }

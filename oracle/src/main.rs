@@ -7,8 +7,10 @@
 #![no_main]
 
 mod context;
+mod delays;
 mod format;
 mod inputs;
+mod kernels;
 mod pair;
 mod random;
 mod shape;
@@ -19,6 +21,8 @@ mod subjects {
     pub mod narrow;
     pub mod order;
     pub mod patterns;
+    pub mod readers;
+    pub mod slices;
     pub mod square_root;
     pub mod words;
 }
@@ -27,7 +31,7 @@ use context::Context;
 use std::time::{Duration, Instant};
 
 /// A file of subjects/ each. `run` compares one batch of every kind of input that it has.
-const SUBJECTS: [fn(&mut Context); 7] = [
+const SUBJECTS: [fn(&mut Context); 9] = [
     subjects::patterns::run,
     subjects::order::run,
     subjects::narrow::run,
@@ -35,6 +39,8 @@ const SUBJECTS: [fn(&mut Context); 7] = [
     subjects::square_root::run,
     subjects::integer_part::run,
     subjects::words::run,
+    subjects::slices::run,
+    subjects::readers::run,
 ];
 
 #[no_mangle]

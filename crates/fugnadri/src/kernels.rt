@@ -1,8 +1,7 @@
 // G3. The kernels over a lent slice, a count and a position: the refusal's number, 0 for none; the sample, 0.0 where there is none, through a pointer. A plain slice is a
-// ring whose count is its length. `_bits` hands the sample out as a pattern.
+// ring whose count is its length.
 ghost use mathlib.Core.Path.{_≡_};
 ghost use mathlib.Core.Bool.{_&&_, cond};
-ghost use lib.Ieee.{binary64, toBits};
 ghost use Rattle.answer.specs.Answers.{answerOf, numberOf, valueOf};
 ghost use Rattle.ring.specs.Places.{positionOk};
 ghost use Rattle.cubic_farrow.specs.Cubic as cubic;
@@ -28,21 +27,6 @@ pub extern "C" fn fugnadri_cubic_sample(
 }
 
 #[no_mangle]
-pub extern "C" fn fugnadri_cubic_sample_bits(
-    source: &[f64],
-    count: u64,
-    position: f64,
-    sample: &mut u64,
-) -> u8
-    ensures { λ r. ⌜ r ≡ numberOf (answerOf (cond (positionOk position) 0 1) (cubic.readOf (now (source .entry)) count position)) ⌝ }
-    ensures { λ r. ⌜ now (sample .exit) ≡ toBits binary64 (valueOf (answerOf (cond (positionOk position) 0 1) (cubic.readOf (now (source .entry)) count position))) ⌝ }
-{
-    let a = cubic_farrow::sample(source, count, position);
-    *sample = patterns::bits_of(value(a));
-    number(a)
-}
-
-#[no_mangle]
 pub extern "C" fn fugnadri_lagrange_sample(
     source: &[f64],
     count: u64,
@@ -59,22 +43,6 @@ pub extern "C" fn fugnadri_lagrange_sample(
 }
 
 #[no_mangle]
-pub extern "C" fn fugnadri_lagrange_sample_bits(
-    source: &[f64],
-    count: u64,
-    position: f64,
-    taps: u64,
-    sample: &mut u64,
-) -> u8
-    ensures { λ r. ⌜ r ≡ numberOf (answerOf (cond (tapsOk taps && positionOk position) 0 1) (lagranges.readOf taps (now (source .entry)) count position)) ⌝ }
-    ensures { λ r. ⌜ now (sample .exit) ≡ toBits binary64 (valueOf (answerOf (cond (tapsOk taps && positionOk position) 0 1) (lagranges.readOf taps (now (source .entry)) count position))) ⌝ }
-{
-    let a = lagrange::sample(source, count, position, taps);
-    *sample = patterns::bits_of(value(a));
-    number(a)
-}
-
-#[no_mangle]
 pub extern "C" fn fugnadri_farrow8_sample(
     source: &[f64],
     count: u64,
@@ -86,20 +54,5 @@ pub extern "C" fn fugnadri_farrow8_sample(
 {
     let a = farrow8::sample(source, count, position);
     *sample = value(a);
-    number(a)
-}
-
-#[no_mangle]
-pub extern "C" fn fugnadri_farrow8_sample_bits(
-    source: &[f64],
-    count: u64,
-    position: f64,
-    sample: &mut u64,
-) -> u8
-    ensures { λ r. ⌜ r ≡ numberOf (answerOf (cond (positionOk position) 0 1) (farrow.readOf (now (source .entry)) count position)) ⌝ }
-    ensures { λ r. ⌜ now (sample .exit) ≡ toBits binary64 (valueOf (answerOf (cond (positionOk position) 0 1) (farrow.readOf (now (source .entry)) count position))) ⌝ }
-{
-    let a = farrow8::sample(source, count, position);
-    *sample = patterns::bits_of(value(a));
     number(a)
 }

@@ -3,7 +3,9 @@
 mod answers; // an answer taken apart: its number and its value
 pub mod bits;
 pub mod elementary_three;
+pub mod kernel_bits;
 pub mod kernels;
 pub mod numbers;
 pub mod openings;
+pub mod reader_bits;
 pub mod readers;
