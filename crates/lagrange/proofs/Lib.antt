@@ -1,4 +1,3 @@
 pub mod Nodes
-pub mod Loops
 pub mod Shifted
 pub mod Ranges

@@ -1,10 +1,11 @@
 -- K4, K7. 000's Lagrange<TAPS>: its two loops, each step rounded, in 000's order. The taps come as a number. Definitions only.
-use Prim.Native.Nat.{ℕ, zero, suc, _-_, _/_, _%_}
+use Prim.Native.Nat.{ℕ, _-_, _/_, _%_}
 use mathlib.Core.Bool.{Bool, true, false, _&&_, cond}
 use mathlib.Core.List.{List}
 use lib.Dec.{eqb, leb}
 use lib.IntN.{ℤ, pos, _+ℤ_, _-ℤ_}
 use lib.Ieee.{Float, fin, binary64, add, sub, mul, div, ofInt}
+use Rattle.loops.specs.Loops.{fold}
 use Rattle.ring.specs.Taps.{tapOf}
 use Rattle.ring.specs.Places.{positionOk}
 use Rattle.integer_part.specs.Parts.{floorOf}
@@ -12,11 +13,6 @@ use Rattle.integer_part.specs.Parts.{floorOf}
 -- G5. Taps: even, 2 to 16.
 abbrev pub tapsOk : ℕ → Bool
 tapsOk taps = leb taps 16 && leb 2 taps && eqb (taps % 2) 0
-
--- a loop over 0 .. n: `step k` is turn k
-unfoldable pub fold : (ℕ → Float → Float) → Float → ℕ → Float
-fold step a zero = a
-fold step a (suc n) = step n (fold step a n)
 
 abbrev pub one-f : Float
 one-f = fin false 1 (pos 0)

@@ -6,9 +6,10 @@ ghost use lib.IntN.{pos, _+ℤ_};
 ghost use lib.Signed.{mag};
 ghost use lib.Ieee.{fin};
 ghost use Rattle.answer.specs.Answers.{answerOf};
+ghost use Rattle.loops.specs.Loops.{fold};
 ghost use Rattle.ring.specs.Places.{positionOk};
 ghost use Rattle.ring.specs.Taps.{tapOf};
-ghost use Rattle.lagrange.specs.Kernel.{tapsOk, fold, factor, weightOf, turnOf, baseOf, lagrangeAt, readOf, zero-f};
+ghost use Rattle.lagrange.specs.Kernel.{tapsOk, factor, weightOf, turnOf, baseOf, lagrangeAt, readOf, zero-f};
 use answer::Answer;
 
 // G5. Whether a number of taps is even and from 2 to 16.

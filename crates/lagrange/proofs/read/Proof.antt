@@ -12,7 +12,7 @@ use mir.ValLaws.{toZ-ofZ}
 use lib.Dec.{lit<}
 use Rattle.integer_part.specs.Parts.{floorOf}
 use Rattle.integer_part.proofs.Floors.{floor-mag}
-use Rattle.lagrange.specs.Kernel.{fold, baseOf, lagrangeAt, zero-f}
+use Rattle.lagrange.specs.Kernel.{baseOf, lagrangeAt, zero-f}
 use Rattle.lagrange.proofs.Ranges.{Within, within}
 use Rattle.lagrange.proofs.Shifted.{small, minus-mag, minus-fits}
 use Rattle.lagrange.proofs.read.Statement.{statement}

@@ -10,8 +10,9 @@ use denote.Ref.{now}
 use mir.Syntax.{w64}
 use mir.Val.{toZ, ofZ}
 use mir.ValLaws.{toZ-ofZ}
-use Rattle.lagrange.specs.Kernel.{fold, turnOf, zero-f}
-use Rattle.lagrange.proofs.Loops.{none, turn}
+use Rattle.loops.specs.Loops.{fold}
+use Rattle.loops.proofs.Folds.{none, turn}
+use Rattle.lagrange.specs.Kernel.{turnOf, zero-f}
 use Rattle.lagrange.proofs.sum.Statement.{statement}
 use Rattle.lagrange.proofs.sum.Tie as tie
 

@@ -4,8 +4,9 @@ use mathlib.Core.Path.{_≡_, refl, _∙_, ap}
 use Prim.Native.Nat.{_-_, _≤_}
 use native.Mathlib.Omega.{arith}
 use lib.Ieee.{binary64, ofBits}
-use Rattle.lagrange.specs.Kernel.{fold, factor, one-f}
-use Rattle.lagrange.proofs.Loops.{none, turn}
+use Rattle.loops.specs.Loops.{fold}
+use Rattle.loops.proofs.Folds.{none, turn}
+use Rattle.lagrange.specs.Kernel.{factor, one-f}
 use Rattle.lagrange.proofs.weight.Statement.{statement}
 use Rattle.lagrange.proofs.weight.Tie as tie
 

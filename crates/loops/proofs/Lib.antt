@@ -1,0 +1,4 @@
+pub mod Folds
+pub mod Lists
+pub mod Mapped
+pub mod Rows

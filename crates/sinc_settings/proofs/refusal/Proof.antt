@@ -1,0 +1,24 @@
+-- `sinc_settings::refusal` meets its contract, by the test of the settings. Assumes nothing.
+use borrow.Author.Needs.{needs}
+use mathlib.Core.Path.{sym, _∙_}
+use Rattle.sinc_settings.proofs.Accepted.{accepted}
+use Rattle.sinc_settings.proofs.refusal.Statement.{statement}
+use Rattle.sinc_settings.proofs.refusal.Tie as tie
+
+settings-ok-requires : tie.Need-settings-ok-requires
+settings-ok-requires c κs = search needs
+
+table-refusal-requires : tie.Need-table-refusal-requires
+table-refusal-requires c κs = search needs
+
+returns : tie.Need-returns
+returns c =
+    let t = c .before in
+    let ok = sym (t .before .settings-ok .ensures) ∙ t .if1 .taken in
+    c .table-refusal .ensures ∙ rw (ok, accepted _ ok .counted)
+
+returns-2 : tie.Need-returns-2
+returns-2 c = rw (← c .before .settings-ok .ensures, c .if1 .left)
+
+pub refusal-spec : {M : Type 1} → statement M
+refusal-spec = tie.close (tie.spec settings-ok-requires table-refusal-requires returns returns-2)
