@@ -18,6 +18,7 @@ mod triples;
 mod subjects {
     pub mod fused;
     pub mod integer_part;
+    pub mod modulation;
     pub mod narrow;
     pub mod order;
     pub mod patterns;
@@ -31,7 +32,7 @@ use context::Context;
 use std::time::{Duration, Instant};
 
 /// A file of subjects/ each. `run` compares one batch of every kind of input that it has.
-const SUBJECTS: [fn(&mut Context); 9] = [
+const SUBJECTS: [fn(&mut Context); 10] = [
     subjects::patterns::run,
     subjects::order::run,
     subjects::narrow::run,
@@ -41,6 +42,7 @@ const SUBJECTS: [fn(&mut Context); 9] = [
     subjects::words::run,
     subjects::slices::run,
     subjects::readers::run,
+    subjects::modulation::run,
 ];
 
 #[no_mangle]

@@ -9,3 +9,4 @@ pub mod numbers;
 pub mod openings;
 pub mod reader_bits;
 pub mod readers;
+pub mod wander;

@@ -1,0 +1,223 @@
+//! 001's engine, beside the port's: runs of calls, with both offsets and every field of the state
+//! compared bit for bit after each call.
+
+use crate::context::Context;
+use crate::random::Random;
+use crate::shape::bits64;
+use std::f64::consts::TAU;
+use wow_dsp::modulation::{ModulationEngine, ModulationParams, SmoothRandom};
+
+type Words = [u64; 15];
+
+/// Seeds that 01 names: 0 and what it becomes, and the seed whose flutter seed is 0.
+const SEEDS: [u64; 5] = [0, 0xA076_1D64_78BD_642F, 0xD1B5_4A32_D192_ED03, 1, u64::MAX];
+const RATES: [f64; 8] = [8000.0, 11025.0, 44100.0, 48000.0, 96000.0, 192000.0, 767999.9999999999, 768000.0];
+
+#[derive(Clone, Copy, Debug)]
+enum Call {
+    Step(ModulationParams),
+    SetSeed(u64),
+    SetSampleRate(f64),
+    Reset,
+}
+
+/// The original's state, field by field in its order.
+fn words(e: &ModulationEngine) -> Words {
+    let (a, b) = (generator(&e.wow_drift), generator(&e.flutter_drift));
+    let own = [e.sample_rate, e.wow_phase, e.flutter_phase].map(bits64);
+    std::array::from_fn(|i| match i {
+        0..=2 => own[i],
+        3..=8 => a[i - 3],
+        _ => b[i - 9],
+    })
+}
+
+fn generator(g: &SmoothRandom) -> [u64; 6] {
+    let floats = [g.current, g.next, g.position, g.segment_rate_scale].map(bits64);
+    [g.initial_seed, g.state, floats[0], floats[1], floats[2], floats[3]]
+}
+
+/// What a call hands out: the offsets of a step, and nothing else.
+fn rust(e: &mut ModulationEngine, call: &Call) -> [u64; 2] {
+    match *call {
+        Call::Step(params) => {
+            let offset = e.next(params);
+            return [bits64(offset.left), bits64(offset.right)];
+        }
+        Call::SetSeed(seed) => e.set_seed(seed),
+        Call::SetSampleRate(rate) => e.set_sample_rate(rate),
+        Call::Reset => e.reset(),
+    }
+    [0; 2]
+}
+
+/// The same by the port, with the number of the refusal: 0 where the call was served.
+fn port(words: &mut Words, call: &Call) -> ([u64; 2], u8) {
+    let (mut left, mut right) = (0.0, 0.0);
+    let refusal = match call {
+        Call::Step(p) => boundary::engine_next(
+            words,
+            p.wow_rate_hz,
+            p.wow_depth_cents,
+            p.wow_shape,
+            p.flutter_rate_hz,
+            p.flutter_depth_cents,
+            p.flutter_shape,
+            p.drift_amount,
+            p.stereo_amount,
+            &mut left,
+            &mut right,
+        ),
+        Call::SetSeed(seed) => boundary::engine_set_seed(words, *seed),
+        Call::SetSampleRate(rate) => boundary::engine_set_sample_rate(words, *rate),
+        Call::Reset => boundary::engine_reset(words),
+    };
+    ([bits64(left), bits64(right)], refusal)
+}
+
+impl Random {
+    fn seed(&mut self) -> u64 {
+        if self.coin() { self.pick(&SEEDS) } else { self.word() }
+    }
+
+    fn sample_rate(&mut self) -> f64 {
+        if self.coin() { self.pick(&RATES) } else { 8000.0 + 760000.0 * self.unit() }
+    }
+
+    /// A rate or a depth: at its limits, about zero, anywhere, or small.
+    fn up_to(&mut self, limit: f64) -> f64 {
+        let size = match self.within(0, 3) {
+            0 => self.pick(&[limit, 0.0, 1.0, f64::MIN_POSITIVE, 5e-324, 0.001, limit - limit * f64::EPSILON]),
+            1 => limit * self.unit(),
+            _ => limit * self.unit() * 0.5f64.powi(self.within(0, 40) as i32),
+        };
+        if self.within(0, 3) == 0 { -size } else { size }
+    }
+
+    /// A shape or an amount, which 001 clamps: about the ends of its range, within it, or far outside.
+    fn clamped(&mut self) -> f64 {
+        let size = match self.within(0, 3) {
+            0 => self.pick(&[0.0, 1.0, 0.5, 1.0 + f64::EPSILON, 1.0 - f64::EPSILON / 2.0, 5e-324, f64::MAX]),
+            1 => 4.0 * self.unit(),
+            _ => self.unit(),
+        };
+        if self.coin() { -size } else { size }
+    }
+
+    fn settings(&mut self) -> ModulationParams {
+        if self.within(0, 15) == 0 {
+            return ModulationParams::default();
+        }
+        ModulationParams {
+            wow_rate_hz: self.up_to(1000.0),
+            wow_depth_cents: self.up_to(1200.0),
+            wow_shape: self.clamped(),
+            flutter_rate_hz: self.up_to(1000.0),
+            flutter_depth_cents: self.up_to(1200.0),
+            flutter_shape: self.clamped(),
+            drift_amount: self.clamped(),
+            stereo_amount: self.clamped(),
+        }
+    }
+
+    /// From 0 to below `top`, often beside one of the two.
+    fn below(&mut self, top: f64) -> f64 {
+        match self.within(0, 3) {
+            0 => f64::from_bits(top.to_bits() - self.within(1, 1 << 20) as u64),
+            1 => self.pick(&[0.0, -0.0, 5e-324, top / 2.0]),
+            2 => top * (1.0 - self.unit() * 0.5f64.powi(self.within(8, 20) as i32)).min(1.0 - f64::EPSILON),
+            _ => top * self.unit() * (1.0 - f64::EPSILON),
+        }
+    }
+
+    /// A generator's state of any kind that 01 allows (G8).
+    fn generator(&mut self) -> SmoothRandom {
+        SmoothRandom {
+            initial_seed: self.word().max(1),
+            state: self.word().max(1),
+            current: 2.0 * self.unit() - 1.0,
+            next: 2.0 * self.unit() - 1.0,
+            position: self.below(1.0),
+            segment_rate_scale: (0.65 + 0.7 * self.unit()).clamp(0.65, 1.35),
+        }
+    }
+
+    /// One call of a run: a step with the settings held, or now and then something else.
+    fn call(&mut self, held: &mut ModulationParams, others: bool) -> Call {
+        if self.within(0, 31) == 0 {
+            *held = self.settings();
+        }
+        match if others { self.within(0, 255) } else { 255 } {
+            0 => Call::SetSeed(self.seed()),
+            1 => Call::SetSampleRate(self.sample_rate()),
+            2 => Call::Reset,
+            _ => Call::Step(*held),
+        }
+    }
+}
+
+/// A run of calls from the same state on both sides. Counts the calls, and those after which a
+/// generator has drawn: they tell the drift from one that keeps its first targets.
+fn compare(context: &mut Context, kind: &'static str, mut e: ModulationEngine, mut w: Words, calls: u64, others: bool) {
+    let mut held = context.random.settings();
+    let mut drawn = 0;
+    for _ in 0..calls {
+        let call = context.random.call(&mut held, others);
+        let before = words(&e);
+        let right = rust(&mut e, &call);
+        let (found, refusal) = port(&mut w, &call);
+        let after = words(&e);
+        if refusal != 0 || found != right || w != after {
+            stop(kind, &call, &before, (right, &after), (found, &w), refusal);
+        }
+        drawn += (after[4] != before[4] || after[10] != before[10]) as u64;
+    }
+    context.count("modulation", kind, calls, Some(drawn));
+}
+
+fn stop(kind: &str, call: &Call, before: &Words, rust: ([u64; 2], &Words), port: ([u64; 2], &Words), refusal: u8) -> ! {
+    println!("DIFFERENCE in modulation, among {kind}\n  {call:?}\n  from     {before:016X?}");
+    println!("    Rust     {:016X?}\n             {:016X?}", rust.0, rust.1);
+    println!("    Fugnadri {:016X?}, refusal {refusal}\n             {:016X?}", port.0, port.1);
+    std::process::exit(1)
+}
+
+/// A run from a new engine, which is compared too.
+fn opened(context: &mut Context, kind: &'static str, calls: u64) {
+    let (rate, seed) = (context.random.sample_rate(), context.random.seed());
+    let engine = ModulationEngine::new(rate, seed);
+    let mut state = [0; 15];
+    let refusal = boundary::engine_new(rate, seed, &mut state);
+    let right = words(&engine);
+    if refusal != 0 || state != right {
+        println!("engine_new({rate:e}, {seed:016X})");
+        stop(kind, &Call::Reset, &[0; 15], ([0; 2], &right), ([0; 2], &state), refusal);
+    }
+    compare(context, kind, engine, state, calls, true);
+}
+
+/// A step or two from any state that 01 allows.
+fn anywhere(context: &mut Context, kind: &'static str) {
+    let r = &mut context.random;
+    let engine = ModulationEngine {
+        sample_rate: r.sample_rate(),
+        wow_phase: r.below(TAU),
+        flutter_phase: r.below(TAU),
+        wow_drift: r.generator(),
+        flutter_drift: r.generator(),
+    };
+    let state = words(&engine);
+    compare(context, kind, engine, state, 2, false);
+}
+
+pub fn run(context: &mut Context) {
+    for _ in 0..8 {
+        opened(context, "runs of 2048 calls from a new engine", 2048);
+    }
+    if context.round % 8 == 0 {
+        opened(context, "runs of 65,536 calls from a new engine", 65_536);
+    }
+    for _ in 0..4096 {
+        anywhere(context, "steps from any state in range");
+    }
+}
