@@ -113,6 +113,8 @@ build() {
     file=$out/$name
     [ "$kind" = bin ] || file=$out/lib$name.rlib
     # shellcheck disable=SC2086
-    compile $flags --crate-type "$kind" --crate-name "$name" "$source" -L "$out" "$@" -o "$file" 2>"$out/$name.log" ||
-        missing "$(compile --version) does not build $name: see ${out#"$root/"}/$name.log"
+    compile $flags --crate-type "$kind" --crate-name "$name" "$source" -L "$out" "$@" -o "$file" 2>"$out/$name.log" && return
+    why="$(compile --version) does not build $name: see ${out#"$root/"}/$name.log"
+    # the original asks for a Rust that is new enough; what is this repository's own must build
+    if [ "$name" = wow_dsp ]; then missing "$why"; else failed "$why"; fi
 }

@@ -15,6 +15,8 @@ struct Session<'a> {
     rust: Box<dyn Original>,
     port: Reader,
     twin: Reader,
+    /// Elements of rings compared so far.
+    elements: u64,
 }
 
 /// What a call is due: 01's number, 0 for none, of those that a call in an open reader can meet.
@@ -34,7 +36,7 @@ impl<'a> Session<'a> {
         let mut rust = (kernel.open)(maximum, margin);
         // opening must set both
         let port = Reader { maximum, margin, accepted: random.word(), ring: vec![f64::NAN; rust.ring().len()] };
-        let mut session = Session { kernel, rust, twin: port.clone(), port };
+        let mut session = Session { kernel, rust, twin: port.clone(), port, elements: 0 };
         let opened = [session.port.open(), session.twin.open()];
         session.hold(opened == [0, 0], "open", 0.0, 0.0);
         session.whole("open");
@@ -139,6 +141,7 @@ impl<'a> Session<'a> {
     fn whole(&mut self, what: &str) {
         let rings = same_ring(&self.port.ring, self.rust.ring()) && same_ring(&self.twin.ring, self.rust.ring());
         let counts = [self.port.accepted, self.twin.accepted] == [*self.rust.count() as u64; 2];
+        self.elements += self.port.ring.len() as u64;
         self.hold(rings && counts, what, 0.0, 0.0);
     }
 
@@ -192,7 +195,10 @@ pub fn run(context: &mut Context) {
             session.damaged(0.5, 1.0);
             session.reset();
             let refused = first + calls(&mut session, random, hostile, CALLS);
-            context.count(kernel.name, kind, 2 * CALLS, Some(refused));
+            let elements = session.elements;
+            context.count(kernel.name, kind, 2 * CALLS - refused, None);
+            context.count(kernel.name, "calls refused in between", refused, None);
+            context.count(kernel.name, "elements of rings", elements, None);
         }
     }
 }
