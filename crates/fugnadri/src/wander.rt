@@ -14,7 +14,14 @@ use patterns::bits_of;
 use patterns::float_of;
 use smooth_random::SmoothRandom;
 
-fn random_of(seed: u64, state: u64, current: u64, next: u64, position: u64, pace: u64) -> SmoothRandom
+fn random_of(
+    seed: u64,
+    state: u64,
+    current: u64,
+    next: u64,
+    position: u64,
+    pace: u64,
+) -> SmoothRandom
     ensures { λ r. ⌜ r ≡ randomOf seed state current next position pace ⌝ }
 {
     SmoothRandom {
