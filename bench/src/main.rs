@@ -9,10 +9,12 @@
 #[path = "../../oracle/src/random.rs"]
 mod random;
 mod workloads {
+    pub mod elementary;
     pub mod floor;
     pub mod fused32;
     pub mod fused64;
     pub mod narrow;
+    pub mod readers;
     pub mod square_root;
 }
 
@@ -20,12 +22,19 @@ use std::hint::black_box;
 use std::time::Instant;
 
 /// A file of workloads/ each.
-const WORKLOADS: [fn() -> Workload; 5] = [
+const WORKLOADS: [fn() -> Workload; 12] = [
     workloads::narrow::workload,
     workloads::fused32::workload,
     workloads::fused64::workload,
     workloads::square_root::workload,
     workloads::floor::workload,
+    workloads::elementary::sine,
+    workloads::elementary::cosine,
+    workloads::elementary::exp2,
+    workloads::readers::cubic,
+    workloads::readers::lagrange8,
+    workloads::readers::lagrange16,
+    workloads::readers::farrow8,
 ];
 
 pub struct Workload {
