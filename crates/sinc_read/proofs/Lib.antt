@@ -1,3 +1,4 @@
 pub mod Cuts
 pub mod Between
+pub mod Accepted
 pub mod Worked
