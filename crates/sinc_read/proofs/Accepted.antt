@@ -67,8 +67,3 @@ module _ (taps phases len : ℕ) (p : Float) where
       go : (b : Bool) → positionOk p ≡ b → eqb (tableVerdict taps phases len) 0 && b ≡ eqb (sampleVerdict taps phases len p) 0
       go true h = and-true (eqb (tableVerdict taps phases len) 0) ∙ ap (λ (v : ℕ). eqb v 0) (within h)
       go false h = and-false (eqb (tableVerdict taps phases len) 0) ∙ ap (λ (v : ℕ). eqb v 0) (beyond h)
-
--- a reader's own tests say the same
-pub passed : (taps phases len : ℕ) (p : Float) → tapsOk taps && phasesOk phases ≡ true → eqb len (tableLength taps phases) ≡ true → positionOk p ≡ true
-    → eqb (tableVerdict taps phases len) 0 && positionOk p ≡ true
-passed taps phases len p a b c = rw (a, b, c)
