@@ -5,7 +5,7 @@ use mathlib.Core.List.{List}
 use lib.Dec.{eqb}
 use lib.IntN.{pos, _+ℤ_}
 use lib.ListN.{length}
-use lib.Ieee.{Float, binary64, add, mul}
+use lib.Ieee.{Float}
 use Rattle.answer.specs.Answers.{zero-f}
 use Rattle.answer.specs.Refusals.{firstOf}
 use Rattle.loops.specs.Loops.{fold}
@@ -13,15 +13,11 @@ use Rattle.ring.specs.Taps.{tapOf}
 use Rattle.ring.specs.Places.{positionOk}
 use Rattle.sinc_settings.specs.Ranges.{tapsOk, phasesOk}
 use Rattle.sinc_settings.specs.Refusals.{tableLength, tableVerdict}
-use Rattle.sinc_read.specs.Phases.{phaseOf, blendOf, firstTap, coefficientAt}
-
--- `sum += source.at(start + k as i64) * coefficient`
-abbrev pub turnOf : List Float → ℕ → ℕ → List Float → ℕ → Float → ℕ → Float → Float
-turnOf table taps phases xs count p k sum =
-    add binary64 sum (mul binary64 (tapOf xs count (firstTap p taps +ℤ pos k)) (coefficientAt binary64 table (blendOf p phases) taps (phaseOf p phases) k))
+use Rattle.sinc_read.specs.Phases.{phaseOf, blendOf, firstTap}
+use Rattle.sinc_read.specs.Sums.{tapTurn}
 
 unfoldable pub sincAt : List Float → ℕ → ℕ → List Float → ℕ → Float → Float
-sincAt table taps phases xs count p = fold (turnOf table taps phases xs count p) zero-f taps
+sincAt table taps phases xs count p = fold (tapTurn (λ k. tapOf xs count (firstTap p taps +ℤ pos k)) table (blendOf p phases) taps (phaseOf p phases)) zero-f taps
 
 -- G3, G5. Zero where a setting or the position is out of range, or the table has another length.
 abbrev pub readOf : List Float → ℕ → ℕ → List Float → ℕ → Float → Float

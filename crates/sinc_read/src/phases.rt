@@ -1,10 +1,11 @@
-// K3. Where a position falls between the rows of a table. The reading of f32 tables uses it too.
+// K3. Where a position falls: the first tap, and the place between the rows of a table. The reading of f32 tables uses both.
 ghost use mathlib.Core.Path.{_≡_};
-ghost use mathlib.Core.Bool.{_&&_};
+ghost use mathlib.Core.Bool.{_&&_, cond};
 ghost use Prim.Native.Nat.{_^_, _≤_};
+ghost use lib.IntN.{pos};
 ghost use Rattle.ring.specs.Places.{positionOk};
-ghost use Rattle.sinc_settings.specs.Ranges.{phasesOk};
-ghost use Rattle.sinc_read.specs.Phases.{cutTo, phaseAt};
+ghost use Rattle.sinc_settings.specs.Ranges.{tapsOk, phasesOk};
+ghost use Rattle.sinc_read.specs.Phases.{cutTo, phaseAt, firstTap};
 use crate::Phase;
 
 // 000's `(x.floor() as usize).min(top)`.
@@ -50,5 +51,27 @@ pub fn phase_at(position: f64, phases: usize) -> Phase
             phase: 0,
             blend: 0.0,
         }
+    }
+}
+
+// G3, G5. Whether the taps and the position are in range.
+fn taps_in_range(position: f64, taps: usize) -> bool
+    ensures { λ r. ⌜ r ≡ (tapsOk taps && positionOk position) ⌝ }
+{
+    if sinc_settings::taps_ok(taps) {
+        ring::position_ok(position)
+    } else {
+        false
+    }
+}
+
+// The number of the first tap, taps / 2 - 1 before the integer part; zero where the taps or the position are out of range.
+pub fn first_tap(position: f64, taps: usize) -> i64
+    ensures { λ r. ⌜ r ≡ cond (tapsOk taps && positionOk position) (firstTap position taps) (pos 0) ⌝ }
+{
+    if taps_in_range(position, taps) {
+        integer_part::floor(position) - (taps / 2 - 1) as i64
+    } else {
+        0
     }
 }
