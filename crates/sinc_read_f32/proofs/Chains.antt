@@ -1,15 +1,15 @@
 -- Chains over samples side by side are turns of 000's sum: from any tap on, and one behind another. Assumes nothing.
-use mathlib.Core.Path.{_≡_, refl, sym, ap, _∙_}
+use mathlib.Core.Path.{_≡_, sym, ap, _∙_}
 use mathlib.Core.List.{List, _++_}
 use Prim.Native.Nat.{ℕ, _+_, _-_, _*_, _%_, _≤_, _<_}
-use native.Mathlib.Nat.{add-assoc, zero-add}
+use native.Mathlib.Nat.{add-assoc}
 use native.Mathlib.Omega.{arith}
 use lib.ListN.{length, getD, take, drop, length-take, length-drop}
 use lib.Seq.{getD-drop, getD-take, take-all, length-take-le}
 use lib.Ieee.{Float, nan, binary32, ofBits}
 use Rattle.answer.specs.Answers.{zero-f}
 use Rattle.loops.specs.Loops.{fold, listOf}
-use Rattle.loops.proofs.Folds.{none, same, split}
+use Rattle.loops.proofs.Folds.{same, split}
 use Rattle.loops.proofs.Lists.{length-list, element}
 use Rattle.loops.proofs.Scratch.{front-again}
 use Rattle.rounding.proofs.Sums.{zero-bits}

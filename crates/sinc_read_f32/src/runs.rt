@@ -47,7 +47,14 @@ pub fn held<'a>(
     }
     let before = over(&source[place..], table, row, next, blend, 0.0);
     let wrapped = taps - left;
-    over(&source[0..wrapped], table, row + left, next + left, blend, before)
+    over(
+        &source[0..wrapped],
+        table,
+        row + left,
+        next + left,
+        blend,
+        before,
+    )
 }
 
 // The tap k behind the first.

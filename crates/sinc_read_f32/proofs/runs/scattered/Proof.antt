@@ -1,18 +1,17 @@
 -- `sinc_read_f32::runs::scattered` meets its contract: the front of the scratch holds the taps, and a chain reads it. Assumes nothing.
 use borrow.Author.Needs.{needs}
-use mathlib.Core.Path.{_≡_, sym, _∙_, ap}
-use Prim.Native.Nat.{ℕ, _≤_}
-use native.Mathlib.Omega.{arith}
+use mathlib.Core.Path.{_≡_, _∙_, ap}
+use Prim.Native.Nat.{ℕ}
 use lib.IntN.{ℤ, pos, _+ℤ_}
 use lib.ListN.{length}
-use lib.Ieee.{Float, nan, binary32}
+use lib.Ieee.{Float}
 use denote.Ref.{now}
 use mir.Syntax.{w64}
 use mir.Val.{toZ, ofZ}
 use mir.ValLaws.{toZ-ofZ}
 use Rattle.loops.specs.Loops.{listOf}
-use Rattle.loops.proofs.Lists.{length-list, element}
-use Rattle.loops.proofs.Scratch.{length-front, front-fits, front-again}
+use Rattle.loops.proofs.Lists.{length-list}
+use Rattle.loops.proofs.Scratch.{length-front, front-fits}
 use Rattle.ring.specs.Taps.{tapOf}
 use Rattle.sinc_read_f32.proofs.Chains.{laid-out}
 use Rattle.sinc_read_f32.proofs.runs.scattered.Statement.{statement}
