@@ -3,16 +3,15 @@ use borrow.Author.Needs.{needs}
 use mathlib.Core.Path.{_≡_, ap, _∙_}
 use Prim.Native.Nat.{_-_, _≤_}
 use native.Mathlib.Omega.{arith}
-use lib.ListN.{length, take, replicate}
-use lib.Ieee.{binary64, ofBits}
+use lib.ListN.{length, take}
 use denote.Ref.{now}
 use Rattle.loops.specs.Loops.{listOf}
 use Rattle.loops.proofs.Lists.{length-list}
-use Rattle.loops.proofs.Scratch.{length-front, front-fits, front-again}
+use Rattle.loops.proofs.Scratch.{front-fits, front-again}
 use Rattle.sinc_settings.proofs.Accepted.{counts, accepted}
 use Rattle.sinc_settings.proofs.Fitting.{Fitting, fitting}
 use Rattle.sinc_row.specs.Coefficient.{windowOf}
-use Rattle.sinc_row.proofs.Lent.{window-lent}
+use Rattle.sinc_row.proofs.Lent.{scratch, scratch-long, window-lent}
 use Rattle.windowed_sinc.proofs.write_table.Statement.{statement}
 use Rattle.windowed_sinc.proofs.write_table.Tie as tie
 
@@ -42,7 +41,8 @@ begun c = c .before .before .before
 made : (c : tie.After-write-window) → let s = begun c .args .settings in c .write-window .last .0 ≡ listOf (windowOf s) (s .taps)
 made c =
     let s = begun c .args .settings in
-    c .write-window .ensures ∙ window-lent s (take (s .taps - 0) (replicate 128 (ofBits binary64 0))) (lent (begun c) .settings) (length-front (replicate 128 (ofBits binary64 0)) (s .taps) (few (begun c)))
+    let ok = lent (begun c) .settings in
+    c .write-window .ensures ∙ window-lent s (take (s .taps - 0) scratch) ok (scratch-long s ok)
 
 long : (c : tie.After-write-window) → length (c .write-window .last .0) ≡ begun c .args .settings .taps
 long c = let s = begun c .args .settings in ap length (made c) ∙ length-list (windowOf s) (s .taps)
