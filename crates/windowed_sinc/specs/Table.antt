@@ -6,7 +6,6 @@ use Rattle.loops.specs.Loops.{rows}
 use Rattle.sinc_settings.specs.declared.Settings.{Settings}
 use Rattle.sinc_row.specs.Coefficient.{windowOf}
 use Rattle.sinc_row.specs.Row.{rowOf}
-use Rattle.windowed_sinc.specs.declared.WindowedSinc.{WindowedSinc}
 use Rattle.windowed_sinc.specs.declared.Built.{Built}
 use Rattle.windowed_sinc.specs.declared.Built.the-variants.{Kernel, Refused}
 

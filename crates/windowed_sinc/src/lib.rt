@@ -1,7 +1,5 @@
 // 000's WindowedSinc over a lent table: new and for_max_rate. The reader of such a table is in sinc_read.
 ghost use mathlib.Core.Path.{_≡_};
-ghost use mathlib.Core.Bool.{true};
-ghost use Prim.Native.Nat.{_≤_, _<_};
 ghost use lib.ListN.{length};
 ghost use Rattle.loops.specs.Loops.{listOf};
 ghost use Rattle.sinc_settings.specs.Refusals.{verdict, forRate, rateVerdict};

@@ -2,7 +2,6 @@
 use mathlib.Core.Path.{_≡_, ap, _∙_}
 use mathlib.Core.List.{map}
 use Prim.Native.Nat.{ℕ, _+_, _*_, _≤_, _<_}
-use native.Mathlib.Omega.{arith}
 use lib.ListN.{length, getD, length-map, List·getD-map, take, drop}
 use lib.Ieee.{nan, binary64, div}
 use Rattle.rounding.specs.Operations.{narrowed}

@@ -6,7 +6,6 @@ use lib.Ieee.{Float}
 use Rattle.rounding.specs.Operations.{narrowed}
 use Rattle.sinc_settings.specs.declared.Settings.{Settings}
 use Rattle.windowed_sinc.specs.Table.{tableOf}
-use Rattle.windowed_sinc_f32.specs.declared.WindowedSincF32.{WindowedSincF32}
 use Rattle.windowed_sinc_f32.specs.declared.Built.{Built}
 use Rattle.windowed_sinc_f32.specs.declared.Built.the-variants.{Kernel, Refused}
 

@@ -1,6 +1,6 @@
 -- `windowed_sinc::write_rows` meets its contract: the rows below `phase` are written. Assumes nothing.
 use borrow.Author.Needs.{needs}
-use mathlib.Core.Path.{_≡_, sym, _∙_}
+use mathlib.Core.Path.{sym, _∙_}
 use mathlib.Core.List.{List}
 use Prim.Native.Nat.{ℕ, _+_, _-_, _*_, _≤_, _<_}
 use native.Mathlib.Omega.{arith}
@@ -9,7 +9,7 @@ use lib.Ieee.{Float}
 use denote.Ref.{now}
 use Rattle.loops.proofs.Filling.{Filled, lentRow, unfilled, row-end, length-lent, filled-more, filled}
 use Rattle.sinc_settings.specs.declared.Settings.{Settings}
-use Rattle.sinc_settings.proofs.Accepted.{Counts, counts, accepted}
+use Rattle.sinc_settings.proofs.Accepted.{counts, accepted}
 use Rattle.sinc_settings.proofs.Fitting.{Fitting, fitting}
 use Rattle.sinc_row.specs.Coefficient.{windowOf}
 use Rattle.sinc_row.specs.Row.{rowOf}

@@ -10,7 +10,7 @@ use Rattle.rounding.specs.Operations.{narrowed}
 use Rattle.loops.proofs.Mapped.{map-rows}
 use Rattle.loops.proofs.Filling.{Filled, unfilled, row-end, length-lent, filled-more, filled}
 use Rattle.sinc_settings.specs.declared.Settings.{Settings}
-use Rattle.sinc_settings.proofs.Accepted.{Counts, counts, accepted}
+use Rattle.sinc_settings.proofs.Accepted.{counts, accepted}
 use Rattle.sinc_settings.proofs.Fitting.{Fitting, fitting}
 use Rattle.sinc_row.specs.Coefficient.{windowOf}
 use Rattle.sinc_row.specs.Row.{rowOf}
