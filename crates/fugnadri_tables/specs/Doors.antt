@@ -13,7 +13,7 @@ use Rattle.variable_delay.specs.declared.VariableDelay.{VariableDelay}
 use Rattle.variable_delay.specs.declared.Processed.{Processed}
 use Rattle.variable_delay.specs.Reader.{verdict, processedBy, ringAfter}
 use Rattle.variable_delay_f32.specs.declared.ProcessedF32.{ProcessedF32}
-use Rattle.variable_delay_f32.specs.Reader.{processedF32By}
+use Rattle.variable_delay_f32.specs.Call.{processedF32By}
 use Rattle.sinc_read.specs.Reading.{sincAt}
 use Rattle.sinc_read_f32.specs.Reading.{sincF32At}
 
