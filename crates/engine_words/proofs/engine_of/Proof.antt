@@ -1,7 +1,7 @@
--- `fugnadri::wander::engine_of` meets its contract: what the calls ensure, one put into the other; none of them asks anything. Assumes nothing.
+-- `engine_words::engine_of` meets its contract: what the calls ensure, one put into the other; none of them asks anything. Assumes nothing.
 use borrow.Author.Needs.{needs}
-use Rattle.fugnadri.proofs.wander.engine_of.Statement.{statement}
-use Rattle.fugnadri.proofs.wander.engine_of.Tie as tie
+use Rattle.engine_words.proofs.engine_of.Statement.{statement}
+use Rattle.engine_words.proofs.engine_of.Tie as tie
 
 returns : tie.Need-returns
 returns c = rw (c .float-of3 .ensures, c .before .float-of2 .ensures, c .before .before .float-of .ensures, c .before .before .before .random-of2 .ensures, c .before .before .before .before .random-of .ensures)

@@ -1,7 +1,7 @@
--- `fugnadri::wander::left_by` meets its contract: by the two cases. Assumes nothing.
+-- `engine_words::calls::left_by` meets its contract: by the two cases. Assumes nothing.
 use borrow.Author.Needs.{needs}
-use Rattle.fugnadri.proofs.wander.left_by.Statement.{statement}
-use Rattle.fugnadri.proofs.wander.left_by.Tie as tie
+use Rattle.engine_words.proofs.calls.left_by.Statement.{statement}
+use Rattle.engine_words.proofs.calls.left_by.Tie as tie
 
 returns : tie.Need-returns
 returns c = rw (c .before .opened .given .1)

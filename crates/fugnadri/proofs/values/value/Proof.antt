@@ -1,10 +1,10 @@
--- `fugnadri::elementary_three::value` meets its contract: by the two cases; the literal 0.0 is +0.0. Assumes nothing.
+-- `fugnadri::values::value` meets its contract: by the two cases; the literal 0.0 is +0.0. Assumes nothing.
 use borrow.Author.Needs.{needs}
 use mathlib.Core.Path.{sym, ap}
 use lib.Ieee.{ofBits}
 use Rattle.fugnadri.specs.Values.{valueOf}
-use Rattle.fugnadri.proofs.elementary_three.value.Statement.{statement}
-use Rattle.fugnadri.proofs.elementary_three.value.Tie as tie
+use Rattle.fugnadri.proofs.values.value.Statement.{statement}
+use Rattle.fugnadri.proofs.values.value.Tie as tie
 
 returns-2 : tie.Need-returns-2
 unfolding ofBits
