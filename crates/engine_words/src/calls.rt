@@ -98,12 +98,7 @@ pub fn reset(words: &mut [u64; 15]) -> u8
 }
 
 // The offsets of the two sides through pointers, 0.0 where the step is refused.
-pub fn next(
-    words: &mut [u64; 15],
-    params: ModulationParams,
-    left: &mut f64,
-    right: &mut f64,
-) -> u8
+pub fn next(words: &mut [u64; 15], params: ModulationParams, left: &mut f64, right: &mut f64) -> u8
     ensures { λ r. ⌜ r ≡ refusalOf (nextOf (engineOf (now (words .entry))) params .offset) ⌝ }
     ensures { λ r. ⌜ now (words .exit) ≡ wordsOf (nextOf (engineOf (now (words .entry))) params .engine) ⌝ }
     ensures { λ r. ⌜ now (left .exit) ≡ leftOf (nextOf (engineOf (now (words .entry))) params .offset) ⌝ }

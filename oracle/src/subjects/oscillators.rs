@@ -59,7 +59,8 @@ impl Random {
             // not the difference of the ends, which may be infinite
             _ => range.low * (1.0 - share) + range.high * share,
         };
-        (if range.holds(x) { x } else { range.low * (1.0 - share) + range.high * share }.clamp(range.low, range.high)).to_bits()
+        (if range.holds(x) { x } else { range.low * (1.0 - share) + range.high * share }.clamp(range.low, range.high))
+            .to_bits()
     }
 
     /// In range, an edge, or any pattern.
@@ -94,11 +95,11 @@ fn combinations<const N: usize>(ranges: [&Range; N]) -> Vec<[u64; N]> {
     (0..count.pow(N as u32)).map(|n| std::array::from_fn(|i| edges[i][place(n, i)].to_bits())).collect()
 }
 
-/// `compare!(context, name(arg: RANGE, ..))` is `modulation::name` beside `boundary::name`.
+/// `compare!(context, title, name(arg: RANGE, ..))` is `modulation::name` beside `boundary::name`.
 macro_rules! compare {
-    ($context:expr, $name:ident($($arg:ident: $range:ident),*)) => {{
+    ($context:expr, $title:literal, $name:ident($($arg:ident: $range:ident),*)) => {{
         let pair = Pair {
-            name: stringify!($name),
+            name: $title,
             takes: [$({ stringify!($arg); Shape::F64 }),*],
             gives: Shape::F64,
             rust: |[$($arg),*]| match $($range.holds(f64_of($arg)))&&* {
@@ -164,10 +165,10 @@ fn stop(mut depths: Vec<f64>) -> ! {
 }
 
 pub fn run(context: &mut Context) {
-    compare!(context, speed_delta(depth: DEPTH));
-    compare!(context, advance_phase(phase: CYCLE, rate: RATE, sample_rate: SAMPLE_RATE));
-    compare!(context, shape_primitive(phase: PHASE, shape: SHAPE));
-    compare!(context, oscillator_delay(phase: PHASE, rate: RATE, depth: DEPTH, shape: SHAPE, sample_rate: SAMPLE_RATE));
-    compare!(context, maximum_delay_excursion_samples(depth: DEPTH, rate: MINIMUM_RATE, sample_rate: SAMPLE_RATE));
+    compare!(context, "speed_delta", speed_delta(depth: DEPTH));
+    compare!(context, "advance_phase", advance_phase(phase: CYCLE, rate: RATE, sample_rate: SAMPLE_RATE));
+    compare!(context, "shape_primitive", shape_primitive(phase: PHASE, shape: SHAPE));
+    compare!(context, "oscillator_delay", oscillator_delay(phase: PHASE, rate: RATE, depth: DEPTH, shape: SHAPE, sample_rate: SAMPLE_RATE));
+    compare!(context, "maximum excursion", maximum_delay_excursion_samples(depth: DEPTH, rate: MINIMUM_RATE, sample_rate: SAMPLE_RATE));
     lists(context);
 }
