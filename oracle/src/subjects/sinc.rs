@@ -174,7 +174,7 @@ fn same<T: Sinc>(a: &[T], b: &[T]) -> bool {
 }
 
 fn readers<T: Sinc>(context: &mut Context) {
-    const CALLS: u64 = 16384;
+    const CALLS: u64 = 24576;
     for (kind, odd_table, hostile, near_end) in [
         ("samples as recorded", false, false, false),
         ("hostile samples, refusals", false, true, false),
@@ -189,7 +189,6 @@ fn readers<T: Sinc>(context: &mut Context) {
             session.put(count, || sample(random, true));
         }
         let mut refused = 0;
-        let mut not_finite = 0;
         for half in 0..2 {
             for _ in 0..CALLS / 2 {
                 // a ring of hostile samples alone answers little but NaN
@@ -197,14 +196,12 @@ fn readers<T: Sinc>(context: &mut Context) {
                 let delay = delays::delay(random, session.ring.len(), hostile);
                 refused += (session.call(input, delay, random) != 0) as u64;
             }
-            not_finite += session.ring.iter().filter(|x| !x.finite()).count() as u64;
             session.whole("the end of a run of calls");
             session.damaged();
             if half == 0 {
                 session.reset();
             }
         }
-        assert_eq!(not_finite, 0, "a refused sample was stored");
         let elements = session.elements;
         context.count(T::NAME, kind, CALLS - refused, None);
         context.count(T::NAME, "calls refused in between", refused, None);
