@@ -1,6 +1,6 @@
 -- K4. What a table of f64 reads at a position: 000's sum over the taps, each step rounded, in 000's order; and which refusal is due. Definitions only.
 use Prim.Native.Nat.{ℕ}
-use mathlib.Core.Bool.{Bool, true, _&&_, cond}
+use mathlib.Core.Bool.{true, _&&_, cond}
 use mathlib.Core.List.{List}
 use lib.Dec.{eqb}
 use lib.IntN.{pos, _+ℤ_}

@@ -5,13 +5,8 @@ mod runs; // the sum over the taps
 pub use phases::first_tap;
 pub use phases::phase_at;
 ghost use mathlib.Core.Path.{_≡_};
-ghost use mathlib.Core.Bool.{true, _&&_};
-ghost use lib.Dec.{eqb};
 ghost use lib.ListN.{length};
 ghost use Rattle.answer.specs.Answers.{answerOf};
-ghost use Rattle.ring.specs.Places.{positionOk};
-ghost use Rattle.sinc_settings.specs.Ranges.{tapsOk, phasesOk};
-ghost use Rattle.sinc_settings.specs.Refusals.{tableLength};
 ghost use Rattle.sinc_read.specs.Reading.{sincAt, readOf, sampleVerdict};
 use answer::Answer;
 

@@ -1,6 +1,6 @@
 -- `sinc_read::read` meets its contract, by the refusal that is due. Assumes nothing.
 use borrow.Author.Needs.{needs}
-use mathlib.Core.Path.{_≡_, sym, _∙_}
+use mathlib.Core.Path.{sym, _∙_}
 use lib.Ieee.{ofBits}
 use denote.Ref.{now}
 use Rattle.sinc_read.proofs.Answered.{read-is, not-read}

@@ -1,6 +1,6 @@
 -- `sinc_read::sample` meets its contract, by the refusal that is due. Assumes nothing.
 use borrow.Author.Needs.{needs}
-use mathlib.Core.Path.{_≡_, sym, _∙_, ap}
+use mathlib.Core.Path.{sym, _∙_, ap}
 use denote.Ref.{now}
 use Rattle.answer.specs.Answers.{answerOf}
 use Rattle.sinc_read.proofs.Answered.{sampled, refused-by}

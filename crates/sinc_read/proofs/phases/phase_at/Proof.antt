@@ -1,6 +1,6 @@
 -- `sinc_read::phases::phase_at` meets its contract: by the test of the ranges, and each step's `ensures` in turn. Assumes nothing.
 use borrow.Author.Needs.{needs}
-use mathlib.Core.Path.{_≡_, sym, _∙_}
+use mathlib.Core.Path.{sym, _∙_}
 use Prim.Native.Nat.{_-_}
 use native.Mathlib.Omega.{arith}
 use lib.Ieee.{ofBits}

@@ -1,6 +1,6 @@
 -- `sinc_read::runs::run` meets its contract: after k turns the sum is the fold of k turns. Assumes nothing.
 use mathlib.Core.Path.{_≡_, refl, _∙_, ap}
-use Prim.Native.Nat.{ℕ, _-_, _≤_}
+use Prim.Native.Nat.{_-_, _≤_}
 use native.Mathlib.Omega.{arith}
 use denote.Ref.{now}
 use Rattle.loops.specs.Loops.{fold}
