@@ -2,7 +2,7 @@
 -- at the delay 1e-300 reads such a place, just below 0. Assumes nothing.
 use mathlib.Core.Path.{_≡_, refl, sym, _∙_, ap}
 use mathlib.Core.Bool.{true, false, true≢false}
-use Prim.Native.Nat.{ℕ, _-_, _*_, _≤_, _<_}
+use Prim.Native.Nat.{ℕ, _-_, _*_, _≤_}
 use native.Mathlib.Nat.{mul-one, one-mul, min-eq-right, mul-div-cancel}
 use native.Mathlib.Omega.{arith}
 use borrow.Author.Tests.{le-ltb}
