@@ -4,4 +4,4 @@ pub mod Accepted
 pub mod Around
 pub mod Ways
 pub mod Answered
-pub mod Worked
+pub mod LastRow

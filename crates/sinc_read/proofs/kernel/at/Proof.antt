@@ -1,4 +1,4 @@
--- `sinc_read::at` meets its contract: each way is the definition's, by `Ways`. Assumes nothing.
+-- `sinc_read::kernel::at` meets its contract: each way is the definition's, by `Ways`. Assumes nothing.
 use borrow.Author.Needs.{needs}
 use mathlib.Core.Path.{_≡_, sym, _∙_, subst}
 use Prim.Native.Nat.{_^_, _≤_}
@@ -13,8 +13,8 @@ use Rattle.ring.proofs.Run as run
 use Rattle.sinc_read.specs.Phases.{firstTap}
 use Rattle.sinc_read.proofs.Accepted.{Readable, readable}
 use Rattle.sinc_read.proofs.Ways as ways
-use Rattle.sinc_read.proofs.at.Statement.{statement}
-use Rattle.sinc_read.proofs.at.Tie as tie
+use Rattle.sinc_read.proofs.kernel.at.Statement.{statement}
+use Rattle.sinc_read.proofs.kernel.at.Tie as tie
 
 phase-at-requires : tie.Need-phase-at-requires
 phase-at-requires c κs = search needs

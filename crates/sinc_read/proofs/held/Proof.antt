@@ -1,17 +1,16 @@
--- `sinc_read::runs::held` meets its contract: one run or two, by the laws of `Around`. Assumes nothing.
+-- `sinc_read::held` meets its contract: one run or two, by the laws of `Around`. Assumes nothing.
 use borrow.Author.Needs.{needs}
-use mathlib.Core.Path.{_≡_, refl, sym, _∙_, ap}
+use mathlib.Core.Path.{_∙_, ap}
 use Prim.Native.Nat.{_+_, _-_, _*_}
 use native.Mathlib.Omega.{arith}
-use lib.Ieee.{Float, binary64, ofBits}
+use lib.Ieee.{Float, ofBits}
 use lib.ListN.{length}
 use denote.Ref.{now}
-use Rattle.answer.specs.Answers.{zero-f}
 use Rattle.loops.specs.Loops.{fold}
 use Rattle.sinc_read.specs.Sums.{runTurn}
 use Rattle.sinc_read.proofs.Around as around
-use Rattle.sinc_read.proofs.runs.held.Statement.{statement}
-use Rattle.sinc_read.proofs.runs.held.Tie as tie
+use Rattle.sinc_read.proofs.held.Statement.{statement}
+use Rattle.sinc_read.proofs.held.Tie as tie
 
 mul-row : tie.Need-mul-row
 mul-row c = search needs

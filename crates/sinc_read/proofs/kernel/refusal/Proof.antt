@@ -1,9 +1,9 @@
--- `sinc_read::refusal` meets its contract, by the test of the position. Assumes nothing.
+-- `sinc_read::kernel::refusal` meets its contract, by the test of the position. Assumes nothing.
 use borrow.Author.Needs.{needs}
 use mathlib.Core.Path.{sym, _∙_}
 use Rattle.sinc_read.proofs.Accepted.{beyond, within}
-use Rattle.sinc_read.proofs.refusal.Statement.{statement}
-use Rattle.sinc_read.proofs.refusal.Tie as tie
+use Rattle.sinc_read.proofs.kernel.refusal.Statement.{statement}
+use Rattle.sinc_read.proofs.kernel.refusal.Tie as tie
 
 position-ok-requires : tie.Need-position-ok-requires
 position-ok-requires c κs = search needs
