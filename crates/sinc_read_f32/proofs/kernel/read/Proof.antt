@@ -1,11 +1,11 @@
--- `sinc_read_f32::read` meets its contract, by the refusal that is due. Assumes nothing.
+-- `sinc_read_f32::kernel::read` meets its contract, by the refusal that is due. Assumes nothing.
 use borrow.Author.Needs.{needs}
 use mathlib.Core.Path.{sym, _∙_}
 use lib.Ieee.{ofBits}
 use denote.Ref.{now}
 use Rattle.sinc_read_f32.proofs.Answered.{read-is, not-read}
-use Rattle.sinc_read_f32.proofs.read.Statement.{statement}
-use Rattle.sinc_read_f32.proofs.read.Tie as tie
+use Rattle.sinc_read_f32.proofs.kernel.read.Statement.{statement}
+use Rattle.sinc_read_f32.proofs.kernel.read.Tie as tie
 
 refusal-requires : tie.Need-refusal-requires
 refusal-requires c κs = search needs

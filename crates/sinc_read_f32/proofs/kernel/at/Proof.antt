@@ -1,4 +1,4 @@
--- `sinc_read_f32::at` meets its contract: each way is the definition's, by `Ways`. Assumes nothing.
+-- `sinc_read_f32::kernel::at` meets its contract: each way is the definition's, by `Ways`. Assumes nothing.
 use borrow.Author.Needs.{needs}
 use mathlib.Core.Path.{_≡_, sym, _∙_, subst}
 use Prim.Native.Nat.{_^_, _≤_}
@@ -14,8 +14,8 @@ use Rattle.sinc_read.specs.Phases.{firstTap}
 use Rattle.sinc_read.proofs.Accepted.{Readable, readable}
 use Rattle.sinc_read.proofs.Ways as found
 use Rattle.sinc_read_f32.proofs.Ways as ways
-use Rattle.sinc_read_f32.proofs.at.Statement.{statement}
-use Rattle.sinc_read_f32.proofs.at.Tie as tie
+use Rattle.sinc_read_f32.proofs.kernel.at.Statement.{statement}
+use Rattle.sinc_read_f32.proofs.kernel.at.Tie as tie
 
 phase-at-requires : tie.Need-phase-at-requires
 phase-at-requires c κs = search needs

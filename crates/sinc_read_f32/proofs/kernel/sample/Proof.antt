@@ -1,11 +1,11 @@
--- `sinc_read_f32::sample` meets its contract, by the refusal that is due. Assumes nothing.
+-- `sinc_read_f32::kernel::sample` meets its contract, by the refusal that is due. Assumes nothing.
 use borrow.Author.Needs.{needs}
 use mathlib.Core.Path.{sym, _∙_, ap}
 use denote.Ref.{now}
 use Rattle.answer.specs.Answers.{answerF32Of}
 use Rattle.sinc_read_f32.proofs.Answered.{sampled, refused-by}
-use Rattle.sinc_read_f32.proofs.sample.Statement.{statement}
-use Rattle.sinc_read_f32.proofs.sample.Tie as tie
+use Rattle.sinc_read_f32.proofs.kernel.sample.Statement.{statement}
+use Rattle.sinc_read_f32.proofs.kernel.sample.Tie as tie
 
 refusal-requires : tie.Need-refusal-requires
 refusal-requires c κs = search needs
