@@ -2,16 +2,16 @@
 -- at the delay 1e-300 reads such a place, just below 0. Assumes nothing.
 use mathlib.Core.Path.{_≡_, refl, sym, _∙_, ap}
 use mathlib.Core.Bool.{true, false, true≢false}
-use Prim.Native.Nat.{ℕ, _-_, _*_, _≤_}
+use Prim.Native.Nat.{ℕ, _+_, _-_, _*_, _≤_}
 use native.Mathlib.Nat.{mul-one, one-mul, min-eq-right, mul-div-cancel}
 use native.Mathlib.Omega.{arith}
-use borrow.Author.Tests.{le-ltb}
-use lib.IntN.{pos, subℕ}
+use lib.IntN.{pos}
 use lib.Ieee.{Float, nan, inf, fin, binary64, up, sub, ofInt, ofBits}
 use lib.Ieee.Fits.{down-pos}
 use lib.Ieee.Exact.{HasValue}
 use Rattle.integer_part.specs.Parts.{floorOf, fractionOf}
-use Rattle.magnitude.proofs.Whole.{whole-value, whole-difference, whole-product}
+use Rattle.magnitude.proofs.Whole.{whole-value, whole-product}
+use Rattle.sinc_read.proofs.Blends.{whole-apart}
 use Rattle.sinc_read.specs.Phases.{num, cutTo, phasePosition, phaseOf, blendOf}
 
 -- a whole number at or above the top is cut to it
@@ -22,9 +22,6 @@ whole-cut top n (inf s) v h = absurd v
 whole-cut top n (fin true m e) v h = absurd (true≢false (v .0))
 whole-cut top n (fin false m e) v h = rw (sym (mul-one (m * up e)) ∙ v .1, mul-div-cancel n (down-pos e)) (min-eq-right h)
 
-one-apart : (n : ℕ) → 1 ≤ n → subℕ n (n - 1) ≡ pos 1
-one-apart n h = rw (le-ltb n (n - 1) (omega arith)) (ap pos (omega arith))
-
 module _ (p : Float) (phases : ℕ) (some : 1 ≤ phases) (few : phases ≤ 4096) (full : HasValue (fractionOf p) false 1 1) where
   position : phasePosition p phases ≡ num phases
   position = whole-product binary64 (fractionOf p) (num phases) 1 phases full (whole-value binary64 (pos phases) (omega arith)) ∙ ap num (one-mul phases)
@@ -34,9 +31,10 @@ module _ (p : Float) (phases : ℕ) (some : 1 ≤ phases) (few : phases ≤ 4096
 
   pub whole-blend : blendOf p phases ≡ num 1
   whole-blend =
+      let e : phases ≡ phases - 1 + 1 = omega arith in
       ap (λ (n : ℕ). sub binary64 (phasePosition p phases) (num n)) last-phase
-      ∙ rw position (whole-difference binary64 (num phases) (num (phases - 1)) phases (phases - 1) (whole-value binary64 (pos phases) (omega arith)) (whole-value binary64 (pos (phases - 1)) (omega arith)))
-      ∙ ap (ofInt binary64) (one-apart phases some)
+      ∙ rw position (ap (λ (n : ℕ). sub binary64 (num n) (num (phases - 1))) e)
+      ∙ whole-apart (phases - 1) 1 (omega arith)
 
 -- ---- sample 0 at the delay 1e-300
 abbrev just-below : Float

@@ -4,4 +4,5 @@ pub mod Accepted
 pub mod Around
 pub mod Ways
 pub mod Answered
+pub mod Blends
 pub mod LastRow
