@@ -1,0 +1,6 @@
+pub mod Spans
+pub mod Ceilings
+pub mod Growing
+pub mod Partition
+pub mod OwnRate
+pub mod Worked

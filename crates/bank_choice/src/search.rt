@@ -1,0 +1,90 @@
+// 000's partition_point over the sets' rates, which are computed and not stored: a guess, then a step or two either way.
+ghost use mathlib.Core.Path.{_≡_};
+ghost use mathlib.Core.Bool.{true};
+ghost use Prim.Native.Nat.{ℕ, _≤_, _<_};
+ghost use Rattle.bank_choice.specs.Rates.{bankOk, stepsOf, rateOf};
+ghost use Rattle.bank_choice.specs.Choosing.{slowerOf, partitionOf};
+
+// The rate of set i, counted from 1.
+pub fn rate(max_rate: f64, steps: usize, i: usize) -> f64
+    ensures { λ r. ⌜ r ≡ rateOf «max_rate» steps i ⌝ }
+{
+    1.0
+        + (max_rate - 1.0) * std::num::nearest_u64_to_f64(i as u64)
+            / std::num::nearest_u64_to_f64(steps as u64)
+}
+
+// Whether set k, counted from 0, is slower than r.
+fn slower(max_rate: f64, steps: usize, r: f64, k: usize) -> bool
+    requires { ⌜ k < steps ⌝ }
+    ensures { λ b. ⌜ b ≡ slowerOf «max_rate» steps r k ⌝ }
+{
+    rate(max_rate, steps, k + 1) < r
+}
+
+// Some set, near the one that is looked for: whichever it is, the walks below end at the right one.
+fn guess(max_rate: f64, steps: usize, r: f64) -> usize
+    requires { ⌜ 0 < steps ⌝ }
+    ensures { λ g. ⌜ g < steps ⌝ }
+{
+    let x = integer_part::floor(
+        (r - 1.0) * std::num::nearest_u64_to_f64(steps as u64) / (max_rate - 1.0),
+    );
+    if x < 0 {
+        return 0;
+    }
+    let g = x as usize;
+    if g < steps { g } else { steps - 1 }
+}
+
+// Down from k past the sets that are not slower. Rates grow with the sets, so that every set before the end is slower.
+fn down(max_rate: f64, steps: usize, r: f64, k: usize) -> usize
+    requires { ⌜ (bankOk «max_rate» ≡ true) × (steps ≡ stepsOf «max_rate») × (k < steps) ⌝ }
+    ensures { λ e. ⌜ (e ≤ k) × ((j : ℕ) → j < e → slowerOf «max_rate» steps r j ≡ true) ⌝ }
+{
+    let mut e: usize = k;
+    loop {
+        if e == 0 {
+            return 0;
+        }
+        if slower(max_rate, steps, r, e - 1) {
+            return e;
+        }
+        e -= 1;
+    }
+}
+
+// Up from k past the sets that are slower.
+fn up(max_rate: f64, steps: usize, r: f64, k: usize) -> usize
+    requires { ⌜ (k ≤ steps) × ((j : ℕ) → j < k → slowerOf «max_rate» steps r j ≡ true) ⌝ }
+    ensures { λ e. ⌜ e ≡ partitionOf «max_rate» steps r ⌝ }
+{
+    let mut e: usize = k;
+    loop {
+        if e >= steps {
+            return e;
+        }
+        if slower(max_rate, steps, r, e) {
+            e += 1;
+        } else {
+            return e;
+        }
+    }
+}
+
+// How many sets, counted from the first, are slower than r. A rate near 1 is told by one rate alone.
+pub fn first(max_rate: f64, steps: usize, r: f64) -> usize
+    requires { ⌜ (bankOk «max_rate» ≡ true) × (steps ≡ stepsOf «max_rate») ⌝ }
+    ensures { λ e. ⌜ e ≡ partitionOf «max_rate» steps r ⌝ }
+{
+    if slower(max_rate, steps, r, 0) {
+        up(
+            max_rate,
+            steps,
+            r,
+            down(max_rate, steps, r, guess(max_rate, steps, r)),
+        )
+    } else {
+        0
+    }
+}
