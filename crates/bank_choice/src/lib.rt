@@ -1,11 +1,13 @@
 // T3, T4. 000's SincBankF32 without its tables: how many sets a bank has, their rates, and which two a rate reads.
-mod search;
+mod rates; // how many sets, and the rate of each
+mod search; // how many of them are slower than a rate
 
+pub use rates::set_rate;
+pub use rates::steps;
 ghost use mathlib.Core.Path.{_≡_};
 ghost use mathlib.Core.Bool.{true};
-ghost use Prim.Native.Nat.{_≤_, min, max};
-ghost use Rattle.magnitude.specs.Bounds.{AtMost};
-ghost use Rattle.bank_choice.specs.Rates.{bankOk, ceilingOf, stepsOf, rateOf, setsOf, setRateOf};
+ghost use Prim.Native.Nat.{min};
+ghost use Rattle.bank_choice.specs.Rates.{bankOk};
 ghost use Rattle.bank_choice.specs.Choosing.{lowerOf, whichOf, chosenOf, choiceOf};
 
 // Which sets a rate reads, counted from 0: by `which` the safe set alone (0), the tighter alone (1), or both (2), blended.
@@ -14,51 +16,6 @@ pub struct Choice {
     pub tighter: usize,
     pub which: u8,
     pub blend: f32,
-}
-
-// The least whole number not below x, at least 1: what is cut towards zero, and one more where that lies below x.
-fn ceiling(x: f64) -> u64
-    requires { ⌜ AtMost 50 x ⌝ }
-    ensures { λ r. ⌜ r ≡ max 1 (ceilingOf x) ⌝ }
-{
-    if x > 1.0 {
-        let t = std::num::truncating_f64_to_u64(x);
-        if std::num::nearest_u64_to_f64(t) < x {
-            return t + 1;
-        }
-        return t;
-    }
-    1
-}
-
-fn sets(max_rate: f64) -> usize
-    requires { ⌜ bankOk «max_rate» ≡ true ⌝ }
-    ensures { λ r. ⌜ r ≡ stepsOf «max_rate» ⌝ }
-{
-    ceiling((max_rate - 1.0) / 0.02) as usize
-}
-
-// How many sets a bank has; 0 where the rate is out of its range.
-pub fn steps(max_rate: f64) -> usize
-    ensures { λ r. ⌜ r ≡ setsOf «max_rate» ⌝ }
-{
-    if magnitude::within(max_rate, 1.0, 2.0) {
-        sets(max_rate)
-    } else {
-        0
-    }
-}
-
-// The rate of a set, counted from 0; zero where there is no such set.
-pub fn set_rate(max_rate: f64, set: usize) -> f64
-    ensures { λ r. ⌜ r ≡ setRateOf «max_rate» set ⌝ }
-{
-    let n = steps(max_rate);
-    if set < n {
-        search::rate(max_rate, n, set + 1)
-    } else {
-        0.0
-    }
 }
 
 fn at_most(x: usize, top: usize) -> usize
@@ -73,7 +30,7 @@ fn lower(max_rate: f64, steps: usize, k: usize) -> f64
     if k == 0 {
         1.0
     } else {
-        search::rate(max_rate, steps, k)
+        rates::rate(max_rate, steps, k)
     }
 }
 
@@ -93,11 +50,11 @@ fn chosen(max_rate: f64, rate: f64) -> Choice
     requires { ⌜ bankOk «max_rate» ≡ true ⌝ }
     ensures { λ r. ⌜ r ≡ chosenOf «max_rate» rate ⌝ }
 {
-    let n = sets(max_rate);
+    let n = steps(max_rate);
     let r = order::clamp(rate, 1.0, max_rate);
-    let safe = at_most(search::first(max_rate, n, r), n - 1);
+    let safe = at_most(search::first(max_rate, r), n - 1);
     let tighter = at_most(safe + 1, n - 1);
-    let own = search::rate(max_rate, n, safe + 1);
+    let own = rates::rate(max_rate, n, safe + 1);
     let below = lower(max_rate, n, safe);
     let blend = narrowing::narrow((r - below) / (own - below));
     let close = magnitude::within(own - below, -2.220446049250313e-16, 2.220446049250313e-16);

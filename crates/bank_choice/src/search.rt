@@ -2,24 +2,16 @@
 ghost use mathlib.Core.Path.{_≡_};
 ghost use mathlib.Core.Bool.{true};
 ghost use Prim.Native.Nat.{ℕ, _≤_, _<_};
-ghost use Rattle.bank_choice.specs.Rates.{bankOk, stepsOf, rateOf};
-ghost use Rattle.bank_choice.specs.Choosing.{slowerOf, partitionOf};
-
-// The rate of set i, counted from 1.
-pub fn rate(max_rate: f64, steps: usize, i: usize) -> f64
-    ensures { λ r. ⌜ r ≡ rateOf «max_rate» steps i ⌝ }
-{
-    1.0
-        + (max_rate - 1.0) * std::num::nearest_u64_to_f64(i as u64)
-            / std::num::nearest_u64_to_f64(steps as u64)
-}
+ghost use Rattle.bank_choice.specs.Rates.{bankOk, stepsOf};
+ghost use Rattle.bank_choice.specs.Choosing.{slowerOf, partitionOf, firstOf};
+use crate::rates;
 
 // Whether set k, counted from 0, is slower than r.
 fn slower(max_rate: f64, steps: usize, r: f64, k: usize) -> bool
     requires { ⌜ k < steps ⌝ }
     ensures { λ b. ⌜ b ≡ slowerOf «max_rate» steps r k ⌝ }
 {
-    rate(max_rate, steps, k + 1) < r
+    rates::rate(max_rate, steps, k + 1) < r
 }
 
 // Some set, near the one that is looked for: whichever it is, the walks below end at the right one.
@@ -72,8 +64,7 @@ fn up(max_rate: f64, steps: usize, r: f64, k: usize) -> usize
     }
 }
 
-// How many sets, counted from the first, are slower than r. A rate near 1 is told by one rate alone.
-pub fn first(max_rate: f64, steps: usize, r: f64) -> usize
+fn among(max_rate: f64, steps: usize, r: f64) -> usize
     requires { ⌜ (bankOk «max_rate» ≡ true) × (steps ≡ stepsOf «max_rate») ⌝ }
     ensures { λ e. ⌜ e ≡ partitionOf «max_rate» steps r ⌝ }
 {
@@ -84,6 +75,17 @@ pub fn first(max_rate: f64, steps: usize, r: f64) -> usize
             r,
             down(max_rate, steps, r, guess(max_rate, steps, r)),
         )
+    } else {
+        0
+    }
+}
+
+// How many sets, counted from the first, are slower than r: a rate near 1 is told by the first set's alone. Out of the bank's range there is none.
+pub fn first(max_rate: f64, r: f64) -> usize
+    ensures { λ e. ⌜ e ≡ firstOf «max_rate» r ⌝ }
+{
+    if magnitude::within(max_rate, 1.0, 2.0) {
+        among(max_rate, rates::steps(max_rate), r)
     } else {
         0
     }

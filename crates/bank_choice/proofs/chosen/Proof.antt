@@ -24,8 +24,15 @@ joined : (top rate : Float) (n p s t w : ℕ) (r o l b g : Float) (k : Bool)
 unfolding chosenOf blendOf
 joined top rate n p s t w r o l b g k hn hr hp hs ht ho hl hb hk hw hg = rw (hg, hw, hk, hb, hl, ho, ht, hs, hp, hr, hn)
 
-sets-requires : tie.Need-sets-requires
-sets-requires c κs = search needs
+steps-requires : tie.Need-steps-requires
+steps-requires c κs = search needs
+
+-- in range, both answers are the definition's
+count : (c : tie.After-steps) → c .steps .result ≡ stepsOf (c .before .args .max-rate)
+count c = rw (c .before .pre) at (c .steps .ensures)
+
+slower : (c : tie.After-first) → let a = c .before .before .before .args in c .first .result ≡ partitionOf (a .max-rate) (c .before .before .steps .result) (c .before .clamp .result)
+slower c = rw (count (c .before .before)) (rw (c .before .before .before .pre) at (c .first .ensures))
 
 clamp-requires : tie.Need-clamp-requires
 clamp-requires c κs = search needs
@@ -34,7 +41,7 @@ first-requires : tie.Need-first-requires
 first-requires c κs = search needs
 
 sub-at-most : tie.Need-sub-at-most
-sub-at-most c = let s = c .before .before in omega (arith, s .sets .ensures, least (s .before .args .max-rate))
+sub-at-most c = let s = c .before .before in omega (arith, count s, least (s .before .args .max-rate))
 
 at-most-requires : tie.Need-at-most-requires
 at-most-requires c κs = search needs
@@ -83,14 +90,14 @@ returns c =
     let r = p .before in
     let n = r .before in
     let a = n .before .args in
-    joined (a .max-rate) (a .rate) (n .sets .result) (p .first .result) (s .at-most .result) (t .at-most2 .result) (w .which .result) (r .clamp .result) (o .rate .result) (l .lower .result) (b .narrow .result) (c .clamp-f32 .result) (k .within .result)
-    (n .sets .ensures) (r .clamp .ensures) (p .first .ensures) (s .at-most .ensures) (t .at-most2 .ensures) (o .rate .ensures) (l .lower .ensures) (b .narrow .ensures) (k .within .ensures) (w .which .ensures) (c .clamp-f32 .ensures)
+    joined (a .max-rate) (a .rate) (n .steps .result) (p .first .result) (s .at-most .result) (t .at-most2 .result) (w .which .result) (r .clamp .result) (o .rate .result) (l .lower .result) (b .narrow .result) (c .clamp-f32 .result) (k .within .result)
+    (count n) (r .clamp .ensures) (slower p) (s .at-most .ensures) (t .at-most2 .ensures) (o .rate .ensures) (l .lower .ensures) (b .narrow .ensures) (k .within .ensures) (w .which .ensures) (c .clamp-f32 .ensures)
 
 pub chosen-spec : {M : Type 1} → statement M
 chosen-spec =
     tie.close
     (tie.spec
-    sets-requires
+    steps-requires
     clamp-requires
     first-requires
     sub-at-most

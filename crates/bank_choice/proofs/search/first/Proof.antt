@@ -1,33 +1,34 @@
--- `bank_choice::search::first` meets its contract: from wherever the guess is, down and up again end at the partition's place; and where the first set is
--- not slower, that is 0. Assumes nothing.
+-- `bank_choice::search::first` meets its contract: by the test of the bank's rate. Assumes nothing.
 use borrow.Author.Needs.{needs}
-use mathlib.Core.Path.{sym, _∙_}
-use native.Mathlib.Omega.{arith}
-use Rattle.bank_choice.specs.Choosing.{slowerOf}
-use Rattle.bank_choice.proofs.Spans.{least}
-use Rattle.bank_choice.proofs.Partition.{found}
+use mathlib.Core.Path.{_≡_, sym, _∙_}
+use mathlib.Core.Bool.{true}
+use lib.Ieee.{ofBits}
+use Rattle.bank_choice.specs.Rates.{bankOk, stepsOf}
 use Rattle.bank_choice.proofs.search.first.Statement.{statement}
 use Rattle.bank_choice.proofs.search.first.Tie as tie
 
-slower-requires : tie.Need-slower-requires
-slower-requires c κs = omega (arith, least (c .args .max-rate))
+within-requires : tie.Need-within-requires
+within-requires c κs = search needs
 
-guess-requires : tie.Need-guess-requires
-guess-requires c κs = omega (arith, least (c .before .before .args .max-rate))
+steps-requires : tie.Need-steps-requires
+steps-requires c κs = search needs
 
-down-requires : tie.Need-down-requires
-down-requires c κs = search needs
+ok : (c : tie.After-steps) → bankOk (c .before .before .before .args .max-rate) ≡ true
+unfolding ofBits
+ok c = sym (c .before .before .within .ensures) ∙ c .before .if1 .taken
 
-up-requires : tie.Need-up-requires
-up-requires c κs = search needs
+count : (c : tie.After-steps) → c .steps .result ≡ stepsOf (c .before .before .before .args .max-rate)
+count c = rw (ok c) at (c .steps .ensures)
+
+among-requires : tie.Need-among-requires
+among-requires c κs = (ok c, count c)
 
 returns : tie.Need-returns
-returns c = search needs
+returns c = c .among .ensures ∙ rw (count (c .before), ok (c .before))
 
 returns-2 : tie.Need-returns-2
-returns-2 c =
-    let a = c .before .before .args in
-    found (slowerOf (a .max-rate) (a .steps) (a .r)) (a .steps) 0 (omega arith) (λ j h. absurd (omega arith)) (λ h. sym (c .before .slower .ensures) ∙ c .if1 .left)
+unfolding ofBits
+returns-2 c = rw (← c .before .within .ensures, c .if1 .left)
 
 pub first-spec : {M : Type 1} → statement M
-first-spec = tie.close (tie.spec slower-requires guess-requires down-requires up-requires returns returns-2)
+first-spec = tie.close (tie.spec within-requires steps-requires among-requires returns returns-2)

@@ -1,9 +1,9 @@
--- `bank_choice::search::rate` meets its contract: its steps are the definition's, one for one. Assumes nothing.
+-- `bank_choice::rates::rates::rate` meets its contract: its steps are the definition's, one for one. Assumes nothing.
 use borrow.Author.Needs.{needs}
 use lib.Ieee.{ofBits}
 use Rattle.bank_choice.specs.Rates.{rateOf}
-use Rattle.bank_choice.proofs.search.rate.Statement.{statement}
-use Rattle.bank_choice.proofs.search.rate.Tie as tie
+use Rattle.bank_choice.proofs.rates.rate.Statement.{statement}
+use Rattle.bank_choice.proofs.rates.rate.Tie as tie
 
 nearest-u64-to-f64-requires : tie.Need-nearest-u64-to-f64-requires
 nearest-u64-to-f64-requires c κs = search needs

@@ -1,9 +1,9 @@
--- `bank_choice::steps` meets its contract: by the test of the rate. Assumes nothing.
+-- `bank_choice::rates::steps` meets its contract: by the test of the rate. Assumes nothing.
 use borrow.Author.Needs.{needs}
 use mathlib.Core.Path.{sym, _∙_}
 use lib.Ieee.{ofBits}
-use Rattle.bank_choice.proofs.steps.Statement.{statement}
-use Rattle.bank_choice.proofs.steps.Tie as tie
+use Rattle.bank_choice.proofs.rates.steps.Statement.{statement}
+use Rattle.bank_choice.proofs.rates.steps.Tie as tie
 
 within-requires : tie.Need-within-requires
 within-requires c κs = search needs

@@ -1,4 +1,4 @@
--- `bank_choice::set_rate` meets its contract: below the number of sets, which is 0 out of range, there is a set. Assumes nothing.
+-- `bank_choice::rates::set_rate` meets its contract: below the number of sets, which is 0 out of range, there is a set. Assumes nothing.
 use borrow.Author.Needs.{needs}
 use borrow.Author.Tests.{lt-ltb, le-ltb}
 use mathlib.Core.Path.{_≡_, refl, sym, _∙_, ap}
@@ -9,8 +9,8 @@ use lib.Dec.{ltb}
 use lib.Ieee.{Float, ofBits}
 use Rattle.sinc_settings.specs.Ranges.{zero-f}
 use Rattle.bank_choice.specs.Rates.{bankOk, stepsOf, rateOf}
-use Rattle.bank_choice.proofs.set_rate.Statement.{statement}
-use Rattle.bank_choice.proofs.set_rate.Tie as tie
+use Rattle.bank_choice.proofs.rates.set_rate.Statement.{statement}
+use Rattle.bank_choice.proofs.rates.set_rate.Tie as tie
 
 module _ (top : Float) (steps set n : ℕ) where
   there : (ok : Bool) → n ≡ cond ok steps 0 → set < n → rateOf top n (set + 1) ≡ cond (ok && ltb set steps) (rateOf top steps (set + 1)) zero-f

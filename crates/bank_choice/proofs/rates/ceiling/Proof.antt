@@ -1,4 +1,4 @@
--- `bank_choice::ceiling` meets its contract: by the two tests, as `Ceilings` says. Assumes nothing.
+-- `bank_choice::rates::ceiling` meets its contract: by the two tests, as `Ceilings` says. Assumes nothing.
 use borrow.Author.Needs.{needs}
 use mathlib.Core.Path.{_≡_, _∙_, ap}
 use mathlib.Core.Bool.{Bool, true, false}
@@ -6,8 +6,8 @@ use native.Mathlib.Omega.{arith}
 use lib.Ieee.{lt, ofBits, toUnsigned}
 use Rattle.bank_choice.specs.Rates.{num}
 use Rattle.bank_choice.proofs.Ceilings as ceilings
-use Rattle.bank_choice.proofs.ceiling.Statement.{statement}
-use Rattle.bank_choice.proofs.ceiling.Tie as tie
+use Rattle.bank_choice.proofs.rates.ceiling.Statement.{statement}
+use Rattle.bank_choice.proofs.rates.ceiling.Tie as tie
 
 above : (c : tie.Then1) → ceilings.Inside (c .before .args .x)
 unfolding ofBits
