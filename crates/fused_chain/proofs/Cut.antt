@@ -7,13 +7,13 @@ use native.Mathlib.Omega.{arith}
 use lib.Dec.{T, leb, lit≤, lit<}
 use lib.Pow.{pow-add, pow-pos, pow-mono}
 use lib.Bits.{bitAnd, and-high}
-use lib.Ieee.{Float, binary32, binary64, round, fits, toBits, ofBits, nanBits}
+use lib.Ieee.{Float, binary32, binary64, round, fits, toBits, ofBits, nanBits, isNan}
 use lib.Ieee.Bits.{ofBits-toBits, toBits-lt}
 use lib.Ieee.Exact.{HasValue, units-val}
 use lib.Ieee.Fits.{round-fits, fits-widens}
 use lib.Ieee.Nearest.{closest}
 use Rattle.rounding.specs.Operations.{narrowed}
-use Rattle.rounding.proofs.Patterns.{rest-no-nan, sign-rest}
+use Rattle.rounding.proofs.Patterns.{no-nan-rest, rest-no-nan, sign-rest, value-bits}
 use Rattle.rounding.proofs.Units.{bits-units}
 use Rattle.rounding.proofs.Values.{rescale}
 use Rattle.rounding.proofs.Within.{closest-unique}
@@ -82,34 +82,52 @@ module _ (s : Bool) (m : ℕ) (lo : 0x3810_0000_0000_0000 ≤ m) (hi : m < 0x47e
       ∙ ap (ofBits binary64) (sym (bits-units binary64 (narrowed x) s (c * d) (896 + k) top (λ _. lead) value))
       ∙ ofBits-toBits binary64 (narrowed x) held
 
--- ---- over the whole pattern
-module _ (x : Float) (held : T (fits binary64 x)) (h : Plain (toBits binary64 x)) where
+-- ---- over the whole pattern, half a unit added
+module _ (x : Float) (held : T (fits binary64 x)) (number : T (not (isNan x))) where
   abbrev n : ℕ
   n = toBits binary64 x
 
   N : n < 2 ^ 64
   N = toBits-lt binary64 x held
 
-  pub plain-room : n + 0x1000_0000 < 2 ^ 64
-  plain-room = omega (arith, N, h .small)
+  R : n % 2 ^ 63 ≤ 0x7ff0_0000_0000_0000
+  R = no-nan-rest binary64 n (value-bits binary64 x held number)
 
-  masked : bitAnd (n + 0x1000_0000) 0xffff_ffff_e000_0000 ≡ (n + 2 ^ 28) / d * d
-  masked = and-high (n + 0x1000_0000) 35 29 ∙ omega (arith, plain-room)
+  pub half-fits : n + 0x1000_0000 < 2 ^ 64
+  half-fits = omega (arith, N, R)
 
-  pub plain-no-nan : T (not (nanBits binary64 (bitAnd (n + 0x1000_0000) 0xffff_ffff_e000_0000)))
-  plain-no-nan = rest-no-nan binary64 (bitAnd (n + 0x1000_0000) 0xffff_ffff_e000_0000) (omega (arith, masked, N, h .small))
+  module _ (h : Plain (n + 0x1000_0000)) where
+    abbrev r : ℕ
+    r = n % 2 ^ 63
 
-  pub plain-cut : ofBits binary64 (bitAnd (n + 0x1000_0000) 0xffff_ffff_e000_0000) ≡ narrowed x
-  plain-cut =
-      let r = n % 2 ^ 63 in
-      let s = leb (2 ^ 63) n in
-      let parts : n ≡ cond s (2 ^ 63) 0 + r = sign-rest binary64 n N in
-      ap (ofBits binary64) (masked ∙ beside s r n parts)
-      ∙ cut s r (h .normal) (h .small) (λ e. h .no-midpoint (omega arith))
-      ∙ ap (λ (z : ℕ). narrowed (ofBits binary64 z)) (sym parts)
-      ∙ ap narrowed (ofBits-toBits binary64 x held)
-    where
-      -- the sign stays out of it
-      beside : (s : Bool) (r n : ℕ) → n ≡ cond s (2 ^ 63) 0 + r → (n + 2 ^ 28) / d * d ≡ cond s (2 ^ 63) 0 + (r + 2 ^ 28) / d * d
-      beside true r n e = omega arith
-      beside false r n e = omega arith
+    rest : (n + 0x1000_0000) % 2 ^ 63 ≡ r + 2 ^ 28
+    rest = omega (arith, N, R)
+
+    pub normal : 0x3810_0000_0000_0000 ≤ r
+    normal = omega (arith, rest, h .normal)
+
+    small : r < 0x47e0_0000_0000_0000
+    small = omega (arith, rest, h .small)
+
+    pub no-midpoint : n % 2 ^ 29 ≡ 2 ^ 28 → ⊥
+    no-midpoint e = h .no-midpoint (omega arith)
+
+    masked : bitAnd (n + 0x1000_0000) 0xffff_ffff_e000_0000 ≡ (n + 2 ^ 28) / d * d
+    masked = and-high (n + 0x1000_0000) 35 29 ∙ omega (arith, half-fits)
+
+    pub plain-no-nan : T (not (nanBits binary64 (bitAnd (n + 0x1000_0000) 0xffff_ffff_e000_0000)))
+    plain-no-nan = rest-no-nan binary64 (bitAnd (n + 0x1000_0000) 0xffff_ffff_e000_0000) (omega (arith, masked, N, small))
+
+    pub plain-cut : ofBits binary64 (bitAnd (n + 0x1000_0000) 0xffff_ffff_e000_0000) ≡ narrowed x
+    plain-cut =
+        let s = leb (2 ^ 63) n in
+        let parts : n ≡ cond s (2 ^ 63) 0 + r = sign-rest binary64 n N in
+        ap (ofBits binary64) (masked ∙ beside s r n parts)
+        ∙ cut s r normal small (λ e. no-midpoint (omega arith))
+        ∙ ap (λ (z : ℕ). narrowed (ofBits binary64 z)) (sym parts)
+        ∙ ap narrowed (ofBits-toBits binary64 x held)
+      where
+        -- the sign stays out of it
+        beside : (s : Bool) (r n : ℕ) → n ≡ cond s (2 ^ 63) 0 + r → (n + 2 ^ 28) / d * d ≡ cond s (2 ^ 63) 0 + (r + 2 ^ 28) / d * d
+        beside true r n e = omega arith
+        beside false r n e = omega arith
