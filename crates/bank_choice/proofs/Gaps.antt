@@ -31,9 +31,9 @@ module _ (x y : Float) (p : T (finite x)) (q : T (finite y)) where
   unfolding round
   nothing = record { sign = false; size = 0; is = refl; same = refl }
 
-  apart : Rounds binary64 (sub binary64 x y) (gain x * den y + loss y * den x) (loss x * den y + gain y * den x) (den x * den y)
+  pub subtracted : Rounds binary64 (sub binary64 x y) (gain x * den y + loss y * den x) (loss x * den y + gain y * den x) (den x * den y)
   unfolding sub neg
-  apart = go x y p q
+  subtracted = go x y p q
     where
       go : (x y : Float) → T (finite x) → T (finite y) → Rounds binary64 (sub binary64 x y) (gain x * den y + loss y * den x) (loss x * den y + gain y * den x) (den x * den y)
       go nan y p q = absurd p
@@ -44,7 +44,7 @@ module _ (x y : Float) (p : T (finite x)) (q : T (finite y)) where
       go (fin s m e) (fin false n d) p q = added binary64 (fin s m e) (fin true n d) tt tt
 
   pub difference-ge : T (le y x) → T (le zero-f (sub binary64 x y))
-  difference-ge h = in-order binary64 0 0 1 _ _ _ (lit< tt) (mul-pos (den-pos x) (den-pos y)) nothing apart (simp ring (omega (arith, simp ring at (under y x q p h))))
+  difference-ge h = in-order binary64 0 0 1 _ _ _ (lit< tt) (mul-pos (den-pos x) (den-pos y)) nothing subtracted (simp ring (omega (arith, simp ring at (under y x q p h))))
 
   pub difference-le : T (le x y) → T (le (sub binary64 x y) zero-f)
-  difference-le h = in-order binary64 _ _ _ 0 0 1 (mul-pos (den-pos x) (den-pos y)) (lit< tt) apart nothing (simp ring (omega (arith, simp ring at (under x y p q h))))
+  difference-le h = in-order binary64 _ _ _ 0 0 1 (mul-pos (den-pos x) (den-pos y)) (lit< tt) subtracted nothing (simp ring (omega (arith, simp ring at (under x y p q h))))

@@ -53,23 +53,23 @@ module _ (top : Float) (ok : bankOk top ≡ true) where
   abbrev N : Float
   N = num (stepsOf top)
 
-  number : (i : ℕ) → i ≤ 50 → Between zero-f fifty (num i)
+  pub number : (i : ℕ) → i ≤ 50 → Between zero-f fifty (num i)
   unfolding ofInt
   number i l = whole-between binary64 {k = 0} {n = i} {m = 50} zero-le l refl refl tt tt
 
-  sets : Between one-f fifty N
+  pub sets : Between one-f fifty N
   unfolding ofInt
   sets = whole-between binary64 {k = 1} {m = 50} (least top) (most top ok) refl refl tt tt
 
-  many : 0 < gain N
+  pub many : 0 < gain N
   many = rises-above (sets .above) refl (lit< tt)
 
   -- the numerator, the quotient and the rate of set i, as far as 50
-  product : (i : ℕ) → i ≤ 50 → Between zero-f fifty (mul binary64 D (num i))
+  pub product : (i : ℕ) → i ≤ 50 → Between zero-f fifty (mul binary64 D (num i))
   unfolding mul le
   product i l = product-between binary64 tt (span top ok) (number i l) refl refl tt tt
 
-  share : (i : ℕ) → i ≤ 50 → Between zero-f fifty (div binary64 (mul binary64 D (num i)) N)
+  pub share : (i : ℕ) → i ≤ 50 → Between zero-f fifty (div binary64 (mul binary64 D (num i)) N)
   unfolding div le lt
   share i l = quotient-between binary64 tt (product i l) sets tt refl refl tt tt
 
@@ -80,7 +80,7 @@ module _ (top : Float) (ok : bankOk top ≡ true) where
   up-to : {a b x y : Float} → Between a b x → Between a b y → T (le x y) → Ordered x y
   up-to u v h = record { first = u .above .second; second = v .above .second; order = h }
 
-  itself : {a b x : Float} → Between a b x → Ordered x x
+  pub itself : {a b x : Float} → Between a b x → Ordered x x
   itself {a} {b} {x} u = point x (u .above .second) .above
 
   -- ---- a later set's rate is no lower
@@ -104,7 +104,7 @@ module _ (top : Float) (ok : bankOk top ≡ true) where
     rate-grows = up-to (rate-finite i (le-trans later l)) (rate-finite j l) (sum-grows binary64 (point one-f tt .above) shares)
 
   -- ---- the last set's rate is at most 2
-  exact : HasValue N false (stepsOf top) 1
+  pub exact : HasValue N false (stepsOf top) 1
   exact = whole-value binary64 (pos (stepsOf top)) (le-trans (most top ok) (lit≤ tt))
 
   last-product : Ordered (mul binary64 D N) N

@@ -3,5 +3,7 @@ pub mod Ceilings
 pub mod Growing
 pub mod Partition
 pub mod Gaps
+pub mod Coarse
+pub mod NotLast
 pub mod OwnRate
 pub mod Worked
