@@ -1,9 +1,9 @@
 -- The rate of a set that is not the last is at most the bank's: (max - 1) * i / n with i < n falls short of max - 1 by a fiftieth of it, and more than one
--- set means that max - 1 is above 0.02, so that a bound in steps of 2^-16 lies between the two, whatever is rounded on the way. Assumes nothing.
-use mathlib.Core.Path.{_≡_, refl, _∙_, ap}
+-- set means that max - 1 is above 1/64, so that a bound in steps of 2^-16 lies between the two, whatever is rounded on the way. Assumes nothing.
+use mathlib.Core.Path.{_≡_, refl}
 use mathlib.Core.Bool.{true}
-use Prim.Native.Nat.{ℕ, _+_, _-_, _*_, _/_, _^_, _≤_, _<_, max}
-use native.Mathlib.Nat.{le-trans, lt-of-not-le, max-le, mul-le-mul, mul-le-mul-left, mul-le-mul-right, le-of-mul-le-mul-right, add-mul, one-mul}
+use Prim.Native.Nat.{ℕ, _+_, _-_, _*_, _≤_, _<_, max}
+use native.Mathlib.Nat.{le-trans, lt-of-not-le, max-le, mul-le-mul, le-of-mul-le-mul-right, add-mul}
 use native.Mathlib.Omega.{arith}
 use lib.Dec.{T, lit≤}
 use lib.IntN.{pos}
@@ -12,42 +12,17 @@ use lib.Ieee.Positive.{den, den-pos}
 use lib.Ieee.Scale.{finite}
 use Rattle.magnitude.proofs.Between.{between-at-most}
 use Rattle.magnitude.proofs.Whole.{whole-value}
-use Rattle.interval.proofs.Signed.{ring, gain, loss, Ordered, bound, le-le}
+use Rattle.interval.proofs.Signed.{gain, loss, Ordered, bound, le-le}
 use Rattle.interval.proofs.Between.{Between, between, point}
 use Rattle.interval.proofs.Products.{rises, quotient-between}
 use Rattle.interval.proofs.Grows.{sum-grows, product-grows, quotient-grows}
-use Rattle.integer_part.proofs.Floors.{quotient-around}
 use Rattle.sinc_settings.specs.Ranges.{zero-f, one-f}
 use Rattle.bank_choice.specs.Rates.{num, bankOk, rateStep, stepsOf, rateOf}
 use Rattle.bank_choice.proofs.Spans.{in-range, span, least, most, ceiling-most}
 use Rattle.bank_choice.proofs.Growing.{number, sets, many, product, share, itself, exact, rate-finite}
 use Rattle.bank_choice.proofs.Coarse.{Value, coarse, value-of, exactly, difference-under, product-under, quotient-under, sum-under, under-top}
+use Rattle.bank_choice.proofs.Room.{stepsAbove, shareAbove, next, room}
 
--- ---- X is 65536 (max - 1), over B: k steps of 2^-16 lie above max - 1, j steps above k * i / n, and j below max - 1
-abbrev stepsAbove : ℕ → ℕ → ℕ
-stepsAbove X B = X / B + 1
-
-abbrev shareAbove : ℕ → ℕ → ℕ → ℕ
-shareAbove k i n = k * i / n + 1
-
-next : (a b : ℕ) → 0 < b → (a ≤ (a / b + 1) * b) × ((a / b + 1) * b ≤ a + b)
-next a b B = let q = quotient-around a b B in let e : (a / b + 1) * b ≡ a / b * b + b = add-mul (a / b) 1 b ∙ ap (λ (z : ℕ). a / b * b + z) (one-mul b) in (omega (arith, q .1), omega (arith, q .0))
-
-room : (X B i n k j : ℕ) → 0 < n → i < n → n ≤ 50 → 100 * B ≤ X → k * B ≤ X + B → j * n ≤ k * i + n → j * B ≤ X
-room X B i n k j some less few wide hk hj =
-    let one-more : i + 1 ≤ n = omega arith in
-    le-of-mul-le-mul-right
-    (simp ring (omega (
-      arith,
-      simp ring at (mul-le-mul-right B hj),
-      simp ring at (mul-le-mul-right i hk),
-      simp ring at (mul-le-mul-left X one-more),
-      simp ring at (mul-le-mul-left B few),
-      simp ring at (mul-le-mul-left B one-more),
-    )))
-    some
-
--- ---- the set's rate
 module _ (top : Float) (ok : bankOk top ≡ true) where
   plain-top : loss top ≡ 0
   plain-top = rises (in-range top ok .above) refl
