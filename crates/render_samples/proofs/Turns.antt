@@ -25,7 +25,7 @@ module _ (table : List Float) where
     unfolding samplesOf afterSamples
     nothing-after l = rw (none l)
 
-    abbrev first : Float
+    abbrev pub first : Float
     first = ofBits binary32 (bytesValue (take 4 bytes))
 
     one-less : 4 ≤ length bytes → length bytes / 4 ≡ suc (length (drop 4 bytes) / 4)
@@ -35,11 +35,11 @@ module _ (table : List Float) where
     unfolding samplesOf
     samples-first l = rw (one-less l)
 
-    after-first : 4 ≤ length bytes → afterBlock table h bytes ≡ afterBlock table (afterSample table h first) (drop 4 bytes)
+    pub after-first : 4 ≤ length bytes → afterBlock table h bytes ≡ afterBlock table (afterSample table h first) (drop 4 bytes)
     unfolding afterSamples
     after-first l = rw (samples-first l)
 
-    rendered-first : 4 ≤ length bytes
+    pub rendered-first : 4 ≤ length bytes
         → renderedOf table h bytes ≡ lowBytes 4 (toBits binary32 (sampleFor table h first)) ++ renderedOf table (afterSample table h first) (drop 4 bytes)
     unfolding answersFor bytesOf
     rendered-first l =

@@ -1,6 +1,6 @@
 -- X2. What the program `render` does with a sample. Definitions only.
 use Prim.Native.Nat.{ℕ}
-use mathlib.Core.Bool.{true, false, _&&_}
+use mathlib.Core.Bool.{true, false}
 use mathlib.Core.List.{List, [], _∷_}
 use lib.Dec.{eqb}
 use lib.IntN.{pos}

@@ -84,7 +84,12 @@ pub fn step<'a>(state: Rendering, ring: &mut [f32], table: &'a [f32], bits: u32)
 }
 
 // One sample in place, as its four bytes.
-fn put_sample<'a>(state: Rendering, ring: &mut [f32], table: &'a [f32], word: &mut [u8]) -> Rendering
+fn put_sample<'a>(
+    state: Rendering,
+    ring: &mut [f32],
+    table: &'a [f32],
+    word: &mut [u8],
+) -> Rendering
     requires { ⌜ length (now word) ≡ 4 ⌝ }
     ensures { λ r. ⌜ r ≡ afterSample (now (table .entry)) (heldOf state (now (ring .entry))) (Ieee.ofBits binary32 (bytesValue (now (word .entry)))) .state ⌝ }
     ensures { λ r. ⌜ now (ring .exit) ≡ afterSample (now (table .entry)) (heldOf state (now (ring .entry))) (Ieee.ofBits binary32 (bytesValue (now (word .entry)))) .ring ⌝ }
@@ -96,7 +101,12 @@ fn put_sample<'a>(state: Rendering, ring: &mut [f32], table: &'a [f32], word: &m
 }
 
 // The whole samples of a block in place, one after the other; a trailing part below 4 bytes is left as it was.
-pub fn render_block<'a>(state: Rendering, ring: &mut [f32], table: &'a [f32], block: &mut [u8]) -> Written
+pub fn render_block<'a>(
+    state: Rendering,
+    ring: &mut [f32],
+    table: &'a [f32],
+    block: &mut [u8],
+) -> Written
     ensures { λ r. ⌜ r .state ≡ afterBlock (now (table .entry)) (heldOf state (now (ring .entry))) (now (block .entry)) .state ⌝ }
     ensures { λ r. ⌜ r .length ≡ length (now (block .entry)) / 4 * 4 ⌝ }
     ensures { λ r. ⌜ now (ring .exit) ≡ afterBlock (now (table .entry)) (heldOf state (now (ring .entry))) (now (block .entry)) .ring ⌝ }

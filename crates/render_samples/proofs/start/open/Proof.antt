@@ -89,9 +89,10 @@ returns-6 c =
     let ring = o .before .before .before .if1 .left in
     let table = o .before .before .if2 .left in
     let both = beginning.both-right ring table in
-    let reader = c .before .before .before .before .before .before .before .before .before .before .before .reader .given .1 in
-    (rw both (beginning.started reader (o .«open» .ensures .0 ∙ beginning.reader-opens ring) (c .before .engine .given .1) (c .before .before .before .new2 .ensures ∙ beginning.engine-opens)),
-    (rw both (o .«open» .ensures .1 ∙ beginning.ring-opens (now (a .ring)) ring), rw both (n .new .ensures .1 ∙ beginning.table-is (now (a .table)) table)))
+    let reader = c .before .before .before .before .before .before .before .before .before .before .before .reader .given .1 in (
+      rw both (beginning.started reader (o .«open» .ensures .0 ∙ beginning.reader-opens ring) (c .before .engine .given .1) (c .before .before .before .new2 .ensures ∙ beginning.engine-opens)),
+      (rw both (o .«open» .ensures .1 ∙ beginning.ring-opens (now (a .ring)) ring), rw both (n .new .ensures .1 ∙ beginning.table-is (now (a .table)) table)),
+    )
 
 pub open-spec : {M : Type 1} → statement M
 open-spec =
