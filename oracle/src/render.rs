@@ -8,7 +8,7 @@
 //!
 //! `render noise SEED SAMPLES` writes samples and a trailing part of three bytes, and says on standard
 //! error what is among them. They come in stretches: noise as a recording has it, quiet noise,
-//! silence, one value held, values whose sums pass the largest one, any pattern; and about one in 500 is a
+//! silence, one value held, values whose sums pass the largest one, any pattern; and about one in 100 is a
 //! NaN, an infinity, a zero of either sign or a subnormal number.
 // The emulator that runs this on Arm cannot open what Rust's own `main` opens.
 #![no_main]
@@ -54,8 +54,8 @@ fn noise(seed: u64, samples: u64) -> Vec<u8> {
     let mut refused = 0u64;
     for _ in 0..samples {
         if left == 0 {
-            kind = random.within(0, 19);
-            left = random.within(16, 4096);
+            kind = random.within(0, 15);
+            left = random.within(16, 1024);
             held = fine(&mut random);
         }
         left -= 1;
@@ -68,7 +68,7 @@ fn noise(seed: u64, samples: u64) -> Vec<u8> {
             5 => fine(&mut random) * 2f32.powi(random.within(-30, 30) as i32),
             _ => fine(&mut random),
         };
-        let bits = match random.within(0, 499) {
+        let bits = match random.within(0, 99) {
             0 => RARE[random.within(0, RARE.len() as i64 - 1) as usize],
             _ => drawn.to_bits(),
         };
@@ -92,6 +92,8 @@ pub extern "C" fn main(_: i32, _: *const *const u8) -> i32 {
             play(&bytes)
         }
     };
-    std::io::stdout().write_all(&out).expect("standard output");
+    // no Rust `main`, so nothing flushes what is left
+    let mut to = std::io::stdout().lock();
+    to.write_all(&out).and_then(|()| to.flush()).expect("standard output");
     0
 }
