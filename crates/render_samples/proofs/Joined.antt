@@ -29,15 +29,16 @@ module _ (table : List Float) where
       let word = lowBytes 4 (toBits binary32 (sampleFor table h (first table h xs))) in
       let more : 4 ≤ length (xs ++ ys) = simp length-append (omega arith) in
       let head : take 4 (xs ++ ys) ≡ take 4 xs = take-append-le 4 xs ys some in
-      let tail : drop 4 (xs ++ ys) ≡ drop 4 xs ++ ys = drop-append-le 4 xs ys some in
-      (rw (head, tail) at (rendered-first table h (xs ++ ys) more)
-      ∙ ap (λ (t : List ℕ). word ++ t) (rest .0)
-      ∙ sym (append-assoc word (renderedOf table g (drop 4 xs)) (renderedOf table (afterBlock table g (drop 4 xs)) ys))
-      ∙ ap (λ (t : List ℕ). t ++ renderedOf table (afterBlock table g (drop 4 xs)) ys) (sym (rendered-first table h xs some))
-      ∙ ap (λ (q : Held). renderedOf table h xs ++ renderedOf table q ys) (sym (after-first table h xs some)),
-      rw (head, tail) at (after-first table h (xs ++ ys) more)
-      ∙ rest .1
-      ∙ ap (λ (q : Held). afterBlock table q ys) (sym (after-first table h xs some)))
+      let tail : drop 4 (xs ++ ys) ≡ drop 4 xs ++ ys = drop-append-le 4 xs ys some in (
+        rw (head, tail) at (rendered-first table h (xs ++ ys) more)
+            ∙ ap (λ (t : List ℕ). word ++ t) (rest .0)
+            ∙ sym (append-assoc word (renderedOf table g (drop 4 xs)) (renderedOf table (afterBlock table g (drop 4 xs)) ys))
+            ∙ ap (λ (t : List ℕ). t ++ renderedOf table (afterBlock table g (drop 4 xs)) ys) (sym (rendered-first table h xs some))
+            ∙ ap (λ (q : Held). renderedOf table h xs ++ renderedOf table q ys) (sym (after-first table h xs some)),
+        rw (head, tail) at (after-first table h (xs ++ ys) more)
+            ∙ rest .1
+            ∙ ap (λ (q : Held). afterBlock table q ys) (sym (after-first table h xs some)),
+      )
 
   pub in-blocks : (k : ℕ) (h : Held) (xs ys : List ℕ) → length xs ≡ k * 4 → Joins h xs ys
   in-blocks zero h [] ys e = none-before h ys
