@@ -17,12 +17,7 @@ pub fn ask(state: Fade, asked: QualityMode) -> Fade
     if quality_mode::same(asked, target) {
         return state;
     }
-    Fade {
-        current: current,
-        target: asked,
-        place: 0,
-        length: state.length,
-    }
+    left(current, asked, 0, state.length)
 }
 
 // Whether the call reads one quality only.

@@ -10,8 +10,11 @@ same-requires c κs = search needs
 returns : tie.Need-returns
 returns c = rw (sym (c .before .same .ensures) ∙ c .if1 .taken)
 
+left-requires : tie.Need-left-requires
+left-requires c κs = search needs
+
 returns-2 : tie.Need-returns-2
-returns-2 c = rw (sym (c .before .same .ensures) ∙ c .if1 .left)
+returns-2 c = rw (sym (c .before .before .same .ensures) ∙ c .before .if1 .left) (c .left .ensures)
 
 pub ask-spec : {M : Type 1} → statement M
-ask-spec = tie.close (tie.spec same-requires returns returns-2)
+ask-spec = tie.close (tie.spec same-requires returns left-requires returns-2)
