@@ -1,4 +1,5 @@
 pub mod Settings
 pub mod Taken
 pub mod Refused
+pub mod Widths
 pub mod Calls

@@ -1,0 +1,67 @@
+-- `variable_delay_f32::refusal` meets its contract: each test is the definition's, the first two by `settled`. Assumes nothing.
+use borrow.Author.Needs.{needs}
+use mathlib.Core.Path.{refl}
+use mathlib.Core.Bool.{Bool, true, false, _&&_}
+use Prim.Native.Nat.{_^_}
+use lib.Dec.{leb, ltb}
+use lib.IntN.{pos}
+use lib.Ieee.{fin, le, ofBits}
+use lib.Ieee.Scale.{finite}
+use Rattle.answer.specs.Refusals.{firstOf}
+use Rattle.variable_delay.proofs.Settings.{settled}
+use Rattle.variable_delay_f32.proofs.refusal.Statement.{statement}
+use Rattle.variable_delay_f32.proofs.refusal.Tie as tie
+
+length-for-requires : tie.Need-length-for-requires
+length-for-requires c κs = search needs
+
+both-requires : tie.Need-both-requires
+both-requires c κs = search needs
+
+both-requires-2 : tie.Need-both-requires-2
+both-requires-2 c κs = search needs
+
+is-finite-f32-requires : tie.Need-is-finite-f32-requires
+is-finite-f32-requires c κs = search needs
+
+is-finite-requires : tie.Need-is-finite-requires
+is-finite-requires c κs = search needs
+
+both-requires-3 : tie.Need-both-requires-3
+both-requires-3 c κs = search needs
+
+first-requires : tie.Need-first-requires
+first-requires c κs = search needs
+
+returns : tie.Need-returns
+unfolding ofBits
+returns c =
+    let f = c .before .before .before .before .before .before in
+    let a = f .before .args in
+    let s = a .state in
+    rw (
+      c .first .ensures,
+      c .before .before .before .before .before .both .ensures,
+      c .before .before .before .before .both2 .ensures,
+      c .before .before .before .is-finite-f32 .ensures,
+      c .before .both3 .ensures,
+      c .before .before .is-finite .ensures,
+    )
+    (settled (s .maximum) (s .margin) (a .len) (f .length-for .result)
+    (λ (t u : Bool).
+    firstOf (t && a .own) (u && a .lent) (leb (s .accepted) (2 ^ 36)) (finite (a .input)) (finite (a .delay) && le (fin false 0 (pos 0)) (a .delay)) (le (a .delay) (fin false 1 (pos 36))) true (ltb (s .accepted) (2 ^ 36)))
+    (λ t u. refl)
+    (f .length-for .ensures))
+
+pub refusal-spec : {M : Type 1} → statement M
+refusal-spec =
+    tie.close
+    (tie.spec
+    length-for-requires
+    both-requires
+    both-requires-2
+    is-finite-f32-requires
+    is-finite-requires
+    both-requires-3
+    first-requires
+    returns)
