@@ -1,2 +1,3 @@
-pub mod Refused
 pub mod Rates
+pub mod Taken
+pub mod Refused
