@@ -1,4 +1,5 @@
 pub mod Signed
+pub mod Shifted
 pub mod Floors
 pub mod Ends
 pub mod Beyond

@@ -1,3 +1,2 @@
 pub mod Nodes
-pub mod Shifted
 pub mod Ranges

@@ -2,3 +2,5 @@ pub mod Folds
 pub mod Lists
 pub mod Mapped
 pub mod Rows
+pub mod Filling
+pub mod Scratch

@@ -2,12 +2,12 @@
 use mathlib.Core.Path.{_≡_, refl, sym, _∙_, ap, subst}
 use mathlib.Core.List.{List, [], _∷_, _++_}
 use mathlib.Core.Logic.{⊎-elim}
-use Prim.Native.Nat.{ℕ, zero, suc, _+_, _<_}
-use native.Mathlib.Nat.{eq-or-lt-of-le, le-of-suc-le-suc}
+use Prim.Native.Nat.{ℕ, zero, suc, _+_, _≤_, _<_}
+use native.Mathlib.Nat.{le-refl, eq-or-lt-of-le, le-of-suc-le-suc}
 use native.Mathlib.Numerals.{add-one}
 use native.Mathlib.Omega.{arith}
 use lib.ListN.{length, getD, take, set, length-append, List·getD-append}
-use lib.Seq.{take-suc-set, getD-at, take-all}
+use lib.Seq.{take-suc, take-suc-set, getD-at, take-all}
 use lib.Ieee.{Float}
 use Rattle.loops.specs.Loops.{listOf}
 
@@ -41,3 +41,12 @@ written f xs k v l h e = rw add-one (take-suc-set xs k v l ∙ rw (h, e))
 
 pub whole : (f : ℕ → Float) (xs : List Float) (n : ℕ) → n ≡ length xs → take n xs ≡ listOf f n → xs ≡ listOf f n
 whole f xs n l h = sym (take-all n xs (omega arith)) ∙ h
+
+-- ---- any list by its elements
+front-elements : (xs : List Float) (d : Float) (k : ℕ) → k ≤ length xs → take k xs ≡ listOf (λ (i : ℕ). getD xs i d) k
+unfolding listOf
+front-elements xs d zero h = refl
+front-elements xs d (suc k) h = take-suc xs k d h ∙ rw (front-elements xs d k (omega arith))
+
+pub elements : (xs : List Float) (d : Float) → xs ≡ listOf (λ (i : ℕ). getD xs i d) (length xs)
+elements xs d = whole (λ (i : ℕ). getD xs i d) xs (length xs) refl (front-elements xs d (length xs) (le-refl (length xs)))

@@ -1,4 +1,4 @@
--- A list that a loop changes in place, element by element, by one function. Assumes nothing.
+-- One function over every element: of a list by a rule, of a table by its rows, and of a list that a loop changes in place. Assumes nothing.
 use mathlib.Core.Path.{_≡_, refl, sym, _∙_, ap}
 use mathlib.Core.List.{List, [], _∷_, _++_, map, append-assoc, append-nil}
 use Prim.Native.Nat.{ℕ, zero, suc, _+_, _<_}
@@ -7,7 +7,7 @@ use native.Mathlib.Omega.{arith}
 use lib.ListN.{length, getD, take, drop, set, length-append, length-take, length-drop, length-map}
 use lib.Seq.{drop-cons, take-suc, set-at, getD-at, take-length, drop-length, length-take-le}
 use lib.Ieee.{Float}
-use Rattle.loops.specs.Loops.{listOf}
+use Rattle.loops.specs.Loops.{listOf, rows}
 
 module _ (f : Float → Float) where
   map-append : (xs ys : List Float) → map f (xs ++ ys) ≡ map f xs ++ map f ys
@@ -18,6 +18,24 @@ module _ (f : Float → Float) where
   unfolding listOf
   map-list g zero = refl
   map-list g (suc n) = map-append (listOf g n) (g n ∷ []) ∙ ap (λ (l : List Float). l ++ (f (g n) ∷ [])) (map-list g n)
+
+  pub map-rows : (g : ℕ → List Float) (n : ℕ) → map f (rows g n) ≡ rows (λ (p : ℕ). map f (g p)) n
+  unfolding rows
+  map-rows g zero = refl
+  map-rows g (suc n) = map-append (rows g n) (g n) ∙ ap (λ (l : List Float). l ++ map f (g n)) (map-rows g n)
+
+  map-take : (k : ℕ) (xs : List Float) → take k (map f xs) ≡ map f (take k xs)
+  map-take zero xs = refl
+  map-take (suc k) [] = refl
+  map-take (suc k) (x ∷ xs) = ap (λ (l : List Float). f x ∷ l) (map-take k xs)
+
+  map-drop : (k : ℕ) (xs : List Float) → drop k (map f xs) ≡ map f (drop k xs)
+  map-drop zero xs = refl
+  map-drop (suc k) [] = refl
+  map-drop (suc k) (x ∷ xs) = map-drop k xs
+
+  pub map-part : (xs : List Float) (a k : ℕ) → take k (drop a (map f xs)) ≡ map f (take k (drop a xs))
+  map-part xs a k = ap (take k) (map-drop a xs) ∙ map-take k (drop a xs)
 
   -- the first k elements changed
   abbrev pub halfway : List Float → ℕ → List Float

@@ -6,8 +6,8 @@ use Prim.Native.Nat.{ℕ, zero, suc, _+_, _*_, _≤_, _<_}
 use native.Mathlib.Nat.{suc-mul, zero-mul, add-mul, one-mul, mul-le-mul-right, eq-or-lt-of-le, le-of-suc-le-suc}
 use native.Mathlib.Numerals.{add-one}
 use native.Mathlib.Omega.{arith}
-use lib.ListN.{length, take, drop, length-append, length-take, length-drop}
-use lib.Seq.{take-at, drop-at, length-take-le, take-all, take-append-le, drop-append-le}
+use lib.ListN.{length, getD, take, drop, length-append, length-take, length-drop}
+use lib.Seq.{take-at, drop-at, length-take-le, take-all, take-append-le, drop-append-le, getD-take, getD-drop}
 use lib.Ieee.{Float}
 use Rattle.loops.specs.Loops.{rows}
 
@@ -67,3 +67,9 @@ module _ (f : ℕ → List Float) (width : ℕ) (long : (p : ℕ) → length (f 
       ∙ take-append-le width (drop (p * width) (rows f n)) (f n) (simp length-drop (omega arith))
       ∙ row n p l)
       (eq-or-lt-of-le (le-of-suc-le-suc h))
+
+  -- element k of row p
+  pub cell : (n p k : ℕ) (d : Float) → p < n → k < width → getD (rows f n) (p * width + k) d ≡ getD (f p) k d
+  cell n p k d h l =
+      sym (getD-take width (drop (p * width) (rows f n)) k d l ∙ getD-drop (p * width) (rows f n) k d)
+      ∙ ap (λ (ys : List Float). getD ys k d) (row n p h)

@@ -12,7 +12,7 @@ use lib.Ieee.Bits.{is-false}
 use Rattle.interval.proofs.Signed.{under, strictly}
 use Rattle.remainder.specs.Euclid as euclid
 use Rattle.remainder.specs.Euclid.{remEuclid}
-use Rattle.remainder.proofs.Own.{round-own}
+use Rattle.rounding.proofs.Own.{round-own}
 
 -- ---- the order is strict one way only
 pub apart : (x y : Float) → T (le x y) → T (lt y x) → ⊥

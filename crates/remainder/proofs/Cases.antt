@@ -15,7 +15,7 @@ use Rattle.magnitude.proofs.Comparisons.{nlt→le}
 use Rattle.remainder.specs.Euclid as euclid
 use Rattle.remainder.specs.Euclid.{absoluteOf}
 use Rattle.remainder.specs.Digits.{Divided}
-use Rattle.remainder.proofs.Own.{value-unique}
+use Rattle.rounding.proofs.Own.{value-unique}
 
 abbrev zero-f : Float
 zero-f = ofBits binary64 0

@@ -1,5 +1,4 @@
 pub mod Division
-pub mod Own
 pub mod Remainders
 pub mod Below
 pub mod Once

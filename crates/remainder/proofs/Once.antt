@@ -17,7 +17,7 @@ use Rattle.rounding.proofs.Adding.{minus}
 use Rattle.rounding.proofs.Sums.{round-zero}
 use Rattle.remainder.specs.Euclid as euclid
 use Rattle.remainder.specs.Euclid.{remEuclid}
-use Rattle.remainder.proofs.Own.{round-own}
+use Rattle.rounding.proofs.Own.{round-own}
 use Rattle.remainder.proofs.Remainders.{rem-units}
 use Rattle.remainder.proofs.Below.{apart, kept}
 

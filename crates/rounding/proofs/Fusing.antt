@@ -1,16 +1,17 @@
--- `fused` of three values given by fractions, and where nothing is multiplied or added: a product of zero is exact, and a zero added to a product leaves it. Assumes nothing.
+-- `fused` of three values given by fractions, and where nothing is multiplied or added: a product of zero is exact, and a zero added to a product leaves it. What `fused` gives is a value of the format. Assumes nothing.
 use mathlib.Core.Path.{_≡_, refl, sym, ap, _∙_, subst}
 use mathlib.Core.Bool.{Bool, true, false}
 use Prim.Native.Nat.{ℕ, _*_, _<_}
 use native.Mathlib.Nat.{add-zero, sub-zero, zero-mul, mul-one, mul-comm, mul-assoc, mul-left-comm, mul-pos}
+use lib.Dec.{T}
 use lib.IntN.{ℤ, pos}
-use lib.Ieee.{Float, nan, inf, fin, Format, unlike, up, down, round, sum, add, mul}
-use lib.Ieee.Fits.{down-pos}
+use lib.Ieee.{Float, nan, inf, fin, Format, unlike, up, down, round, sum, add, mul, fits}
+use lib.Ieee.Fits.{down-pos, round-fits, add-fits, nan-fits, inf-fits}
 use lib.Ieee.Exact.{HasValue}
 use lib.Ieee.Scale.{round-same}
 use Rattle.rounding.specs.Operations.{fused}
 use Rattle.rounding.proofs.Products.{exact-product}
-use Rattle.rounding.proofs.Sums.{sum-like, sum-less, sum-same, round-zero}
+use Rattle.rounding.proofs.Sums.{sum-is, sum-like, sum-less, sum-same, sum-sign, sum-size, round-zero}
 
 ruleset products = (mul-assoc, mul-comm, mul-left-comm)
 
@@ -70,3 +71,17 @@ module _ (f : Format) (s : Bool) (m : ℕ) (e : ℤ) (t : Bool) (n : ℕ) (d : �
       added-nothing false false a k A = sum-like f false false a 0 k refl ∙ ap (λ (x : ℕ). round f false x k) (add-zero a)
       added-nothing true false a k A = sum-less f true false a 0 k refl A ∙ ap (λ (x : ℕ). round f true x k) (sub-zero a)
       added-nothing false true a k A = sum-less f false true a 0 k refl A ∙ ap (λ (x : ℕ). round f false x k) (sub-zero a)
+
+-- ---- what it gives
+sum-fits : (f : Format) (s : Bool) (a : ℕ) (t : Bool) (b c : ℕ) → T (fits f (sum f s a t b c))
+sum-fits f s a t b c = rw (sum-is f s a t b c) (round-fits f (sum-sign s a t b) (sum-size s a t b) c)
+
+pub fused-fits : (f : Format) (x y z : Float) → T (fits f (fused f x y z))
+unfolding fused
+fused-fits f nan y z = nan-fits f
+fused-fits f (inf s) y z = add-fits f (mul f (inf s) y) z
+fused-fits f (fin s m e) nan z = nan-fits f
+fused-fits f (fin s m e) (inf t) z = add-fits f (mul f (fin s m e) (inf t)) z
+fused-fits f (fin s m e) (fin t n d) nan = nan-fits f
+fused-fits f (fin s m e) (fin t n d) (inf u) = inf-fits f u
+fused-fits f (fin s m e) (fin t n d) (fin u k g) = sum-fits f (unlike s t) (m * up e * (n * up d) * down g) u (k * up g * (down e * down d)) (down e * down d * down g)

@@ -10,6 +10,7 @@ pub mod Near
 pub mod Sticky
 pub mod Jammed
 pub mod Values
+pub mod Own
 pub mod Sums
 pub mod Adding
 pub mod Products

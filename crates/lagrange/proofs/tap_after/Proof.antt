@@ -9,7 +9,7 @@ use mir.Val.{toZ, ofZ, SFits}
 use mir.ValLaws.{toZ-ofZ}
 use Rattle.ring.specs.Taps.{tapOf}
 use Rattle.integer_part.proofs.Signed.{sum-fits}
-use Rattle.lagrange.proofs.Shifted.{small}
+use Rattle.integer_part.proofs.Shifted.{small}
 use Rattle.lagrange.proofs.tap_after.Statement.{statement}
 use Rattle.lagrange.proofs.tap_after.Tie as tie
 

@@ -1,0 +1,77 @@
+// 000's f32 loop over a run of taps: a chain of fused steps, each rounded once, one behind the other.
+ghost use mathlib.Core.Path.{_≡_};
+ghost use mathlib.Core.Bool.{true};
+ghost use Prim.Native.Nat.{min};
+ghost use lib.Dec.{T};
+ghost use lib.ListN.{length};
+ghost use lib.Ieee.{binary32, fits};
+ghost use Rattle.rounding.specs.Operations.{fused};
+ghost use Rattle.fused_chain.specs.Chain.{chainOf, runLength};
+ghost use Rattle.fused_chain.specs.Steps.{Plain, Summed};
+use fused32::fused32;
+use narrowing::narrow;
+
+// Whether the f64 of a pattern is a normal f32 once it is rounded (its exponent's field lies in 897..1149) and is no midpoint of two (its lower 29 digits are
+// no half).
+fn is_plain(n: u64) -> bool
+    ensures { λ r. ⌜ (r ≡ true → Plain n) ⌝ }
+{
+    let m = n & 0x7fff_ffff_ffff_ffff;
+    if m < 0x3810_0000_0000_0000 {
+        return false;
+    }
+    if m >= 0x47e0_0000_0000_0000 {
+        return false;
+    }
+    n & 0x1fff_ffff != 0x1000_0000
+}
+
+// A step whose f64 sum s is not plain. A zero is exact, and stays as it is, sign included: silence is not slow.
+fn rare(x: f32, c: f32, sum: f64, s: f64) -> f64
+    requires { ⌜ Summed x c sum s ⌝ }
+    ensures { λ r. ⌜ r ≡ fused binary32 x c sum ⌝ }
+{
+    if s == 0.0 {
+        return s;
+    }
+    std::num::f32_to_f64_with_nan(fused32(x, c, narrow(sum)))
+}
+
+// x * c + sum rounded once to an f32. The sum is an f32 all along, held as an f64, so that no step widens or narrows it.
+// The product is exact in f64. Where the sum is plain, half of the last digit that an f32 keeps is added to the pattern and what an f32 lacks is
+// cut off: a carry moves up into the exponent's field. No tie is met there, so this is the nearest.
+fn step(x: f32, c: f32, sum: f64) -> f64
+    requires { ⌜ T (fits binary32 sum) ⌝ }
+    ensures { λ r. ⌜ r ≡ fused binary32 x c sum ⌝ }
+{
+    let s = std::num::f32_to_f64_with_nan(x) * std::num::f32_to_f64_with_nan(c) + sum;
+    if s != s {
+        return rare(x, c, sum, s);
+    }
+    let n: u64 = f64::to_bits(s);
+    if is_plain(n) {
+        return f64::from_bits((n + 0x1000_0000) & 0xffff_ffff_e000_0000);
+    }
+    rare(x, c, sum, s)
+}
+
+fn least(a: usize, b: usize) -> usize
+    ensures { λ r. ⌜ r ≡ min a b ⌝ }
+{
+    if a <= b { a } else { b }
+}
+
+// K4, K5. 000's `for k in 0..taps` of the f32 reading, over a run of samples and two rows of a table, from a sum on.
+pub fn chain<'a>(xs: &'a [f32], row0: &'a [f32], row1: &'a [f32], blend: f32, sum: f32) -> f32
+    ensures { λ r. ⌜ r ≡ chainOf (now (xs .entry)) (now (row0 .entry)) (now (row1 .entry)) blend sum (runLength (length (now (xs .entry))) (length (now (row0 .entry))) (length (now (row1 .entry)))) ⌝ }
+{
+    let n = least(xs.len(), least(row0.len(), row1.len()));
+    let mut held = std::num::f32_to_f64_with_nan(sum);
+    let mut k: usize = 0;
+    while k < n {
+        let a = row0[k];
+        held = step(xs[k], a + blend * (row1[k] - a), held);
+        k += 1;
+    }
+    narrow(held)
+}

@@ -1,0 +1,27 @@
+-- K4, K5. What a table of f32 reads at a position: 000's sum over the taps, the blend and each step rounded once to f32, in 000's order. Definitions only.
+use Prim.Native.Nat.{ℕ}
+use mathlib.Core.Bool.{_&&_, cond}
+use mathlib.Core.List.{List}
+use lib.Dec.{eqb}
+use lib.IntN.{pos, _+ℤ_}
+use lib.ListN.{length}
+use lib.Ieee.{Float, binary32}
+use Rattle.answer.specs.Answers.{zero-f}
+use Rattle.loops.specs.Loops.{fold}
+use Rattle.rounding.specs.Operations.{narrowed, fused}
+use Rattle.ring.specs.Taps.{tapOf}
+use Rattle.ring.specs.Places.{positionOk}
+use Rattle.sinc_settings.specs.Refusals.{tableVerdict}
+use Rattle.sinc_read.specs.Phases.{phaseOf, blendOf, firstTap, coefficientAt}
+
+-- `sum = source.at_f32(start + k as i64).mul_add(coefficient, sum)`
+abbrev pub turnOf : List Float → ℕ → ℕ → List Float → ℕ → Float → ℕ → Float → Float
+turnOf table taps phases xs count p k sum =
+    fused binary32 (tapOf xs count (firstTap p taps +ℤ pos k)) (coefficientAt binary32 table (narrowed (blendOf p phases)) taps (phaseOf p phases) k) sum
+
+unfoldable pub sincF32At : List Float → ℕ → ℕ → List Float → ℕ → Float → Float
+sincF32At table taps phases xs count p = fold (turnOf table taps phases xs count p) zero-f taps
+
+-- G3, G5. Zero where a setting or the position is out of range, or the table has another length.
+abbrev pub readOf : List Float → ℕ → ℕ → List Float → ℕ → Float → Float
+readOf table taps phases xs count p = cond (eqb (tableVerdict taps phases (length table)) 0 && positionOk p) (sincF32At table taps phases xs count p) zero-f
