@@ -1,3 +1,4 @@
 pub mod Distance
 pub mod Ready
 pub mod Rows
+pub mod Lent

@@ -2,7 +2,7 @@
 ghost use mathlib.Core.Path.{_≡_};
 ghost use mathlib.Core.Bool.{_&&_};
 ghost use Rattle.sinc_settings.specs.Ranges.{tapsOk, phasesOk, settingsOk, rateOk, passbandOk};
-ghost use Rattle.sinc_settings.specs.Refusals.{tableVerdict, verdict, forRate};
+ghost use Rattle.sinc_settings.specs.Refusals.{tableVerdict, verdict, forRate, rateVerdict};
 
 // 000's four arguments.
 pub struct Settings {
@@ -86,5 +86,16 @@ pub fn for_rate(taps: usize, phases: usize, rate: f64, passband: f64, beta: f64)
         phases: phases,
         cutoff: passband / rate,
         beta: beta,
+    }
+}
+
+// The refusal that is due where a table of this length is lent to 000's for_max_rate, or 0: the rate and the passband are settings too.
+pub fn rate_refusal(settings: Settings, rate: f64, passband: f64, len: usize) -> u8
+    ensures { λ r. ⌜ r ≡ rateVerdict settings rate passband len ⌝ }
+{
+    if rate_ok(rate, passband) {
+        refusal(settings, len)
+    } else {
+        1
     }
 }

@@ -1,0 +1,21 @@
+-- A refused build writes nothing (D1c), and the answer's number is the verdict (C4). Assumes nothing.
+use mathlib.Core.Path.{_≡_, refl}
+use mathlib.Core.List.{List}
+use Prim.Native.Nat.{ℕ, zero, suc}
+use lib.Ieee.{Float}
+use Rattle.sinc_settings.specs.declared.Settings.{Settings}
+use Rattle.windowed_sinc.specs.Table.{builtBy, tableAfter, numberOf}
+use Rattle.windowed_sinc.specs.declared.Built.the-variants.{Refused}
+
+-- of either width
+pub not-written : (v : ℕ) → (v ≡ 0 → ⊥) → (made xs : List Float) → xs ≡ tableAfter v made xs
+not-written zero h made xs = absurd (h refl)
+not-written (suc k) h made xs = refl
+
+pub not-built : (v : ℕ) → (v ≡ 0 → ⊥) → (s : Settings) → Refused v ≡ builtBy v s
+not-built zero h s = absurd (h refl)
+not-built (suc k) h s = refl
+
+pub number-is : (v : ℕ) (s : Settings) → numberOf (builtBy v s) ≡ v
+number-is zero s = refl
+number-is (suc k) s = refl

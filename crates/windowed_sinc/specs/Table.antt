@@ -1,0 +1,28 @@
+-- T1. A windowed sinc table, and what a builder answers and leaves in the lent slice by the refusal that is due. Definitions only.
+use Prim.Native.Nat.{ℕ, zero, suc, _+_}
+use mathlib.Core.List.{List}
+use lib.Ieee.{Float}
+use Rattle.loops.specs.Loops.{rows}
+use Rattle.sinc_settings.specs.declared.Settings.{Settings}
+use Rattle.sinc_row.specs.Coefficient.{windowOf}
+use Rattle.sinc_row.specs.Row.{rowOf}
+use Rattle.windowed_sinc.specs.declared.Built.{Built}
+use Rattle.windowed_sinc.specs.declared.Built.the-variants.{Kernel, Refused}
+
+-- a row for each phase from 0 to phases, each divided by its sum
+unfoldable pub tableOf : Settings → List Float
+tableOf s = rows (rowOf s (windowOf s)) (s .phases + 1)
+
+abbrev pub builtBy : ℕ → Settings → Built
+builtBy zero s = Kernel (record { taps = s .taps; phases = s .phases; cutoff = s .cutoff })
+builtBy (suc k) s = Refused (suc k)
+
+-- A refusal leaves every element (D1c). Of either width.
+abbrev pub tableAfter : ℕ → List Float → List Float → List Float
+tableAfter zero made xs = made
+tableAfter (suc k) made xs = xs
+
+-- C4. 01's number for each case, 0 for a kernel.
+abbrev pub numberOf : Built → ℕ
+numberOf (Kernel k) = 0
+numberOf (Refused k) = k

@@ -1,0 +1,89 @@
+// 000's WindowedSinc over a lent table: new and for_max_rate. The reader of such a table is in sinc_read.
+ghost use mathlib.Core.Path.{_≡_};
+ghost use lib.ListN.{length};
+ghost use Rattle.loops.specs.Loops.{listOf};
+ghost use Rattle.sinc_settings.specs.Refusals.{verdict, forRate, rateVerdict};
+ghost use Rattle.sinc_row.specs.Coefficient.{windowOf};
+ghost use Rattle.windowed_sinc.specs.Table.{tableOf, builtBy, tableAfter};
+use sinc_settings::Settings;
+
+pub struct WindowedSinc {
+    pub taps: usize,
+    pub phases: usize,
+    pub cutoff: f64,
+}
+
+pub enum Built {
+    Kernel(WindowedSinc),
+    Refused(u8),
+}
+
+// T1. Lends each phase's part of the table to `write_row`, under one window.
+fn write_rows<'a>(table: &mut [f64], settings: Settings, window: &'a [f64])
+    requires { ⌜ (verdict settings (length (now table)) ≡ 0) × (now window ≡ listOf (windowOf settings) (settings .taps)) ⌝ }
+    ensures { λ _. ⌜ now (table .exit) ≡ tableOf settings ⌝ }
+{
+    let taps = settings.taps;
+    let phases = settings.phases;
+    let mut phase: usize = 0;
+    while phase <= phases {
+        let start = phase * taps;
+        let end = start + taps;
+        sinc_row::write_row(&mut table[start..end], settings, window, phase);
+        phase += 1;
+    }
+}
+
+// The window depends on the tap alone, so it is computed once for all rows.
+fn write_table(table: &mut [f64], settings: Settings)
+    requires { ⌜ verdict settings (length (now table)) ≡ 0 ⌝ }
+    ensures { λ _. ⌜ now (table .exit) ≡ tableOf settings ⌝ }
+{
+    let mut window: [f64; 128] = [0.0; 128];
+    let taps = settings.taps;
+    sinc_row::write_window(&mut window[0..taps], settings);
+    write_rows(&mut table[..], settings, &window[0..taps]);
+}
+
+// What both builders do once they know which refusal is due.
+fn build(no: u8, settings: Settings, table: &mut [f64]) -> Built
+    requires { ⌜ (no ≡ 0 → verdict settings (length (now table)) ≡ 0) ⌝ }
+    ensures { λ r. ⌜ r ≡ builtBy no settings ⌝ }
+    ensures { λ r. ⌜ now (table .exit) ≡ tableAfter no (tableOf settings) (now (table .entry)) ⌝ }
+{
+    if no != 0 {
+        return Built::Refused(no);
+    }
+    write_table(&mut table[..], settings);
+    Built::Kernel(WindowedSinc {
+        taps: settings.taps,
+        phases: settings.phases,
+        cutoff: settings.cutoff,
+    })
+}
+
+// 000's WindowedSinc::new: refuses by 1 or 2, or writes the table.
+pub fn new(settings: Settings, table: &mut [f64]) -> Built
+    ensures { λ r. ⌜ r ≡ builtBy (verdict settings (length (now (table .entry)))) settings ⌝ }
+    ensures { λ r. ⌜ now (table .exit) ≡ tableAfter (verdict settings (length (now (table .entry)))) (tableOf settings) (now (table .entry)) ⌝ }
+{
+    let no = sinc_settings::refusal(settings, table.len());
+    build(no, settings, &mut table[..])
+}
+
+// 000's WindowedSinc::for_max_rate: the cutoff is passband / max_rate, and both have their range.
+pub fn for_max_rate(
+    taps: usize,
+    phases: usize,
+    max_rate: f64,
+    passband: f64,
+    beta: f64,
+    table: &mut [f64],
+) -> Built
+    ensures { λ r. ⌜ r ≡ builtBy (rateVerdict (forRate taps phases «max_rate» passband beta) «max_rate» passband (length (now (table .entry)))) (forRate taps phases «max_rate» passband beta) ⌝ }
+    ensures { λ r. ⌜ now (table .exit) ≡ tableAfter (rateVerdict (forRate taps phases «max_rate» passband beta) «max_rate» passband (length (now (table .entry)))) (tableOf (forRate taps phases «max_rate» passband beta)) (now (table .entry)) ⌝ }
+{
+    let settings = sinc_settings::for_rate(taps, phases, max_rate, passband, beta);
+    let no = sinc_settings::rate_refusal(settings, max_rate, passband, table.len());
+    build(no, settings, &mut table[..])
+}

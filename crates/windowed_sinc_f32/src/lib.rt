@@ -1,0 +1,116 @@
+// 000's WindowedSincF32 over a lent table: new and for_max_rate. No f64 table is made: a row stands in a scratch, and is rounded into its place.
+ghost use mathlib.Core.Path.{_≡_};
+ghost use mathlib.Core.Bool.{true};
+ghost use mathlib.Core.List.{map};
+ghost use Prim.Native.Nat.{_≤_};
+ghost use lib.ListN.{length};
+ghost use Rattle.loops.specs.Loops.{listOf};
+ghost use Rattle.rounding.specs.Operations.{narrowed};
+ghost use Rattle.sinc_settings.specs.Ranges.{settingsOk};
+ghost use Rattle.sinc_settings.specs.Refusals.{verdict, forRate, rateVerdict};
+ghost use Rattle.sinc_row.specs.Coefficient.{windowOf};
+ghost use Rattle.sinc_row.specs.Row.{rowOf};
+ghost use Rattle.windowed_sinc.specs.Table.{tableAfter};
+ghost use Rattle.windowed_sinc_f32.specs.Table.{tableF32Of, builtBy};
+use sinc_settings::Settings;
+
+pub struct WindowedSincF32 {
+    pub taps: usize,
+    pub phases: usize,
+}
+
+pub enum Built {
+    Kernel(WindowedSincF32),
+    Refused(u8),
+}
+
+// 000's `value as f32`, element by element.
+fn narrow_row<'a>(row: &mut [f32], from: &'a [f64])
+    requires { ⌜ length (now row) ≡ length (now from) ⌝ }
+    ensures { λ _. ⌜ now (row .exit) ≡ map narrowed (now (from .entry)) ⌝ }
+{
+    let mut k: usize = 0;
+    while k < row.len() {
+        row[k] = narrowing::narrow(from[k]);
+        k += 1;
+    }
+}
+
+// A phase's row in f64, then each coefficient rounded once.
+fn write_row<'a>(row: &mut [f32], settings: Settings, window: &'a [f64], phase: usize)
+    requires { ⌜ (settingsOk settings ≡ true) × (now window ≡ listOf (windowOf settings) (settings .taps)) × (phase ≤ settings .phases) × (length (now row) ≡ settings .taps) ⌝ }
+    ensures { λ _. ⌜ now (row .exit) ≡ map narrowed (rowOf settings (windowOf settings) phase) ⌝ }
+{
+    let mut scratch: [f64; 128] = [0.0; 128];
+    let taps = settings.taps;
+    sinc_row::write_row(&mut scratch[0..taps], settings, window, phase);
+    narrow_row(&mut row[..], &scratch[0..taps]);
+}
+
+// T1. Lends each phase's part of the table to `write_row`, under one window.
+fn write_rows<'a>(table: &mut [f32], settings: Settings, window: &'a [f64])
+    requires { ⌜ (verdict settings (length (now table)) ≡ 0) × (now window ≡ listOf (windowOf settings) (settings .taps)) ⌝ }
+    ensures { λ _. ⌜ now (table .exit) ≡ tableF32Of settings ⌝ }
+{
+    let taps = settings.taps;
+    let phases = settings.phases;
+    let mut phase: usize = 0;
+    while phase <= phases {
+        let start = phase * taps;
+        let end = start + taps;
+        write_row(&mut table[start..end], settings, window, phase);
+        phase += 1;
+    }
+}
+
+fn write_table(table: &mut [f32], settings: Settings)
+    requires { ⌜ verdict settings (length (now table)) ≡ 0 ⌝ }
+    ensures { λ _. ⌜ now (table .exit) ≡ tableF32Of settings ⌝ }
+{
+    let mut window: [f64; 128] = [0.0; 128];
+    let taps = settings.taps;
+    sinc_row::write_window(&mut window[0..taps], settings);
+    write_rows(&mut table[..], settings, &window[0..taps]);
+}
+
+// What both builders do once they know which refusal is due.
+fn build(no: u8, settings: Settings, table: &mut [f32]) -> Built
+    requires { ⌜ (no ≡ 0 → verdict settings (length (now table)) ≡ 0) ⌝ }
+    ensures { λ r. ⌜ r ≡ builtBy no settings ⌝ }
+    ensures { λ r. ⌜ now (table .exit) ≡ tableAfter no (tableF32Of settings) (now (table .entry)) ⌝ }
+{
+    if no != 0 {
+        return Built::Refused(no);
+    }
+    write_table(&mut table[..], settings);
+    Built::Kernel(WindowedSincF32 {
+        taps: settings.taps,
+        phases: settings.phases,
+    })
+}
+
+// 000's WindowedSincF32::new: refuses by 1 or 2, or writes the table.
+pub fn new(settings: Settings, table: &mut [f32]) -> Built
+    ensures { λ r. ⌜ r ≡ builtBy (verdict settings (length (now (table .entry)))) settings ⌝ }
+    ensures { λ r. ⌜ now (table .exit) ≡ tableAfter (verdict settings (length (now (table .entry)))) (tableF32Of settings) (now (table .entry)) ⌝ }
+{
+    let no = sinc_settings::refusal(settings, table.len());
+    build(no, settings, &mut table[..])
+}
+
+// 000's WindowedSincF32::for_max_rate: the cutoff is passband / max_rate, and both have their range.
+pub fn for_max_rate(
+    taps: usize,
+    phases: usize,
+    max_rate: f64,
+    passband: f64,
+    beta: f64,
+    table: &mut [f32],
+) -> Built
+    ensures { λ r. ⌜ r ≡ builtBy (rateVerdict (forRate taps phases «max_rate» passband beta) «max_rate» passband (length (now (table .entry)))) (forRate taps phases «max_rate» passband beta) ⌝ }
+    ensures { λ r. ⌜ now (table .exit) ≡ tableAfter (rateVerdict (forRate taps phases «max_rate» passband beta) «max_rate» passband (length (now (table .entry)))) (tableF32Of (forRate taps phases «max_rate» passband beta)) (now (table .entry)) ⌝ }
+{
+    let settings = sinc_settings::for_rate(taps, phases, max_rate, passband, beta);
+    let no = sinc_settings::rate_refusal(settings, max_rate, passband, table.len());
+    build(no, settings, &mut table[..])
+}
