@@ -1,0 +1,4 @@
+pub mod Unrefused
+pub mod Sections
+pub mod Lengths
+pub mod Counted
