@@ -79,7 +79,16 @@ fn tables_read<'a>(
 {
     let safe = set_at(sets, choice.safe);
     let tighter = set_at(sets, choice.tighter);
-    blend_read(safe, tighter, choice.which, choice.blend, quality, source, count, position)
+    blend_read(
+        safe,
+        tighter,
+        choice.which,
+        choice.blend,
+        quality,
+        source,
+        count,
+        position,
+    )
 }
 
 fn sets_ok(choice: Choice, len: usize) -> bool

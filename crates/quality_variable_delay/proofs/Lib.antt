@@ -1,3 +1,4 @@
 pub mod Rates
 pub mod Taken
 pub mod Refused
+pub mod Lent

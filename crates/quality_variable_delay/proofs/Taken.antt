@@ -1,8 +1,9 @@
 -- What an accepted call knows: every test passed, those of a plain delay reader among them, so that its position lies in range and its ring has room.
--- Assumes nothing.
+-- And what it leaves. Assumes nothing.
 use mathlib.Core.Path.{_≡_, refl}
 use mathlib.Core.Bool.{Bool, true, false, not, _&&_}
-use Prim.Native.Nat.{ℕ, _^_, _<_}
+use mathlib.Core.List.{List}
+use Prim.Native.Nat.{ℕ, _+_, _^_, _<_}
 use lib.Dec.{T, eqb, leb, ltb}
 use lib.IntN.{pos}
 use lib.Ieee.{Float, fin, le, isNan}
@@ -10,16 +11,22 @@ use lib.Ieee.Bits.{is-true}
 use lib.Ieee.Fits.{and-l, and-r}
 use lib.Ieee.Scale.{finite}
 use Rattle.answer.specs.Refusals.{firstOf}
+use Rattle.answer.specs.Answers.{answerF32Of}
+use Rattle.answer.specs.declared.AnswerF32.{AnswerF32}
 use Rattle.answer.proofs.Passed.{passed}
 use Rattle.ring.specs.Length.{settingsOk, lengthFor}
 use Rattle.ring.specs.Places.{positionOk}
-use Rattle.variable_delay.specs.Reader.{positionOf}
+use Rattle.variable_delay.specs.Reader.{Reading, stored, positionOf}
 use Rattle.variable_delay.specs.Reader as plain
 use Rattle.variable_delay.proofs.Taken as plainly
+use Rattle.quality_mode.specs.declared.QualityMode.{QualityMode}
+use Rattle.quality_fade.specs.declared.Turn.{Turn}
 use Rattle.quality_fade.specs.Fade.{lengthOk, placeOk}
-use Rattle.quality_variable_delay.specs.State.{delayPart, fadePart}
-use Rattle.quality_variable_delay.specs.Reader.{verdict}
+use Rattle.quality_fade.specs.Step.{stepOf}
+use Rattle.quality_variable_delay.specs.State.{delayPart, fadePart, joined}
+use Rattle.quality_variable_delay.specs.Reader.{verdict, outputOf, processedBy}
 use Rattle.quality_variable_delay.specs.declared.QualityVariableDelayF32.{QualityVariableDelayF32}
+use Rattle.quality_variable_delay.specs.declared.ProcessedQ.{ProcessedQ}
 
 -- the tests by name: settings, fade length, bank; ring, sets; count, place; input, delay twice, rate, room
 record Tests (s n b e l a p x y w r m : Bool) : Type 0 where
@@ -66,3 +73,14 @@ module _ {bank lent : Bool} {d : QualityVariableDelayF32} {len : ℕ} {x y : Flo
 
   pub position-in-range : positionOk (positionOf (d .accepted) y) ≡ true
   position-in-range = plainly.position-in-range as-plain
+
+-- the call's record, from the turn, the ring and the position that it read with
+pub taken-call : (read : QualityMode → Reading) (d : QualityVariableDelayF32) (xs : List Float) (x y : Float) (q : QualityMode) {t : Turn} {ys : List Float} {p z : Float} {s : QualityVariableDelayF32} {a : AnswerF32}
+    → s ≡ joined (record { maximum = d .maximum; margin = d .margin; accepted = d .accepted + 1 }) (t .state)
+    → a ≡ answerF32Of 0 z
+    → z ≡ outputOf read t ys (d .accepted + 1) p
+    → t ≡ stepOf (fadePart d) q
+    → ys ≡ stored (d .accepted) xs x
+    → p ≡ positionOf (d .accepted) y
+    → _≡_ {A = ProcessedQ} (record { state = s; answer = a }) (processedBy read 0 d xs x y q)
+taken-call read d xs x y q left answered read-out turned kept placed = rw (left, answered, read-out, turned, kept, placed)

@@ -1,6 +1,10 @@
 // 000's QualityVariableDelayF32: a delay reader over a lent ring of f32 whose quality may change from call to call, with a fade from the old to the new.
+mod calls; // process_sample and process_sample_rate_aware
 mod opening; // new and reset
+mod turns; // what a turn reads
 
+pub use calls::process_sample;
+pub use calls::process_sample_rate_aware;
 pub use opening::open;
 pub use opening::reset;
 ghost use mathlib.Core.Path.{_≡_};
