@@ -1,6 +1,6 @@
 -- Q2. What one accepted call does, by what it asks for: a quality other than the target starts a fade from the current one, the current one is read at once, and
 -- length 0 never mixes. Assumes nothing.
-use mathlib.Core.Path.{_≡_, refl, _∙_, ap, subst}
+use mathlib.Core.Path.{_≡_, refl, sym, _∙_, ap, subst}
 use mathlib.Core.Bool.{Bool, true, false, _||_, cond}
 use Prim.Native.Nat.{ℕ, _≤_, _<_}
 use native.Mathlib.Omega.{arith}
@@ -10,6 +10,7 @@ use Rattle.quality_mode.specs.declared.QualityMode.{QualityMode}
 use Rattle.quality_mode.specs.Quality.{sameQ}
 use Rattle.quality_mode.proofs.Equal.{same-eq, same-refl}
 use Rattle.quality_fade.specs.declared.Fade.{Fade}
+use Rattle.quality_fade.specs.declared.Turn.{Turn}
 use Rattle.quality_fade.specs.Fade.{fadeOf, lengthOk, placeOk, validOf, openOf, resetOf}
 use Rattle.quality_fade.specs.Step.{askedOf, plainOf, plainTurn, mixTurn, turnOf, stepOf}
 use Rattle.quality_fade.proofs.Kept.{both, in-place, Ready, ready, asked-length, step-taken, step-still}
@@ -66,6 +67,18 @@ back s v = go (sameQ (s .current) (s .target)) refl
         goes-on s (s .current) v e
         ∙ subst (λ (t : QualityMode). turnOf (fadeOf (s .current) t (s .place) (s .length)) ≡ plainTurn (fadeOf (s .current) (s .current) (s .place) (s .length))) (same-eq (s .current) (s .target) e) (stays (s .current) (s .place) (s .length))
     go false e = starts s (s .current) v e ∙ stays (s .current) 0 (s .length)
+
+-- the last quality that a call reads, plain or mixed, is the one that it asks for
+pub reads-asked : (s : Fade) (q : QualityMode) → validOf s ≡ true → stepOf s q .to ≡ q
+reads-asked s q v = ap (λ (t : Turn). t .to) (step-taken s q v) ∙ to-target (askedOf s q) (plainOf (askedOf s q)) ∙ go (sameQ q (s .target)) refl
+  where
+    to-target : (a : Fade) (b : Bool) → cond b (plainTurn a) (mixTurn a) .to ≡ a .target
+    to-target a true = refl
+    to-target a false = refl
+
+    go : (b : Bool) → sameQ q (s .target) ≡ b → cond b s (fadeOf (s .current) q 0 (s .length)) .target ≡ q
+    go true e = sym (same-eq q (s .target) e)
+    go false e = refl
 
 -- a weight over the length is at most 1
 pub weight-fits : (s : Fade) (q : QualityMode) → stepOf s q .weight ≤ s .length

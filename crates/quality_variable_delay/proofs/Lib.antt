@@ -2,3 +2,4 @@ pub mod Rates
 pub mod Taken
 pub mod Refused
 pub mod Lent
+pub mod Readings
