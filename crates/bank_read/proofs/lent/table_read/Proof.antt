@@ -1,4 +1,4 @@
--- `bank_read::table_read` meets its contract: the part that `chosen` hands back is the quality's table, of its own length. Assumes nothing.
+-- `bank_read::lent::table_read` meets its contract: the part that `chosen` hands back is the quality's table, of its own length. Assumes nothing.
 use borrow.Author.Needs.{needs}
 use mathlib.Core.Path.{_≡_, _∙_}
 use mathlib.Core.Bool.{Bool, true, false}
@@ -9,8 +9,8 @@ use lib.Ieee.{Float}
 use Rattle.sinc_bank_f32.specs.Sets.{setLength}
 use Rattle.sinc_bank_f32.specs.Parts.{pickSlice}
 use Rattle.bank_read.proofs.Tables.{table-is}
-use Rattle.bank_read.proofs.table_read.Statement.{statement}
-use Rattle.bank_read.proofs.table_read.Tie as tie
+use Rattle.bank_read.proofs.lent.table_read.Statement.{statement}
+use Rattle.bank_read.proofs.lent.table_read.Tie as tie
 
 chosen-requires : tie.Need-chosen-requires
 chosen-requires c κs = search needs

@@ -1,12 +1,12 @@
--- `bank_read::tables_read` meets its contract: the bank has both sets of the choice, each as long as a set. Assumes nothing.
+-- `bank_read::lent::tables_read` meets its contract: the bank has both sets of the choice, each as long as a set. Assumes nothing.
 use borrow.Author.Needs.{needs}
 use mathlib.Core.Path.{_≡_, _∙_, ap}
 use lib.ListN.{length}
 use denote.Ref.{now}
 use Rattle.bank_read.specs.Bank.{tablesAt}
 use Rattle.bank_read.proofs.Sets.{set-length, both-held}
-use Rattle.bank_read.proofs.tables_read.Statement.{statement}
-use Rattle.bank_read.proofs.tables_read.Tie as tie
+use Rattle.bank_read.proofs.lent.tables_read.Statement.{statement}
+use Rattle.bank_read.proofs.lent.tables_read.Tie as tie
 
 set-at-requires : tie.Need-set-at-requires
 set-at-requires c κs = let s = c .before .before in both-held (s .args .choice) (length (now (s .args .sets))) (s .pre .0) .0

@@ -1,8 +1,8 @@
--- `bank_read::blend_read` meets its contract, by its three cases. Assumes nothing.
+-- `bank_read::lent::blend_read` meets its contract, by its three cases. Assumes nothing.
 use borrow.Author.Needs.{needs}
 use Rattle.bank_read.proofs.Tables.{both-read}
-use Rattle.bank_read.proofs.blend_read.Statement.{statement}
-use Rattle.bank_read.proofs.blend_read.Tie as tie
+use Rattle.bank_read.proofs.lent.blend_read.Statement.{statement}
+use Rattle.bank_read.proofs.lent.blend_read.Tie as tie
 
 table-read-requires : tie.Need-table-read-requires
 table-read-requires c κs = search needs

@@ -1,11 +1,11 @@
--- `bank_read::set_at` meets its contract: the part lent is as long as a set. Assumes nothing.
+-- `bank_read::lent::set_at` meets its contract: the part lent is as long as a set. Assumes nothing.
 use borrow.Author.Needs.{needs}
 use mathlib.Core.Path.{_≡_}
 use Prim.Native.Nat.{_+_, _-_, _*_}
 use native.Mathlib.Omega.{arith}
 use Rattle.bank_read.specs.Bank.{setAt}
-use Rattle.bank_read.proofs.set_at.Statement.{statement}
-use Rattle.bank_read.proofs.set_at.Tie as tie
+use Rattle.bank_read.proofs.lent.set_at.Statement.{statement}
+use Rattle.bank_read.proofs.lent.set_at.Tie as tie
 
 mul-a : tie.Need-mul-a
 mul-a c = search needs

@@ -1,4 +1,4 @@
--- `quality_variable_delay::calls::accepted` meets its contract: where no refusal is due the ring has room, and the position and the bank are in range.
+-- `quality_variable_delay::storing::accepted` meets its contract: where no refusal is due the ring has room, and the position and the bank are in range.
 -- Assumes nothing.
 use borrow.Author.Needs.{needs}
 use mathlib.Core.Path.{_≡_, _∙_, ap}
@@ -14,8 +14,8 @@ use Rattle.bank_read.specs.Bank.{bankAt}
 use Rattle.quality_fade.specs.declared.Fade.{Fade}
 use Rattle.quality_fade.specs.Step.{stepOf}
 use Rattle.quality_variable_delay.proofs.Taken.{Taken, taken, room, ring-some, position-in-range, taken-call}
-use Rattle.quality_variable_delay.proofs.calls.accepted.Statement.{statement}
-use Rattle.quality_variable_delay.proofs.calls.accepted.Tie as tie
+use Rattle.quality_variable_delay.proofs.storing.accepted.Statement.{statement}
+use Rattle.quality_variable_delay.proofs.storing.accepted.Tie as tie
 
 passed : (c : tie.Start) → let a = c .args in Taken (bankOk (a .max-rate)) (eqb (length (now (a .sets))) (stepsOf (a .max-rate) * setLength)) (a .state) (length (now (a .ring))) (a .input) (a .delay)
 passed c = let a = c .args in taken (bankOk (a .max-rate)) (eqb (length (now (a .sets))) (stepsOf (a .max-rate) * setLength)) (a .state) (length (now (a .ring))) (a .input) (a .delay) (a .playback-rate) (c .pre)
