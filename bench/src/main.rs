@@ -13,6 +13,7 @@ mod workloads {
     pub mod floor;
     pub mod fused32;
     pub mod fused64;
+    pub mod modulation;
     pub mod narrow;
     pub mod readers;
     pub mod square_root;
@@ -22,7 +23,7 @@ use std::hint::black_box;
 use std::time::Instant;
 
 /// A file of workloads/ each.
-const WORKLOADS: [fn() -> Workload; 12] = [
+const WORKLOADS: [fn() -> Workload; 14] = [
     workloads::narrow::workload,
     workloads::fused32::workload,
     workloads::fused64::workload,
@@ -31,6 +32,8 @@ const WORKLOADS: [fn() -> Workload; 12] = [
     workloads::elementary::sine,
     workloads::elementary::cosine,
     workloads::elementary::exp2,
+    workloads::modulation::engine,
+    workloads::modulation::engine_default,
     workloads::readers::cubic,
     workloads::readers::lagrange8,
     workloads::readers::lagrange16,

@@ -21,6 +21,7 @@ mod subjects {
     pub mod modulation;
     pub mod narrow;
     pub mod order;
+    pub mod oscillators;
     pub mod patterns;
     pub mod readers;
     pub mod slices;
@@ -32,7 +33,7 @@ use context::Context;
 use std::time::{Duration, Instant};
 
 /// A file of subjects/ each. `run` compares one batch of every kind of input that it has.
-const SUBJECTS: [fn(&mut Context); 10] = [
+const SUBJECTS: [fn(&mut Context); 11] = [
     subjects::patterns::run,
     subjects::order::run,
     subjects::narrow::run,
@@ -42,6 +43,7 @@ const SUBJECTS: [fn(&mut Context); 10] = [
     subjects::words::run,
     subjects::slices::run,
     subjects::readers::run,
+    subjects::oscillators::run,
     subjects::modulation::run,
 ];
 

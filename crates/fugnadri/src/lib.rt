@@ -9,4 +9,6 @@ pub mod numbers;
 pub mod openings;
 pub mod reader_bits;
 pub mod readers;
+mod values; // the same for the elementary functions and the oscillators
 pub mod wander;
+pub mod waves;
