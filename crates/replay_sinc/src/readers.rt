@@ -1,5 +1,6 @@
 // A reader of either width, over the parts of its ring and its table that the settings take.
 ghost use Prim.Native.Nat.{_≤_};
+use crate::lines::Line;
 use crate::tables::Shape;
 use crate::tables::part;
 use crate::tables::refused;
@@ -53,11 +54,11 @@ fn started(before: VariableDelay, opened: Opened) -> Turn {
 }
 
 // How much of a room the ring of some settings takes: opening brings its own.
-fn ring_part(s: VariableDelay, opens: bool, maximum: u64, margin: u64, room: usize) -> usize
+fn ring_part(s: VariableDelay, opens: bool, line: Line, room: usize) -> usize
     ensures { λ r. ⌜ r ≤ room ⌝ }
 {
     let need = if opens {
-        ring::length_for(maximum as usize, margin as usize)
+        ring::length_for(line.a as usize, line.b as usize)
     } else {
         ring::length_for(s.maximum, s.margin)
     };
@@ -69,9 +70,10 @@ fn process<'a>(
     shape: Shape,
     ring: &mut [f64],
     table: &'a [f64],
-    x: f64,
-    delay: f64,
+    line: Line,
 ) -> Turn {
+    let x = float_of(line.a);
+    let delay = float_of(line.b);
     let p = sinc_delay::process_sample(s, ring, x, delay, table, shape.taps, shape.phases);
     let state = p.state;
     let answer = p.answer;
@@ -81,24 +83,22 @@ fn process<'a>(
     }
 }
 
-// `o` opens a reader (maximum delay, margin), `p` hands it a sample (the sample, the delay), `r` resets it.
+// `o` opens a reader (maximum delay, margin), `p` hands it a sample (the sample, the delay), any other letter resets it.
 fn called<'a>(
     s: VariableDelay,
     shape: Shape,
     ring: &mut [f64],
     table: &'a [f64],
-    letter: u8,
-    a: u64,
-    b: u64,
+    line: Line,
 ) -> Turn {
+    let letter = line.letter;
     match letter {
-        b'o' => started(s, variable_delay::open(a as usize, b as usize, ring)),
-        b'p' => process(s, shape, ring, table, float_of(a), float_of(b)),
-        b'r' => started(s, variable_delay::reset(s, ring)),
-        _ => Turn {
-            state: s,
-            answer: refused(0),
-        },
+        b'o' => started(
+            s,
+            variable_delay::open(line.a as usize, line.b as usize, ring),
+        ),
+        b'p' => process(s, shape, ring, table, line),
+        _ => started(s, variable_delay::reset(s, ring)),
     }
 }
 
@@ -107,13 +107,11 @@ pub fn call<'a>(
     shape: Shape,
     ring: &mut [f64],
     table: &'a [f64],
-    letter: u8,
-    a: u64,
-    b: u64,
+    line: Line,
 ) -> Turn {
-    let end = ring_part(s, letter == b'o', a, b, ring.len());
+    let end = ring_part(s, line.letter == b'o', line, ring.len());
     let to = part(shape.taps, shape.phases, table.len());
-    called(s, shape, &mut ring[..end], &table[..to], letter, a, b)
+    called(s, shape, &mut ring[..end], &table[..to], line)
 }
 
 fn process_f32<'a>(
@@ -121,9 +119,10 @@ fn process_f32<'a>(
     shape: Shape,
     ring: &mut [f32],
     table: &'a [f32],
-    x: f32,
-    delay: f64,
+    line: Line,
 ) -> Turn {
+    let x = single(line.a);
+    let delay = float_of(line.b);
     let p = sinc_delay_f32::process_sample(s, ring, x, delay, table, shape.taps, shape.phases);
     let state = p.state;
     let answer = p.answer;
@@ -139,13 +138,15 @@ fn called_f32<'a>(
     shape: Shape,
     ring: &mut [f32],
     table: &'a [f32],
-    letter: u8,
-    a: u64,
-    b: u64,
+    line: Line,
 ) -> Turn {
+    let letter = line.letter;
     match letter {
-        b'O' => started(s, variable_delay_f32::open(a as usize, b as usize, ring)),
-        b'P' => process_f32(s, shape, ring, table, single(a), float_of(b)),
+        b'O' => started(
+            s,
+            variable_delay_f32::open(line.a as usize, line.b as usize, ring),
+        ),
+        b'P' => process_f32(s, shape, ring, table, line),
         _ => started(s, variable_delay_f32::reset(s, ring)),
     }
 }
@@ -155,11 +156,9 @@ pub fn call_f32<'a>(
     shape: Shape,
     ring: &mut [f32],
     table: &'a [f32],
-    letter: u8,
-    a: u64,
-    b: u64,
+    line: Line,
 ) -> Turn {
-    let end = ring_part(s, letter == b'O', a, b, ring.len());
+    let end = ring_part(s, line.letter == b'O', line, ring.len());
     let to = part(shape.taps, shape.phases, table.len());
-    called_f32(s, shape, &mut ring[..end], &table[..to], letter, a, b)
+    called_f32(s, shape, &mut ring[..end], &table[..to], line)
 }

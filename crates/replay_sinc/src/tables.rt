@@ -1,24 +1,17 @@
 // The tables of both widths: built from the same settings, or set element by element, and written as patterns.
 ghost use Prim.Native.Nat.{_≤_};
-use libc::STDOUT_FILENO;
+use crate::lines::Line;
+use crate::lines::say;
 use patterns::bits_of;
 use patterns::bits_of_f32;
 use patterns::float_of;
 use patterns::float_of_f32;
 use sinc_settings::Settings;
-use word_bytes::hex16;
 
 pub struct Shape {
     pub taps: usize,
     pub phases: usize,
     pub beta: f64,
-}
-
-pub fn say(answer: u64, beside: u64) {
-    io::write_all(STDOUT_FILENO, &hex16(answer));
-    io::write_all(STDOUT_FILENO, b" ");
-    io::write_all(STDOUT_FILENO, &hex16(beside));
-    io::write_all(STDOUT_FILENO, b"\n");
 }
 
 // A word's pattern of single precision: its lower half.
@@ -27,11 +20,12 @@ pub fn single(n: u64) -> f32 {
 }
 
 // `s`: the taps, the phases and beta of what follows.
-pub fn shaped(taps: u64, phases: u64, beta: u64) -> Shape {
+fn shaped(line: Line) -> Shape {
+    say(0, 0);
     Shape {
-        taps: taps as usize,
-        phases: phases as usize,
-        beta: float_of(beta),
+        taps: line.a as usize,
+        phases: line.b as usize,
+        beta: float_of(line.c),
     }
 }
 
@@ -85,11 +79,11 @@ fn write<'a>(table: &'a [f64], table_f32: &'a [f32]) {
 }
 
 // `n`: both `new`, of the cutoff.
-fn new(shape: Shape, table: &mut [f64], table_f32: &mut [f32], cutoff: f64) {
+fn new(shape: Shape, table: &mut [f64], table_f32: &mut [f32], line: Line) {
     let settings = Settings {
         taps: shape.taps,
         phases: shape.phases,
-        cutoff,
+        cutoff: float_of(line.a),
         beta: shape.beta,
     };
     let a = windowed_sinc::new(settings, table);
@@ -99,16 +93,18 @@ fn new(shape: Shape, table: &mut [f64], table_f32: &mut [f32], cutoff: f64) {
 }
 
 // `m`: both `for_max_rate`, of the rate and the passband.
-fn for_max_rate(shape: Shape, table: &mut [f64], table_f32: &mut [f32], rate: f64, passband: f64) {
+fn for_max_rate(shape: Shape, table: &mut [f64], table_f32: &mut [f32], line: Line) {
     let taps = shape.taps;
     let phases = shape.phases;
-    let a = windowed_sinc::for_max_rate(taps, phases, rate, passband, shape.beta, table);
-    let b = windowed_sinc_f32::for_max_rate(taps, phases, rate, passband, shape.beta, table_f32);
+    let beta = shape.beta;
+    let rate = float_of(line.a);
+    let passband = float_of(line.b);
+    let a = windowed_sinc::for_max_rate(taps, phases, rate, passband, beta, table);
+    let b = windowed_sinc_f32::for_max_rate(taps, phases, rate, passband, beta, table_f32);
     say(built(a), built_f32(b));
     write(&table[..], &table_f32[..]);
 }
 
-// `e`: an element of both.
 fn put(table: &mut [f64], at: usize, x: f64) {
     if at < table.len() {
         table[at] = x;
@@ -121,51 +117,33 @@ fn put_f32(table: &mut [f32], at: usize, x: f32) {
     }
 }
 
-fn set(table: &mut [f64], table_f32: &mut [f32], at: usize, x: f64, y: f32) {
-    put(table, at, x);
-    put_f32(table_f32, at, y);
+// `e`: an element of both.
+fn set(table: &mut [f64], table_f32: &mut [f32], line: Line) {
+    put(table, line.a as usize, float_of(line.b));
+    put_f32(table_f32, line.a as usize, single(line.c));
     say(0, 0);
 }
 
-fn called(
-    shape: Shape,
-    table: &mut [f64],
-    table_f32: &mut [f32],
-    letter: u8,
-    a: u64,
-    b: u64,
-    c: u64,
-) {
+fn called(shape: Shape, table: &mut [f64], table_f32: &mut [f32], line: Line) -> Shape {
+    let letter = line.letter;
+    if letter == b's' {
+        return shaped(line);
+    }
     if letter == b'n' {
-        new(shape, table, table_f32, float_of(a));
-        return;
+        new(shape, table, table_f32, line);
+        return shape;
     }
     if letter == b'm' {
-        for_max_rate(shape, table, table_f32, float_of(a), float_of(b));
-        return;
+        for_max_rate(shape, table, table_f32, line);
+        return shape;
     }
-    set(table, table_f32, a as usize, float_of(b), single(c));
+    set(table, table_f32, line);
+    shape
 }
 
 // A call about the tables, over the parts of them that the settings take.
-pub fn call(
-    shape: Shape,
-    table: &mut [f64],
-    table_f32: &mut [f32],
-    letter: u8,
-    a: u64,
-    b: u64,
-    c: u64,
-) {
+pub fn call(shape: Shape, table: &mut [f64], table_f32: &mut [f32], line: Line) -> Shape {
     let end = part(shape.taps, shape.phases, table.len());
     let to = part(shape.taps, shape.phases, table_f32.len());
-    called(
-        shape,
-        &mut table[..end],
-        &mut table_f32[..to],
-        letter,
-        a,
-        b,
-        c,
-    );
+    called(shape, &mut table[..end], &mut table_f32[..to], line)
 }

@@ -6,20 +6,23 @@ use Rattle.replay_sinc.proofs.run.Statement.{statement}
 use Rattle.replay_sinc.proofs.run.Tie as tie
 
 abbrev Inv-loop : tie.InvT-loop
-Inv-loop ring₀ ring-f32₀ table₀ table-f32₀ player₀ more₀ turns₀ ring ring-f32 table table-f32 player more turns =
+Inv-loop ring₀ ring-f32₀ table₀ table-f32₀ player₀ line₀ more₀ turns₀ ring ring-f32 table table-f32 player line more turns =
     (length ring ≡ length ring₀) × (length ring-f32 ≡ length ring-f32₀) × (length table ≡ length table₀) × (length table-f32 ≡ length table-f32₀)
 
 abbrev μ-loop : tie.MeasureT-loop
-μ-loop ring₀ ring-f32₀ table₀ table-f32₀ player₀ more₀ turns₀ ring ring-f32 table table-f32 player more turns = turns
+μ-loop ring₀ ring-f32₀ table₀ table-f32₀ player₀ line₀ more₀ turns₀ ring ring-f32 table table-f32 player line more turns = turns
 
-shaped-requires : tie.Need-shaped-requires Inv-loop μ-loop
-shaped-requires c κs = search needs
+hear-requires : tie.Need-hear-requires Inv-loop μ-loop
+hear-requires c κs = search needs
 
 loop-holds : tie.Need-loop-holds Inv-loop μ-loop
 loop-holds c = search needs
 
-some-requires : tie.Need-some-requires Inv-loop μ-loop
-some-requires c κs = search needs
+replay-requires : tie.Need-replay-requires Inv-loop μ-loop
+replay-requires c κs = search needs
+
+hear-requires-2 : tie.Need-hear-requires-2 Inv-loop μ-loop
+hear-requires-2 c κs = search needs
 
 sub-turns : tie.Need-sub-turns Inv-loop μ-loop
 sub-turns c = search needs
@@ -66,9 +69,10 @@ run-spec =
     (tie.spec
     Inv-loop
     μ-loop
-    shaped-requires
+    hear-requires
     loop-holds
-    some-requires
+    replay-requires
+    hear-requires-2
     sub-turns
     loop-less
     loop-again
