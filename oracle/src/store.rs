@@ -3,17 +3,19 @@
 //! A line of stdin is one call: its letter and its arguments as words of 16 hex digits in capitals,
 //! one blank between two. The answer is the line of stdout beside it, in words likewise, or stands
 //! among the words of the call, and stdout says how many there are. A float is its pattern; a NaN
-//! that is an answer is 7FF8000000000000. Every line of a list has the same length.
+//! that is an answer is 7FF8000000000000, of f32 7FC00000. Every line of a list has the same length.
 #![no_main]
 
 mod random;
 mod lists {
     pub mod delays;
+    pub mod sinc;
     pub mod wander;
 }
 
 /// A file of lists/ each.
-const LISTS: [(&str, fn(&mut List)); 2] = [("delays", lists::delays::write), ("wander", lists::wander::write)];
+const LISTS: [(&str, fn(&mut List)); 3] =
+    [("delays", lists::delays::write), ("sinc", lists::sinc::write), ("wander", lists::wander::write)];
 
 pub struct List {
     stdin: String,
@@ -23,7 +25,12 @@ pub struct List {
 impl List {
     pub fn line(&mut self, letter: char, call: [u64; 3], answer: u64, count: u64) {
         self.call(letter, ' ', call);
-        self.stdout += &format!("{answer:016X} {count:016X}\n");
+        self.answer(answer, count);
+    }
+
+    /// A line of answers alone.
+    pub fn answer(&mut self, a: u64, b: u64) {
+        self.stdout += &format!("{a:016X} {b:016X}\n");
     }
 
     /// A call whose answer, if it has one, is among its words.
@@ -42,6 +49,14 @@ pub fn pattern(x: f64) -> u64 {
         0x7FF8_0000_0000_0000
     } else {
         x.to_bits()
+    }
+}
+
+pub fn pattern_f32(x: f32) -> u64 {
+    if x.is_nan() {
+        0x7FC0_0000
+    } else {
+        x.to_bits() as u64
     }
 }
 

@@ -58,16 +58,16 @@ fn runs<K: Kernel>(list: &mut List, n: u64, kernel: u64, (maximum, margin): (usi
 }
 
 /// A whole multiple of 2^-23 from -1 to 1.
-fn fine(random: &mut Random) -> f64 {
+pub fn fine(random: &mut Random) -> f64 {
     random.within(-1 << 23, 1 << 23) as f64 / (1 << 23) as f64
 }
 
 /// A whole multiple of 2^-16, from 0 to a little past the oldest sample that is held.
-fn near(random: &mut Random, held: i64) -> f64 {
+pub fn near(random: &mut Random, held: i64) -> f64 {
     random.within(0, (held + 1) << 16) as f64 / 65536.0
 }
 
-fn sample(random: &mut Random, largest: bool) -> f64 {
+pub fn sample(random: &mut Random, largest: bool) -> f64 {
     match random.within(0, 31) {
         0 => 0.0,
         1 | 2 => -0.0,
@@ -83,7 +83,7 @@ fn sample(random: &mut Random, largest: bool) -> f64 {
     }
 }
 
-fn delay(random: &mut Random, held: i64) -> f64 {
+pub fn delay(random: &mut Random, held: i64) -> f64 {
     let whole = random.within(0, held + 3) as f64;
     let pick = random.within(0, 3) as usize;
     match random.within(0, 31) {

@@ -1,0 +1,92 @@
+// O5. Replays a stored list of the original's answers: tables of its WindowedSinc and WindowedSincF32, and runs of VariableDelay and VariableDelayF32 over them.
+// A line is answered by a line, and after a table is built its elements follow, a line for each (docs/ORACLE.md has the letters); oracle/src/lists/sinc.rs makes the
+// list. A trailing part of a line is ignored.
+mod lines; // a line that is read, and one that is written
+mod readers; // a reader of either width
+mod tables; // a table of either width, built, set and written
+
+use lines::Line;
+use lines::hear;
+use lines::say;
+use readers::Turn;
+use tables::Shape;
+use variable_delay::VariableDelay;
+
+// The settings of the tables that are built or read next, and the reader.
+struct Player {
+    shape: Shape,
+    state: VariableDelay,
+}
+
+// What a reader answers, and the accepted number afterwards.
+fn answered(shape: Shape, turn: Turn) -> Player {
+    let state = turn.state;
+    say(turn.answer, state.accepted);
+    Player { shape, state }
+}
+
+// Whom a letter concerns: the tables, a reader of f32, or one of f64.
+fn concerned(letter: u8) -> u8 {
+    match letter {
+        b's' | b'e' | b'n' | b'm' => 0,
+        b'O' | b'P' | b'R' => 1,
+        _ => 2,
+    }
+}
+
+fn replay(
+    before: Player,
+    ring: &mut [f64],
+    ring_f32: &mut [f32],
+    table: &mut [f64],
+    table_f32: &mut [f32],
+    line: Line,
+) -> Player {
+    let shape = before.shape;
+    let state = before.state;
+    let whom = concerned(line.letter);
+    if whom == 0 {
+        let shape = tables::call(shape, table, table_f32, line);
+        return Player { shape, state };
+    }
+    if whom == 1 {
+        let t = readers::call_f32(state, shape, ring_f32, &table_f32[..], line);
+        return answered(shape, t);
+    }
+    let t = readers::call(state, shape, ring, &table[..], line);
+    answered(shape, t)
+}
+
+// Line after line: as many as a u64 counts, which no input outlasts.
+fn run(ring: &mut [f64], ring_f32: &mut [f32], table: &mut [f64], table_f32: &mut [f32]) {
+    let mut player = Player {
+        shape: Shape {
+            taps: 0,
+            phases: 0,
+            beta: 0.0,
+        },
+        state: VariableDelay {
+            maximum: 0,
+            margin: 0,
+            accepted: 0,
+        },
+    };
+    let mut line = hear();
+    let mut more = line.whole;
+    let mut turns = u64::MAX;
+    while turns > 0 && more {
+        player = replay(player, ring, ring_f32, table, table_f32, line);
+        line = hear();
+        more = line.whole;
+        turns -= 1;
+    }
+}
+
+// Rings of at most 128 places and tables of at most 512 elements.
+fn main() {
+    let mut ring = [0.0f64; 128];
+    let mut ring_f32 = [0.0f32; 128];
+    let mut table = [0.0f64; 512];
+    let mut table_f32 = [0.0f32; 512];
+    run(&mut ring, &mut ring_f32, &mut table, &mut table_f32);
+}

@@ -1,0 +1,164 @@
+// A reader of either width, over the parts of its ring and its table that the settings take.
+ghost use Prim.Native.Nat.{_≤_};
+use crate::lines::Line;
+use crate::tables::Shape;
+use crate::tables::part;
+use crate::tables::refused;
+use crate::tables::single;
+use answer::Answer;
+use answer::AnswerF32;
+use patterns::bits_of;
+use patterns::bits_of_f32;
+use patterns::float_of;
+use variable_delay::Opened;
+use variable_delay::VariableDelay;
+
+pub struct Turn {
+    pub state: VariableDelay,
+    pub answer: u64,
+}
+
+// O4. Where the original answers 0.0 and does not advance (4, 5) so does this.
+fn silent(no: u8) -> u64 {
+    match no {
+        4 | 5 => 0,
+        _ => refused(no),
+    }
+}
+
+fn pattern(answer: Answer) -> u64 {
+    match answer {
+        Answer::Sample(y) => bits_of(y),
+        Answer::Refused(no) => silent(no),
+    }
+}
+
+fn pattern_f32(answer: AnswerF32) -> u64 {
+    match answer {
+        AnswerF32::Sample(y) => bits_of_f32(y) as u64,
+        AnswerF32::Refused(no) => silent(no),
+    }
+}
+
+fn started(before: VariableDelay, opened: Opened) -> Turn {
+    match opened {
+        Opened::Reader(s) => Turn {
+            state: s,
+            answer: 0,
+        },
+        Opened::Refused(no) => Turn {
+            state: before,
+            answer: refused(no),
+        },
+    }
+}
+
+// How much of a room the ring of some settings takes: opening brings its own.
+fn ring_part(s: VariableDelay, opens: bool, line: Line, room: usize) -> usize
+    ensures { λ r. ⌜ r ≤ room ⌝ }
+{
+    let need = if opens {
+        ring::length_for(line.a as usize, line.b as usize)
+    } else {
+        ring::length_for(s.maximum, s.margin)
+    };
+    if need < room { need } else { room }
+}
+
+fn process<'a>(
+    s: VariableDelay,
+    shape: Shape,
+    ring: &mut [f64],
+    table: &'a [f64],
+    line: Line,
+) -> Turn {
+    let x = float_of(line.a);
+    let delay = float_of(line.b);
+    let p = sinc_delay::process_sample(s, ring, x, delay, table, shape.taps, shape.phases);
+    let state = p.state;
+    let answer = p.answer;
+    Turn {
+        state,
+        answer: pattern(answer),
+    }
+}
+
+// `o` opens a reader (maximum delay, margin), `p` hands it a sample (the sample, the delay), any other letter resets it.
+fn called<'a>(
+    s: VariableDelay,
+    shape: Shape,
+    ring: &mut [f64],
+    table: &'a [f64],
+    line: Line,
+) -> Turn {
+    let letter = line.letter;
+    match letter {
+        b'o' => started(
+            s,
+            variable_delay::open(line.a as usize, line.b as usize, ring),
+        ),
+        b'p' => process(s, shape, ring, table, line),
+        _ => started(s, variable_delay::reset(s, ring)),
+    }
+}
+
+pub fn call<'a>(
+    s: VariableDelay,
+    shape: Shape,
+    ring: &mut [f64],
+    table: &'a [f64],
+    line: Line,
+) -> Turn {
+    let end = ring_part(s, line.letter == b'o', line, ring.len());
+    let to = part(shape.taps, shape.phases, table.len());
+    called(s, shape, &mut ring[..end], &table[..to], line)
+}
+
+fn process_f32<'a>(
+    s: VariableDelay,
+    shape: Shape,
+    ring: &mut [f32],
+    table: &'a [f32],
+    line: Line,
+) -> Turn {
+    let x = single(line.a);
+    let delay = float_of(line.b);
+    let p = sinc_delay_f32::process_sample(s, ring, x, delay, table, shape.taps, shape.phases);
+    let state = p.state;
+    let answer = p.answer;
+    Turn {
+        state,
+        answer: pattern_f32(answer),
+    }
+}
+
+// `O`, `P` and `R`: the same of single precision.
+fn called_f32<'a>(
+    s: VariableDelay,
+    shape: Shape,
+    ring: &mut [f32],
+    table: &'a [f32],
+    line: Line,
+) -> Turn {
+    let letter = line.letter;
+    match letter {
+        b'O' => started(
+            s,
+            variable_delay_f32::open(line.a as usize, line.b as usize, ring),
+        ),
+        b'P' => process_f32(s, shape, ring, table, line),
+        _ => started(s, variable_delay_f32::reset(s, ring)),
+    }
+}
+
+pub fn call_f32<'a>(
+    s: VariableDelay,
+    shape: Shape,
+    ring: &mut [f32],
+    table: &'a [f32],
+    line: Line,
+) -> Turn {
+    let end = ring_part(s, line.letter == b'O', line, ring.len());
+    let to = part(shape.taps, shape.phases, table.len());
+    called_f32(s, shape, &mut ring[..end], &table[..to], line)
+}
