@@ -5,7 +5,7 @@ ghost use Prim.Native.Nat.{_+_, _*_, _/_, _%_, _^_, _≤_, _<_};
 ghost use Rattle.digits.specs.Jam.{Jam};
 ghost use Rattle.fused64.specs.Wide.{val};
 ghost use Rattle.fused64.specs.Word.{Heads, Headed, Cutoff, Placed, Joined, Beside, Quick};
-use crate::product;
+use crate::wide::product;
 
 // Sign and field, the field less 768: of all that are in reach, below 512.
 fn head(bits: u64) -> u64

@@ -15,8 +15,8 @@ use Rattle.fused64.proofs.fused64.Tie as tie
 parts : (c : tie.Then1) → T (not (isNan (c .before .args .a))) × T (not (isNan (c .before .args .b))) × T (not (isNan (c .before .args .c)))
 parts c = no-nan-parts (c .before .args .a) (c .before .args .b) (c .before .args .c) (c .if1 .taken)
 
-found : (c : tie.Then2) → Quick (toBits binary64 (c .before .before .before .args .a)) (toBits binary64 (c .before .before .before .args .b)) (toBits binary64 (c .before .before .before .args .c)) (c .before .quick .result)
-found c = c .before .quick .ensures (pos-of-ne-zero (c .if2 .taken))
+found : (c : tie.Else2) → Quick (toBits binary64 (c .before .before .before .args .a)) (toBits binary64 (c .before .before .before .args .b)) (toBits binary64 (c .before .before .before .args .c)) (c .before .quick .result)
+found c = c .before .quick .ensures (pos-of-ne-zero (c .if2 .left))
 
 float-to-bits-quick : tie.Need-float-to-bits-quick
 float-to-bits-quick c = parts c .0
@@ -30,21 +30,27 @@ float-to-bits-quick-3 c = parts c .2
 quick-requires : tie.Need-quick-requires
 quick-requires c κs = search needs
 
+by-cases-requires : tie.Need-by-cases-requires
+by-cases-requires c κs = search needs
+
+returns : tie.Need-returns
+returns c = search needs
+
 float-from-bits-result : tie.Need-float-from-bits-result
 float-from-bits-result c = rest-no-nan binary64 (c .before .quick .result) (found c .finite)
 
-returns : tie.Need-returns
-returns c =
+returns-2 : tie.Need-returns-2
+returns-2 c =
     let t = c .before .before in
     let a = t .before in
     let p = parts t in
     quick-fused (a .args .a) (a .args .b) (a .args .c) (subst T (sym (a .good .0 .1)) tt) (subst T (sym (a .good .1 .0 .1)) tt) (subst T (sym (a .good .1 .1 .0 .1)) tt) (p .0) (p .1) (p .2) (c .before .quick .result) (found c)
 
-by-cases-requires : tie.Need-by-cases-requires
-by-cases-requires c κs = search needs
+by-cases-requires-2 : tie.Need-by-cases-requires-2
+by-cases-requires-2 c κs = search needs
 
-returns-2 : tie.Need-returns-2
-returns-2 c = search needs
+returns-3 : tie.Need-returns-3
+returns-3 c = search needs
 
 pub fused64-spec : {M : Type 1} → statement M
 fused64-spec =
@@ -54,7 +60,9 @@ fused64-spec =
     float-to-bits-quick-2
     float-to-bits-quick-3
     quick-requires
-    float-from-bits-result
-    returns
     by-cases-requires
-    returns-2)
+    returns
+    float-from-bits-result
+    returns-2
+    by-cases-requires-2
+    returns-3)
