@@ -11,8 +11,8 @@ use lib.Bits.{bitAnd, bitOr, and-le-l, and-le-r, and-mask, or-add-and, or-mod}
 use Rattle.digits.specs.Pattern.{withSticky}
 use Rattle.digits.specs.Jam.{Jam}
 use Rattle.digits.proofs.Jams.{jam-cut}
-use Rattle.fused64.specs.Wide.{val}
-use Rattle.fused64.specs.Word.{Heads, Cutoff}
+use Rattle.fused64.specs.Wide.{val, lower}
+use Rattle.fused64.specs.Word.{Heads, Tells, Cutoff}
 
 -- ---- all three
 or-ge-l : (x y : ℕ) → x ≤ bitOr x y
@@ -39,11 +39,27 @@ sticky-same q r r' f g = elim (eq-zero-or-pos r) [
     zero-not-pos : (r : ℕ) → r ≡ 0 → 0 < r → ⊥
     zero-not-pos r z p = omega arith
 
-none : (x y : ℕ) → bitOr x y ≡ 0 → val x y ≡ 0
-none x y z = omega (arith, or-ge-l x y, or-ge-r x y)
+none : (x y lo : ℕ) → Tells y lo → bitOr x y ≡ 0 → val x lo ≡ 0
+none x y lo t z =
+    let n = t .none (omega (arith, or-ge-r x y)) in
+    omega (arith, or-ge-l x y)
 
-nothing : (x y : ℕ) → val x y ≡ 0 → bitOr x y ≡ 0
-nothing x y z = omega (arith, or-add-and x y)
+nothing : (x y lo : ℕ) → Tells y lo → val x lo ≡ 0 → bitOr x y ≡ 0
+nothing x y lo t z =
+    let n = t .nothing (omega arith) in
+    omega (arith, or-add-and x y)
+
+-- the columns of a word tell it
+pub columns-tell : (middle low : ℕ) → Tells (bitAnd (bitOr middle low) 0xffff_ffff) (lower middle low)
+columns-tell middle low =
+    let e : bitAnd (bitOr middle low) 0xffff_ffff ≡ bitOr (middle % 2 ^ 32) (low % 2 ^ 32) = and-mask (bitOr middle low) 32 ∙ or-mod middle low 32 in
+    let a = or-ge-l (middle % 2 ^ 32) (low % 2 ^ 32) in
+    let b = or-ge-r (middle % 2 ^ 32) (low % 2 ^ 32) in
+    let up : middle * 2 ^ 32 % 2 ^ 64 ≡ middle % 2 ^ 32 * 2 ^ 32 = moved middle in
+    record { word = omega arith; none = λ z. omega arith; nothing = λ z. omega (arith, or-add-and (middle % 2 ^ 32) (low % 2 ^ 32)) }
+  where
+    moved : (m : ℕ) → m * 2 ^ 32 % 2 ^ 64 ≡ m % 2 ^ 32 * 2 ^ 32
+    moved m = omega arith
 
 sticky-lt : (q r : ℕ) → q < 2 ^ 62 → withSticky q r < 2 ^ 62
 sticky-lt q r h = elim (eq-zero-or-pos r) [
@@ -51,7 +67,7 @@ sticky-lt q r h = elim (eq-zero-or-pos r) [
   | inr p ↦ rw (ne-eqb r 0 (omega arith)) (omega arith)
 ]
 
-module _ (hi lo d : ℕ) (H : hi < 2 ^ 62) (L : lo < 2 ^ 64) where
+module _ (hi rest d : ℕ) (H : hi < 2 ^ 62) where
   abbrev D : ℕ
   D = 2 ^ d
 
@@ -68,16 +84,16 @@ module _ (hi lo d : ℕ) (H : hi < 2 ^ 62) (L : lo < 2 ^ 64) where
       let e = div-add-mod' hi D in
       omega (arith, back-fits)
 
-  pub cut-off : Cutoff hi lo d (withSticky (hi / D) (bitOr (hi - hi / D * D % 2 ^ 64) lo))
-  cut-off =
+  pub cut-off : (lo : ℕ) → Tells rest lo → Cutoff hi lo d (withSticky (hi / D) (bitOr (hi - hi / D * D % 2 ^ 64) rest))
+  cut-off lo t =
       let e : hi - hi / D * D % 2 ^ 64 ≡ hi % D = omega (arith, back-fits, div-add-mod' hi D) in
-      let same : withSticky (hi / D) (bitOr (hi % D) lo) ≡ withSticky (hi / D) (val (hi % D) lo) =
-      sticky-same (hi / D) (bitOr (hi % D) lo) (val (hi % D) lo) (none (hi % D) lo) (nothing (hi % D) lo) in
+      let same : withSticky (hi / D) (bitOr (hi % D) rest) ≡ withSticky (hi / D) (val (hi % D) lo) =
+      sticky-same (hi / D) (bitOr (hi % D) rest) (val (hi % D) lo) (none (hi % D) rest lo t) (nothing (hi % D) rest lo t) in
       let unit : 2 ^ (64 + d) ≡ D * 2 ^ 64 = pow-add 2 64 d ∙ mul-comm (2 ^ 64) D in
       let parts : hi / D * (D * 2 ^ 64) + val (hi % D) lo ≡ val hi lo = whole (hi / D) D (hi % D) lo hi (div-add-mod' hi D) in
       record {
-        below = sticky-lt (hi / D) (bitOr (hi - hi / D * D % 2 ^ 64) lo) (lt-of-le-of-lt (shr-le hi d) H);
-        jams = rw (e, same, unit) (jam-cut (val hi lo) (D * 2 ^ 64) (hi / D) (val (hi % D) lo) parts (digits-lt (mod-lt hi (pow-pos d)) L));
+        below = sticky-lt (hi / D) (bitOr (hi - hi / D * D % 2 ^ 64) rest) (lt-of-le-of-lt (shr-le hi d) H);
+        jams = rw (e, same, unit) (jam-cut (val hi lo) (D * 2 ^ 64) (hi / D) (val (hi % D) lo) parts (digits-lt (mod-lt hi (pow-pos d)) (t .word)));
       }
     where
       whole : (q u r lo hi : ℕ) → q * u + r ≡ hi → q * (u * 2 ^ 64) + val r lo ≡ val hi lo

@@ -12,6 +12,12 @@ pub record Heads (f g h : ℕ) : Type 0 where
   pub second : g % 2 ^ 11 < 2 ^ 9
   pub third : h % 2 ^ 11 < 2 ^ 9
 
+-- rest tells whether there is anything in the word lo
+pub record Tells (rest lo : ℕ) : Type 0 where
+  pub word : lo < 2 ^ 64
+  pub none : rest ≡ 0 → lo ≡ 0
+  pub nothing : lo ≡ 0 → rest ≡ 0
+
 -- r stands for hi * 2 ^ 64 + lo at the place 64 + d
 pub record Cutoff (hi lo d r : ℕ) : Type 0 where
   pub below : r < 2 ^ 62

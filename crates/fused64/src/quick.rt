@@ -1,11 +1,9 @@
 // The fused step of three values from 2^-255 to 2^257 in one word: the product is cut to a word and the addend put beside it, where it loses nothing. Every answer is a pattern, or 0 where another way has to be taken.
 ghost use mathlib.Core.Path.{_≡_};
 ghost use mathlib.Core.Bool.{true};
-ghost use Prim.Native.Nat.{_+_, _*_, _/_, _%_, _^_, _≤_, _<_};
-ghost use Rattle.digits.specs.Jam.{Jam};
-ghost use Rattle.fused64.specs.Wide.{val};
-ghost use Rattle.fused64.specs.Word.{Heads, Headed, Cutoff, Placed, Joined, Beside, Quick};
-use crate::wide::product;
+ghost use Prim.Native.Nat.{ℕ, _+_, _*_, _/_, _%_, _^_, _≤_, _<_};
+ghost use Rattle.fused64.specs.Word.{Heads, Headed, Tells, Cutoff, Placed, Joined, Beside, Quick};
+use crate::wide::columns;
 
 // Sign and field, the field less 768: of all that are in reach, below 512.
 fn head(bits: u64) -> u64
@@ -27,13 +25,13 @@ fn digits_of(bits: u64) -> u64
     (bits & 0xf_ffff_ffff_ffff) + 0x10_0000_0000_0000
 }
 
-// What is left of hi * 2^64 + lo without its lowest 64 + d digits, made odd where that is not exact.
-fn without(hi: u64, lo: u64, d: u64) -> u64
+// What is left of a number of two words without its lowest 64 + d digits, made odd where that is not exact: rest tells whether there is anything in the lower word.
+fn without(hi: u64, rest: u64, d: u64) -> u64
     requires { ⌜ d < 64 ⌝ ∗ ⌜ hi < 2 ^ 62 ⌝ }
-    ensures { λ r. ⌜ Cutoff hi lo d r ⌝ }
+    ensures { λ r. ⌜ ((lo : ℕ) → Tells rest lo → Cutoff hi lo d r) ⌝ }
 {
     let t: u64 = hi >> d;
-    digits::sticky(t, (hi - (t << d)) | lo)
+    digits::sticky(t, (hi - (t << d)) | rest)
 }
 
 // The number n at the place g has, rounded once, with g's sign; of fewer than 56 digits it might not be exact.
@@ -71,7 +69,8 @@ pub fn quick(a: u64, b: u64, c: u64) -> u64
     let g = head(b);
     let h = head(c);
     if in_reach(f, g, h) {
-        let m = product(digits_of(a) << 10, digits_of(b) << 10);
+        let m = columns(digits_of(a) << 10, digits_of(b) << 10);
+        let rest: u64 = (m.middle | m.low) & 0xffff_ffff;
         let z: u64 = digits_of(c) << 8;
         let k: u64 = f + g;
         let i: u64 = (k & 0x7ff) + 515;
@@ -80,12 +79,12 @@ pub fn quick(a: u64, b: u64, c: u64) -> u64
         let t: u64 = ((h >> 11) & 1) << 11;
         if i <= j {
             if j - i < 64 {
-                return joined(s, without(m.hi, m.lo, j - i), t, z, j);
+                return joined(s, without(m.hi, rest, j - i), t, z, j);
             }
             return 0;
         }
         if i - j < 8 {
-            return joined(s, without(m.hi, m.lo, 0), t, z >> (i - j), i);
+            return joined(s, without(m.hi, rest, 0), t, z >> (i - j), i);
         }
     }
     0

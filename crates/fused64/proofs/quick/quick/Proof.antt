@@ -4,10 +4,11 @@ use native.Mathlib.Omega.{arith}
 use mathlib.Core.Path.{_≡_, ap, _∙_}
 use Prim.Native.Nat.{ℕ, _+_, _-_, _*_, _/_, _%_, _^_, _≤_, _<_}
 use native.Mathlib.Nat.{lt-irrefl, lt-of-le-of-lt, zero-lt-suc}
-use lib.Bits.{bitAnd, and-mask}
+use lib.Bits.{bitAnd, bitOr, and-mask}
 use lib.Pow.{shr-le}
-use Rattle.fused64.specs.Wide.{val}
-use Rattle.fused64.specs.Word.{Heads, Beside, digits53, fieldOf}
+use Rattle.fused64.specs.Wide.{val, lower}
+use Rattle.fused64.specs.Word.{Heads, Tells, Beside, digits53, fieldOf}
+use Rattle.fused64.proofs.Reach.{columns-tell}
 use Rattle.fused64.proofs.Fields.{reached, high-lt, halved-even, beside, at-addend, at-product}
 use Rattle.fused64.proofs.quick.quick.Statement.{statement}
 use Rattle.fused64.proofs.quick.quick.Tie as tie
@@ -34,19 +35,25 @@ third c =
     let h = c .before .before in
     reached (h .before .before .before .args .c) (h .head3 .result) (h .before .before .before .fits .c .fits) (search needs) (h .head3 .ensures) (fields c .third)
 
-whole : (c : tie.After-product) → val (c .product .result .hi) (c .product .result .lo) ≡ digits53 (c .before .before .before .before .before .before .before .before .args .a) * 2 ^ 10 * (digits53 (c .before .before .before .before .before .before .before .before .args .b) * 2 ^ 10)
+abbrev low-word : (c : tie.After-columns) → ℕ
+low-word c = lower (c .columns .result .middle) (c .columns .result .low)
+
+told : (c : tie.After-columns) → Tells (bitAnd (bitOr (c .columns .result .middle) (c .columns .result .low)) 0xffff_ffff) (low-word c)
+told c = columns-tell (c .columns .result .middle) (c .columns .result .low)
+
+whole : (c : tie.After-columns) → val (c .columns .result .hi) (low-word c) ≡ digits53 (c .before .before .before .before .before .before .before .before .args .a) * 2 ^ 10 * (digits53 (c .before .before .before .before .before .before .before .before .args .b) * 2 ^ 10)
 whole c =
     let d = c .before in
     let x : d .before .digits-of .result * 2 ^ 10 % 2 ^ 64 ≡ digits53 (d .before .before .before .before .before .before .before .args .a) * 2 ^ 10 = omega (arith, d .before .digits-of .ensures) in
     let y : d .digits-of2 .result * 2 ^ 10 % 2 ^ 64 ≡ digits53 (d .before .before .before .before .before .before .before .args .b) * 2 ^ 10 = omega (arith, d .digits-of2 .ensures) in
-    c .product .ensures ∙ ap (λ (v : ℕ). v * (d .digits-of2 .result * 2 ^ 10 % 2 ^ 64)) x ∙ ap (λ (v : ℕ). digits53 (d .before .before .before .before .before .before .before .args .a) * 2 ^ 10 * v) y
+    c .columns .ensures ∙ ap (λ (v : ℕ). v * (d .digits-of2 .result * 2 ^ 10 % 2 ^ 64)) x ∙ ap (λ (v : ℕ). digits53 (d .before .before .before .before .before .before .before .args .a) * 2 ^ 10 * v) y
 
-narrow : (c : tie.After-product) → c .product .result .hi < 2 ^ 62
+narrow : (c : tie.After-columns) → c .columns .result .hi < 2 ^ 62
 narrow c =
     let a = c .before .before .before .before .before .before .before .before .args in
-    high-lt (a .a) (a .b) (c .product .result .hi) (c .product .result .lo) (whole c)
+    high-lt (a .a) (a .b) (c .columns .result .hi) (low-word c) (whole c)
 
-addend : (c : tie.After-digits-of3) → c .digits-of3 .result * 2 ^ 8 % 2 ^ 64 ≡ digits53 (c .before .before .before .before .before .before .before .before .before .args .c) * 2 ^ 8
+addend : (c : tie.After-digits-of3) → c .digits-of3 .result * 2 ^ 8 % 2 ^ 64 ≡ digits53 (c .before .before .before .before .before .before .before .before .before .before .args .c) * 2 ^ 8
 addend c = omega (arith, c .digits-of3 .ensures)
 
 -- the words that the code makes of the heads
@@ -74,51 +81,51 @@ digits-of-requires c κs = search needs
 digits-of-requires-2 : tie.Need-digits-of-requires-2
 digits-of-requires-2 c κs = search needs
 
-product-requires : tie.Need-product-requires
-product-requires c κs = search needs
+columns-requires : tie.Need-columns-requires
+columns-requires c κs = search needs
 
 digits-of-requires-3 : tie.Need-digits-of-requires-3
 digits-of-requires-3 c κs = search needs
 
 add-k : tie.Need-add-k
 add-k c =
-    let t = c .before .before .before .before in
+    let t = c .before .before .before .before .before in
     omega (arith, first t .2, second t .2)
 
 add-i : tie.Need-add-i
 add-i c =
-    let r = c .before .before .before .before .before .before in
+    let r = c .before .before .before .before .before .before .before in
     omega (arith, same-place (r .before .before .head .result + r .before .head2 .result))
 
 add-j : tie.Need-add-j
-add-j c = omega (arith, same-place (c .before .before .before .before .before .before .head3 .result))
+add-j c = omega (arith, same-place (c .before .before .before .before .before .before .before .head3 .result))
 
 without-requires : tie.Need-without-requires
-without-requires c κs = (c .if3 .taken, narrow (c .before .before .before))
+without-requires c κs = (c .if3 .taken, narrow (c .before .before .before .before))
 
 joined-requires : tie.Need-joined-requires
 joined-requires c κs =
     let w = c .before .before .before in
-    let t = w .before .before .before .before in
+    let t = w .before .before .before .before .before in
     let r = t .before .before in
     let k = r .before .before .head .result + r .before .head2 .result in
     let h = r .head3 .result in
-    rw (same-sign k, same-sign h, addend w, same-place h) (beside k h (c .without .result) _ _ (c .without .ensures .below) (omega arith) (omega arith) (omega arith) (omega (arith, fields t .third)))
+    rw (same-sign k, same-sign h, addend w, same-place h) (beside k h (c .without .result) _ _ (c .without .ensures (low-word (w .before .before)) (told (w .before .before)) .below) (omega arith) (omega arith) (omega arith) (omega (arith, fields t .third)))
 
 returns : tie.Need-returns
 returns c = λ some.
     let o = c .before in
     let w = o .before .before .before in
-    let m = w .before in
+    let m = w .before .before in
     let t = m .before .before .before in
     let r = t .before .before in
     let f = r .before .before .head .result in
     let g = r .before .head2 .result in
     let h = r .head3 .result in
     let a = r .before .before .before .args in
-    at-addend (a .a) (a .b) (a .c) f g h (m .product .result .hi) (m .product .result .lo) (first t) (second t) (third t) (fields t) (whole m) (o .without .result) (c .joined .result)
+    at-addend (a .a) (a .b) (a .c) f g h (m .columns .result .hi) (low-word m) (first t) (second t) (third t) (fields t) (whole m) (o .without .result) (c .joined .result)
     (rw (same-place (f + g), same-place h) at (o .before .before .if2 .taken))
-    (rw (same-place (f + g), same-place h) at (o .without .ensures))
+    (rw (same-place (f + g), same-place h) at (o .without .ensures (low-word m) (told m)))
     (rw (same-sign (f + g), same-sign h, addend w, same-place h) at (c .joined .ensures some))
 
 returns-2 : tie.Need-returns-2
@@ -128,7 +135,7 @@ sub-if4 : tie.Need-sub-if4
 sub-if4 c = search needs
 
 without-requires-2 : tie.Need-without-requires-2
-without-requires-2 c κs = (zero-lt-suc 63, narrow (c .before .before .before))
+without-requires-2 c κs = (zero-lt-suc 63, narrow (c .before .before .before .before))
 
 sub-joined : tie.Need-sub-joined
 sub-joined c = search needs
@@ -139,29 +146,29 @@ shr-joined c = search needs
 joined-requires-2 : tie.Need-joined-requires-2
 joined-requires-2 c κs =
     let w = c .before .before .before in
-    let t = w .before .before .before .before in
+    let t = w .before .before .before .before .before in
     let r = t .before .before in
     let k = r .before .before .head .result + r .before .head2 .result in
     let h = r .head3 .result in
     let n = digits53 (r .before .before .before .args .c) in
     let d = k % 2 ^ 11 + 515 - (h % 2 ^ 11 + 770) in
-    rw (same-sign k, same-sign h, addend w, same-place k, same-place h) (beside k h (c .without2 .result) _ _ (c .without2 .ensures .below) (lt-of-le-of-lt (shr-le (n * 2 ^ 8) d) (omega arith)) (halved-even n d (rw (same-place k, same-place h) at (c .before .if4 .taken))) (omega arith) (omega (arith, fields t .first, fields t .second)))
+    rw (same-sign k, same-sign h, addend w, same-place k, same-place h) (beside k h (c .without2 .result) _ _ (c .without2 .ensures (low-word (w .before .before)) (told (w .before .before)) .below) (lt-of-le-of-lt (shr-le (n * 2 ^ 8) d) (omega arith)) (halved-even n d (rw (same-place k, same-place h) at (c .before .if4 .taken))) (omega arith) (omega (arith, fields t .first, fields t .second)))
 
 returns-3 : tie.Need-returns-3
 returns-3 c = λ some.
     let o = c .before in
     let w = o .before .before .before in
-    let m = w .before in
+    let m = w .before .before in
     let t = m .before .before .before in
     let r = t .before .before in
     let f = r .before .before .head .result in
     let g = r .before .head2 .result in
     let h = r .head3 .result in
     let a = r .before .before .before .args in
-    at-product (a .a) (a .b) (a .c) f g h (m .product .result .hi) (m .product .result .lo) (first t) (second t) (third t) (fields t) (whole m) (o .without2 .result) (c .joined2 .result)
+    at-product (a .a) (a .b) (a .c) f g h (m .columns .result .hi) (low-word m) (first t) (second t) (third t) (fields t) (whole m) (o .without2 .result) (c .joined2 .result)
     (rw (same-place (f + g), same-place h) at (o .before .before .if2 .left))
     (rw (same-place (f + g), same-place h) at (o .before .if4 .taken))
-    (o .without2 .ensures)
+    (o .without2 .ensures (low-word m) (told m))
     (rw (same-sign (f + g), same-sign h, addend w, same-place (f + g), same-place h) at (c .joined2 .ensures some))
 
 returns-4 : tie.Need-returns-4
@@ -180,7 +187,7 @@ quick-spec =
     in-reach-requires
     digits-of-requires
     digits-of-requires-2
-    product-requires
+    columns-requires
     digits-of-requires-3
     add-k
     add-i

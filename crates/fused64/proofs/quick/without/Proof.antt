@@ -11,7 +11,7 @@ shl-sticky : tie.Need-shl-sticky
 shl-sticky c = search needs
 
 sub-sticky : tie.Need-sub-sticky
-sub-sticky c = back-le (c .args .hi) (c .args .lo) (c .args .d) (c .pre .1) (c .fits .lo .fits)
+sub-sticky c = back-le (c .args .hi) (c .args .rest) (c .args .d) (c .pre .1)
 
 sticky-requires : tie.Need-sticky-requires
 sticky-requires c κs = search needs
@@ -19,7 +19,7 @@ sticky-requires c κs = search needs
 returns : tie.Need-returns
 returns c =
     let a = c .before in
-    rw (c .sticky .ensures) (cut-off (a .args .hi) (a .args .lo) (a .args .d) (a .pre .1) (a .fits .lo .fits))
+    rw (c .sticky .ensures) (cut-off (a .args .hi) (a .args .rest) (a .args .d) (a .pre .1))
 
 pub without-spec : {M : Type 1} → statement M
 without-spec = tie.close (tie.spec shr-t shl-sticky sub-sticky sticky-requires returns)
