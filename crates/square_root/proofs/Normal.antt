@@ -10,14 +10,13 @@ use borrow.Author.Tests.{lt-ltb, eqb-false}
 use lib.Dec.{T, eqb}
 use lib.Pow.{shl-lt, pow-mono, pow-pos}
 use lib.Bits.{bitAnd, and-mask}
-use lib.Ieee.{Float, nan, inf, fin, binary64, size, fits, ofBits, toBits}
+use lib.Ieee.{Float, nan, inf, fin, binary64, fits, ofBits, toBits}
 use lib.Ieee.Bits.{toBits-lt}
-use lib.Ieee.Digits.{size-lt, size-le}
 use lib.Ieee.Exact.{HasValue}
 use lib.Ieee.Positive.{positive}
 use Rattle.rounding.specs.Operations.{root}
-use Rattle.rounding.proofs.Orders.{pow-lt-back}
-use Rattle.digits.specs.Pattern.{placeOf, digitsOf, unpacked, magnitudeOf, packed}
+use Rattle.digits.specs.Pattern.{unpacked, magnitudeOf, packed}
+use Rattle.digits.proofs.Normal.{normal-place, normal-digits}
 use Rattle.digits.proofs.Plain.{positive-plain}
 use Rattle.digits.proofs.Taking.{Scaling, scaling}
 use Rattle.square_root.specs.Digits.{RootDigits, NearRoot, Nearest, Quick, evened}
@@ -48,22 +47,15 @@ module _ (x : Float) (held : T (fits binary64 x)) (pos : T (positive x)) where
     abbrev d : ℕ
     d = n % 2 ^ 52 + 2 ^ 52
 
-    digits : digitsOf n ≡ d
-    digits =
+    rest : 2 ^ 52 ≤ n % 2 ^ 63
+    rest =
         let l = pattern-lt in
-        omega arith
-
-    sized : size (digitsOf n) ≡ 53
-    sized =
-        let l = pattern-lt in
-        let a : size (digitsOf n) ≤ 53 = size-le (digitsOf n) 53 (omega arith) in
-        let b : 52 < size (digitsOf n) = pow-lt-back 52 (size (digitsOf n)) (lt-of-le-of-lt (omega arith) (size-lt (digitsOf n))) in
         omega arith
 
     place : unpacked n .e ≡ n / 2 ^ 52 + 52
     place =
         let l = pattern-lt in
-        omega (arith, sized)
+        omega (arith, normal-place n rest)
 
     evened-lt : evened n < 2 ^ 54
     evened-lt = lt-of-lt-of-le (shl-lt {a = d} 53 ((n / 2 ^ 52 + 1) % 2) (omega arith)) (pow-mono {j = 54} (omega arith))
@@ -74,8 +66,7 @@ module _ (x : Float) (held : T (fits binary64 x)) (pos : T (positive x)) where
     whole : unpacked n .m * 2 ^ bitAnd (unpacked n .e + 1) 1 % 2 ^ 64 ≡ evened n * 2 ^ 10
     whole =
         let odd : bitAnd (unpacked n .e + 1) 1 ≡ (n / 2 ^ 52 + 1) % 2 = omega (arith, and-mask (unpacked n .e + 1) 1, place) in
-        let ten : 63 - size (digitsOf n) ≡ 10 = omega (arith, sized) in
-        rw (odd, ten, digits, mul-right-comm d (2 ^ 10) (2 ^ ((n / 2 ^ 52 + 1) % 2))) (mod-eq-of-lt (omega (arith, evened-lt)))
+        rw (odd, normal-digits n rest, mul-right-comm d (2 ^ 10) (2 ^ ((n / 2 ^ 52 + 1) % 2))) (mod-eq-of-lt (omega (arith, evened-lt)))
 
   pub quick-root : (y : ℕ) → Quick n y → ofBits binary64 ((n / 2 ^ 52 + 1021) / 2 * 2 ^ 52 % 2 ^ 64 + y) ≡ root binary64 x
   quick-root y Q =

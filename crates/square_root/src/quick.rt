@@ -56,5 +56,11 @@ pub fn digits_of(bits: u64) -> u64
     let d: u64 = (bits & 0xf_ffff_ffff_ffff) + 0x10_0000_0000_0000;
     let odd: u64 = (field + 1) & 1;
     let v: u64 = d + ((odd + 0x3fe) << 52);
-    nearest(d << odd, guess(f64::from_bits(v), f64::from_bits((v >> 1) + 0x1ff7_7000_0000_0000)))
+    nearest(
+        d << odd,
+        guess(
+            f64::from_bits(v),
+            f64::from_bits((v >> 1) + 0x1ff7_7000_0000_0000),
+        ),
+    )
 }
