@@ -22,7 +22,7 @@ fn in_reach(f: u64, g: u64, h: u64) -> bool
 fn digits_of(bits: u64) -> u64
     ensures { λ r. ⌜ r ≡ bits % 2 ^ 52 + 2 ^ 52 ⌝ }
 {
-    (bits & 0xf_ffff_ffff_ffff) + 0x10_0000_0000_0000
+    (bits & 0xf_ffff_ffff_ffff) | 0x10_0000_0000_0000
 }
 
 // What is left of a number of two words without its lowest 64 + d digits, made odd where that is not exact: rest tells whether there is anything in the lower word.
@@ -34,7 +34,7 @@ fn without(hi: u64, rest: u64, d: u64) -> u64
     digits::sticky(t, (hi - (t << d)) | rest)
 }
 
-// The number n at the place g has, rounded once, with g's sign; of fewer than 56 digits it might not be exact.
+// The number n at g's place, rounded once, with g's sign. It has 56 digits or more, for the last one may stand for what was cut off.
 fn placed(n: u64, g: u64) -> u64
     requires { ⌜ Headed n g ⌝ }
     ensures { λ r. ⌜ (0 < r → Placed n g r) ⌝ }
@@ -62,6 +62,8 @@ fn joined(s: u64, p: u64, t: u64, z: u64, e: u64) -> u64
     placed(p - z, e + s)
 }
 
+// i and j are the places of the product's higher word and of the addend, counted so that a number with l leading zeros at the place e gets the field e - l.
+// The addend ends in eight zeros. Of those fewer than eight are dropped: it stays exact, and even, so that a cut product beside it still ends in a 1.
 pub fn quick(a: u64, b: u64, c: u64) -> u64
     ensures { λ r. ⌜ (0 < r → Quick a b c r) ⌝ }
 {
