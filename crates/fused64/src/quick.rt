@@ -64,7 +64,7 @@ fn joined(s: u64, p: u64, t: u64, z: u64, e: u64) -> u64
 
 // i and j are the places of the product's higher word and of the addend, counted so that a number with l leading zeros at the place e gets the field e - l.
 // The addend ends in eight zeros. Of those fewer than eight are dropped: it stays exact, and even, so that a cut product beside it still ends in a 1.
-pub fn quick(a: u64, b: u64, c: u64) -> u64
+pub(crate) fn quick(a: u64, b: u64, c: u64) -> u64
     ensures { λ r. ⌜ (0 < r → Quick a b c r) ⌝ }
 {
     let f = head(a);

@@ -46,7 +46,7 @@ fn nearest(c: u64, g: f64) -> u64
 }
 
 // The root's digits for the pattern of a value from 2^-1022 on; or 0. The field's last digit says whether 2^52 or 2^53 times an even power of two is taken out.
-pub fn digits_of(bits: u64) -> u64
+pub(crate) fn digits_of(bits: u64) -> u64
     ensures { λ y. ⌜ (0 < y → Quick bits y) ⌝ }
 {
     let field: u64 = bits >> 52;
