@@ -65,7 +65,7 @@ fn set_at(sets: &[f32], k: usize) -> &[f32]
 }
 
 // Lends the two sets of the choice.
-pub fn tables_read<'a>(
+pub(crate) fn tables_read<'a>(
     sets: &'a [f32],
     choice: Choice,
     quality: QualityMode,

@@ -45,7 +45,7 @@ fn left(current: QualityMode, target: QualityMode, place: u32, length: u32) -> F
 }
 
 // The call itself, with the state once its quality was asked for.
-pub fn turn(state: Fade) -> Turn
+pub(crate) fn turn(state: Fade) -> Turn
     requires { ⌜ (plainOf state ≡ false → state .place < state .length) ⌝ }
     ensures { λ r. ⌜ r ≡ turnOf state ⌝ }
 {

@@ -32,7 +32,7 @@ fn after(state: QualityVariableDelayF32, fade: Fade) -> QualityVariableDelayF32
 }
 
 // A call of which nothing is to be refused: stores the sample, then reads behind it.
-pub fn accepted<'a>(
+pub(crate) fn accepted<'a>(
     state: QualityVariableDelayF32,
     ring: &mut [f32],
     sets: &'a [f32],

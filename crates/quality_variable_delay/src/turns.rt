@@ -19,7 +19,7 @@ fn mix(from: f32, to: f32, weight: u32, length: u32) -> f32
 }
 
 // What a turn reads. A mixed call's two readings share the choice of sets.
-pub fn output<'a>(
+pub(crate) fn output<'a>(
     turn: Turn,
     sets: &'a [f32],
     max_rate: f64,
