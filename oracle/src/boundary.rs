@@ -1,12 +1,15 @@
-//! The static library's exported functions: one safe function for each.
+//! The static libraries' exported functions: one safe function for each.
 //!
 //! The only place that declares them for Rust, with boundary/. `oracle/run` holds these lines to the
-//! signatures in crates/fugnadri before it builds, and its subjects call every one. Each function
+//! signatures in crates/fugnadri* before it builds, and its subjects call every one. Each function
 //! there is total (no `requires`), so a call is safe at every argument.
 
 #[path = "boundary/readers.rs"]
 mod readers;
 pub use readers::*;
+#[path = "boundary/tables.rs"]
+mod tables;
+pub use tables::*;
 
 /// Declares functions over numbers, and wraps each under its name without the prefix.
 macro_rules! numbers {
@@ -23,6 +26,10 @@ macro_rules! numbers {
         )*
     };
 }
+
+#[path = "boundary/wander.rs"]
+mod wander;
+pub use wander::*;
 
 numbers! {
     /// Rust's `as f32`.
@@ -62,13 +69,4 @@ numbers! {
     fn fugnadri_cosine as cosine_or_refusal(x: f64, result: &mut f64) -> u8;
     fn fugnadri_exp2_value as exp2(x: f64) -> f64;
     fn fugnadri_exp2 as exp2_or_refusal(x: f64, result: &mut f64) -> u8;
-}
-
-// 001's engine. Its state is 15 words: the sample rate, the two phases, then six for each generator; a float is its pattern.
-numbers! {
-    fn fugnadri_engine_new as engine_new(sample_rate: f64, seed: u64, words: &mut [u64; 15]) -> u8;
-    fn fugnadri_engine_set_sample_rate as engine_set_sample_rate(words: &mut [u64; 15], sample_rate: f64) -> u8;
-    fn fugnadri_engine_set_seed as engine_set_seed(words: &mut [u64; 15], seed: u64) -> u8;
-    fn fugnadri_engine_reset as engine_reset(words: &mut [u64; 15]) -> u8;
-    fn fugnadri_engine_next as engine_next(words: &mut [u64; 15], wow_rate_hz: f64, wow_depth_cents: f64, wow_shape: f64, flutter_rate_hz: f64, flutter_depth_cents: f64, flutter_shape: f64, drift_amount: f64, stereo_amount: f64, left: &mut f64, right: &mut f64) -> u8;
 }

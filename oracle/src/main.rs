@@ -14,6 +14,7 @@ mod kernels;
 mod pair;
 mod random;
 mod shape;
+mod sinc;
 mod triples;
 mod subjects {
     pub mod fused;
@@ -21,10 +22,13 @@ mod subjects {
     pub mod modulation;
     pub mod narrow;
     pub mod order;
+    pub mod oscillators;
     pub mod patterns;
     pub mod readers;
+    pub mod sinc;
     pub mod slices;
     pub mod square_root;
+    pub mod tables;
     pub mod words;
 }
 
@@ -32,7 +36,7 @@ use context::Context;
 use std::time::{Duration, Instant};
 
 /// A file of subjects/ each. `run` compares one batch of every kind of input that it has.
-const SUBJECTS: [fn(&mut Context); 10] = [
+const SUBJECTS: [fn(&mut Context); 13] = [
     subjects::patterns::run,
     subjects::order::run,
     subjects::narrow::run,
@@ -42,6 +46,9 @@ const SUBJECTS: [fn(&mut Context); 10] = [
     subjects::words::run,
     subjects::slices::run,
     subjects::readers::run,
+    subjects::tables::run,
+    subjects::sinc::run,
+    subjects::oscillators::run,
     subjects::modulation::run,
 ];
 

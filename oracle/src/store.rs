@@ -1,18 +1,19 @@
 //! The original's answers as lists: `store DIR` writes DIR/replay_NAME/stdin and stdout for each.
 //!
 //! A line of stdin is one call: its letter and its arguments as words of 16 hex digits in capitals,
-//! one blank between two. The line of stdout beside it is the answer, in words likewise. A float is
-//! its pattern; a NaN that is an answer is 7FF8000000000000. Every line of a list has the same
-//! length.
+//! one blank between two. The answer is the line of stdout beside it, in words likewise, or stands
+//! among the words of the call, and stdout says how many there are. A float is its pattern; a NaN
+//! that is an answer is 7FF8000000000000. Every line of a list has the same length.
 #![no_main]
 
 mod random;
 mod lists {
     pub mod delays;
+    pub mod wander;
 }
 
 /// A file of lists/ each.
-const LISTS: [(&str, fn(&mut List)); 1] = [("delays", lists::delays::write)];
+const LISTS: [(&str, fn(&mut List)); 2] = [("delays", lists::delays::write), ("wander", lists::wander::write)];
 
 pub struct List {
     stdin: String,
@@ -21,9 +22,18 @@ pub struct List {
 
 impl List {
     pub fn line(&mut self, letter: char, call: [u64; 3], answer: u64, count: u64) {
-        let [a, b, c] = call;
-        self.stdin += &format!("{letter} {a:016X} {b:016X} {c:016X}\n");
+        self.call(letter, ' ', call);
         self.stdout += &format!("{answer:016X} {count:016X}\n");
+    }
+
+    /// A call whose answer, if it has one, is among its words.
+    pub fn call(&mut self, letter: char, mark: char, [a, b, c]: [u64; 3]) {
+        self.stdin += &format!("{letter}{mark}{a:016X} {b:016X} {c:016X}\n");
+    }
+
+    pub fn say(&mut self, line: &str) {
+        self.stdout += line;
+        self.stdout += "\n";
     }
 }
 
@@ -45,7 +55,7 @@ pub extern "C" fn main(_: i32, _: *const *const u8) -> i32 {
         std::fs::create_dir_all(&to).expect("a folder for the list");
         std::fs::write(format!("{to}/stdin"), &list.stdin).expect("stdin");
         std::fs::write(format!("{to}/stdout"), &list.stdout).expect("stdout");
-        println!("replay_{name}: {} lines", list.stdout.lines().count());
+        println!("replay_{name}: {} lines", list.stdin.lines().count());
     }
     0
 }

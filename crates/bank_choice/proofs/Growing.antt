@@ -1,47 +1,28 @@
 -- The sets' rates grow with their numbers and stay from 1 to 2: each step of a rate keeps the order, and at the last set (max - 1) * n / n is at most 1.
 -- Assumes nothing.
-use mathlib.Core.Path.{_≡_, refl, sym, _∙_}
-use mathlib.Core.Bool.{Bool, true, false, true≢false}
-use Prim.Native.Nat.{ℕ, _+_, _*_, _^_, _≤_, _<_, zero-le}
-use native.Mathlib.Nat.{le-trans, le-refl, mul-le-mul-right, mul-one, one-mul}
+use mathlib.Core.Path.{_≡_, refl}
+use mathlib.Core.Bool.{true, false}
+use Prim.Native.Nat.{ℕ, _+_, _≤_, _<_, zero-le}
+use native.Mathlib.Nat.{le-trans, mul-le-mul-right, one-mul}
 use native.Mathlib.Omega.{arith}
 use lib.Dec.{T, lit≤, lit<}
 use lib.IntN.{pos}
-use lib.Ieee.{Float, Format, nan, inf, fin, binary64, round, add, sub, mul, div, le, lt, ofInt, up, down}
+use lib.Ieee.{Float, fin, binary64, add, sub, mul, div, le, lt, ofInt}
 use lib.Ieee.Bits.{is-true}
 use lib.Ieee.Exact.{HasValue}
-use lib.Ieee.Fits.{and-i, down-pos}
+use lib.Ieee.Fits.{and-i}
 use lib.Ieee.Order.{round-mono}
-use lib.Ieee.Scale.{finite, round-same}
 use denote.Floats.{passes}
 use Rattle.magnitude.proofs.Whole.{whole-value, whole-quotient}
-use Rattle.interval.proofs.Signed.{Ordered, gain, le-lt, le-le}
-use Rattle.interval.proofs.Between.{Between, between, point, whole-between, sum-between}
+use Rattle.interval.proofs.Signed.{Ordered, gain, le-le}
+use Rattle.interval.proofs.Between.{Between, point, whole-between, sum-between}
 use Rattle.interval.proofs.Products.{rises, rises-above, product-between, quotient-between}
 use Rattle.interval.proofs.Grows.{sum-grows, product-grows, quotient-grows}
 use Rattle.sinc_settings.specs.Ranges.{zero-f, one-f, two-f}
 use Rattle.bank_choice.specs.Rates.{num, bankOk, stepsOf, rateOf}
 use Rattle.bank_choice.specs.Choosing.{slowerOf}
+use Rattle.bank_choice.proofs.Gaps.{one-times, le-lt-any}
 use Rattle.bank_choice.proofs.Spans.{span, least, most}
-
-one-times : (f : Format) (x : Float) (n : ℕ) → HasValue x false n 1 → mul f one-f x ≡ ofInt f (pos n)
-unfolding mul ofInt
-one-times f nan n v = absurd v
-one-times f (inf s) n v = absurd v
-one-times f (fin true m e) n v = absurd (true≢false (v .0))
-one-times f (fin false m e) n v = round-same f false _ _ n 1 (omega (arith, down-pos e)) (lit< tt) (omega (arith, v .1))
-
--- as `le-lt`, whatever z is
-le-lt-any : (x y z : Float) → T (finite x) → T (finite y) → T (le x y) → T (lt y z) → T (lt x z)
-unfolding lt
-le-lt-any nan y z p q h k = absurd p
-le-lt-any (inf s) y z p q h k = absurd p
-le-lt-any (fin s m e) nan z p q h k = absurd q
-le-lt-any (fin s m e) (inf t) z p q h k = absurd q
-le-lt-any (fin s m e) (fin t n d) nan p q h k = absurd k
-le-lt-any (fin s m e) (fin t n d) (inf true) p q h k = absurd k
-le-lt-any (fin s m e) (fin t n d) (inf false) p q h k = tt
-le-lt-any (fin s m e) (fin t n d) (fin u o g) p q h k = le-lt (fin s m e) (fin t n d) (fin u o g) tt tt tt h k
 
 abbrev fifty : Float
 fifty = fin false 25 (pos 1)
@@ -53,23 +34,23 @@ module _ (top : Float) (ok : bankOk top ≡ true) where
   abbrev N : Float
   N = num (stepsOf top)
 
-  number : (i : ℕ) → i ≤ 50 → Between zero-f fifty (num i)
+  pub number : (i : ℕ) → i ≤ 50 → Between zero-f fifty (num i)
   unfolding ofInt
   number i l = whole-between binary64 {k = 0} {n = i} {m = 50} zero-le l refl refl tt tt
 
-  sets : Between one-f fifty N
+  pub sets : Between one-f fifty N
   unfolding ofInt
   sets = whole-between binary64 {k = 1} {m = 50} (least top) (most top ok) refl refl tt tt
 
-  many : 0 < gain N
+  pub many : 0 < gain N
   many = rises-above (sets .above) refl (lit< tt)
 
   -- the numerator, the quotient and the rate of set i, as far as 50
-  product : (i : ℕ) → i ≤ 50 → Between zero-f fifty (mul binary64 D (num i))
+  pub product : (i : ℕ) → i ≤ 50 → Between zero-f fifty (mul binary64 D (num i))
   unfolding mul le
   product i l = product-between binary64 tt (span top ok) (number i l) refl refl tt tt
 
-  share : (i : ℕ) → i ≤ 50 → Between zero-f fifty (div binary64 (mul binary64 D (num i)) N)
+  pub share : (i : ℕ) → i ≤ 50 → Between zero-f fifty (div binary64 (mul binary64 D (num i)) N)
   unfolding div le lt
   share i l = quotient-between binary64 tt (product i l) sets tt refl refl tt tt
 
@@ -80,7 +61,7 @@ module _ (top : Float) (ok : bankOk top ≡ true) where
   up-to : {a b x y : Float} → Between a b x → Between a b y → T (le x y) → Ordered x y
   up-to u v h = record { first = u .above .second; second = v .above .second; order = h }
 
-  itself : {a b x : Float} → Between a b x → Ordered x x
+  pub itself : {a b x : Float} → Between a b x → Ordered x x
   itself {a} {b} {x} u = point x (u .above .second) .above
 
   -- ---- a later set's rate is no lower
@@ -104,7 +85,7 @@ module _ (top : Float) (ok : bankOk top ≡ true) where
     rate-grows = up-to (rate-finite i (le-trans later l)) (rate-finite j l) (sum-grows binary64 (point one-f tt .above) shares)
 
   -- ---- the last set's rate is at most 2
-  exact : HasValue N false (stepsOf top) 1
+  pub exact : HasValue N false (stepsOf top) 1
   exact = whole-value binary64 (pos (stepsOf top)) (le-trans (most top ok) (lit≤ tt))
 
   last-product : Ordered (mul binary64 D N) N

@@ -22,6 +22,7 @@ use Rattle.bank_choice.specs.Choosing.{slowerOf, partitionOf, lowerOf, c
 use Rattle.bank_choice.proofs.Spans.{in-range, least, most}
 use Rattle.bank_choice.proofs.Growing.{rate-finite, rate-grows, slower-before}
 use Rattle.bank_choice.proofs.Partition.{found}
+use Rattle.bank_choice.proofs.NotLast.{not-last}
 use Rattle.bank_choice.proofs.Gaps.{over-itself, difference-ge, difference-le}
 
 -- ---- both are sets of the bank
@@ -116,7 +117,7 @@ module _ (top : Float) (ok : bankOk top ≡ true) (i : ℕ) (among : i < stepsOf
         rw (equal, place, s, wide, whole-blend) (refl, refl, refl)
 
     -- the rate is set i's own, and set i is not the last
-    pub reads-next : i + 1 < stepsOf top → T (le own top) → (chosenOf top own .safe ≡ i) × (chosenOf top own .tighter ≡ i + 1) × (chosenOf top own .which ≡ 1)
-    reads-next more under-top =
-        let r = reads-own own (inside-stays own top finite-own (in-range top ok .above .second) (own-is .above .order) under-top) in
+    pub reads-next : i + 1 < stepsOf top → (chosenOf top own .safe ≡ i) × (chosenOf top own .tighter ≡ i + 1) × (chosenOf top own .which ≡ 1)
+    reads-next more =
+        let r = reads-own own (inside-stays own top finite-own (in-range top ok .above .second) (own-is .above .order) (not-last top ok (i + 1) (omega arith) more)) in
         (r .0, r .1 ∙ min-eq-left (omega arith), r .2)

@@ -1,7 +1,7 @@
 -- Where the numbers of a bank lie, by their ends: max - 1 from 0 to 1, so that (max - 1)/0.02 is at most 50 and there are 1 to 50 sets. Assumes nothing.
 use mathlib.Core.Path.{_≡_, refl}
 use mathlib.Core.Bool.{true, false}
-use Prim.Native.Nat.{_≤_, max, zero-le}
+use Prim.Native.Nat.{ℕ, _≤_, max, zero-le}
 use native.Mathlib.Nat.{le-max-left, max-le}
 use lib.Dec.{lit≤}
 use lib.IntN.{pos, negsuc}
@@ -33,12 +33,12 @@ span-at-most top h =
     between-at-most 50 zero-f (div binary64 (sub binary64 top one-f) rateStep) fifty (lit≤ tt) (lit≤ tt) (q .above .order) (q .below .order)
 
 -- ---- how many sets
-ceiling-most : (x : Float) → AtMost 50 x → ceilingOf x ≤ 50
+pub ceiling-most : (b : ℕ) (x : Float) → AtMost b x → ceilingOf x ≤ b
 unfolding ceilingOf
-ceiling-most nan a = absurd a
-ceiling-most (inf s) a = absurd a
-ceiling-most (fin true m e) a = zero-le
-ceiling-most (fin false m e) a = ceiling-at-most _ _ 50 (down-pos e) a
+ceiling-most b nan a = absurd a
+ceiling-most b (inf s) a = absurd a
+ceiling-most b (fin true m e) a = zero-le
+ceiling-most b (fin false m e) a = ceiling-at-most _ _ b (down-pos e) a
 
 pub least : (top : Float) → 1 ≤ stepsOf top
 unfolding stepsOf
@@ -46,4 +46,4 @@ least top = le-max-left 1 _
 
 pub most : (top : Float) → bankOk top ≡ true → stepsOf top ≤ 50
 unfolding stepsOf
-most top h = max-le (lit≤ tt) (ceiling-most _ (span-at-most top h))
+most top h = max-le (lit≤ tt) (ceiling-most 50 _ (span-at-most top h))

@@ -2,34 +2,15 @@
 ghost use mathlib.Core.Path.{_≡_};
 ghost use Rattle.elementary.specs.Answers.{sineOf, cosineOf, exp2Of, refusalOf};
 ghost use Rattle.fugnadri.specs.Values.{valueOf};
-use elementary::Answer;
-
-fn refusal(a: Answer) -> u8
-    ensures { λ r. ⌜ r ≡ refusalOf a ⌝ }
-{
-    match a {
-        Answer::Value(_) => 0,
-        Answer::Refused(n) => n,
-    }
-}
-
-fn value(a: Answer) -> f64
-    ensures { λ r. ⌜ r ≡ valueOf a ⌝ }
-{
-    match a {
-        Answer::Value(v) => v,
-        Answer::Refused(_) => 0.0,
-    }
-}
+use super::values::handed;
+use super::values::value;
 
 #[no_mangle]
 pub extern "C" fn fugnadri_sine(x: f64, result: &mut f64) -> u8
     ensures { λ r. ⌜ r ≡ refusalOf (sineOf x) ⌝ }
     ensures { λ r. ⌜ now (result .exit) ≡ valueOf (sineOf x) ⌝ }
 {
-    let a = elementary::sine(x);
-    *result = value(a);
-    refusal(a)
+    handed(elementary::sine(x), result)
 }
 
 #[no_mangle]
@@ -44,9 +25,7 @@ pub extern "C" fn fugnadri_cosine(x: f64, result: &mut f64) -> u8
     ensures { λ r. ⌜ r ≡ refusalOf (cosineOf x) ⌝ }
     ensures { λ r. ⌜ now (result .exit) ≡ valueOf (cosineOf x) ⌝ }
 {
-    let a = elementary::cosine(x);
-    *result = value(a);
-    refusal(a)
+    handed(elementary::cosine(x), result)
 }
 
 #[no_mangle]
@@ -61,9 +40,7 @@ pub extern "C" fn fugnadri_exp2(x: f64, result: &mut f64) -> u8
     ensures { λ r. ⌜ r ≡ refusalOf (exp2Of x) ⌝ }
     ensures { λ r. ⌜ now (result .exit) ≡ valueOf (exp2Of x) ⌝ }
 {
-    let a = elementary::exp2(x);
-    *result = value(a);
-    refusal(a)
+    handed(elementary::exp2(x), result)
 }
 
 #[no_mangle]

@@ -77,11 +77,19 @@ fn port(words: &mut Words, call: &Call) -> ([u64; 2], u8) {
 
 impl Random {
     fn seed(&mut self) -> u64 {
-        if self.coin() { self.pick(&SEEDS) } else { self.word() }
+        if self.coin() {
+            self.pick(&SEEDS)
+        } else {
+            self.word()
+        }
     }
 
     fn sample_rate(&mut self) -> f64 {
-        if self.coin() { self.pick(&RATES) } else { 8000.0 + 760000.0 * self.unit() }
+        if self.coin() {
+            self.pick(&RATES)
+        } else {
+            8000.0 + 760000.0 * self.unit()
+        }
     }
 
     /// A rate or a depth: at its limits, about zero, anywhere, or small.
@@ -91,7 +99,11 @@ impl Random {
             1 => limit * self.unit(),
             _ => limit * self.unit() * 0.5f64.powi(self.within(0, 40) as i32),
         };
-        if self.within(0, 3) == 0 { -size } else { size }
+        if self.within(0, 3) == 0 {
+            -size
+        } else {
+            size
+        }
     }
 
     /// A shape or an amount, which 001 clamps: about the ends of its range, within it, or far outside.
@@ -101,7 +113,11 @@ impl Random {
             1 => 4.0 * self.unit(),
             _ => self.unit(),
         };
-        if self.coin() { -size } else { size }
+        if self.coin() {
+            -size
+        } else {
+            size
+        }
     }
 
     fn settings(&mut self) -> ModulationParams {
@@ -210,7 +226,64 @@ fn anywhere(context: &mut Context, kind: &'static str) {
     compare(context, kind, engine, state, 2, false);
 }
 
+/// G6, G7. A setting or a sample rate that is out of range is refusal 1; a state that is, 3 (G8). The port alone is asked: the offsets are
+/// 0.0 and no word has changed.
+fn refused(context: &mut Context, kind: &'static str) {
+    let r = &mut context.random;
+    let (rate, seed) = (r.sample_rate(), r.seed());
+    let mut state = [0; 15];
+    boundary::engine_new(rate, seed, &mut state);
+    let mut p = r.settings();
+    let beyond = [f64::NAN, f64::INFINITY, f64::NEG_INFINITY];
+    let (fast, deep) = (1000f64.next_up(), 1200f64.next_up());
+    let (call, number) = match r.within(0, 12) {
+        0 => (
+            Call::SetSampleRate(r.pick(&[
+                f64::NAN,
+                f64::INFINITY,
+                0.0,
+                -48000.0,
+                8000f64.next_down(),
+                768000f64.next_up(),
+            ])),
+            1,
+        ),
+        field @ 1..=8 => {
+            let none = r.pick(&beyond);
+            let limit =
+                if r.coin() { none } else { r.pick(&[-1.0, 1.0]) * if matches!(field, 1 | 4) { fast } else { deep } };
+            match field {
+                1 => p.wow_rate_hz = limit,
+                2 => p.wow_depth_cents = limit,
+                3 => p.wow_shape = none,
+                4 => p.flutter_rate_hz = limit,
+                5 => p.flutter_depth_cents = limit,
+                6 => p.flutter_shape = none,
+                7 => p.drift_amount = none,
+                _ => p.stereo_amount = none,
+            }
+            (Call::Step(p), 1)
+        }
+        // a phase of TAU, a position of 1, a target above 1, a state of 0
+        which => {
+            let (place, word) =
+                [(1, TAU.to_bits()), (7, 1f64.to_bits()), (12, 1f64.next_up().to_bits()), (10, 0)][which as usize - 9];
+            state[place] = word;
+            (if r.coin() { Call::Step(p) } else { Call::Reset }, 3)
+        }
+    };
+    let mut after = state;
+    let (found, refusal) = port(&mut after, &call);
+    if refusal != number || found != [0; 2] || after != state {
+        stop(kind, &call, &state, ([0; 2], &state), (found, &after), refusal);
+    }
+    context.count("modulation", kind, 1, None);
+}
+
 pub fn run(context: &mut Context) {
+    for _ in 0..512 {
+        refused(context, "refused calls, the port alone");
+    }
     for _ in 0..8 {
         opened(context, "runs of 2048 calls from a new engine", 2048);
     }

@@ -1,4 +1,4 @@
--- `fugnadri::elementary_three::fugnadri_exp2` meets its contract: what the calls ensure, one put into the other; none of them asks anything. Assumes nothing.
+-- `fugnadri::elementary_three::fugnadri_exp2` meets its contract: what the two calls ensure, one put into the other; neither asks anything. Assumes nothing.
 use mathlib.Core.Path.{_∙_, ap}
 use Rattle.elementary.specs.Answers.{refusalOf}
 use Rattle.fugnadri.specs.Values.{valueOf}
@@ -6,7 +6,7 @@ use Rattle.fugnadri.proofs.elementary_three.fugnadri_exp2.Statement.{st
 use Rattle.fugnadri.proofs.elementary_three.fugnadri_exp2.Tie as tie
 
 returns : tie.Need-returns
-returns c = let e = c .before .before .exp2 .ensures .0 in (c .refusal .ensures ∙ ap refusalOf e, c .before .value .ensures ∙ ap valueOf e)
+returns c = let e = c .before .before .exp2 .ensures .0 in (c .handed .ensures .0 ∙ ap refusalOf e, c .handed .ensures .1 ∙ ap valueOf e)
 
 pub fugnadri-exp2-spec : {M : Type 1} → statement M
-fugnadri-exp2-spec = tie.close (tie.spec (λ c κs. tt) (λ c κs. tt) (λ c κs. tt) returns)
+fugnadri-exp2-spec = tie.close (tie.spec (λ c κs. tt) (λ c κs. tt) returns)

@@ -1,0 +1,34 @@
+-- `replay_wander::run` ends: the turns that are left fall. Assumes nothing.
+use borrow.Author.Needs.{needs}
+use mathlib.Core.Path.{_≡_}
+use Rattle.replay_wander.proofs.run.Statement.{statement}
+use Rattle.replay_wander.proofs.run.Tie as tie
+
+abbrev Inv-loop : tie.InvT-loop
+Inv-loop r₀ more₀ turns₀ r more turns = turns ≡ turns
+
+abbrev μ-loop : tie.MeasureT-loop
+μ-loop r₀ more₀ turns₀ r more turns = turns
+
+loop-holds : tie.Need-loop-holds Inv-loop μ-loop
+loop-holds c = search needs
+
+some-requires : tie.Need-some-requires Inv-loop μ-loop
+some-requires c κs = search needs
+
+sub-turns : tie.Need-sub-turns Inv-loop μ-loop
+sub-turns c = search needs
+
+loop-less : tie.Need-loop-less Inv-loop μ-loop
+loop-less c = search needs
+
+loop-again : tie.Need-loop-again Inv-loop μ-loop
+loop-again c = search needs
+
+returns : tie.Need-returns Inv-loop μ-loop
+returns c = search needs
+
+pub run-spec : {M : Type 1} → statement M
+run-spec =
+    tie.close
+    (tie.spec Inv-loop μ-loop loop-holds some-requires sub-turns loop-less loop-again returns)

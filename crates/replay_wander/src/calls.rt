@@ -1,0 +1,75 @@
+// The engine's calls, each as the engine that it leaves, the number of its refusal, 0 for none, and the offsets that it hands out as patterns, 0 where there are none.
+use modulation::ModulationEngine;
+use modulation::ModulationParams;
+use modulation::Offset;
+use modulation::Opened;
+use patterns::bits_of;
+
+pub struct Turn {
+    pub engine: ModulationEngine,
+    pub refusal: u64,
+    pub left: u64,
+    pub right: u64,
+}
+
+// What is replayed before the first line.
+pub fn opened_first() -> ModulationEngine {
+    engine_words::engine_of([0; 15])
+}
+
+pub fn turn_of(before: ModulationEngine, opened: Opened) -> Turn {
+    match opened {
+        Opened::Engine(after) => Turn {
+            engine: after,
+            refusal: 0,
+            left: 0,
+            right: 0,
+        },
+        Opened::Refused(k) => Turn {
+            engine: before,
+            refusal: k as u64,
+            left: 0,
+            right: 0,
+        },
+    }
+}
+
+fn stepped(after: ModulationEngine, offset: Offset) -> Turn {
+    match offset {
+        Offset::Delay(d) => Turn {
+            engine: after,
+            refusal: 0,
+            left: bits_of(d.left),
+            right: bits_of(d.right),
+        },
+        Offset::Refused(k) => Turn {
+            engine: after,
+            refusal: k as u64,
+            left: 0,
+            right: 0,
+        },
+    }
+}
+
+pub fn step(before: ModulationEngine, params: ModulationParams) -> Turn {
+    let next = before.next(params);
+    let after = next.engine;
+    let offset = next.offset;
+    stepped(after, offset)
+}
+
+// As many steps as `count` says, and what the last of them hands out. None is refused by 255.
+pub fn steps(before: ModulationEngine, params: ModulationParams, count: u64) -> Turn {
+    let mut turn = Turn {
+        engine: before,
+        refusal: 255,
+        left: 0,
+        right: 0,
+    };
+    let mut left = count;
+    while left > 0 {
+        turn = step(turn.engine, params);
+        left -= 1;
+    }
+    turn
+}
