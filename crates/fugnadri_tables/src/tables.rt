@@ -57,14 +57,7 @@ pub extern "C" fn fugnadri_windowed_sinc_for_max_rate(
     ensures { λ r. ⌜ r ≡ numberOf (builtBy (rateVerdict (forRate taps phases «max_rate» passband beta) «max_rate» passband (length (now (table .entry)))) (forRate taps phases «max_rate» passband beta)) ⌝ }
     ensures { λ r. ⌜ now (table .exit) ≡ tableAfter (rateVerdict (forRate taps phases «max_rate» passband beta) «max_rate» passband (length (now (table .entry)))) (tableOf (forRate taps phases «max_rate» passband beta)) (now (table .entry)) ⌝ }
 {
-    number(windowed_sinc::for_max_rate(
-        taps,
-        phases,
-        max_rate,
-        passband,
-        beta,
-        &mut table[..],
-    ))
+    number(windowed_sinc::for_max_rate(taps, phases, max_rate, passband, beta, &mut table[..]))
 }
 
 #[no_mangle]

@@ -14,7 +14,7 @@ use quality_fade::Fade;
 use quality_mode::QualityMode;
 
 // The refusal that is due, with a bank of `lent` f32.
-fn due(
+pub fn due(
     state: QualityVariableDelayF32,
     lent: usize,
     max_rate: f64,

@@ -3,10 +3,12 @@ mod calls; // process_sample and process_sample_rate_aware
 mod opening; // new and reset
 mod turns; // what a turn reads
 
+pub use calls::due;
 pub use calls::process_sample;
 pub use calls::process_sample_rate_aware;
 pub use opening::open;
 pub use opening::reset;
+pub use opening::reset_refusal;
 ghost use mathlib.Core.Path.{_≡_};
 ghost use mathlib.Core.Bool.{_&&_};
 ghost use Prim.Native.Nat.{_<_, _^_};
