@@ -1,6 +1,7 @@
 // 000's QualityVariableDelayF32: a delay reader over a lent ring of f32 whose quality may change from call to call, with a fade from the old to the new.
 mod calls; // process_sample and process_sample_rate_aware
 mod opening; // new and reset
+mod storing; // an accepted call
 mod turns; // what a turn reads
 
 pub use calls::due;
@@ -10,9 +11,10 @@ pub use opening::open;
 pub use opening::reset;
 pub use opening::reset_refusal;
 ghost use mathlib.Core.Path.{_≡_};
-ghost use mathlib.Core.Bool.{_&&_};
+ghost use mathlib.Core.Bool.{_&&_, not};
 ghost use Prim.Native.Nat.{_<_, _^_};
 ghost use lib.ListN.{length};
+ghost use lib.Ieee.{isNan};
 ghost use Rattle.variable_delay.specs.Reader.{stored, positionOf};
 ghost use Rattle.quality_variable_delay.specs.State.{fadePart};
 ghost use Rattle.quality_variable_delay.specs.Reader.{verdict};
@@ -45,6 +47,13 @@ fn both(a: bool, b: bool) -> bool
     ensures { λ r. ⌜ r ≡ (a && b) ⌝ }
 {
     if a { b } else { false }
+}
+
+// N7. Only a NaN differs from itself.
+fn is_number(x: f64) -> bool
+    ensures { λ r. ⌜ r ≡ not (isNan x) ⌝ }
+{
+    x == x
 }
 
 // What the state holds of its qualities.
@@ -84,7 +93,7 @@ pub fn refusal(
     let t4 = magnitude::is_finite_f32(input);
     let t5 = both(magnitude::is_finite(delay), delay >= 0.0);
     let t6 = delay <= 68719476736.0;
-    let t7 = playback_rate == playback_rate;
+    let t7 = is_number(playback_rate);
     let t8 = n < 68719476736;
     answer::first(t1, t2, t3, t4, t5, t6, t7, t8)
 }

@@ -11,7 +11,6 @@ use Rattle.answer.specs.Refusals.{firstOf}
 use Rattle.variable_delay.proofs.Settings.{settled}
 use Rattle.quality_fade.specs.Fade.{lengthOk, placeOk}
 use Rattle.quality_variable_delay.specs.State.{fadePart}
-use Rattle.quality_variable_delay.proofs.Rates.{no-nan}
 use Rattle.quality_variable_delay.proofs.refusal.Statement.{statement}
 use Rattle.quality_variable_delay.proofs.refusal.Tie as tie
 
@@ -48,13 +47,17 @@ is-finite-requires c κs = search needs
 both-requires-5 : tie.Need-both-requires-5
 both-requires-5 c κs = search needs
 
+is-number-requires : tie.Need-is-number-requires
+is-number-requires c κs = search needs
+
 first-requires : tie.Need-first-requires
 first-requires c κs = search needs
 
 returns : tie.Need-returns
 unfolding ofBits
 returns c =
-    let t5 = c .before in
+    let t7 = c .before in
+    let t5 = t7 .before in
     let finite-delay = t5 .before in
     let t4 = finite-delay .before in
     let t3 = t4 .before in
@@ -69,6 +72,7 @@ returns c =
     let s = a .state in
     rw (
       c .first .ensures,
+      t7 .is-number .ensures,
       t5 .both5 .ensures,
       finite-delay .is-finite .ensures,
       t4 .is-finite-f32 .ensures,
@@ -79,7 +83,6 @@ returns c =
       t1 .both2 .ensures,
       own .both .ensures,
       fits .length-ok .ensures,
-      no-nan (a .playback-rate),
     )
     (settled (s .maximum) (s .margin) (a .len) (long .length-for .result)
     (λ (t u : Bool).
@@ -102,5 +105,6 @@ refusal-spec =
     is-finite-f32-requires
     is-finite-requires
     both-requires-5
+    is-number-requires
     first-requires
     returns)
