@@ -1,8 +1,8 @@
 // A quality reader's call on plain numbers.
 ghost use mathlib.Core.Path.{_≡_};
-ghost use mathlib.Core.Bool.{_&&_};
+ghost use mathlib.Core.Bool.{_&&_, cond};
 ghost use lib.ListN.{length};
-ghost use Rattle.fugnadri_bank.specs.Codes.{modeOf, codeOk, decoded, coded, fieldsOk, oddNumber};
+ghost use Rattle.fugnadri_bank.specs.Codes.{pickMode, modeOf, codeOk, decoded, coded, fieldsOk, oddNumber};
 ghost use Rattle.fugnadri_bank.specs.Calls.{takenApart, calledOf, ringCalled, openedApart, renewedOf, ringRenewed};
 use super::Called;
 use super::Coded;
@@ -11,22 +11,18 @@ use quality_variable_delay::Opened;
 use quality_variable_delay::ProcessedQ;
 use quality_variable_delay::QualityVariableDelayF32;
 
+fn picked(test: bool, a: QualityMode, b: QualityMode) -> QualityMode
+    ensures { λ r. ⌜ r ≡ pickMode test a b ⌝ }
+{
+    if test { a } else { b }
+}
+
 fn mode(code: u8) -> QualityMode
     ensures { λ r. ⌜ r ≡ modeOf code ⌝ }
 {
-    if code <= 0 {
-        QualityMode::Draft
-    } else {
-        if code <= 1 {
-            QualityMode::Normal
-        } else {
-            if code <= 2 {
-                QualityMode::Hq
-            } else {
-                QualityMode::Ultra
-            }
-        }
-    }
+    let upper = picked(code <= 2, QualityMode::Hq, QualityMode::Ultra);
+    let upper = picked(code <= 1, QualityMode::Normal, upper);
+    picked(code <= 0, QualityMode::Draft, upper)
 }
 
 fn decode(s: Coded) -> QualityVariableDelayF32
@@ -73,14 +69,17 @@ fn fields_ok(s: Coded) -> bool
     both(s.current <= 3, s.target <= 3)
 }
 
+fn number(test: bool, a: u8, b: u8) -> u8
+    ensures { λ r. ⌜ r ≡ cond test a b ⌝ }
+{
+    if test { a } else { b }
+}
+
 fn odd(asked: bool, v: u8) -> u8
     ensures { λ r. ⌜ r ≡ oddNumber asked v ⌝ }
 {
-    if asked {
-        if both(1 <= v, v <= 2) { v } else { 3 }
-    } else {
-        1
-    }
+    let early = number(both(1 <= v, v <= 2), v, 3);
+    number(asked, early, 1)
 }
 
 fn apart(p: ProcessedQ) -> Called
