@@ -15,6 +15,7 @@ mod workloads {
     pub mod fused64;
     pub mod modulation;
     pub mod narrow;
+    pub mod quality;
     pub mod readers;
     pub mod sinc;
     pub mod square_root;
@@ -24,7 +25,7 @@ use std::hint::black_box;
 use std::time::Instant;
 
 /// A file of workloads/ each.
-const WORKLOADS: [fn() -> Workload; 21] = [
+const WORKLOADS: [fn() -> Workload; 25] = [
     workloads::narrow::workload,
     workloads::fused32::workload,
     workloads::fused64::workload,
@@ -46,6 +47,10 @@ const WORKLOADS: [fn() -> Workload; 21] = [
     workloads::sinc::sinc_f32_96,
     workloads::sinc::sinc_f32_128,
     workloads::sinc::table_f32,
+    workloads::quality::draft,
+    workloads::quality::plain,
+    workloads::quality::blended,
+    workloads::quality::mixed,
 ];
 
 pub struct Workload {

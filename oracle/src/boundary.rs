@@ -4,6 +4,9 @@
 //! signatures in crates/fugnadri* before it builds, and its subjects call every one. Each function
 //! there is total (no `requires`), so a call is safe at every argument.
 
+#[path = "boundary/bank.rs"]
+mod bank;
+pub use bank::*;
 #[path = "boundary/readers.rs"]
 mod readers;
 pub use readers::*;

@@ -6,6 +6,7 @@
 // The emulator that runs this on Arm cannot open what Rust's own `main` opens.
 #![no_main]
 
+mod banks;
 mod context;
 mod delays;
 mod format;
@@ -17,6 +18,7 @@ mod shape;
 mod sinc;
 mod triples;
 mod subjects {
+    pub mod bank;
     pub mod fused;
     pub mod integer_part;
     pub mod modulation;
@@ -24,6 +26,7 @@ mod subjects {
     pub mod order;
     pub mod oscillators;
     pub mod patterns;
+    pub mod quality;
     pub mod readers;
     pub mod sinc;
     pub mod slices;
@@ -36,7 +39,7 @@ use context::Context;
 use std::time::{Duration, Instant};
 
 /// A file of subjects/ each. `run` compares one batch of every kind of input that it has.
-const SUBJECTS: [fn(&mut Context); 13] = [
+const SUBJECTS: [fn(&mut Context); 15] = [
     subjects::patterns::run,
     subjects::order::run,
     subjects::narrow::run,
@@ -48,6 +51,8 @@ const SUBJECTS: [fn(&mut Context); 13] = [
     subjects::readers::run,
     subjects::tables::run,
     subjects::sinc::run,
+    subjects::bank::run,
+    subjects::quality::run,
     subjects::oscillators::run,
     subjects::modulation::run,
 ];

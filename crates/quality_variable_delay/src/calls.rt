@@ -7,7 +7,7 @@ use super::storing;
 use quality_mode::QualityMode;
 
 // The refusal that is due, with a bank of `lent` f32.
-fn due(
+pub fn due(
     state: QualityVariableDelayF32,
     lent: usize,
     max_rate: f64,

@@ -4,10 +4,12 @@ mod opening; // new and reset
 mod storing; // an accepted call
 mod turns; // what a turn reads
 
+pub use calls::due;
 pub use calls::process_sample;
 pub use calls::process_sample_rate_aware;
 pub use opening::open;
 pub use opening::reset;
+pub use opening::reset_refusal;
 ghost use mathlib.Core.Path.{_≡_};
 ghost use mathlib.Core.Bool.{_&&_, not};
 ghost use Prim.Native.Nat.{_<_, _^_};

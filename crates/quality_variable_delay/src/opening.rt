@@ -30,7 +30,7 @@ pub fn open(
 }
 
 // The refusal that is due at a reset, 0 for none.
-fn reset_refusal(state: QualityVariableDelayF32, len: usize) -> u8
+pub fn reset_refusal(state: QualityVariableDelayF32, len: usize) -> u8
     ensures { λ r. ⌜ r ≡ resetVerdict state len ⌝ }
 {
     let length = ring::length_for(state.maximum, state.margin);

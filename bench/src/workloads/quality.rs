@@ -1,0 +1,68 @@
+//! The reader whose quality may change, one call a sample, over a bank of two sets: one set's table, two sets blended, and mixed calls of a fade. A ring of 1024,
+//! samples from -1 to 1, delays of 200 to 400 samples that wander.
+
+use crate::random::Random;
+use crate::Workload;
+use boundary::QualityReader;
+use std::sync::Arc;
+use wow_dsp::{QualityMode, QualityVariableDelayF32, SincBankF32};
+
+const MAX: f64 = 1.02;
+const MODES: [QualityMode; 4] = [QualityMode::Draft, QualityMode::Normal, QualityMode::Hq, QualityMode::Ultra];
+
+/// Calls ask for the qualities in turn. Two that are not the one opened with make a fade that never ends: each call starts it again.
+fn workload(name: &'static str, opened: u8, asked: &'static [u8], rate: f64, fade: u32) -> Workload {
+    let mut random = Random::new(1);
+    let inputs: Vec<(f32, f64)> = (0..20000)
+        .map(|i| ((random.unit() * 2.0 - 1.0) as f32, 200.0 + (i % 777) as f64 * 0.25 + random.unit() * 3.0))
+        .collect();
+    let samples = inputs.clone();
+    let mut theirs = QualityVariableDelayF32::new(1000, 0, Arc::new(SincBankF32::for_max_rate(MAX)), MODES[opened as usize], fade);
+    let mut sets = vec![0.0; boundary::bank_length(MAX)];
+    assert_eq!(boundary::bank_build(MAX, &mut sets), 0);
+    let mut ours = QualityReader {
+        maximum: 1000,
+        margin: 0,
+        accepted: 0,
+        current: 0,
+        target: 0,
+        crossfade_position: 0,
+        crossfade_samples: fade,
+        ring: vec![0.0; 1024],
+    };
+    assert_eq!(ours.open(opened), 0);
+    Workload {
+        name,
+        answers: inputs.len(),
+        rust: Box::new(move |answers| {
+            for (i, (to, (input, delay))) in answers.iter_mut().zip(&inputs).enumerate() {
+                let quality = MODES[asked[i % asked.len()] as usize];
+                *to = theirs.process_sample_rate_aware(*input, *delay, quality, rate).to_bits() as u64;
+            }
+        }),
+        port: Box::new(move |answers| {
+            for (i, (to, (input, delay))) in answers.iter_mut().zip(&samples).enumerate() {
+                let mut sample = 0.0;
+                ours.process_rate_aware(&sets, MAX, *input, *delay, asked[i % asked.len()], rate, &mut sample);
+                *to = sample.to_bits() as u64;
+            }
+        }),
+    }
+}
+
+pub fn draft() -> Workload {
+    workload("quality_draft", 0, &[0], 1.0, 960)
+}
+
+pub fn plain() -> Workload {
+    workload("quality_hq", 2, &[2], 1.0, 960)
+}
+
+pub fn blended() -> Workload {
+    workload("quality_hq_two_sets", 2, &[2], 1.004, 960)
+}
+
+/// From Hq to Normal and to Ultra in turn: every call is mixed.
+pub fn mixed() -> Workload {
+    workload("quality_mixed", 2, &[1, 3], 1.0, 960)
+}
