@@ -36,7 +36,7 @@ find_all() {
 
 # Every signature of an exported function that FILES state, as Rust declares it: a slice is a pointer and a length.
 signatures() { # FILES
-    cat "$@" | sed 's|//.*||' | tr '\n' ' ' | awk '{
+    cat "$@" | sed -e 's|//.*||' -e "s/<'a>//" -e "s/&'a /\&/g" | tr '\n' ' ' | awk '{
         while (match($0, /fn fugnadri_[a-z0-9_]*( as [a-z0-9_]*)?\([^)]*\)( -> [a-z0-9]+)?/)) {
             print substr($0, RSTART, RLENGTH)
             $0 = substr($0, RSTART + RLENGTH)
@@ -46,24 +46,29 @@ signatures() { # FILES
         -e 's/\([a-z0-9_]*\): &\[\([a-z0-9]*\)\]/\1: *const \2, \1_len: usize/g' | sort
 }
 
-# The static library, proved, and the crate `boundary` over it.
+# The static libraries, proved, and the crate `boundary` over them: each crate whose name begins with `fugnadri` is one.
+doors() { sed -n 's/^\(fugnadri[a-z_0-9]*\):.*/\1/p' "$root/crates.txt"; }
+
 build_boundary() {
-    signatures "$root"/crates/fugnadri/src/*.rt >"$out/exported"
+    signatures "$root"/crates/fugnadri*/src/*.rt >"$out/exported"
     signatures "$root/oracle/src/boundary.rs" "$root"/oracle/src/boundary/*.rs >"$out/declared"
     if ! cmp -s "$out/exported" "$out/declared"; then
-        echo "$me: what crates/fugnadri exports (<) is not what oracle/src/boundary.rs and boundary/ declare (>):" >&2
+        echo "$me: what crates/fugnadri* export (<) is not what oracle/src/boundary.rs and boundary/ declare (>):" >&2
         diff "$out/exported" "$out/declared" | grep '^[<>]' >&2
         exit 1
     fi
-    lib=$root/target/staticlib/libfugnadri.a
-    if [ ! -f "$lib" ] || [ -n "$(find "$root/crates" "$root/crates.txt" "$kit/KIT-ID" -newer "$lib" | head -n 1)" ]; then
-        (cd "$root" && rt staticlib fugnadri) >"$out/staticlib.log" 2>&1 || failed "rt staticlib fugnadri fails: see target/oracle/staticlib.log"
-    fi
+    for door in $(doors); do
+        lib=$root/target/staticlib/lib$door.a
+        if [ ! -f "$lib" ] || [ -n "$(find "$root/crates" "$root/crates.txt" "$kit/KIT-ID" -newer "$lib" | head -n 1)" ]; then
+            (cd "$root" && rt staticlib "$door") >"$out/staticlib.log" 2>&1 || failed "rt staticlib $door fails: see target/oracle/staticlib.log"
+        fi
+    done
     build_boundary_crate "$root/target/staticlib"
 }
 
-build_boundary_crate() { # FOLDER of libfugnadri.a
-    build rlib boundary "$root/oracle/src/boundary.rs" -L "native=$1" -l static=fugnadri
+build_boundary_crate() { # FOLDER of the static libraries
+    # shellcheck disable=SC2046
+    build rlib boundary "$root/oracle/src/boundary.rs" -L "native=$1" $(doors | sed 's/^/-l static=/')
 }
 
 # The original, in release mode, from a copy below target/ with the edits that docs/ORACLE.md lists: as the crate `wow_dsp`.

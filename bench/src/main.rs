@@ -16,6 +16,7 @@ mod workloads {
     pub mod modulation;
     pub mod narrow;
     pub mod readers;
+    pub mod sinc;
     pub mod square_root;
 }
 
@@ -23,7 +24,7 @@ use std::hint::black_box;
 use std::time::Instant;
 
 /// A file of workloads/ each.
-const WORKLOADS: [fn() -> Workload; 14] = [
+const WORKLOADS: [fn() -> Workload; 21] = [
     workloads::narrow::workload,
     workloads::fused32::workload,
     workloads::fused64::workload,
@@ -38,6 +39,13 @@ const WORKLOADS: [fn() -> Workload; 14] = [
     workloads::readers::lagrange8,
     workloads::readers::lagrange16,
     workloads::readers::farrow8,
+    workloads::sinc::sinc32,
+    workloads::sinc::sinc96,
+    workloads::sinc::sinc_f32_32,
+    workloads::sinc::sinc_f32_80,
+    workloads::sinc::sinc_f32_96,
+    workloads::sinc::sinc_f32_128,
+    workloads::sinc::table_f32,
 ];
 
 pub struct Workload {

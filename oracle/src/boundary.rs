@@ -1,12 +1,15 @@
-//! The static library's exported functions: one safe function for each.
+//! The static libraries' exported functions: one safe function for each.
 //!
 //! The only place that declares them for Rust, with boundary/. `oracle/run` holds these lines to the
-//! signatures in crates/fugnadri before it builds, and its subjects call every one. Each function
+//! signatures in crates/fugnadri* before it builds, and its subjects call every one. Each function
 //! there is total (no `requires`), so a call is safe at every argument.
 
 #[path = "boundary/readers.rs"]
 mod readers;
 pub use readers::*;
+#[path = "boundary/tables.rs"]
+mod tables;
+pub use tables::*;
 
 /// Declares functions over numbers, and wraps each under its name without the prefix.
 macro_rules! numbers {

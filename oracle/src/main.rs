@@ -14,6 +14,7 @@ mod kernels;
 mod pair;
 mod random;
 mod shape;
+mod sinc;
 mod triples;
 mod subjects {
     pub mod fused;
@@ -24,8 +25,10 @@ mod subjects {
     pub mod oscillators;
     pub mod patterns;
     pub mod readers;
+    pub mod sinc;
     pub mod slices;
     pub mod square_root;
+    pub mod tables;
     pub mod words;
 }
 
@@ -33,7 +36,7 @@ use context::Context;
 use std::time::{Duration, Instant};
 
 /// A file of subjects/ each. `run` compares one batch of every kind of input that it has.
-const SUBJECTS: [fn(&mut Context); 11] = [
+const SUBJECTS: [fn(&mut Context); 13] = [
     subjects::patterns::run,
     subjects::order::run,
     subjects::narrow::run,
@@ -43,6 +46,8 @@ const SUBJECTS: [fn(&mut Context); 11] = [
     subjects::words::run,
     subjects::slices::run,
     subjects::readers::run,
+    subjects::tables::run,
+    subjects::sinc::run,
     subjects::oscillators::run,
     subjects::modulation::run,
 ];

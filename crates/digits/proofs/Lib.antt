@@ -3,3 +3,4 @@ pub mod Jams
 pub mod Plain
 pub mod Taking
 pub mod Putting
+pub mod Normal

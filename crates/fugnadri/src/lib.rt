@@ -1,6 +1,5 @@
 // The static library's exports, for C and for Rust: numbers pass as themselves, a slice as a pointer and a length, a `&mut` number as a pointer. No enum, no
 // struct. Each function is total, and its contract is that of the function it calls.
-mod answers; // an answer taken apart: its number and its value
 pub mod bits;
 pub mod elementary_three;
 pub mod kernel_bits;

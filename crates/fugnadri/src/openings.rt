@@ -2,27 +2,8 @@
 ghost use mathlib.Core.Path.{_≡_};
 ghost use lib.ListN.{length};
 ghost use Rattle.variable_delay.specs.Opening.{openedOf, ringOpened, resetOf, ringReset, numberOf};
-ghost use Rattle.fugnadri.specs.Doors.{stateOf, countOf};
-use variable_delay::Opened;
+ghost use Rattle.doors.specs.Doors.{stateOf, countOf};
 use variable_delay::VariableDelay;
-
-fn number(o: Opened) -> u8
-    ensures { λ r. ⌜ r ≡ numberOf o ⌝ }
-{
-    match o {
-        Opened::Reader(_) => 0,
-        Opened::Refused(k) => k,
-    }
-}
-
-fn count(before: u64, o: Opened) -> u64
-    ensures { λ r. ⌜ r ≡ countOf before o ⌝ }
-{
-    match o {
-        Opened::Reader(d) => d.accepted,
-        Opened::Refused(_) => before,
-    }
-}
 
 #[no_mangle]
 pub extern "C" fn fugnadri_open(
@@ -37,8 +18,8 @@ pub extern "C" fn fugnadri_open(
 {
     let before = *accepted;
     let o = variable_delay::open(maximum, margin, &mut ring[..]);
-    *accepted = count(before, o);
-    number(o)
+    *accepted = doors::opened_count(before, o);
+    doors::opened_number(o)
 }
 
 #[no_mangle]
@@ -59,6 +40,6 @@ pub extern "C" fn fugnadri_reset(
         accepted: before,
     };
     let o = variable_delay::reset(state, &mut ring[..]);
-    *accepted = count(before, o);
-    number(o)
+    *accepted = doors::opened_count(before, o);
+    doors::opened_number(o)
 }

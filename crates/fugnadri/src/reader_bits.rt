@@ -8,9 +8,9 @@ ghost use Rattle.variable_delay.specs.Reader.{processed, processedBy, verdict, 
 ghost use Rattle.cubic_farrow.specs.Cubic.{cubicAt};
 ghost use Rattle.lagrange.specs.Kernel.{tapsOk, lagrangeAt};
 ghost use Rattle.farrow8.specs.Kernel.{farrowAt};
-ghost use Rattle.fugnadri.specs.Doors.{stateOf};
-use super::answers::number;
-use super::answers::value;
+ghost use Rattle.doors.specs.Doors.{stateOf};
+use doors::number;
+use doors::value;
 use variable_delay::VariableDelay;
 
 #[no_mangle]

@@ -8,3 +8,8 @@ pub mod Totals
 pub mod Finishing
 pub mod Cases
 pub mod Terms
+pub mod Reach
+pub mod Placing
+pub mod Joining
+pub mod Fields
+pub mod Normals

@@ -1,20 +1,19 @@
 -- What each way of a step gives, for an f64 sum s of the exact product and an f32: the quick way, an exact zero, and the fused step itself. Assumes nothing.
 use mathlib.Core.Path.{_≡_, refl, sym, ap, _∙_, subst}
 use mathlib.Core.Logic.{inl, inr}
-use mathlib.Core.Bool.{Bool, true, false, _&&_}
+use mathlib.Core.Bool.{Bool, true, false, not, _&&_}
 use Prim.Native.Nat.{ℕ, _+_, _^_}
 use native.Mathlib.Nat.{le-of-eq, lt-of-lt-of-le, mul-pos, eq-zero-or-pos}
 use lib.Dec.{T, eqb}
 use lib.Pow.{pow-pos}
 use lib.Bits.{bitAnd}
-use lib.Ieee.{Float, nan, inf, fin, binary32, binary64, round, add, mul, fits, toBits, ofBits, eq}
+use lib.Ieee.{Float, nan, inf, fin, binary32, binary64, round, add, mul, fits, toBits, ofBits, isNan, eq}
 use lib.Ieee.Fits.{add-fits}
 use lib.Ieee.Scale.{finite}
 use borrow.Author.Tests.{eqb-true}
 use Rattle.rounding.specs.Operations.{narrowed, fused}
 use Rattle.rounding.proofs.Comparing.{eq-units}
 use Rattle.rounding.proofs.Orders.{clash}
-use Rattle.rounding.proofs.Own.{narrowed-own}
 use Rattle.rounding.proofs.Sums.{round-zero}
 use Rattle.rounding.proofs.Whole.{exact-short, near-ge, places}
 use Rattle.fused32.specs.Parts.{Short, Clear}
@@ -23,7 +22,7 @@ use Rattle.fused32.proofs.Joined.{both, clear-code}
 use Rattle.fused32.proofs.Parts.{parts-of, parts-product, fused-is}
 use Rattle.fused32.proofs.Sums.{S, v, G, s-value, sum-rounds}
 use Rattle.fused_chain.specs.Steps.{Plain}
-use Rattle.fused_chain.proofs.Cut.{plain-cut}
+use Rattle.fused_chain.proofs.Cut.{normal, no-midpoint, plain-cut}
 
 -- ---- a zero sum is exact: it is a zero in every format, of one sign
 module _ (p c : Float) (P : Short p) (C : Short c) (z : eq (add binary64 p c) (ofBits binary64 0) ≡ true) where
@@ -69,12 +68,10 @@ module _ (x c sum s : Float) (hx : T (fits binary32 x)) (hc : T (fits binary32 c
       let f = both p sum (zero-finite (add binary64 p sum) e) in
       is ∙ zero-sum p sum (parts-product x c hx hc (f .0)) (parts-of sum hs (f .1)) e ∙ once
 
-  pub plain-step : Plain (toBits binary64 s) → ofBits binary64 (bitAnd (toBits binary64 s + 0x1000_0000) 0xffff_ffff_e000_0000) ≡ fused binary32 x c sum
-  plain-step h =
-      plain-cut s (subst (λ (z : Float). T (fits binary64 z)) (sym is) (add-fits binary64 p sum)) h
+  pub plain-step : T (not (isNan s)) → Plain (toBits binary64 s + 0x1000_0000) → ofBits binary64 (bitAnd (toBits binary64 s + 0x1000_0000) 0xffff_ffff_e000_0000) ≡ fused binary32 x c sum
+  plain-step number h =
+      let held : T (fits binary64 s) = subst (λ (z : Float). T (fits binary64 z)) (sym is) (add-fits binary64 p sum) in
+      plain-cut s held number h
       ∙ ap narrowed is
-      ∙ clear-code p sum (parts-product x c hx hc) (parts-of sum hs) (subst Clear is (λ _. (h .normal, h .no-midpoint)))
+      ∙ clear-code p sum (parts-product x c hx hc) (parts-of sum hs) (subst Clear is (λ _. (normal s held number h, no-midpoint s held number h)))
       ∙ once
-
-  pub fused-step : fused binary32 x c (narrowed sum) ≡ fused binary32 x c sum
-  fused-step = ap (fused binary32 x c) (narrowed-own sum hs)

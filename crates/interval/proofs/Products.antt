@@ -19,7 +19,7 @@ use Rattle.interval.proofs.Between.{Between, between}
 abbrev pub zero : Float
 zero = fin false 0 (pos 0)
 
-not-negative : (x : Float) → T (finite x) → T (le zero x) → loss x ≡ 0
+pub not-negative : (x : Float) → T (finite x) → T (le zero x) → loss x ≡ 0
 not-negative nan p h = absurd p
 not-negative (inf s) p h = absurd p
 not-negative (fin true m e) p h = omega (arith, under zero (fin true m e) tt tt h)
@@ -32,7 +32,7 @@ not-positive (fin true m e) p h = refl
 not-positive (fin false m e) p h = omega (arith, under (fin false m e) zero tt tt h)
 
 -- Above a float that is not negative nothing is negative; below one that is not positive nothing is positive.
-rises : {x y : Float} → Ordered x y → loss x ≡ 0 → loss y ≡ 0
+pub rises : {x y : Float} → Ordered x y → loss x ≡ 0 → loss y ≡ 0
 rises {x} {y} o n = go y (o .second) (rw n at (bound o))
   where
     go : (y : Float) → T (finite y) → gain x * den y + loss y * den x ≤ gain y * den x + 0 * den y → loss y ≡ 0
@@ -50,7 +50,7 @@ falls {x} {y} o n = go x (o .first) (rw n at (bound o))
     go (fin true m e) q h = refl
     go (fin false m e) q h = none (m * up e) (den y) (den-pos y) (omega arith)
 
-rises-above : {x y : Float} → Ordered x y → loss x ≡ 0 → 0 < gain x → 0 < gain y
+pub rises-above : {x y : Float} → Ordered x y → loss x ≡ 0 → 0 < gain x → 0 < gain y
 rises-above {x} {y} o n g = first-pos (gain y) (den x) (omega (arith, mul-pos g (den-pos y), rw n at (bound o)))
 
 -- The ends of a product whose first factor lies in [a, b] and is not negative: where the other begins at c, and where it ends at d.

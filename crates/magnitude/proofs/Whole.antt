@@ -1,15 +1,15 @@
--- Whole numbers as floats: up to 2 ^ prec each is held exactly, their difference is the whole difference, rounded, and a quotient that leaves no
--- remainder is the whole quotient, rounded. In each the exact value is a fraction that equals a whole number over 1. Assumes nothing.
+-- Whole numbers as floats: up to 2 ^ prec each is held exactly, their difference is the whole difference, rounded, their product the whole
+-- product, rounded, and a quotient that leaves no remainder the whole quotient, rounded. In each the exact value is a fraction that equals a whole number over 1. Assumes nothing.
 use mathlib.Core.Path.{_≡_, refl, sym, ap, _∙_}
 use mathlib.Core.Bool.{Bool, true, false, cond, true≢false, not}
 use Prim.Native.Nat.{ℕ, zero, suc, _-_, _*_, _^_, _≤_, _<_}
-use native.Mathlib.Nat.{mul-one, mul-assoc, mul-comm, mul-sub, mul-pos, mul-le-mul-right, mul-lt-mul-of-pos-right}
+use native.Mathlib.Nat.{mul-one, mul-assoc, mul-comm, mul-sub, mul-pos, mul-mul-mul-comm, mul-le-mul-right, mul-lt-mul-of-pos-right}
 use native.Mathlib.Omega.{arith}
 use borrow.Author.Tests.{ltb-true, ltb-false, lt-ltb, le-ltb}
 use lib.Dec.{ltb, eqb·suc-zero, lit<}
 use lib.IntN.{ℤ, pos, negsuc, subℕ, natAbs}
 use lib.Signed.{nonNeg}
-use lib.Ieee.{Float, nan, inf, fin, Format, prec, up, down, round, sub, sum, div, ofInt}
+use lib.Ieee.{Float, nan, inf, fin, Format, prec, up, down, round, sub, sum, mul, div, ofInt}
 use lib.Ieee.Fits.{down-pos}
 use lib.Ieee.Exact.{HasValue}
 use lib.Ieee.Back.{round-whole}
@@ -48,6 +48,18 @@ whole-difference f (fin false m e) (fin true n d) a b v w = absurd (true≢false
 whole-difference f (fin false m e) (fin false n d) a b v w =
     rw (over (m * up e) (down e) a (down d) (v .1), over (n * up d) (down d) b (down e) (w .1), mul-comm (down d) (down e))
     (sum-whole f a b (down e * down d) (mul-pos (down-pos e) (down-pos d)))
+
+pub whole-product : (f : Format) (x y : Float) (a b : ℕ) → HasValue x false a 1 → HasValue y false b 1 → mul f x y ≡ ofInt f (pos (a * b))
+unfolding mul ofInt
+whole-product f nan y a b v w = absurd v
+whole-product f (inf s) y a b v w = absurd v
+whole-product f (fin true m e) y a b v w = absurd (true≢false (v .0))
+whole-product f (fin false m e) nan a b v w = absurd w
+whole-product f (fin false m e) (inf t) a b v w = absurd w
+whole-product f (fin false m e) (fin true n d) a b v w = absurd (true≢false (w .0))
+whole-product f (fin false m e) (fin false n d) a b v w =
+    round-same f false (m * up e * (n * up d)) (down e * down d) (a * b) 1 (mul-pos (down-pos e) (down-pos d)) (lit< tt)
+    (mul-one (m * up e * (n * up d)) ∙ rw (sym (mul-one (m * up e)) ∙ v .1, sym (mul-one (n * up d)) ∙ w .1) (mul-mul-mul-comm a (down e) b (down d)))
 
 pub whole-quotient : (f : Format) (x y : Float) (q b : ℕ) → 0 < b → HasValue x false (q * b) 1 → HasValue y false b 1 → div f x y ≡ ofInt f (pos q)
 unfolding div ofInt

@@ -21,7 +21,7 @@ module _ (own lent : Bool) where
 
   -- one call, accepted or refused
   module _ (r : Reader) (c : Call) (cs : List Call) where
-    run-taken : due own lent r c ≡ 0 → run own lent r (c ∷ cs) ≡ run own lent (afterBy 0 r c) cs
+    pub run-taken : due own lent r c ≡ 0 → run own lent r (c ∷ cs) ≡ run own lent (afterBy 0 r c) cs
     unfolding run
     run-taken e = ap (λ (v : ℕ). run own lent (afterBy v r c) cs) e
 
@@ -29,7 +29,7 @@ module _ (own lent : Bool) where
     unfolding run
     run-refused k e = ap (λ (v : ℕ). run own lent (afterBy v r c) cs) e
 
-    accepted-taken : due own lent r c ≡ 0 → accepted own lent r (c ∷ cs) ≡ c ∷ accepted own lent (afterBy 0 r c) cs
+    pub accepted-taken : due own lent r c ≡ 0 → accepted own lent r (c ∷ cs) ≡ c ∷ accepted own lent (afterBy 0 r c) cs
     unfolding accepted
     accepted-taken e = ap (λ (v : ℕ). keep v c (accepted own lent (afterBy v r c) cs)) e
 

@@ -1,7 +1,7 @@
 -- What is known where no refusal is due: the counts, the table's length and the position; and where the taps and the position alone are in range. Assumes nothing.
-use mathlib.Core.Path.{_≡_, refl, sym, _∙_, ap}
-use mathlib.Core.Bool.{Bool, true, false, _&&_, cond, and-true, and-false}
-use Prim.Native.Nat.{ℕ, zero, suc, _^_, _≤_}
+use mathlib.Core.Path.{_≡_, refl, _∙_, ap}
+use mathlib.Core.Bool.{Bool, true, false, _&&_, and-true, and-false}
+use Prim.Native.Nat.{ℕ, _^_, _≤_}
 use native.Mathlib.Omega.{arith}
 use borrow.Author.Tests.{eqb-true}
 use denote.Floats.{passes}
@@ -15,7 +15,6 @@ use Rattle.ring.proofs.Positions.{position-at-most}
 use Rattle.answer.specs.Refusals.{firstOf}
 use Rattle.sinc_settings.specs.Ranges.{tapsOk, phasesOk}
 use Rattle.sinc_settings.specs.Refusals.{tableLength, tableVerdict}
-use Rattle.sinc_settings.proofs.Accepted.{Counts, counts}
 use Rattle.sinc_read.specs.Reading.{sampleVerdict}
 
 -- ---- the taps and the position

@@ -1,13 +1,13 @@
 -- The whole part of a float, held to a top: above the top it is the top, between 0 and the top the library's cast, below 0 nothing. Assumes nothing.
 use mathlib.Core.Path.{_≡_, refl, sym, _∙_, ap, subst}
-use mathlib.Core.Bool.{Bool, true, false, cond}
-use Prim.Native.Nat.{ℕ, _+_, _*_, _/_, _^_, _<_, _≤_, min}
+use mathlib.Core.Bool.{Bool, true, false, true≢false}
+use Prim.Native.Nat.{ℕ, _+_, _*_, _/_, _^_, _<_, _≤_}
 use native.Mathlib.Nat.{mul-one, mul-comm, mul-right-comm, mul-le-mul-right, le-of-mul-le-mul-right, lt-of-mul-lt-mul-right, le-trans, le-of-lt, min-eq-left, min-eq-right, min-le-right, zero-div, div-le-of-le-mul, le-div-iff-mul-le}
 use native.Mathlib.Omega.{arith}
 use borrow.Author.Tests.{ltb-true, ltb-false, lt-ltb}
 use denote.Floats.{passes}
 use lib.Dec.{T, lit≤}
-use lib.IntN.{ℤ, pos}
+use lib.IntN.{pos}
 use lib.Ieee.{Float, nan, inf, fin, up, down, lt, toUnsigned}
 use lib.Ieee.Fits.{down-pos}
 use lib.Ieee.Exact.{HasValue}
@@ -15,7 +15,7 @@ use Rattle.answer.specs.Answers.{zero-f}
 use Rattle.sinc_read.specs.Phases.{cutTo}
 
 no : {A : Type 0} → _≡_ {A = Bool} true false → A
-no h = let o : _≡_ {A = ℕ} 0 1 = cc in absurd (omega arith)
+no h = absurd (true≢false h)
 
 -- x is not negative, and below top
 abbrev pub Under : ℕ → Float → Type 0

@@ -3,5 +3,7 @@ pub mod Between
 pub mod Accepted
 pub mod Around
 pub mod Ways
+pub mod Given
 pub mod Answered
-pub mod Worked
+pub mod Blends
+pub mod LastRow

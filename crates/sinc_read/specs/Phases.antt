@@ -1,6 +1,6 @@
 -- K3, K4. Where a position falls between the rows of a table, and the coefficient there: 000's lines for WindowedSinc and for WindowedSincF32. Definitions only.
 use Prim.Native.Nat.{ℕ, _+_, _-_, _*_, _/_, min}
-use mathlib.Core.Bool.{Bool, _&&_, cond}
+use mathlib.Core.Bool.{_&&_, cond}
 use mathlib.Core.List.{List}
 use lib.IntN.{ℤ, pos, _-ℤ_}
 use lib.ListN.{getD}

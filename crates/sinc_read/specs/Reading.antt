@@ -1,6 +1,6 @@
 -- K4. What a table of f64 reads at a position: 000's sum over the taps, each step rounded, in 000's order; and which refusal is due. Definitions only.
 use Prim.Native.Nat.{ℕ}
-use mathlib.Core.Bool.{Bool, true, _&&_, cond}
+use mathlib.Core.Bool.{true, _&&_, cond}
 use mathlib.Core.List.{List}
 use lib.Dec.{eqb}
 use lib.IntN.{pos, _+ℤ_}
@@ -16,6 +16,7 @@ use Rattle.sinc_settings.specs.Refusals.{tableLength, tableVerdict}
 use Rattle.sinc_read.specs.Phases.{phaseOf, blendOf, firstTap}
 use Rattle.sinc_read.specs.Sums.{tapTurn}
 
+-- `sum += source.at(start + k as i64) * coefficient` for every tap k, from 0.0 on
 unfoldable pub sincAt : List Float → ℕ → ℕ → List Float → ℕ → Float → Float
 sincAt table taps phases xs count p = fold (tapTurn (λ k. tapOf xs count (firstTap p taps +ℤ pos k)) table (blendOf p phases) taps (phaseOf p phases)) zero-f taps
 

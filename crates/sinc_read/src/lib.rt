@@ -1,19 +1,22 @@
-// 000's WindowedSinc as a kernel: a table that a caller lends, read over a slice, a count and a position.
+// 000's WindowedSinc as a kernel: a table that a caller lends, read over a slice, a count and a position. Here is the sum over the taps, which the modules call.
+mod kernel; // what is read and what is refused
 mod phases; // where a position falls: both widths
-mod runs; // the sum over the taps
 
+pub use kernel::read;
+pub use kernel::refusal;
+pub use kernel::sample;
 pub use phases::first_tap;
 pub use phases::phase_at;
 ghost use mathlib.Core.Path.{_≡_};
-ghost use mathlib.Core.Bool.{true, _&&_};
-ghost use lib.Dec.{eqb};
-ghost use lib.ListN.{length};
-ghost use Rattle.answer.specs.Answers.{answerOf};
-ghost use Rattle.ring.specs.Places.{positionOk};
-ghost use Rattle.sinc_settings.specs.Ranges.{tapsOk, phasesOk};
-ghost use Rattle.sinc_settings.specs.Refusals.{tableLength};
-ghost use Rattle.sinc_read.specs.Reading.{sincAt, readOf, sampleVerdict};
-use answer::Answer;
+ghost use Prim.Native.Nat.{_+_, _*_, _^_, _≤_, _<_, _%_};
+ghost use lib.IntN.{pos, _+ℤ_};
+ghost use lib.ListN.{length, getD};
+ghost use lib.Signed.{mag};
+ghost use lib.Ieee.{nan};
+ghost use Rattle.answer.specs.Answers.{zero-f};
+ghost use Rattle.loops.specs.Loops.{fold};
+ghost use Rattle.ring.specs.Taps.{tapOf};
+ghost use Rattle.sinc_read.specs.Sums.{runTurn, tapTurn};
 
 // 000's `phase0` and `blend`.
 pub struct Phase {
@@ -21,75 +24,91 @@ pub struct Phase {
     pub blend: f64,
 }
 
-// N1, N2. The refusal that is due, or 0: the taps, the phases and the position in range, then the table's length. Both widths.
-pub fn refusal(taps: usize, phases: usize, len: usize, position: f64) -> u8
-    ensures { λ r. ⌜ r ≡ sampleVerdict taps phases len position ⌝ }
-{
-    if ring::position_ok(position) {
-        sinc_settings::table_refusal(taps, phases, len)
-    } else {
-        1
-    }
-}
-
-// The reading at a position in range. Where every tap is held none is tested.
-fn at<'a>(
+// n turns over samples side by side, from a sum on. Nothing is tested, divided or wrapped for each tap.
+fn run<'a>(
     table: &'a [f64],
-    taps: usize,
-    phases: usize,
+    row: usize,
+    next: usize,
+    blend: f64,
     source: &'a [f64],
-    count: u64,
-    position: f64,
+    place: usize,
+    n: usize,
+    sum: f64,
 ) -> f64
-    requires { ⌜ sampleVerdict taps phases (length (now table)) position ≡ 0 ⌝ }
-    ensures { λ r. ⌜ r ≡ sincAt (now (table .entry)) taps phases (now (source .entry)) count position ⌝ }
+    requires { ⌜ (row + n ≤ length (now table)) × (next + n ≤ length (now table)) × (place + n ≤ length (now source)) ⌝ }
+    ensures { λ r. ⌜ r ≡ fold (runTurn (now (table .entry)) row next blend (now (source .entry)) place) sum n ⌝ }
 {
-    let between = phase_at(position, phases);
-    let phase = between.phase;
-    let blend = between.blend;
-    let first = first_tap(position, taps);
-    let start = ring::run_start(source.len(), count, first, taps as u64);
-    let place = start.place;
-    if start.held {
-        runs::held(table, taps, phase, blend, source, place)
-    } else {
-        runs::one_by_one(table, taps, phase, blend, source, count, first)
+    let mut sum = sum;
+    let mut k: usize = 0;
+    while k < n {
+        let a = table[row + k];
+        sum = sum + source[place + k] * (a + blend * (table[next + k] - a));
+        k += 1;
     }
+    sum
 }
 
-// The reading at a position; zero where a setting or the position is out of range, or the table has another length.
-pub fn read<'a>(
+// Taps that are all held, the first at a place: one run, or one up to the ring's end and one from its start.
+fn held<'a>(
     table: &'a [f64],
     taps: usize,
-    phases: usize,
+    phase: usize,
+    blend: f64,
     source: &'a [f64],
-    count: u64,
-    position: f64,
+    place: usize,
 ) -> f64
-    ensures { λ r. ⌜ r ≡ readOf (now (table .entry)) taps phases (now (source .entry)) count position ⌝ }
+    requires { ⌜ (phase * taps + taps + taps ≤ length (now table)) × (taps ≤ length (now source)) × (place < length (now source)) ⌝ }
+    ensures { λ r. ⌜ r ≡ fold (tapTurn (λ k. getD (now (source .entry)) ((place + k) % length (now (source .entry))) nan) (now (table .entry)) blend taps phase) zero-f taps ⌝ }
 {
-    if refusal(taps, phases, table.len(), position) == 0 {
-        at(table, taps, phases, source, count, position)
-    } else {
-        0.0
+    let row = phase * taps;
+    let next = row + taps;
+    let left = source.len() - place;
+    if taps <= left {
+        return run(table, row, next, blend, source, place, taps, 0.0);
     }
+    let before = run(table, row, next, blend, source, place, left, 0.0);
+    run(
+        table,
+        row + left,
+        next + left,
+        blend,
+        source,
+        0,
+        taps - left,
+        before,
+    )
 }
 
-// The reading of a lent slice by a lent table: refusal 1 for a setting or a position out of its range, 2 for a table of another length.
-pub fn sample<'a>(
+// The tap k behind the first.
+fn tap_after(source: &[f64], count: u64, first: i64, k: usize) -> f64
+    requires { ⌜ (mag first ≤ 2 ^ 37) × (k ≤ 128) ⌝ }
+    ensures { λ r. ⌜ r ≡ tapOf (now (source .entry)) count (first +ℤ pos k) ⌝ }
+{
+    ring::tap(source, count, first + (k as i64))
+}
+
+// Taps of which some are absent.
+fn one_by_one<'a>(
     table: &'a [f64],
     taps: usize,
-    phases: usize,
+    phase: usize,
+    blend: f64,
     source: &'a [f64],
     count: u64,
-    position: f64,
-) -> Answer
-    ensures { λ r. ⌜ r ≡ answerOf (sampleVerdict taps phases (length (now (table .entry))) position) (readOf (now (table .entry)) taps phases (now (source .entry)) count position) ⌝ }
+    first: i64,
+) -> f64
+    requires { ⌜ (phase * taps + taps + taps ≤ length (now table)) × (taps ≤ 128) × (mag first ≤ 2 ^ 37) ⌝ }
+    ensures { λ r. ⌜ r ≡ fold (tapTurn (λ k. tapOf (now (source .entry)) count (first +ℤ pos k)) (now (table .entry)) blend taps phase) zero-f taps ⌝ }
 {
-    let no = refusal(taps, phases, table.len(), position);
-    if no == 0 {
-        answer::answered(0, at(table, taps, phases, source, count, position))
-    } else {
-        answer::answered(no, 0.0)
+    let row = phase * taps;
+    let next = row + taps;
+    let mut sum = 0.0;
+    let mut k: usize = 0;
+    while k < taps {
+        let a = table[row + k];
+        let x = tap_after(source, count, first, k);
+        sum = sum + x * (a + blend * (table[next + k] - a));
+        k += 1;
     }
+    sum
 }

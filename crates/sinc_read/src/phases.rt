@@ -25,7 +25,7 @@ fn cut_to(x: f64, top: u64) -> u64
 }
 
 // G3, G5. Whether the phases and the position are in range.
-fn in_range(position: f64, phases: usize) -> bool
+fn phases_in_range(position: f64, phases: usize) -> bool
     ensures { λ r. ⌜ r ≡ (phasesOk phases && positionOk position) ⌝ }
 {
     if sinc_settings::phases_ok(phases) {
@@ -39,7 +39,7 @@ fn in_range(position: f64, phases: usize) -> bool
 pub fn phase_at(position: f64, phases: usize) -> Phase
     ensures { λ r. ⌜ r ≡ phaseAt position phases ⌝ }
 {
-    if in_range(position, phases) {
+    if phases_in_range(position, phases) {
         let x = integer_part::fraction(position) * std::num::nearest_u64_to_f64(phases as u64);
         let phase = cut_to(x, (phases - 1) as u64);
         Phase {

@@ -5,22 +5,19 @@ use mathlib.Core.List.{List}
 use lib.Dec.{eqb}
 use lib.IntN.{pos, _+ℤ_}
 use lib.ListN.{length}
-use lib.Ieee.{Float, binary32}
+use lib.Ieee.{Float}
 use Rattle.answer.specs.Answers.{zero-f}
 use Rattle.loops.specs.Loops.{fold}
-use Rattle.rounding.specs.Operations.{narrowed, fused}
+use Rattle.rounding.specs.Operations.{narrowed}
 use Rattle.ring.specs.Taps.{tapOf}
 use Rattle.ring.specs.Places.{positionOk}
 use Rattle.sinc_settings.specs.Refusals.{tableVerdict}
-use Rattle.sinc_read.specs.Phases.{phaseOf, blendOf, firstTap, coefficientAt}
+use Rattle.sinc_read.specs.Phases.{phaseOf, blendOf, firstTap}
+use Rattle.sinc_read_f32.specs.Sums.{tapTurn}
 
--- `sum = source.at_f32(start + k as i64).mul_add(coefficient, sum)`
-abbrev pub turnOf : List Float → ℕ → ℕ → List Float → ℕ → Float → ℕ → Float → Float
-turnOf table taps phases xs count p k sum =
-    fused binary32 (tapOf xs count (firstTap p taps +ℤ pos k)) (coefficientAt binary32 table (narrowed (blendOf p phases)) taps (phaseOf p phases) k) sum
-
+-- `sum = source.at_f32(start + k as i64).mul_add(coefficient, sum)` for every tap k, from 0.0 on
 unfoldable pub sincF32At : List Float → ℕ → ℕ → List Float → ℕ → Float → Float
-sincF32At table taps phases xs count p = fold (turnOf table taps phases xs count p) zero-f taps
+sincF32At table taps phases xs count p = fold (tapTurn (λ k. tapOf xs count (firstTap p taps +ℤ pos k)) table (narrowed (blendOf p phases)) taps (phaseOf p phases)) zero-f taps
 
 -- G3, G5. Zero where a setting or the position is out of range, or the table has another length.
 abbrev pub readOf : List Float → ℕ → ℕ → List Float → ℕ → Float → Float

@@ -1,10 +1,11 @@
 -- The cases of `square_root`: what its tests say of x, and that x, or a NaN, is the root where nothing is to be computed. Assumes nothing.
 use mathlib.Core.Path.{_≡_, refl, sym, _∙_}
-use mathlib.Core.Bool.{true, false, true≢false}
+use mathlib.Core.Bool.{true, false, not, true≢false}
 use Prim.Native.Nat.{zero, suc, _*_}
 use native.Mathlib.Nat.{le-trans, le-of-eq, lt-of-le-of-lt, lt-of-lt-of-le, lt-irrefl, zero-lt-suc, zero-mul, mul-pos}
 use borrow.Author.Tests.{lt-ltb, ltb-true, ltb-false}
-use lib.Ieee.{Float, nan, inf, fin, binary64, up, down, odd, ofFields, ofBits, lt, eq, div}
+use lib.Dec.{T}
+use lib.Ieee.{Float, nan, inf, fin, binary64, up, down, odd, ofFields, ofBits, isNan, lt, eq, div}
 use lib.Ieee.Fits.{up-pos}
 use lib.Ieee.Positive.{positive, first-pos}
 use Rattle.rounding.specs.Operations.{root}
@@ -46,3 +47,10 @@ below-zero (inf false) a b = absurd (true≢false a)
 below-zero (fin s zero e) a b = absurd (true≢false (sym (eq-zero (fin s zero e) refl) ∙ b))
 below-zero (fin true (suc m) e) a b = refl
 below-zero (fin false (suc m) e) a b = absurd (lt-irrefl 0 (lt-of-lt-of-le (mul-pos (mul-pos (zero-lt-suc m) (up-pos e)) (zero-lt-suc 0)) (le-trans (ltb-false (0 * 1 * down e) (suc m * up e * 1) a) (le-of-eq (zero-mul (down e))))))
+
+-- what lies below something is no NaN
+pub below-no-nan : (x y : Float) → lt x y ≡ true → T (not (isNan x))
+unfolding lt isNan
+below-no-nan nan y h = absurd (true≢false (sym h))
+below-no-nan (inf s) y h = tt
+below-no-nan (fin s m e) y h = tt

@@ -1,4 +1,6 @@
-// K4. The square root of an f64, rounded once: 55 digits by restoring steps, the last of them sticky, then one rounding.
+// K4. The square root of an f64, rounded once: a guess that is checked; and where the check says nothing, 55 digits by restoring steps, the last of them sticky, then one rounding.
+mod quick;
+
 ghost use mathlib.Core.Path.{_≡_};
 ghost use Prim.Native.Nat.{_^_, _≤_};
 ghost use mathlib.Core.Bool.{true, cond};
@@ -37,13 +39,25 @@ fn root_digits(z: u64) -> u64
 }
 
 // An even power of two is taken out: x is z * 2^46 * 4^(k - 1076), where z is m or 2 m and k what is packed.
-fn positive_root(x: f64) -> f64
+fn restored(x: f64) -> f64
     requires { ⌜ positive x ≡ true ⌝ }
     ensures { λ r. ⌜ r ≡ root binary64 x ⌝ }
 {
     let p = digits::unpack(f64::to_bits(x));
     let w = root_digits(p.m << ((p.e + 1) & 1));
     digits::pack(0, w, (p.e + 969) >> 1)
+}
+
+fn positive_root(x: f64) -> f64
+    requires { ⌜ positive x ≡ true ⌝ }
+    ensures { λ r. ⌜ r ≡ root binary64 x ⌝ }
+{
+    let bits = f64::to_bits(x);
+    let y = quick::digits_of(bits);
+    if y == 0 {
+        return restored(x);
+    }
+    f64::from_bits(((((bits >> 52) + 1021) >> 1) << 52) + y)
 }
 
 // A zero, infinity and a NaN are their own roots; below zero there is none.

@@ -136,7 +136,7 @@ pub fn low_first_bytes_u32(n: u32) -> [u8; 4]
     out
 }
 
-fn write_bytes(n: u64, out: &mut [u8])
+pub fn write_bytes(n: u64, out: &mut [u8])
     ensures { λ _. ⌜ now (out .exit) ≡ lowBytes (length (now (out .entry))) n ⌝ }
 {
     let mut v = n;

@@ -11,8 +11,8 @@ pub struct Reader {
 
 #[rustfmt::skip]
 extern "C" {
-    fn fugnadri_open(maximum: usize, margin: usize, accepted: &mut u64, ring: *mut f64, ring_len: usize) -> u8;
-    fn fugnadri_reset(maximum: usize, margin: usize, accepted: &mut u64, ring: *mut f64, ring_len: usize) -> u8;
+    pub(crate) fn fugnadri_open(maximum: usize, margin: usize, accepted: &mut u64, ring: *mut f64, ring_len: usize) -> u8;
+    pub(crate) fn fugnadri_reset(maximum: usize, margin: usize, accepted: &mut u64, ring: *mut f64, ring_len: usize) -> u8;
     fn fugnadri_cubic_process(
         maximum: usize, margin: usize, accepted: &mut u64, ring: *mut f64, ring_len: usize, input: f64, delay: f64, sample: &mut f64,
     ) -> u8;

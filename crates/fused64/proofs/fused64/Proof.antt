@@ -1,59 +1,68 @@
--- `fused64::fused64` meets its contract, case by case. Assumes nothing.
+-- `fused64::fused64` meets its contract: where the sum is no NaN the three have patterns, and what the quick way makes of them is `fused`. Assumes nothing.
 use borrow.Author.Needs.{needs}
-use mathlib.Core.Path.{_≡_, sym, _∙_}
-use mathlib.Core.Bool.{true, false, _&&_}
-use lib.Ieee.Bits.{is-true}
-use lib.Ieee.Fits.{and-l, and-r}
+use mathlib.Core.Path.{_≡_, sym, subst}
+use mathlib.Core.Bool.{not}
+use native.Mathlib.Nat.{pos-of-ne-zero}
 use lib.Dec.{T}
-use Rattle.digits.specs.Pattern.{plain}
-use Rattle.fused64.proofs.Cases.{factor-not-plain, addend-not-plain}
+use lib.Ieee.{binary64, fits, isNan, toBits}
+use Rattle.rounding.proofs.Patterns.{rest-no-nan}
+use Rattle.fused64.specs.Word.{Quick}
+use Rattle.fused64.proofs.Cases.{no-nan-parts}
+use Rattle.fused64.proofs.Normals.{quick-fused}
 use Rattle.fused64.proofs.fused64.Statement.{statement}
 use Rattle.fused64.proofs.fused64.Tie as tie
 
-both : (c : tie.Then1) → (plain (c .before .before .args .a) && plain (c .before .before .args .b)) ≡ true
-both c = sym (c .before .both-plain .ensures) ∙ c .if1 .taken
+parts : (c : tie.Then1) → T (not (isNan (c .before .args .a))) × T (not (isNan (c .before .args .b))) × T (not (isNan (c .before .args .c)))
+parts c = no-nan-parts (c .before .args .a) (c .before .args .b) (c .before .args .c) (c .if1 .taken)
 
-neither : (c : tie.Else2) → plain (c .before .before .before .before .args .c) ≡ false
-neither c = sym (c .before .is-plain .ensures) ∙ c .if2 .left
+found : (c : tie.Else2) → Quick (toBits binary64 (c .before .before .before .args .a)) (toBits binary64 (c .before .before .before .args .b)) (toBits binary64 (c .before .before .before .args .c)) (c .before .quick .result)
+found c = c .before .quick .ensures (pos-of-ne-zero (c .if2 .left))
 
-both-plain-requires : tie.Need-both-plain-requires
-both-plain-requires c κs = search needs
+float-to-bits-quick : tie.Need-float-to-bits-quick
+float-to-bits-quick c = parts c .0
 
-is-plain-requires : tie.Need-is-plain-requires
-is-plain-requires c κs = search needs
+float-to-bits-quick-2 : tie.Need-float-to-bits-quick-2
+float-to-bits-quick-2 c = parts c .1
 
-fused-plain-requires : tie.Need-fused-plain-requires
-fused-plain-requires c κs =
-    let a = c .before .before .before .before .args in
-    let t : T (plain (a .a) && plain (a .b)) = rw (both (c .before .before)) tt in
-    (is-true (plain (a .a)) (and-l (plain (a .a)) (plain (a .b)) t), (is-true (plain (a .b)) (and-r (plain (a .a)) (plain (a .b)) t), sym (c .before .is-plain .ensures) ∙ c .if2 .taken))
+float-to-bits-quick-3 : tie.Need-float-to-bits-quick-3
+float-to-bits-quick-3 c = parts c .2
+
+quick-requires : tie.Need-quick-requires
+quick-requires c κs = search needs
+
+by-cases-requires : tie.Need-by-cases-requires
+by-cases-requires c κs = search needs
 
 returns : tie.Need-returns
 returns c = search needs
 
+float-from-bits-result : tie.Need-float-from-bits-result
+float-from-bits-result c = rest-no-nan binary64 (c .before .quick .result) (found c .finite)
+
 returns-2 : tie.Need-returns-2
 returns-2 c =
-    let a = c .before .before .before .before .before .args in
-    addend-not-plain (a .a) (a .b) (a .c) (both (c .before .before .before)) (neither (c .before)) .0 (c .if3 .taken)
+    let t = c .before .before in
+    let a = t .before in
+    let p = parts t in
+    quick-fused (a .args .a) (a .args .b) (a .args .c) (subst T (sym (a .good .0 .1)) tt) (subst T (sym (a .good .1 .0 .1)) tt) (subst T (sym (a .good .1 .1 .0 .1)) tt) (p .0) (p .1) (p .2) (c .before .quick .result) (found c)
+
+by-cases-requires-2 : tie.Need-by-cases-requires-2
+by-cases-requires-2 c κs = search needs
 
 returns-3 : tie.Need-returns-3
-returns-3 c =
-    let a = c .before .before .before .before .before .args in
-    addend-not-plain (a .a) (a .b) (a .c) (both (c .before .before .before)) (neither (c .before)) .1 (c .if3 .left)
-
-returns-4 : tie.Need-returns-4
-returns-4 c =
-    let a = c .before .before .args in
-    factor-not-plain (a .a) (a .b) (a .c) (sym (c .before .both-plain .ensures) ∙ c .if1 .left)
+returns-3 c = search needs
 
 pub fused64-spec : {M : Type 1} → statement M
 fused64-spec =
     tie.close
     (tie.spec
-    both-plain-requires
-    is-plain-requires
-    fused-plain-requires
+    float-to-bits-quick
+    float-to-bits-quick-2
+    float-to-bits-quick-3
+    quick-requires
+    by-cases-requires
     returns
+    float-from-bits-result
     returns-2
-    returns-3
-    returns-4)
+    by-cases-requires-2
+    returns-3)

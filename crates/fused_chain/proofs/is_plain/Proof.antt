@@ -4,8 +4,7 @@ use mathlib.Core.Bool.{false≢true}
 use Prim.Native.Nat.{_-_, _^_}
 use native.Mathlib.Omega.{arith}
 use lib.Bits.{bitAnd, and-mask}
-use lib.Dec.{eqb}
-use borrow.Author.Tests.{not-true, eqb-false}
+use borrow.Author.Tests.{ltb-true}
 use Rattle.fused_chain.proofs.is_plain.Statement.{statement}
 use Rattle.fused_chain.proofs.is_plain.Tie as tie
 
@@ -18,11 +17,10 @@ returns-2 c = λ h. absurd (false≢true h)
 returns-3 : tie.Need-returns-3
 returns-3 c =
     let n = c .before .before .args .n in
-    let low = bitAnd n (2 ^ 29 - 1) in
     λ h. record {
       normal = omega (arith, and-mask n 63);
-      small = omega (arith, and-mask n 63);
-      no-midpoint = λ e. eqb-false low 0x1000_0000 (not-true (eqb low 0x1000_0000) h) (and-mask n 29 ∙ e);
+      small = omega (arith, and-mask n 63, ltb-true (bitAnd n (2 ^ 63 - 1)) 0x47e0_0000_1000_0000 h);
+      no-midpoint = λ e. c .before .if1 .left (and-mask n 29 ∙ e);
     }
 
 pub is-plain-spec : {M : Type 1} → statement M

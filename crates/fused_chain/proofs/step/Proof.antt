@@ -1,13 +1,16 @@
--- `fused_chain::step` meets its contract: `proofs/Steps.antt` says what each way gives. Assumes nothing.
+-- `fused_chain::step` meets its contract: `proofs/Steps.antt` says what the quick way gives. Assumes nothing.
 use borrow.Author.Needs.{needs}
-use mathlib.Core.Path.{sym, subst}
+use borrow.Author.Tests.{not-false}
+use mathlib.Core.Path.{refl, sym, subst}
+use mathlib.Core.Bool.{not}
 use native.Mathlib.Omega.{arith}
 use lib.Dec.{T}
-use lib.Ieee.{Float, binary32, binary64, fits, add, mul}
+use lib.Ieee.{Float, binary32, binary64, fits, isNan, add, mul}
 use lib.Ieee.Fits.{add-fits}
 use Rattle.rounding.proofs.Comparing.{differs-no-nan}
-use Rattle.fused_chain.specs.Steps.{Summed}
-use Rattle.fused_chain.proofs.Cut.{plain-room, plain-no-nan}
+use Rattle.fused_chain.specs.Steps.{Numbers}
+use Rattle.fused_chain.proofs.Compared.{widens}
+use Rattle.fused_chain.proofs.Cut.{half-fits, plain-no-nan}
 use Rattle.fused_chain.proofs.Steps.{plain-step}
 use Rattle.fused_chain.proofs.step.Statement.{statement}
 use Rattle.fused_chain.proofs.step.Tie as tie
@@ -18,64 +21,78 @@ held-x c = subst T (sym (c .good .0 .1)) tt
 held-c : (c : tie.Start) → T (fits binary32 (c .args .c))
 held-c c = subst T (sym (c .good .1 .0 .1)) tt
 
--- the sum as the code has it
-abbrev s : tie.After-f32-to-f64-with-nan2 → Float
-s c = add binary64 (mul binary64 (c .before .f32-to-f64-with-nan .result) (c .f32-to-f64-with-nan2 .result)) (c .before .before .args .sum)
+-- behind the first test neither operand is a NaN
+both : (c : tie.Else1) → let a = c .before .before .args in Numbers (a .x) (a .c)
+both c = c .before .are-numbers .ensures (not-false (c .before .are-numbers .result) (c .if1 .left))
 
-summed : (c : tie.After-f32-to-f64-with-nan2) → Summed (c .before .before .args .x) (c .before .before .args .c) (c .before .before .args .sum) (s c)
-summed c = record { held = c .before .before .pre; is = rw (c .before .f32-to-f64-with-nan .ensures, c .f32-to-f64-with-nan2 .ensures) }
+-- the sum, and behind the second test no NaN either
+abbrev s : tie.Else2 → Float
+s c = let a = c .before .before .before .before .before .args in add binary64 (mul binary64 (a .x) (a .c)) (a .sum)
 
-abbrev at : tie.Then2 → tie.After-f32-to-f64-with-nan2
-at c = c .before .before .before
+number : (c : tie.Else2) → T (not (isNan (s c)))
+number c = differs-no-nan (s c) (c .if2 .left)
 
-f32-to-f64-with-nan-requires : tie.Need-f32-to-f64-with-nan-requires
-f32-to-f64-with-nan-requires c κs = search needs
+are-numbers-requires : tie.Need-are-numbers-requires
+are-numbers-requires c κs = search needs
 
-f32-to-f64-with-nan-requires-2 : tie.Need-f32-to-f64-with-nan-requires-2
-f32-to-f64-with-nan-requires-2 c κs = search needs
-
-rare-requires : tie.Need-rare-requires
-rare-requires c κs = summed (c .before)
+any-step-requires : tie.Need-any-step-requires
+any-step-requires c κs = search needs
 
 returns : tie.Need-returns
 returns c = search needs
 
+float-to-float-s : tie.Need-float-to-float-s
+float-to-float-s c = let b = c .before .before .before in widens (b .args .x) (held-x b) (both (c .before) .first)
+
+float-to-float-s-2 : tie.Need-float-to-float-s-2
+float-to-float-s-2 c = let b = c .before .before .before .before in widens (b .args .c) (held-c b) (both (c .before .before) .second)
+
+any-step-requires-2 : tie.Need-any-step-requires-2
+any-step-requires-2 c κs = search needs
+
+returns-2 : tie.Need-returns-2
+returns-2 c = search needs
+
 float-to-bits-n : tie.Need-float-to-bits-n
-float-to-bits-n c = differs-no-nan (s (c .before)) (c .if1 .left)
+float-to-bits-n c = number c
+
+add-n : tie.Need-add-n
+add-n c = omega (arith, half-fits (s c) (add-fits binary64 _ _) (number c))
 
 is-plain-requires : tie.Need-is-plain-requires
 is-plain-requires c κs = search needs
 
-add-result : tie.Need-add-result
-add-result c = omega (arith, plain-room (s (at c)) (add-fits binary64 _ _) (c .before .is-plain .ensures (c .if2 .taken)))
-
 float-from-bits-result : tie.Need-float-from-bits-result
-float-from-bits-result c = plain-no-nan (s (at c)) (add-fits binary64 _ _) (c .before .is-plain .ensures (c .if2 .taken))
-
-returns-2 : tie.Need-returns-2
-returns-2 c =
-    let b = at c .before .before in
-    let a = b .args in
-    plain-step (a .x) (a .c) (a .sum) (s (at c)) (held-x b) (held-c b) (b .pre) (summed (at c) .is) (c .before .is-plain .ensures (c .if2 .taken))
-
-rare-requires-2 : tie.Need-rare-requires-2
-rare-requires-2 c κs = summed (c .before .before .before)
+float-from-bits-result c = let e = c .before .before in plain-no-nan (s e) (add-fits binary64 _ _) (number e) (c .before .is-plain .ensures (c .if3 .taken))
 
 returns-3 : tie.Need-returns-3
-returns-3 c = search needs
+returns-3 c =
+    let e = c .before .before in
+    let b = e .before .before .before .before .before in
+    let a = b .args in
+    plain-step (a .x) (a .c) (a .sum) (s e) (held-x b) (held-c b) (b .pre) refl (number e) (c .before .is-plain .ensures (c .if3 .taken))
+
+rare-step-requires : tie.Need-rare-step-requires
+rare-step-requires c κs = search needs
+
+returns-4 : tie.Need-returns-4
+returns-4 c = search needs
 
 pub step-spec : {M : Type 1} → statement M
 step-spec =
     tie.close
     (tie.spec
-    f32-to-f64-with-nan-requires
-    f32-to-f64-with-nan-requires-2
-    rare-requires
+    are-numbers-requires
+    any-step-requires
     returns
-    float-to-bits-n
-    is-plain-requires
-    add-result
-    float-from-bits-result
+    float-to-float-s
+    float-to-float-s-2
+    any-step-requires-2
     returns-2
-    rare-requires-2
-    returns-3)
+    float-to-bits-n
+    add-n
+    is-plain-requires
+    float-from-bits-result
+    returns-3
+    rare-step-requires
+    returns-4)

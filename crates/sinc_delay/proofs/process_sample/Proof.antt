@@ -2,8 +2,7 @@
 -- sample is the table's reading, by the laws over any kernel's reading. Assumes nothing.
 use borrow.Author.Needs.{needs}
 use mathlib.Core.Path.{_≡_, _∙_}
-use mathlib.Core.Bool.{Bool, true, _&&_, not}
-use Prim.Native.Nat.{ℕ}
+use mathlib.Core.Bool.{Bool, _&&_, not}
 use lib.Dec.{eqb}
 use lib.ListN.{length}
 use denote.Ref.{now}

@@ -1,7 +1,7 @@
 -- `sinc_delay_f32::process_sample` meets its contract: `accept` refuses, the table's settings and length among the reasons, or stores; what is read behind the stored
 -- sample is the table's reading, by the laws over any kernel's reading. Assumes nothing.
 use borrow.Author.Needs.{needs}
-use mathlib.Core.Path.{_≡_, _∙_}
+use mathlib.Core.Path.{_≡_, _∙_, ap}
 use mathlib.Core.Bool.{Bool, true, _&&_, not}
 use Prim.Native.Nat.{ℕ}
 use lib.Dec.{eqb}
@@ -11,7 +11,7 @@ use Rattle.sinc_settings.specs.Ranges.{tapsOk, phasesOk}
 use Rattle.sinc_settings.specs.Refusals.{tableLength}
 use Rattle.sinc_settings.proofs.Told.{told-apart, both-pass}
 use Rattle.sinc_read_f32.specs.Reading.{sincF32At}
-use Rattle.variable_delay.specs.Reader.{verdict}
+use Rattle.variable_delay.specs.Reader.{verdict, acceptedOf, ringAfter}
 use Rattle.variable_delay.proofs.Settings.{unowned}
 use Rattle.variable_delay.proofs.Widths.{in-range, own-ok, lent-ok}
 use Rattle.variable_delay_f32.proofs.Calls as calls
@@ -49,8 +49,10 @@ returns c =
     let s = a .before .before .before .before .before .args in
     let own = tapsOk (s .taps) && phasesOk (s .phases) in
     let lent = eqb (length (now (s .table))) (tableLength (s .taps) (s .phases)) in
-    let e = rw (as-due a) at (a .accept .ensures) in
-    (rw (c .answered-f32 .ensures) (calls.refused-call (sincF32At (now (s .table)) (s .taps) (s .phases)) own lent (s .state) (now (s .ring)) (s .input) (s .delay) (e .0) _ (c .before .if1 .taken)), e .1)
+    let e : a .accept .result ≡ acceptedOf (verdict own lent (s .state) (length (now (s .ring))) (s .input) (s .delay)) (s .state) (s .delay) =
+    a .accept .ensures .0 ∙ ap (λ (v : ℕ). acceptedOf v (s .state) (s .delay)) (as-due a) in
+    let r = a .accept .ensures .1 ∙ ap (λ (v : ℕ). ringAfter v (s .state) (now (s .ring)) (s .input)) (as-due a) in
+    (rw (c .answered-f32 .ensures) (calls.refused-call (sincF32At (now (s .table)) (s .taps) (s .phases)) own lent (s .state) (now (s .ring)) (s .input) (s .delay) e _ (c .before .if1 .taken)), r)
 
 read-requires : tie.Need-read-requires
 read-requires c κs = search needs
@@ -68,12 +70,14 @@ returns-2 c =
     let s = a .before .before .before .before .before .args in
     let own = tapsOk (s .taps) && phasesOk (s .phases) in
     let lent = eqb (length (now (s .table))) (tableLength (s .taps) (s .phases)) in
-    let e = rw (as-due a) at (a .accept .ensures) in
+    let e : a .accept .result ≡ acceptedOf (verdict own lent (s .state) (length (now (s .ring))) (s .input) (s .delay)) (s .state) (s .delay) =
+    a .accept .ensures .0 ∙ ap (λ (v : ℕ). acceptedOf v (s .state) (s .delay)) (as-due a) in
+    let r = a .accept .ensures .1 ∙ ap (λ (v : ℕ). ringAfter v (s .state) (now (s .ring)) (s .input)) (as-due a) in
     let none = i .if1 .left in
-    let here = in-range own lent (s .state) (length (now (s .ring))) (s .input) (s .delay) (e .0) none in
-    let p = own-ok own lent (s .state) (length (now (s .ring))) (s .input) (s .delay) (e .0) none in
-    let q = lent-ok own lent (s .state) (length (now (s .ring))) (s .input) (s .delay) (e .0) none in
-    (rw (c .answered-f322 .ensures) (calls.taken-call (sincF32At (now (s .table)) (s .taps) (s .phases)) own lent (s .state) (now (s .ring)) (s .input) (s .delay) (e .0) none (e .1) (c .before .read .ensures ∙ rw (both-pass p q, here))), e .1)
+    let here = in-range own lent (s .state) (length (now (s .ring))) (s .input) (s .delay) e none in
+    let p = own-ok own lent (s .state) (length (now (s .ring))) (s .input) (s .delay) e none in
+    let q = lent-ok own lent (s .state) (length (now (s .ring))) (s .input) (s .delay) e none in
+    (rw (c .answered-f322 .ensures) (calls.taken-call (sincF32At (now (s .table)) (s .taps) (s .phases)) own lent (s .state) (now (s .ring)) (s .input) (s .delay) e none r (c .before .read .ensures ∙ rw (both-pass p q, here))), r)
 
 pub process-sample-spec : {M : Type 1} → statement M
 process-sample-spec =

@@ -1,57 +1,66 @@
--- `square_root::positive_root` meets its contract: the digits of x, of their root, and that root packed. Assumes nothing.
+-- `square_root::positive_root` meets its contract: digits that the quick way finds are the root's, and else the restoring steps find them. Assumes nothing.
 use borrow.Author.Needs.{needs}
 use native.Mathlib.Omega.{arith}
-use mathlib.Core.Path.{sym, subst, _∙_}
+use mathlib.Core.Path.{_≡_, sym, ap, _∙_, subst}
+use Prim.Native.Nat.{ℕ, _+_, _*_, _/_, _%_, _^_, _≤_, _<_}
+use native.Mathlib.Nat.{pos-of-ne-zero}
 use lib.Dec.{T}
+use lib.Ieee.{binary64, fits, toBits}
 use lib.Ieee.Positive.{positive}
+use Rattle.rounding.proofs.Patterns.{rest-no-nan}
 use Rattle.digits.proofs.Plain.{positive-plain, plain-no-nan}
-use Rattle.digits.proofs.Taking.{Scaling, scaling}
-use Rattle.square_root.proofs.Rooting.{parity-lt, shifted-ge, root-code}
+use Rattle.square_root.specs.Digits.{Quick}
+use Rattle.square_root.proofs.Normal.{pattern-lt, quick-root}
 use Rattle.square_root.proofs.positive_root.Statement.{statement}
 use Rattle.square_root.proofs.positive_root.Tie as tie
 
 above : (c : tie.Start) → T (positive (c .args .x))
 above c = rw (c .pre) tt
 
-taken : (c : tie.After-unpack) → Scaling (c .before .args .x) (c .unpack .result)
-taken c = rw (c .unpack .ensures) (scaling (c .before .args .x) (subst T (sym (c .before .good .0 .1)) tt) (positive-plain (c .before .args .x) (above (c .before))))
+held : (c : tie.Start) → T (fits binary64 (c .args .x))
+held c = subst T (sym (c .good .0 .1)) tt
 
-float-to-bits-unpack : tie.Need-float-to-bits-unpack
-float-to-bits-unpack c = plain-no-nan (c .args .x) (positive-plain (c .args .x) (above c))
+unsigned : (c : tie.Start) → toBits binary64 (c .args .x) < 2 ^ 63
+unsigned c = pattern-lt (c .args .x) (held c) (above c)
 
-unpack-requires : tie.Need-unpack-requires
-unpack-requires c κs = search needs
+found : (c : tie.Else1) → Quick (toBits binary64 (c .before .before .args .x)) (c .before .digits-of .result)
+found c = c .before .digits-of .ensures (pos-of-ne-zero (c .if1 .left))
 
-add-root-digits : tie.Need-add-root-digits
-add-root-digits c = omega (arith, taken (c .before) .bounded)
+float-to-bits-bits : tie.Need-float-to-bits-bits
+float-to-bits-bits c = plain-no-nan (c .args .x) (positive-plain (c .args .x) (above c))
 
-shl-root-digits : tie.Need-shl-root-digits
-shl-root-digits c = omega (arith, parity-lt (c .before .before .unpack .result .e))
+digits-of-requires : tie.Need-digits-of-requires
+digits-of-requires c κs = search needs
 
-root-digits-requires : tie.Need-root-digits-requires
-root-digits-requires c κs = shifted-ge (c .before .before .before .args .x) (c .before .before .unpack .result) (taken (c .before .before))
-
-add-pack : tie.Need-add-pack
-add-pack c = omega (arith, taken (c .before .before .before .before) .bounded)
-
-pack-requires : tie.Need-pack-requires
-pack-requires c κs = search needs
+restored-requires : tie.Need-restored-requires
+restored-requires c κs = search needs
 
 returns : tie.Need-returns
-returns c =
-    let d = c .before .before .root-digits in
-    let u = c .before .before .before .before .before in
-    c .pack .ensures ∙ root-code (u .before .args .x) (u .unpack .result) (taken u) (d .result) (above (u .before)) (d .ensures)
+returns c = search needs
+
+add-result : tie.Need-add-result
+add-result c = omega (arith, unsigned (c .before .before))
+
+add-result-2 : tie.Need-add-result-2
+add-result-2 c = omega (arith, unsigned (c .before .before), found c .digits .top)
+
+float-from-bits-result : tie.Need-float-from-bits-result
+float-from-bits-result c = rest-no-nan binary64 _ (omega (arith, unsigned (c .before .before), found c .digits .top))
+
+returns-2 : tie.Need-returns-2
+returns-2 c =
+    let a = c .before .before in
+    quick-root (a .args .x) (held a) (above a) (c .before .digits-of .result) (found c)
 
 pub positive-root-spec : {M : Type 1} → statement M
 positive-root-spec =
     tie.close
     (tie.spec
-    float-to-bits-unpack
-    unpack-requires
-    add-root-digits
-    shl-root-digits
-    root-digits-requires
-    add-pack
-    pack-requires
-    returns)
+    float-to-bits-bits
+    digits-of-requires
+    restored-requires
+    returns
+    add-result
+    add-result-2
+    float-from-bits-result
+    returns-2)

@@ -1,6 +1,6 @@
 -- `sinc_read::phases::cut_to` meets its contract: its three ways are the laws of `Cuts`. Assumes nothing.
 use borrow.Author.Needs.{needs}
-use mathlib.Core.Path.{_≡_, _∙_}
+use mathlib.Core.Path.{_∙_}
 use Prim.Native.Nat.{ℕ, _^_, _≤_}
 use lib.IntN.{pos}
 use lib.Ieee.{binary64, ofBits}

@@ -1,0 +1,10 @@
+pub mod Spans
+pub mod Ceilings
+pub mod Gaps
+pub mod Growing
+pub mod Partition
+pub mod Coarse
+pub mod Room
+pub mod NotLast
+pub mod OwnRate
+pub mod Worked

@@ -1,0 +1,115 @@
+-- `bank_choice::chosen` meets its contract: its steps are the definition's, one for one. Assumes nothing.
+use borrow.Author.Needs.{needs}
+use mathlib.Core.Path.{_≡_}
+use mathlib.Core.Bool.{Bool, true, false}
+use Prim.Native.Nat.{ℕ, _+_, _-_, min}
+use native.Mathlib.Omega.{arith}
+use lib.IntN.{negsuc}
+use lib.Ieee.{Float, fin, binary64, sub, div, neg, le, ofBits}
+use Rattle.rounding.specs.Operations.{narrowed}
+use Rattle.order.specs.Choice.{clamped}
+use Rattle.sinc_settings.specs.Ranges.{zero-f, one-f}
+use Rattle.bank_choice.specs.declared.Choice.{Choice}
+use Rattle.bank_choice.specs.Rates.{stepsOf, rateOf}
+use Rattle.bank_choice.specs.Choosing.{partitionOf, lowerOf, closeOf, blendOf, whichOf, chosenOf}
+use Rattle.bank_choice.proofs.Spans.{least}
+use Rattle.bank_choice.proofs.chosen.Statement.{statement}
+use Rattle.bank_choice.proofs.chosen.Tie as tie
+
+-- each of the code's values is the definition's
+joined : (top rate : Float) (n p s t w : ℕ) (r o l b g : Float) (k : Bool)
+    → n ≡ stepsOf top → r ≡ clamped rate one-f top → p ≡ partitionOf top n r → s ≡ min p (n - 1) → t ≡ min (s + 1) (n - 1) → o ≡ rateOf top n (s + 1) → l ≡ lowerOf top n s
+    → b ≡ narrowed (div binary64 (sub binary64 r l) (sub binary64 o l)) → k ≡ closeOf o l → w ≡ whichOf k (le b (fin false 1 (negsuc 22))) (le (fin false 8388607 (negsuc 22)) b) → g ≡ clamped b zero-f one-f
+    → _≡_ {A = Choice} (record { safe = s; tighter = t; which = w; blend = g }) (chosenOf top rate)
+unfolding chosenOf blendOf
+joined top rate n p s t w r o l b g k hn hr hp hs ht ho hl hb hk hw hg = rw (hg, hw, hk, hb, hl, ho, ht, hs, hp, hr, hn)
+
+steps-requires : tie.Need-steps-requires
+steps-requires c κs = search needs
+
+-- in range, both answers are the definition's
+count : (c : tie.After-steps) → c .steps .result ≡ stepsOf (c .before .args .max-rate)
+count c = rw (c .before .pre) at (c .steps .ensures)
+
+slower : (c : tie.After-first) → let a = c .before .before .before .args in c .first .result ≡ partitionOf (a .max-rate) (c .before .before .steps .result) (c .before .clamp .result)
+slower c = rw (count (c .before .before)) (rw (c .before .before .before .pre) at (c .first .ensures))
+
+clamp-requires : tie.Need-clamp-requires
+clamp-requires c κs = search needs
+
+first-requires : tie.Need-first-requires
+first-requires c κs = search needs
+
+sub-at-most : tie.Need-sub-at-most
+sub-at-most c = let s = c .before .before in omega (arith, count s, least (s .before .args .max-rate))
+
+at-most-requires : tie.Need-at-most-requires
+at-most-requires c κs = search needs
+
+add-at-most : tie.Need-add-at-most
+add-at-most c = search needs
+
+sub-at-most-2 : tie.Need-sub-at-most-2
+sub-at-most-2 c = sub-at-most (c .before)
+
+at-most-requires-2 : tie.Need-at-most-requires-2
+at-most-requires-2 c κs = search needs
+
+add-rate : tie.Need-add-rate
+add-rate c = search needs
+
+rate-requires : tie.Need-rate-requires
+rate-requires c κs = search needs
+
+lower-requires : tie.Need-lower-requires
+lower-requires c κs = search needs
+
+narrow-requires : tie.Need-narrow-requires
+narrow-requires c κs = search needs
+
+within-requires : tie.Need-within-requires
+within-requires c κs = search needs
+
+which-requires : tie.Need-which-requires
+which-requires c κs = search needs
+
+clamp-f32-requires : tie.Need-clamp-f32-requires
+clamp-f32-requires c κs = search needs
+
+returns : tie.Need-returns
+unfolding ofBits neg
+returns c =
+    let w = c .before in
+    let k = w .before in
+    let b = k .before in
+    let l = b .before in
+    let o = l .before in
+    let t = o .before in
+    let s = t .before in
+    let p = s .before in
+    let r = p .before in
+    let n = r .before in
+    let a = n .before .args in
+    joined (a .max-rate) (a .rate) (n .steps .result) (p .first .result) (s .at-most .result) (t .at-most2 .result) (w .which .result) (r .clamp .result) (o .rate .result) (l .lower .result) (b .narrow .result) (c .clamp-f32 .result) (k .within .result)
+    (count n) (r .clamp .ensures) (slower p) (s .at-most .ensures) (t .at-most2 .ensures) (o .rate .ensures) (l .lower .ensures) (b .narrow .ensures) (k .within .ensures) (w .which .ensures) (c .clamp-f32 .ensures)
+
+pub chosen-spec : {M : Type 1} → statement M
+chosen-spec =
+    tie.close
+    (tie.spec
+    steps-requires
+    clamp-requires
+    first-requires
+    sub-at-most
+    at-most-requires
+    add-at-most
+    sub-at-most-2
+    at-most-requires-2
+    add-rate
+    rate-requires
+    lower-requires
+    narrow-requires
+    within-requires
+    which-requires
+    clamp-f32-requires
+    returns)

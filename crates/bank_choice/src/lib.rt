@@ -1,0 +1,83 @@
+// T3, T4. 000's SincBankF32 without its tables: how many sets a bank has, their rates, and which two a rate reads.
+mod rates; // how many sets, and the rate of each
+mod search; // how many of them are slower than a rate
+
+pub use rates::set_rate;
+pub use rates::steps;
+ghost use mathlib.Core.Path.{_≡_};
+ghost use mathlib.Core.Bool.{true};
+ghost use Prim.Native.Nat.{min};
+ghost use Rattle.bank_choice.specs.Rates.{bankOk};
+ghost use Rattle.bank_choice.specs.Choosing.{lowerOf, whichOf, chosenOf, choiceOf};
+
+// Which sets a rate reads, counted from 0: by `which` the safe set alone (0), the tighter alone (1), or both (2), blended.
+pub struct Choice {
+    pub safe: usize,
+    pub tighter: usize,
+    pub which: u8,
+    pub blend: f32,
+}
+
+fn at_most(x: usize, top: usize) -> usize
+    ensures { λ r. ⌜ r ≡ min x top ⌝ }
+{
+    if x < top { x } else { top }
+}
+
+fn lower(max_rate: f64, steps: usize, k: usize) -> f64
+    ensures { λ r. ⌜ r ≡ lowerOf «max_rate» steps k ⌝ }
+{
+    if k == 0 {
+        1.0
+    } else {
+        rates::rate(max_rate, steps, k)
+    }
+}
+
+fn which(close: bool, low: bool, high: bool) -> u8
+    ensures { λ r. ⌜ r ≡ whichOf close low high ⌝ }
+{
+    if close {
+        return 0;
+    }
+    if low {
+        return 0;
+    }
+    if high { 1 } else { 2 }
+}
+
+fn chosen(max_rate: f64, rate: f64) -> Choice
+    requires { ⌜ bankOk «max_rate» ≡ true ⌝ }
+    ensures { λ r. ⌜ r ≡ chosenOf «max_rate» rate ⌝ }
+{
+    let n = steps(max_rate);
+    let r = order::clamp(rate, 1.0, max_rate);
+    let safe = at_most(search::first(max_rate, r), n - 1);
+    let tighter = at_most(safe + 1, n - 1);
+    let own = rates::rate(max_rate, n, safe + 1);
+    let below = lower(max_rate, n, safe);
+    let blend = narrowing::narrow((r - below) / (own - below));
+    let close = magnitude::within(own - below, -2.220446049250313e-16, 2.220446049250313e-16);
+    Choice {
+        safe: safe,
+        tighter: tighter,
+        which: which(close, blend <= 1.1920929e-7, blend >= 0.9999999),
+        blend: order::clamp_f32(blend, 0.0, 1.0),
+    }
+}
+
+// Which sets a rate reads; all zero where the bank's rate is out of its range. A NaN gives what the same lines give.
+pub fn choose(max_rate: f64, rate: f64) -> Choice
+    ensures { λ r. ⌜ r ≡ choiceOf «max_rate» rate ⌝ }
+{
+    if magnitude::within(max_rate, 1.0, 2.0) {
+        chosen(max_rate, rate)
+    } else {
+        Choice {
+            safe: 0,
+            tighter: 0,
+            which: 0,
+            blend: 0.0,
+        }
+    }
+}

@@ -1,0 +1,37 @@
+-- `bank_read::lent::blend_read` meets its contract, by its three cases. Assumes nothing.
+use borrow.Author.Needs.{needs}
+use Rattle.bank_read.proofs.Tables.{both-read}
+use Rattle.bank_read.proofs.lent.blend_read.Statement.{statement}
+use Rattle.bank_read.proofs.lent.blend_read.Tie as tie
+
+table-read-requires : tie.Need-table-read-requires
+table-read-requires c κs = search needs
+
+returns : tie.Need-returns
+returns c = rw (c .before .if1 .taken) (c .table-read .ensures)
+
+table-read-requires-2 : tie.Need-table-read-requires-2
+table-read-requires-2 c κs = search needs
+
+returns-2 : tie.Need-returns-2
+returns-2 c = rw (c .if2 .taken) (c .before .table-read2 .ensures)
+
+table-read-requires-3 : tie.Need-table-read-requires-3
+table-read-requires-3 c κs = search needs
+
+returns-3 : tie.Need-returns-3
+returns-3 c =
+    let other = c .before in
+    let first = other .before in
+    rw (c .table-read3 .ensures, first .table-read2 .ensures) (both-read _ _ _ _ (first .before .if1 .left) (other .if2 .left))
+
+pub blend-read-spec : {M : Type 1} → statement M
+blend-read-spec =
+    tie.close
+    (tie.spec
+    table-read-requires
+    returns
+    table-read-requires-2
+    returns-2
+    table-read-requires-3
+    returns-3)

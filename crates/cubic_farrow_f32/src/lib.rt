@@ -1,0 +1,71 @@
+// 000's cubic_sample_f32, which Draft reads, over a slice, a count and a position.
+ghost use mathlib.Core.Path.{_≡_};
+ghost use mathlib.Core.Bool.{true};
+ghost use Prim.Native.Nat.{_+_, _≤_, _^_};
+ghost use lib.IntN.{pos, _+ℤ_, _-ℤ_};
+ghost use lib.ListN.{length, getD};
+ghost use lib.Signed.{mag};
+ghost use lib.Ieee.{binary32, nan};
+ghost use Rattle.ring.specs.Taps.{tapOf};
+ghost use Rattle.ring.specs.Places.{positionOk};
+ghost use Rattle.cubic_farrow.specs.Cubic.{weighed};
+ghost use Rattle.cubic_farrow_f32.specs.Draft.{draftAt, readOf};
+
+// Lagrange basis for nodes -1, 0, 1, 2, every step rounded to f32.
+fn weigh(mu: f32, xm1: f32, x0: f32, x1: f32, x2: f32) -> f32
+    ensures { λ r. ⌜ r ≡ weighed binary32 mu xm1 x0 x1 x2 ⌝ }
+{
+    let c0 = -mu * (mu - 1.0) * (mu - 2.0) / 6.0;
+    let c1 = (mu + 1.0) * (mu - 1.0) * (mu - 2.0) / 2.0;
+    let c2 = -(mu + 1.0) * mu * (mu - 2.0) / 2.0;
+    let c3 = (mu + 1.0) * mu * (mu - 1.0) / 6.0;
+    xm1 * c0 + x0 * c1 + x1 * c2 + x2 * c3
+}
+
+// The four taps from a place on, side by side.
+fn side_by_side(source: &[f32], p: usize, mu: f32) -> f32
+    requires { ⌜ p + 4 ≤ length (now source) ⌝ }
+    ensures { λ r. ⌜ r ≡ weighed binary32 mu (getD (now (source .entry)) p nan) (getD (now (source .entry)) (p + 1) nan) (getD (now (source .entry)) (p + 2) nan) (getD (now (source .entry)) (p + 3) nan) ⌝ }
+{
+    weigh(mu, source[p], source[p + 1], source[p + 2], source[p + 3])
+}
+
+// The four taps around an index, with a test for each.
+fn one_by_one(source: &[f32], count: u64, i: i64, mu: f32) -> f32
+    requires { ⌜ mag i ≤ 2 ^ 36 ⌝ }
+    ensures { λ r. ⌜ r ≡ weighed binary32 mu (tapOf (now (source .entry)) count (i -ℤ pos 1)) (tapOf (now (source .entry)) count i) (tapOf (now (source .entry)) count (i +ℤ pos 1)) (tapOf (now (source .entry)) count (i +ℤ pos 2)) ⌝ }
+{
+    let xm1 = ring::tap_f32(source, count, i - 1);
+    let x0 = ring::tap_f32(source, count, i);
+    let x1 = ring::tap_f32(source, count, i + 1);
+    let x2 = ring::tap_f32(source, count, i + 2);
+    weigh(mu, xm1, x0, x1, x2)
+}
+
+// The reading at a position in range. Where the four taps are held side by side they are read without a test each.
+fn at(source: &[f32], count: u64, position: f64) -> f32
+    requires { ⌜ positionOk position ≡ true ⌝ }
+    ensures { λ r. ⌜ r ≡ draftAt (now (source .entry)) count position ⌝ }
+{
+    let i = integer_part::floor(position);
+    let mu = narrowing::narrow(position - (i as f64));
+    let s = ring::run_start(source.len(), count, i - 1, 4);
+    let p = s.place;
+    if s.held {
+        if p + 4 <= source.len() {
+            return side_by_side(source, p, mu);
+        }
+    }
+    one_by_one(source, count, i, mu)
+}
+
+// The reading at a position; zero outside the positions' range.
+pub fn read(source: &[f32], count: u64, position: f64) -> f32
+    ensures { λ r. ⌜ r ≡ readOf (now (source .entry)) count position ⌝ }
+{
+    if ring::position_ok(position) {
+        at(source, count, position)
+    } else {
+        0.0
+    }
+}

@@ -1,0 +1,64 @@
+// C4. What the static libraries' exports share: an answer and an opening taken apart into plain numbers, 0 where nothing is refused.
+ghost use mathlib.Core.Path.{_≡_};
+ghost use Rattle.answer.specs.Answers.{numberOf, valueOf, numberF32Of, valueF32Of};
+ghost use Rattle.variable_delay.specs.Opening as opening;
+ghost use Rattle.doors.specs.Doors.{countOf};
+use answer::Answer;
+use answer::AnswerF32;
+use variable_delay::Opened;
+
+pub fn number(a: Answer) -> u8
+    ensures { λ r. ⌜ r ≡ numberOf a ⌝ }
+{
+    match a {
+        Answer::Sample(_) => 0,
+        Answer::Refused(k) => k,
+    }
+}
+
+// The sample, 0.0 for a refusal.
+pub fn value(a: Answer) -> f64
+    ensures { λ r. ⌜ r ≡ valueOf a ⌝ }
+{
+    match a {
+        Answer::Sample(v) => v,
+        Answer::Refused(_) => 0.0,
+    }
+}
+
+pub fn number_f32(a: AnswerF32) -> u8
+    ensures { λ r. ⌜ r ≡ numberF32Of a ⌝ }
+{
+    match a {
+        AnswerF32::Sample(_) => 0,
+        AnswerF32::Refused(k) => k,
+    }
+}
+
+pub fn value_f32(a: AnswerF32) -> f32
+    ensures { λ r. ⌜ r ≡ valueF32Of a ⌝ }
+{
+    match a {
+        AnswerF32::Sample(v) => v,
+        AnswerF32::Refused(_) => 0.0,
+    }
+}
+
+pub fn opened_number(o: Opened) -> u8
+    ensures { λ r. ⌜ r ≡ opening.numberOf o ⌝ }
+{
+    match o {
+        Opened::Reader(_) => 0,
+        Opened::Refused(k) => k,
+    }
+}
+
+// The count of what was opened, and the one before where that was refused.
+pub fn opened_count(before: u64, o: Opened) -> u64
+    ensures { λ r. ⌜ r ≡ countOf before o ⌝ }
+{
+    match o {
+        Opened::Reader(d) => d.accepted,
+        Opened::Refused(_) => before,
+    }
+}

@@ -1,0 +1,13 @@
+-- `fugnadri_tables::readers::fugnadri_windowed_sinc_process` meets its contract: what the calls ensure, one put into the other; none of them asks anything. Assumes nothing.
+use borrow.Author.Needs.{needs}
+use mathlib.Core.Path.{_∙_, ap}
+use Rattle.answer.specs.Answers.{numberOf, valueOf}
+use Rattle.fugnadri_tables.proofs.readers.fugnadri_windowed_sinc_process.Statement.{statement}
+use Rattle.fugnadri_tables.proofs.readers.fugnadri_windowed_sinc_process.Tie as tie
+
+returns : tie.Need-returns
+returns c = let e = c .before .before .before .before .before .process-sample .ensures in
+    (c .number .ensures ∙ ap (λ p. numberOf (p .answer)) (e .0), (c .before .value .ensures ∙ ap (λ p. valueOf (p .answer)) (e .0), (ap (λ p. p .state .accepted) (e .0), e .1)))
+
+pub fugnadri-windowed-sinc-process-spec : {M : Type 1} → statement M
+fugnadri-windowed-sinc-process-spec = tie.close (tie.spec (λ c κs. tt) (λ c κs. tt) (λ c κs. tt) (λ c. search needs) returns)

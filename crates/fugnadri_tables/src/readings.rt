@@ -1,0 +1,84 @@
+// K3. A table's reading of a lent slice at a position: the refusal's number, 0 for none; the sample, 0.0 where there is none, through a pointer. `_bits` hands it out as
+// a pattern (O3).
+ghost use mathlib.Core.Path.{_≡_};
+ghost use lib.ListN.{length};
+ghost use lib.Ieee.{binary32, binary64, toBits};
+ghost use Rattle.answer.specs.Answers.{answerOf, answerF32Of, numberOf, valueOf, numberF32Of, valueF32Of};
+ghost use Rattle.sinc_read.specs.Reading.{sampleVerdict, readOf};
+ghost use Rattle.sinc_read_f32.specs.Reading as single;
+use doors::number;
+use doors::number_f32;
+use doors::value;
+use doors::value_f32;
+
+#[no_mangle]
+pub extern "C" fn fugnadri_windowed_sinc_sample<'a>(
+    table: &'a [f64],
+    taps: usize,
+    phases: usize,
+    source: &'a [f64],
+    count: u64,
+    position: f64,
+    sample: &mut f64,
+) -> u8
+    ensures { λ r. ⌜ r ≡ numberOf (answerOf (sampleVerdict taps phases (length (now (table .entry))) position) (readOf (now (table .entry)) taps phases (now (source .entry)) count position)) ⌝ }
+    ensures { λ r. ⌜ now (sample .exit) ≡ valueOf (answerOf (sampleVerdict taps phases (length (now (table .entry))) position) (readOf (now (table .entry)) taps phases (now (source .entry)) count position)) ⌝ }
+{
+    let a = sinc_read::sample(table, taps, phases, source, count, position);
+    *sample = value(a);
+    number(a)
+}
+
+#[no_mangle]
+pub extern "C" fn fugnadri_windowed_sinc_sample_bits<'a>(
+    table: &'a [f64],
+    taps: usize,
+    phases: usize,
+    source: &'a [f64],
+    count: u64,
+    position: f64,
+    sample: &mut u64,
+) -> u8
+    ensures { λ r. ⌜ r ≡ numberOf (answerOf (sampleVerdict taps phases (length (now (table .entry))) position) (readOf (now (table .entry)) taps phases (now (source .entry)) count position)) ⌝ }
+    ensures { λ r. ⌜ now (sample .exit) ≡ toBits binary64 (valueOf (answerOf (sampleVerdict taps phases (length (now (table .entry))) position) (readOf (now (table .entry)) taps phases (now (source .entry)) count position))) ⌝ }
+{
+    let a = sinc_read::sample(table, taps, phases, source, count, position);
+    *sample = patterns::bits_of(value(a));
+    number(a)
+}
+
+#[no_mangle]
+pub extern "C" fn fugnadri_windowed_sinc_f32_sample<'a>(
+    table: &'a [f32],
+    taps: usize,
+    phases: usize,
+    source: &'a [f32],
+    count: u64,
+    position: f64,
+    sample: &mut f32,
+) -> u8
+    ensures { λ r. ⌜ r ≡ numberF32Of (answerF32Of (sampleVerdict taps phases (length (now (table .entry))) position) (single.readOf (now (table .entry)) taps phases (now (source .entry)) count position)) ⌝ }
+    ensures { λ r. ⌜ now (sample .exit) ≡ valueF32Of (answerF32Of (sampleVerdict taps phases (length (now (table .entry))) position) (single.readOf (now (table .entry)) taps phases (now (source .entry)) count position)) ⌝ }
+{
+    let a = sinc_read_f32::sample(table, taps, phases, source, count, position);
+    *sample = value_f32(a);
+    number_f32(a)
+}
+
+#[no_mangle]
+pub extern "C" fn fugnadri_windowed_sinc_f32_sample_bits<'a>(
+    table: &'a [f32],
+    taps: usize,
+    phases: usize,
+    source: &'a [f32],
+    count: u64,
+    position: f64,
+    sample: &mut u32,
+) -> u8
+    ensures { λ r. ⌜ r ≡ numberF32Of (answerF32Of (sampleVerdict taps phases (length (now (table .entry))) position) (single.readOf (now (table .entry)) taps phases (now (source .entry)) count position)) ⌝ }
+    ensures { λ r. ⌜ now (sample .exit) ≡ toBits binary32 (valueF32Of (answerF32Of (sampleVerdict taps phases (length (now (table .entry))) position) (single.readOf (now (table .entry)) taps phases (now (source .entry)) count position))) ⌝ }
+{
+    let a = sinc_read_f32::sample(table, taps, phases, source, count, position);
+    *sample = patterns::bits_of_f32(value_f32(a));
+    number_f32(a)
+}

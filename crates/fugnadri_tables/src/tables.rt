@@ -1,0 +1,103 @@
+// T1, N1, N2. A table built into a lent slice: the refusal's number, 0 for none.
+ghost use mathlib.Core.Path.{_≡_};
+ghost use lib.ListN.{length};
+ghost use Rattle.sinc_settings.specs.Refusals.{verdict, forRate, rateVerdict};
+ghost use Rattle.windowed_sinc.specs.Table.{tableOf, tableAfter, builtBy, numberOf};
+ghost use Rattle.windowed_sinc_f32.specs.Table as single;
+ghost use Rattle.fugnadri_tables.specs.Doors.{settingsOf};
+use sinc_settings::Settings;
+
+fn number(b: windowed_sinc::Built) -> u8
+    ensures { λ r. ⌜ r ≡ numberOf b ⌝ }
+{
+    match b {
+        windowed_sinc::Built::Kernel(_) => 0,
+        windowed_sinc::Built::Refused(k) => k,
+    }
+}
+
+fn number_f32(b: windowed_sinc_f32::Built) -> u8
+    ensures { λ r. ⌜ r ≡ single.numberOf b ⌝ }
+{
+    match b {
+        windowed_sinc_f32::Built::Kernel(_) => 0,
+        windowed_sinc_f32::Built::Refused(k) => k,
+    }
+}
+
+#[no_mangle]
+pub extern "C" fn fugnadri_windowed_sinc_new(
+    taps: usize,
+    phases: usize,
+    cutoff: f64,
+    beta: f64,
+    table: &mut [f64],
+) -> u8
+    ensures { λ r. ⌜ r ≡ numberOf (builtBy (verdict (settingsOf taps phases cutoff beta) (length (now (table .entry)))) (settingsOf taps phases cutoff beta)) ⌝ }
+    ensures { λ r. ⌜ now (table .exit) ≡ tableAfter (verdict (settingsOf taps phases cutoff beta) (length (now (table .entry)))) (tableOf (settingsOf taps phases cutoff beta)) (now (table .entry)) ⌝ }
+{
+    let settings = Settings {
+        taps: taps,
+        phases: phases,
+        cutoff: cutoff,
+        beta: beta,
+    };
+    number(windowed_sinc::new(settings, &mut table[..]))
+}
+
+#[no_mangle]
+pub extern "C" fn fugnadri_windowed_sinc_for_max_rate(
+    taps: usize,
+    phases: usize,
+    max_rate: f64,
+    passband: f64,
+    beta: f64,
+    table: &mut [f64],
+) -> u8
+    ensures { λ r. ⌜ r ≡ numberOf (builtBy (rateVerdict (forRate taps phases «max_rate» passband beta) «max_rate» passband (length (now (table .entry)))) (forRate taps phases «max_rate» passband beta)) ⌝ }
+    ensures { λ r. ⌜ now (table .exit) ≡ tableAfter (rateVerdict (forRate taps phases «max_rate» passband beta) «max_rate» passband (length (now (table .entry)))) (tableOf (forRate taps phases «max_rate» passband beta)) (now (table .entry)) ⌝ }
+{
+    number(windowed_sinc::for_max_rate(taps, phases, max_rate, passband, beta, &mut table[..]))
+}
+
+#[no_mangle]
+pub extern "C" fn fugnadri_windowed_sinc_f32_new(
+    taps: usize,
+    phases: usize,
+    cutoff: f64,
+    beta: f64,
+    table: &mut [f32],
+) -> u8
+    ensures { λ r. ⌜ r ≡ single.numberOf (single.builtBy (verdict (settingsOf taps phases cutoff beta) (length (now (table .entry)))) (settingsOf taps phases cutoff beta)) ⌝ }
+    ensures { λ r. ⌜ now (table .exit) ≡ tableAfter (verdict (settingsOf taps phases cutoff beta) (length (now (table .entry)))) (single.tableF32Of (settingsOf taps phases cutoff beta)) (now (table .entry)) ⌝ }
+{
+    let settings = Settings {
+        taps: taps,
+        phases: phases,
+        cutoff: cutoff,
+        beta: beta,
+    };
+    number_f32(windowed_sinc_f32::new(settings, &mut table[..]))
+}
+
+#[no_mangle]
+pub extern "C" fn fugnadri_windowed_sinc_f32_for_max_rate(
+    taps: usize,
+    phases: usize,
+    max_rate: f64,
+    passband: f64,
+    beta: f64,
+    table: &mut [f32],
+) -> u8
+    ensures { λ r. ⌜ r ≡ single.numberOf (single.builtBy (rateVerdict (forRate taps phases «max_rate» passband beta) «max_rate» passband (length (now (table .entry)))) (forRate taps phases «max_rate» passband beta)) ⌝ }
+    ensures { λ r. ⌜ now (table .exit) ≡ tableAfter (rateVerdict (forRate taps phases «max_rate» passband beta) «max_rate» passband (length (now (table .entry)))) (single.tableF32Of (forRate taps phases «max_rate» passband beta)) (now (table .entry)) ⌝ }
+{
+    number_f32(windowed_sinc_f32::for_max_rate(
+        taps,
+        phases,
+        max_rate,
+        passband,
+        beta,
+        &mut table[..],
+    ))
+}

@@ -1,0 +1,206 @@
+-- `fused64::quick::quick` meets its contract: fields in reach say what the heads are, and the sum at either place is the exact one. Assumes nothing.
+use borrow.Author.Needs.{needs}
+use native.Mathlib.Omega.{arith}
+use mathlib.Core.Path.{_≡_, ap, _∙_}
+use Prim.Native.Nat.{ℕ, _+_, _-_, _*_, _/_, _%_, _^_, _≤_, _<_}
+use native.Mathlib.Nat.{lt-irrefl, lt-of-le-of-lt, zero-lt-suc}
+use lib.Bits.{bitAnd, bitOr, and-mask}
+use lib.Pow.{shr-le}
+use Rattle.fused64.specs.Wide.{val, lower}
+use Rattle.fused64.specs.Word.{Heads, Tells, Beside, digits53, fieldOf}
+use Rattle.fused64.proofs.Reach.{columns-tell}
+use Rattle.fused64.proofs.Fields.{reached, high-lt, halved-even, beside, at-addend, at-product}
+use Rattle.fused64.proofs.quick.quick.Statement.{statement}
+use Rattle.fused64.proofs.quick.quick.Tie as tie
+
+-- what a head in reach says
+abbrev Read : ℕ → ℕ → Type 0
+Read n f = (f % 2 ^ 11 + 768 ≡ fieldOf n) × (f / 2 ^ 11 ≡ n / 2 ^ 63) × (f < 2 ^ 12)
+
+fields : (c : tie.Then1) → Heads (c .before .before .before .before .head .result) (c .before .before .before .head2 .result) (c .before .before .head3 .result)
+fields c = c .before .in-reach .ensures (c .if1 .taken)
+
+first : (c : tie.Then1) → Read (c .before .before .before .before .before .args .a) (c .before .before .before .before .head .result)
+first c =
+    let h = c .before .before .before .before in
+    reached (h .before .args .a) (h .head .result) (h .before .fits .a .fits) (search needs) (h .head .ensures) (fields c .first)
+
+second : (c : tie.Then1) → Read (c .before .before .before .before .before .args .b) (c .before .before .before .head2 .result)
+second c =
+    let h = c .before .before .before in
+    reached (h .before .before .args .b) (h .head2 .result) (h .before .before .fits .b .fits) (search needs) (h .head2 .ensures) (fields c .second)
+
+third : (c : tie.Then1) → Read (c .before .before .before .before .before .args .c) (c .before .before .head3 .result)
+third c =
+    let h = c .before .before in
+    reached (h .before .before .before .args .c) (h .head3 .result) (h .before .before .before .fits .c .fits) (search needs) (h .head3 .ensures) (fields c .third)
+
+abbrev low-word : (c : tie.After-columns) → ℕ
+low-word c = lower (c .columns .result .middle) (c .columns .result .low)
+
+told : (c : tie.After-columns) → Tells (bitAnd (bitOr (c .columns .result .middle) (c .columns .result .low)) 0xffff_ffff) (low-word c)
+told c = columns-tell (c .columns .result .middle) (c .columns .result .low)
+
+whole : (c : tie.After-columns) → val (c .columns .result .hi) (low-word c) ≡ digits53 (c .before .before .before .before .before .before .before .before .args .a) * 2 ^ 10 * (digits53 (c .before .before .before .before .before .before .before .before .args .b) * 2 ^ 10)
+whole c =
+    let d = c .before in
+    let x : d .before .digits-of .result * 2 ^ 10 % 2 ^ 64 ≡ digits53 (d .before .before .before .before .before .before .before .args .a) * 2 ^ 10 = omega (arith, d .before .digits-of .ensures) in
+    let y : d .digits-of2 .result * 2 ^ 10 % 2 ^ 64 ≡ digits53 (d .before .before .before .before .before .before .before .args .b) * 2 ^ 10 = omega (arith, d .digits-of2 .ensures) in
+    c .columns .ensures ∙ ap (λ (v : ℕ). v * (d .digits-of2 .result * 2 ^ 10 % 2 ^ 64)) x ∙ ap (λ (v : ℕ). digits53 (d .before .before .before .before .before .before .before .args .a) * 2 ^ 10 * v) y
+
+narrow : (c : tie.After-columns) → c .columns .result .hi < 2 ^ 62
+narrow c =
+    let a = c .before .before .before .before .before .before .before .before .args in
+    high-lt (a .a) (a .b) (c .columns .result .hi) (low-word c) (whole c)
+
+addend : (c : tie.After-digits-of3) → c .digits-of3 .result * 2 ^ 8 % 2 ^ 64 ≡ digits53 (c .before .before .before .before .before .before .before .before .before .before .args .c) * 2 ^ 8
+addend c = omega (arith, c .digits-of3 .ensures)
+
+-- the words that the code makes of the heads
+same-sign : (k : ℕ) → bitAnd (k / 2 ^ 11) 1 * 2 ^ 11 % 2 ^ 64 ≡ k / 2 ^ 11 % 2 * 2 ^ 11
+same-sign k = omega (arith, and-mask (k / 2 ^ 11) 1)
+
+same-place : (k : ℕ) → bitAnd k 0x7ff ≡ k % 2 ^ 11
+same-place k = and-mask k 11
+
+head-requires : tie.Need-head-requires
+head-requires c κs = search needs
+
+head-requires-2 : tie.Need-head-requires-2
+head-requires-2 c κs = search needs
+
+head-requires-3 : tie.Need-head-requires-3
+head-requires-3 c κs = search needs
+
+in-reach-requires : tie.Need-in-reach-requires
+in-reach-requires c κs = search needs
+
+digits-of-requires : tie.Need-digits-of-requires
+digits-of-requires c κs = search needs
+
+digits-of-requires-2 : tie.Need-digits-of-requires-2
+digits-of-requires-2 c κs = search needs
+
+columns-requires : tie.Need-columns-requires
+columns-requires c κs = search needs
+
+digits-of-requires-3 : tie.Need-digits-of-requires-3
+digits-of-requires-3 c κs = search needs
+
+add-k : tie.Need-add-k
+add-k c =
+    let t = c .before .before .before .before .before in
+    omega (arith, first t .2, second t .2)
+
+add-i : tie.Need-add-i
+add-i c =
+    let r = c .before .before .before .before .before .before .before in
+    omega (arith, same-place (r .before .before .head .result + r .before .head2 .result))
+
+add-j : tie.Need-add-j
+add-j c = omega (arith, same-place (c .before .before .before .before .before .before .before .head3 .result))
+
+without-requires : tie.Need-without-requires
+without-requires c κs = (c .if3 .taken, narrow (c .before .before .before .before))
+
+joined-requires : tie.Need-joined-requires
+joined-requires c κs =
+    let w = c .before .before .before in
+    let t = w .before .before .before .before .before in
+    let r = t .before .before in
+    let k = r .before .before .head .result + r .before .head2 .result in
+    let h = r .head3 .result in
+    rw (same-sign k, same-sign h, addend w, same-place h) (beside k h (c .without .result) _ _ (c .without .ensures (low-word (w .before .before)) (told (w .before .before)) .below) (omega arith) (omega arith) (omega arith) (omega (arith, fields t .third)))
+
+returns : tie.Need-returns
+returns c = λ some.
+    let o = c .before in
+    let w = o .before .before .before in
+    let m = w .before .before in
+    let t = m .before .before .before in
+    let r = t .before .before in
+    let f = r .before .before .head .result in
+    let g = r .before .head2 .result in
+    let h = r .head3 .result in
+    let a = r .before .before .before .args in
+    at-addend (a .a) (a .b) (a .c) f g h (m .columns .result .hi) (low-word m) (first t) (second t) (third t) (fields t) (whole m) (o .without .result) (c .joined .result)
+    (rw (same-place (f + g), same-place h) at (o .before .before .if2 .taken))
+    (rw (same-place (f + g), same-place h) at (o .without .ensures (low-word m) (told m)))
+    (rw (same-sign (f + g), same-sign h, addend w, same-place h) at (c .joined .ensures some))
+
+returns-2 : tie.Need-returns-2
+returns-2 c = λ some. absurd (lt-irrefl 0 some)
+
+sub-if4 : tie.Need-sub-if4
+sub-if4 c = search needs
+
+without-requires-2 : tie.Need-without-requires-2
+without-requires-2 c κs = (zero-lt-suc 63, narrow (c .before .before .before .before))
+
+sub-joined : tie.Need-sub-joined
+sub-joined c = search needs
+
+shr-joined : tie.Need-shr-joined
+shr-joined c = search needs
+
+joined-requires-2 : tie.Need-joined-requires-2
+joined-requires-2 c κs =
+    let w = c .before .before .before in
+    let t = w .before .before .before .before .before in
+    let r = t .before .before in
+    let k = r .before .before .head .result + r .before .head2 .result in
+    let h = r .head3 .result in
+    let n = digits53 (r .before .before .before .args .c) in
+    let d = k % 2 ^ 11 + 515 - (h % 2 ^ 11 + 770) in
+    rw (same-sign k, same-sign h, addend w, same-place k, same-place h) (beside k h (c .without2 .result) _ _ (c .without2 .ensures (low-word (w .before .before)) (told (w .before .before)) .below) (lt-of-le-of-lt (shr-le (n * 2 ^ 8) d) (omega arith)) (halved-even n d (rw (same-place k, same-place h) at (c .before .if4 .taken))) (omega arith) (omega (arith, fields t .first, fields t .second)))
+
+returns-3 : tie.Need-returns-3
+returns-3 c = λ some.
+    let o = c .before in
+    let w = o .before .before .before in
+    let m = w .before .before in
+    let t = m .before .before .before in
+    let r = t .before .before in
+    let f = r .before .before .head .result in
+    let g = r .before .head2 .result in
+    let h = r .head3 .result in
+    let a = r .before .before .before .args in
+    at-product (a .a) (a .b) (a .c) f g h (m .columns .result .hi) (low-word m) (first t) (second t) (third t) (fields t) (whole m) (o .without2 .result) (c .joined2 .result)
+    (rw (same-place (f + g), same-place h) at (o .before .before .if2 .left))
+    (rw (same-place (f + g), same-place h) at (o .before .if4 .taken))
+    (o .without2 .ensures (low-word m) (told m))
+    (rw (same-sign (f + g), same-sign h, addend w, same-place (f + g), same-place h) at (c .joined2 .ensures some))
+
+returns-4 : tie.Need-returns-4
+returns-4 c = λ some. absurd (lt-irrefl 0 some)
+
+returns-5 : tie.Need-returns-5
+returns-5 c = λ some. absurd (lt-irrefl 0 some)
+
+pub quick-spec : {M : Type 1} → statement M
+quick-spec =
+    tie.close
+    (tie.spec
+    head-requires
+    head-requires-2
+    head-requires-3
+    in-reach-requires
+    digits-of-requires
+    digits-of-requires-2
+    columns-requires
+    digits-of-requires-3
+    add-k
+    add-i
+    add-j
+    without-requires
+    joined-requires
+    returns
+    returns-2
+    sub-if4
+    without-requires-2
+    sub-joined
+    shr-joined
+    joined-requires-2
+    returns-3
+    returns-4
+    returns-5)

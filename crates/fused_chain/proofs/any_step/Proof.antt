@@ -1,0 +1,27 @@
+-- `fused_chain::any_step` meets its contract: an f32 narrowed is itself. Assumes nothing.
+use borrow.Author.Needs.{needs}
+use mathlib.Core.Path.{ap, _∙_}
+use lib.Ieee.{binary32}
+use Rattle.rounding.specs.Operations.{fused}
+use Rattle.rounding.proofs.Own.{narrowed-own}
+use Rattle.fused_chain.proofs.any_step.Statement.{statement}
+use Rattle.fused_chain.proofs.any_step.Tie as tie
+
+narrow-requires : tie.Need-narrow-requires
+narrow-requires c κs = search needs
+
+fused32-requires : tie.Need-fused32-requires
+fused32-requires c κs = search needs
+
+f32-to-f64-with-nan-requires : tie.Need-f32-to-f64-with-nan-requires
+f32-to-f64-with-nan-requires c κs = search needs
+
+returns : tie.Need-returns
+returns c =
+    let f = c .before in
+    let n = f .before in
+    let b = n .before in
+    c .f32-to-f64-with-nan .ensures ∙ f .fused32 .ensures ∙ ap (fused binary32 (b .args .x) (b .args .c)) (n .narrow .ensures ∙ narrowed-own (b .args .sum) (b .pre))
+
+pub any-step-spec : {M : Type 1} → statement M
+any-step-spec = tie.close (tie.spec narrow-requires fused32-requires f32-to-f64-with-nan-requires returns)

@@ -1,0 +1,29 @@
+-- `fused_chain::rare_step` meets its contract: a zero is exact. Assumes nothing.
+use borrow.Author.Needs.{needs}
+use mathlib.Core.Path.{sym, subst}
+use lib.Dec.{T}
+use lib.Ieee.{binary32, fits}
+use Rattle.fused_chain.proofs.Steps.{zero-step}
+use Rattle.fused_chain.proofs.rare_step.Statement.{statement}
+use Rattle.fused_chain.proofs.rare_step.Tie as tie
+
+held-x : (c : tie.Start) → T (fits binary32 (c .args .x))
+held-x c = subst T (sym (c .good .0 .1)) tt
+
+held-c : (c : tie.Start) → T (fits binary32 (c .args .c))
+held-c c = subst T (sym (c .good .1 .0 .1)) tt
+
+returns : tie.Need-returns
+returns c =
+    let b = c .before in
+    let a = b .args in
+    zero-step (a .x) (a .c) (a .sum) (a .s) (held-x b) (held-c b) (b .pre .held) (b .pre .is) (c .if1 .taken)
+
+any-step-requires : tie.Need-any-step-requires
+any-step-requires c κs = search needs
+
+returns-2 : tie.Need-returns-2
+returns-2 c = search needs
+
+pub rare-step-spec : {M : Type 1} → statement M
+rare-step-spec = tie.close (tie.spec returns any-step-requires returns-2)

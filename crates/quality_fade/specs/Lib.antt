@@ -1,0 +1,3 @@
+pub mod Fade
+pub mod Step
+pub mod Runs

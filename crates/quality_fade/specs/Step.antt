@@ -1,0 +1,42 @@
+-- Q1, Q2. What one accepted call reads and leaves, by 000's rule (01, 'Changing quality'). Definitions only.
+use Prim.Native.Nat.{ℕ, _+_}
+use mathlib.Core.Bool.{Bool, true, false, _||_, cond}
+use lib.Dec.{leb, eqb}
+use Rattle.quality_mode.specs.declared.QualityMode.{QualityMode}
+use Rattle.quality_mode.specs.Quality.{sameQ}
+use Rattle.quality_fade.specs.declared.Fade.{Fade}
+use Rattle.quality_fade.specs.declared.Turn.{Turn}
+use Rattle.quality_fade.specs.Fade.{fadeOf, validOf}
+
+-- A quality other than the target becomes the target, and the fade starts again from the current one.
+abbrev pub askedOf : Fade → QualityMode → Fade
+askedOf s q = cond (sameQ q (s .target)) s (fadeOf (s .current) q 0 (s .length))
+
+-- Nothing is mixed where the current quality is the target, and at length 0.
+abbrev pub plainOf : Fade → Bool
+plainOf s = sameQ (s .current) (s .target) || eqb (s .length) 0
+
+-- A plain call reads the target, which is the current quality from then on.
+abbrev pub plainTurn : Fade → Turn
+plainTurn s = record { state = fadeOf (s .target) (s .target) (s .place) (s .length); mixed = false; from = s .target; to = s .target; weight = 0 }
+
+-- A mixed call reads both, the target by its place and 1 over the length; the one that reaches the length makes the target current.
+abbrev pub mixTurn : Fade → Turn
+mixTurn s = record {
+  state = fadeOf (cond (leb (s .length) (s .place + 1)) (s .target) (s .current)) (s .target) (s .place + 1) (s .length);
+  mixed = true;
+  from = s .current;
+  to = s .target;
+  weight = s .place + 1;
+}
+
+abbrev pub turnOf : Fade → Turn
+turnOf s = cond (plainOf s) (plainTurn s) (mixTurn s)
+
+-- No accepted call meets a state out of range (N3): it is left as it is.
+abbrev pub stillTurn : Fade → Turn
+stillTurn s = record { state = s; mixed = false; from = s .target; to = s .target; weight = 0 }
+
+-- One accepted call that asks for q.
+unfoldable pub stepOf : Fade → QualityMode → Turn
+stepOf s q = cond (validOf s) (turnOf (askedOf s q)) (stillTurn s)

@@ -1,0 +1,72 @@
+// 000's QualityMode: the four qualities by their numbers, and the taps and phases of each one's table.
+ghost use mathlib.Core.Path.{_≡_};
+ghost use Rattle.quality_mode.specs.Quality.{codeOf, sameQ, tapsOf, phasesOf};
+ghost use Rattle.quality_mode.specs.Names.{namedOf};
+
+pub enum QualityMode {
+    Draft,
+    Normal,
+    Hq,
+    Ultra,
+}
+
+pub enum Named {
+    Quality(QualityMode),
+    Refused(u8),
+}
+
+// The place in 000's list, from 0: what a quality is called where only numbers cross.
+pub fn code(quality: QualityMode) -> u8
+    ensures { λ r. ⌜ r ≡ codeOf quality ⌝ }
+{
+    match quality {
+        QualityMode::Draft => 0,
+        QualityMode::Normal => 1,
+        QualityMode::Hq => 2,
+        QualityMode::Ultra => 3,
+    }
+}
+
+// 000's `==` on two qualities.
+pub fn same(a: QualityMode, b: QualityMode) -> bool
+    ensures { λ r. ⌜ r ≡ sameQ a b ⌝ }
+{
+    code(a) == code(b)
+}
+
+// The quality of a number; a number above 3 is an argument out of its range (N1).
+pub fn of_code(code: u8) -> Named
+    ensures { λ r. ⌜ r ≡ namedOf code ⌝ }
+{
+    match code {
+        0 => Named::Quality(QualityMode::Draft),
+        1 => Named::Quality(QualityMode::Normal),
+        2 => Named::Quality(QualityMode::Hq),
+        3 => Named::Quality(QualityMode::Ultra),
+        _ => Named::Refused(1),
+    }
+}
+
+// The taps of a quality's table; Draft has none.
+pub fn taps(quality: QualityMode) -> usize
+    ensures { λ r. ⌜ r ≡ tapsOf quality ⌝ }
+{
+    match quality {
+        QualityMode::Draft => 0,
+        QualityMode::Normal => 80,
+        QualityMode::Hq => 96,
+        QualityMode::Ultra => 128,
+    }
+}
+
+// The phases of a quality's table; Draft has none.
+pub fn phases(quality: QualityMode) -> usize
+    ensures { λ r. ⌜ r ≡ phasesOf quality ⌝ }
+{
+    match quality {
+        QualityMode::Draft => 0,
+        QualityMode::Normal => 2048,
+        QualityMode::Hq => 4096,
+        QualityMode::Ultra => 4096,
+    }
+}

@@ -1,0 +1,4 @@
+pub mod Calls
+pub mod Fading
+pub mod Counted
+pub mod Kept

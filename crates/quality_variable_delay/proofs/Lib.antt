@@ -1,0 +1,5 @@
+pub mod Rates
+pub mod Taken
+pub mod Refused
+pub mod Lent
+pub mod Readings

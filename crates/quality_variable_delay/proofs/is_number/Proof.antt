@@ -1,0 +1,10 @@
+-- `quality_variable_delay::is_number` meets its contract, by `no-nan`. Assumes nothing.
+use Rattle.quality_variable_delay.proofs.Rates.{no-nan}
+use Rattle.quality_variable_delay.proofs.is_number.Statement.{statement}
+use Rattle.quality_variable_delay.proofs.is_number.Tie as tie
+
+returns : tie.Need-returns
+returns c = no-nan (c .args .x)
+
+pub is-number-spec : {M : Type 1} → statement M
+is-number-spec = tie.close (tie.spec returns)

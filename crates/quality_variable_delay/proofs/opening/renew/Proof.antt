@@ -1,0 +1,16 @@
+-- `quality_variable_delay::opening::renew` meets its contract: its fade part is what `quality_fade::reset` leaves. Assumes nothing.
+use borrow.Author.Needs.{needs}
+use Rattle.quality_variable_delay.proofs.opening.renew.Statement.{statement}
+use Rattle.quality_variable_delay.proofs.opening.renew.Tie as tie
+
+fading-requires : tie.Need-fading-requires
+fading-requires c κs = search needs
+
+reset-requires : tie.Need-reset-requires
+reset-requires c κs = search needs
+
+returns : tie.Need-returns
+returns c = rw (c .reset .ensures, c .before .fading .ensures)
+
+pub renew-spec : {M : Type 1} → statement M
+renew-spec = tie.close (tie.spec fading-requires reset-requires returns)

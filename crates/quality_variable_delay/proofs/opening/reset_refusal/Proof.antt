@@ -1,0 +1,61 @@
+-- `quality_variable_delay::opening::reset_refusal` meets its contract: each test is the definition's, the first two by `settled`. Assumes nothing.
+use borrow.Author.Needs.{needs}
+use mathlib.Core.Path.{refl}
+use mathlib.Core.Bool.{Bool, true, _&&_}
+use Prim.Native.Nat.{_^_}
+use lib.Dec.{leb}
+use Rattle.answer.specs.Refusals.{firstOf}
+use Rattle.variable_delay.proofs.Settings.{settled}
+use Rattle.quality_fade.specs.Fade.{lengthOk, placeOk}
+use Rattle.quality_variable_delay.specs.State.{fadePart}
+use Rattle.quality_variable_delay.proofs.opening.reset_refusal.Statement.{statement}
+use Rattle.quality_variable_delay.proofs.opening.reset_refusal.Tie as tie
+
+length-for-requires : tie.Need-length-for-requires
+length-for-requires c κs = search needs
+
+length-ok-requires : tie.Need-length-ok-requires
+length-ok-requires c κs = search needs
+
+both-requires : tie.Need-both-requires
+both-requires c κs = search needs
+
+fading-requires : tie.Need-fading-requires
+fading-requires c κs = search needs
+
+place-ok-requires : tie.Need-place-ok-requires
+place-ok-requires c κs = search needs
+
+both-requires-2 : tie.Need-both-requires-2
+both-requires-2 c κs = search needs
+
+first-requires : tie.Need-first-requires
+first-requires c κs = search needs
+
+returns : tie.Need-returns
+returns c =
+    let third = c .before in
+    let placed = third .before in
+    let faded = placed .before in
+    let set = faded .before .before in
+    let fits = set .before in
+    let long = fits .before in
+    let s = long .before .args .state in
+    rw (c .first .ensures, third .both2 .ensures, placed .place-ok .ensures, faded .fading .ensures, set .both .ensures, fits .length-ok .ensures)
+    (settled (s .maximum) (s .margin) (long .before .args .len) (long .length-for .result)
+    (λ (t u : Bool). firstOf (t && lengthOk (s .«crossfade_samples»)) u (leb (s .accepted) (2 ^ 36) && placeOk (fadePart s)) true true true true true)
+    (λ t u. refl)
+    (long .length-for .ensures))
+
+pub reset-refusal-spec : {M : Type 1} → statement M
+reset-refusal-spec =
+    tie.close
+    (tie.spec
+    length-for-requires
+    length-ok-requires
+    both-requires
+    fading-requires
+    place-ok-requires
+    both-requires-2
+    first-requires
+    returns)

@@ -1,0 +1,4 @@
+pub mod State
+pub mod Reader
+pub mod Bank
+pub mod Opening

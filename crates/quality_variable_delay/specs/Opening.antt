@@ -1,0 +1,54 @@
+-- K1, Q3. Opening a quality reader over a lent ring, and resetting one: both zero the ring and the count, and leave nothing to fade. Definitions only.
+use Prim.Native.Nat.{ℕ, zero, suc, _^_}
+use mathlib.Core.Bool.{true, _&&_}
+use mathlib.Core.List.{List}
+use lib.Dec.{eqb, leb}
+use lib.ListN.{length}
+use lib.Ieee.{Float}
+use Rattle.answer.specs.Refusals.{firstOf}
+use Rattle.ring.specs.Length.{settingsOk, lengthFor}
+use Rattle.variable_delay.specs.Opening.{clearedBy}
+use Rattle.variable_delay.specs.Opening as plain
+use Rattle.quality_mode.specs.declared.QualityMode.{QualityMode}
+use Rattle.quality_fade.specs.Fade.{lengthOk, placeOk, openOf}
+use Rattle.quality_fade.specs.Fade as fade
+use Rattle.quality_variable_delay.specs.declared.QualityVariableDelayF32.{QualityVariableDelayF32}
+use Rattle.quality_variable_delay.specs.declared.Opened.{Opened}
+use Rattle.quality_variable_delay.specs.declared.Opened.the-variants.{Reader, Refused}
+use Rattle.quality_variable_delay.specs.State.{fadePart, joined}
+
+-- N1 to N3. The refusal that is due at a reset, 0 for none; a full state may be reset.
+abbrev pub resetVerdict : QualityVariableDelayF32 → ℕ → ℕ
+resetVerdict d len =
+    firstOf (settingsOk (d .maximum) (d .margin) && lengthOk (d .«crossfade_samples»))
+    (eqb len (lengthFor (d .maximum) (d .margin)))
+    (leb (d .accepted) (2 ^ 36) && placeOk (fadePart d))
+    true
+    true
+    true
+    true
+    true
+
+-- Q3. The count is zero, the target is current, and the place is the length.
+abbrev pub renewed : QualityVariableDelayF32 → QualityVariableDelayF32
+renewed d = joined (plain.fresh (d .maximum) (d .margin)) (fade.resetOf (fadePart d))
+
+-- The reader that a verdict leaves; its ring is every delay reader's: a refusal leaves every element (D1c).
+abbrev pub openedBy : ℕ → QualityVariableDelayF32 → Opened
+openedBy zero d = Reader (renewed d)
+openedBy (suc k) d = Refused (suc k)
+
+abbrev pub resetOf : QualityVariableDelayF32 → ℕ → Opened
+resetOf d len = openedBy (resetVerdict d len) d
+
+abbrev pub ringReset : QualityVariableDelayF32 → List Float → List Float
+ringReset d xs = clearedBy (resetVerdict d (length xs)) xs
+
+-- Q3. Opening is the reset of a state that has accepted nothing and holds its one quality, so that only 1 and 2 can be due.
+abbrev pub fresh : ℕ → ℕ → QualityMode → ℕ → QualityVariableDelayF32
+fresh maximum margin quality crossfade = joined (plain.fresh maximum margin) (openOf quality crossfade)
+
+-- C4. 01's number for each case, 0 for a reader.
+abbrev pub numberOf : Opened → ℕ
+numberOf (Reader d) = 0
+numberOf (Refused k) = k

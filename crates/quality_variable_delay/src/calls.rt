@@ -1,0 +1,97 @@
+// One call of a quality reader over a bank of lent sets.
+ghost use mathlib.Core.Path.{_≡_};
+ghost use Rattle.quality_variable_delay.specs.Bank.{dueOf, processed, ringLeft};
+use super::ProcessedQ;
+use super::QualityVariableDelayF32;
+use super::storing;
+use quality_mode::QualityMode;
+
+// The refusal that is due, with a bank of `lent` f32.
+fn due(
+    state: QualityVariableDelayF32,
+    lent: usize,
+    max_rate: f64,
+    len: usize,
+    input: f32,
+    delay: f64,
+    playback_rate: f64,
+) -> u8
+    ensures { λ r. ⌜ r ≡ dueOf lent «max_rate» state len input delay «playback_rate» ⌝ }
+{
+    let needed = sinc_bank_f32::bank_length(max_rate);
+    super::refusal(
+        state,
+        needed != 0,
+        lent == needed,
+        len,
+        input,
+        delay,
+        playback_rate,
+    )
+}
+
+// 000's process_sample_rate_aware: refuses by number, or stores the sample and reads behind it. A refused call forgets the quality that it asked for.
+pub fn process_sample_rate_aware<'a>(
+    state: QualityVariableDelayF32,
+    ring: &mut [f32],
+    sets: &'a [f32],
+    max_rate: f64,
+    input: f32,
+    delay: f64,
+    quality: QualityMode,
+    playback_rate: f64,
+) -> ProcessedQ
+    ensures { λ r. ⌜ r ≡ processed (now (sets .entry)) «max_rate» state (now (ring .entry)) input delay quality «playback_rate» ⌝ }
+    ensures { λ r. ⌜ now (ring .exit) ≡ ringLeft (now (sets .entry)) «max_rate» state (now (ring .entry)) input delay «playback_rate» ⌝ }
+{
+    let no = due(
+        state,
+        sets.len(),
+        max_rate,
+        ring.len(),
+        input,
+        delay,
+        playback_rate,
+    );
+    if no != 0 {
+        return ProcessedQ {
+            state: state,
+            answer: answer::answered_f32(no, 0.0),
+        };
+    }
+    storing::accepted(
+        state,
+        &mut ring[..],
+        sets,
+        max_rate,
+        input,
+        delay,
+        quality,
+        playback_rate,
+    )
+}
+
+// 000's process_sample: at the bank's maximum rate.
+pub fn process_sample<'a>(
+    state: QualityVariableDelayF32,
+    ring: &mut [f32],
+    sets: &'a [f32],
+    max_rate: f64,
+    input: f32,
+    delay: f64,
+    quality: QualityMode,
+) -> ProcessedQ
+    ensures { λ r. ⌜ r ≡ processed (now (sets .entry)) «max_rate» state (now (ring .entry)) input delay quality «max_rate» ⌝ }
+    ensures { λ r. ⌜ now (ring .exit) ≡ ringLeft (now (sets .entry)) «max_rate» state (now (ring .entry)) input delay «max_rate» ⌝ }
+{
+    process_sample_rate_aware(
+        state,
+        &mut ring[..],
+        sets,
+        max_rate,
+        input,
+        delay,
+        quality,
+        max_rate,
+    )
+}

@@ -1,0 +1,79 @@
+// Opening a quality reader over a lent ring, and resetting it.
+ghost use mathlib.Core.Path.{_≡_};
+ghost use lib.ListN.{length};
+ghost use Rattle.quality_variable_delay.specs.Opening.{resetVerdict, renewed, fresh, resetOf, ringReset};
+use super::Opened;
+use super::QualityVariableDelayF32;
+use quality_mode::QualityMode;
+
+// 000's QualityVariableDelayF32::new over a lent ring: refuses by 1 or 2, or zeroes the ring.
+pub fn open(
+    maximum: usize,
+    margin: usize,
+    quality: QualityMode,
+    crossfade: u32,
+    ring: &mut [f32],
+) -> Opened
+    ensures { λ r. ⌜ r ≡ resetOf (fresh maximum margin quality crossfade) (length (now (ring .entry))) ⌝ }
+    ensures { λ r. ⌜ now (ring .exit) ≡ ringReset (fresh maximum margin quality crossfade) (now (ring .entry)) ⌝ }
+{
+    let state = QualityVariableDelayF32 {
+        maximum: maximum,
+        margin: margin,
+        accepted: 0,
+        current_quality: quality,
+        target_quality: quality,
+        crossfade_position: crossfade,
+        crossfade_samples: crossfade,
+    };
+    reset(state, &mut ring[..])
+}
+
+// The refusal that is due at a reset, 0 for none.
+fn reset_refusal(state: QualityVariableDelayF32, len: usize) -> u8
+    ensures { λ r. ⌜ r ≡ resetVerdict state len ⌝ }
+{
+    let length = ring::length_for(state.maximum, state.margin);
+    let t1 = super::both(
+        length != 0,
+        quality_fade::length_ok(state.crossfade_samples),
+    );
+    let t2 = len == length;
+    let t3 = super::both(
+        state.accepted <= 68719476736,
+        quality_fade::place_ok(super::fading(state)),
+    );
+    answer::first(t1, t2, t3, true, true, true, true, true)
+}
+
+// Q3. Nothing accepted, and the target is current.
+fn renew(state: QualityVariableDelayF32) -> QualityVariableDelayF32
+    ensures { λ r. ⌜ r ≡ renewed state ⌝ }
+{
+    let fade = quality_fade::reset(super::fading(state));
+    let current = fade.current;
+    let target = fade.target;
+    QualityVariableDelayF32 {
+        maximum: state.maximum,
+        margin: state.margin,
+        accepted: 0,
+        current_quality: current,
+        target_quality: target,
+        crossfade_position: fade.place,
+        crossfade_samples: fade.length,
+    }
+}
+
+// 000's QualityVariableDelayF32::reset: refuses by 1, 2 or 3, or zeroes the ring and the count and leaves nothing to fade.
+pub fn reset(state: QualityVariableDelayF32, ring: &mut [f32]) -> Opened
+    ensures { λ r. ⌜ r ≡ resetOf state (length (now (ring .entry))) ⌝ }
+    ensures { λ r. ⌜ now (ring .exit) ≡ ringReset state (now (ring .entry)) ⌝ }
+{
+    let no = reset_refusal(state, ring.len());
+    if no != 0 {
+        return Opened::Refused(no);
+    }
+    ring::clear_f32(&mut ring[..]);
+    let state = renew(state);
+    Opened::Reader(state)
+}

@@ -1,0 +1,44 @@
+// What an accepted call's turn reads of a bank of lent sets.
+ghost use mathlib.Core.Path.{_≡_};
+ghost use mathlib.Core.Bool.{true};
+ghost use Prim.Native.Nat.{_*_};
+ghost use lib.ListN.{length};
+ghost use Rattle.ring.specs.Places.{positionOk};
+ghost use Rattle.bank_choice.specs.Rates.{bankOk, stepsOf};
+ghost use Rattle.sinc_bank_f32.specs.Sets.{setLength};
+ghost use Rattle.bank_read.specs.Bank.{bankAt};
+ghost use Rattle.quality_variable_delay.specs.Reader.{weightOf, mixedOf, outputOf};
+use quality_fade::Turn;
+
+// `from + (to - from) * mix.min(1.0)`
+fn mix(from: f32, to: f32, weight: u32, length: u32) -> f32
+    ensures { λ r. ⌜ r ≡ mixedOf from to (weightOf weight length) ⌝ }
+{
+    let share = std::num::nearest_u32_to_f32(weight) / std::num::nearest_u32_to_f32(length);
+    from + (to - from) * order::min_f32(share, 1.0)
+}
+
+// What a turn reads. A mixed call's two readings share the choice of sets.
+pub(crate) fn output<'a>(
+    turn: Turn,
+    sets: &'a [f32],
+    max_rate: f64,
+    rate: f64,
+    source: &'a [f32],
+    count: u64,
+    position: f64,
+) -> f32
+    requires { ⌜ (bankOk «max_rate» ≡ true) × (length (now sets) ≡ stepsOf «max_rate» * setLength) × (positionOk position ≡ true) ⌝ }
+    ensures { λ r. ⌜ r ≡ outputOf (bankAt (now (sets .entry)) «max_rate» rate) turn (now (source .entry)) count position ⌝ }
+{
+    let from = turn.from;
+    let to = turn.to;
+    let left = turn.state;
+    if turn.mixed {
+        let choice = bank_choice::choose(max_rate, rate);
+        let a = bank_read::read(sets, choice, from, source, count, position);
+        let b = bank_read::read(sets, choice, to, source, count, position);
+        return mix(a, b, turn.weight, left.length);
+    }
+    bank_read::sample(sets, max_rate, to, rate, source, count, position)
+}

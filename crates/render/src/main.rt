@@ -1,0 +1,66 @@
+// The program `render` (X2): binary32 samples, low byte first, from standard input are read by a WindowedSincF32 at a wandering delay, and each is answered by a sample on
+// standard output. What is written is proved in the crate render_samples.
+use libc::STDERR_FILENO;
+use libc::STDIN_FILENO;
+use libc::STDOUT_FILENO;
+use render_samples::Opened;
+use render_samples::Rendering;
+
+// 2048 samples, so that only the last block has a trailing part.
+const BLOCK: usize = 8192;
+
+struct Turn {
+    state: Rendering,
+    more: bool,
+}
+
+// Whether to go on after a block of n bytes. A read or a write that failed is said on standard error: there is no exit status to say it by.
+fn goes_on(n: usize, written: bool, spare: &mut [u8]) -> bool {
+    if !written {
+        io::write_all(STDERR_FILENO, b"render: standard output takes no more\n");
+        return false;
+    }
+    if n < BLOCK {
+        if libc::read(STDIN_FILENO, spare) < 0 {
+            io::write_all(STDERR_FILENO, b"render: standard input cannot be read\n");
+        }
+        return false;
+    }
+    true
+}
+
+// One block, rendered in place.
+fn block<'a>(state: Rendering, ring: &mut [f32], table: &'a [f32]) -> Turn {
+    let mut samples = [0u8; BLOCK];
+    let n = io::read_full(STDIN_FILENO, &mut samples);
+    let r = render_samples::render_block(state, ring, table, &mut samples[..n]);
+    let m = r.length;
+    let written = io::write_all(STDOUT_FILENO, &samples[..m]);
+    let after = r.state;
+    Turn {
+        state: after,
+        more: goes_on(n, written, &mut samples),
+    }
+}
+
+// Block after block: as many as a u64 counts, which no input outlasts.
+fn run<'a>(start: Rendering, ring: &mut [f32], table: &'a [f32]) {
+    let mut state = start;
+    let mut more = true;
+    let mut turns = u64::MAX;
+    while turns > 0 && more {
+        let t = block(state, ring, table);
+        state = t.state;
+        more = t.more;
+        turns -= 1;
+    }
+}
+
+fn main() {
+    let mut ring = [0.0f32; 1024];
+    let mut table = [0.0f32; 2080];
+    let Opened::Started(start) = render_samples::open(&mut ring, &mut table) else {
+        return;
+    };
+    run(start, &mut ring, &table);
+}

@@ -1,0 +1,47 @@
+-- What a reader of a lent table gives, at either width, from the refusal that is due: where none is, its reading r; else zero, and an answer that has the refusal's
+-- number alone. Assumes nothing.
+use mathlib.Core.Path.{_≡_, refl, sym, _∙_, ap}
+use mathlib.Core.Bool.{Bool, true, _&&_, cond}
+use Prim.Native.Nat.{ℕ, zero, suc}
+use borrow.Author.Tests.{ne-eqb}
+use lib.Dec.{eqb}
+use lib.Ieee.{Float}
+use Rattle.answer.specs.Answers.{zero-f}
+use Rattle.ring.specs.Places.{positionOk}
+use Rattle.sinc_settings.specs.Ranges.{tapsOk, phasesOk}
+use Rattle.sinc_settings.specs.Refusals.{tableLength, tableVerdict}
+use Rattle.sinc_read.specs.Reading.{sampleVerdict}
+use Rattle.sinc_read.proofs.Accepted.{same-test}
+
+module _ (r : Float) (taps phases len : ℕ) (p : Float) where
+  abbrev v : ℕ
+  v = sampleVerdict taps phases len p
+
+  -- `readOf` of either width
+  abbrev given : Float
+  given = cond (eqb (tableVerdict taps phases len) 0 && positionOk p) r zero-f
+
+  pick : {b : Bool} → eqb v 0 ≡ b → cond b r zero-f ≡ given
+  pick e = ap (λ (b : Bool). cond b r zero-f) (sym (same-test taps phases len p ∙ e))
+
+  pub read-is : v ≡ 0 → r ≡ given
+  read-is h = pick (ap (λ (n : ℕ). eqb n 0) h)
+
+  pub not-read : (v ≡ 0 → ⊥) → zero-f ≡ given
+  not-read h = pick (ne-eqb v 0 h)
+
+  -- a reader's own tests say the same
+  pub read-in-range : tapsOk taps && phasesOk phases ≡ true → eqb len (tableLength taps phases) ≡ true → positionOk p ≡ true → given ≡ r
+  read-in-range a b c = rw (a, b, c)
+
+  -- an answer of either width: a refusal's has no sample in it
+  module _ {A : Type 0} (answer : ℕ → Float → A) (alone : (k : ℕ) (a b : Float) → answer (suc k) a ≡ answer (suc k) b) where
+    pub sampled : v ≡ 0 → answer 0 r ≡ answer v given
+    sampled h = ap (answer 0) (read-is h) ∙ ap (λ (n : ℕ). answer n given) (sym h)
+
+    pub refused-by : {n : ℕ} (z : Float) → n ≡ v → (n ≡ 0 → ⊥) → answer n z ≡ answer v given
+    refused-by {n} z e h = refused n h ∙ ap (λ (n : ℕ). answer n given) e
+      where
+        refused : (n : ℕ) → (n ≡ 0 → ⊥) → answer n z ≡ answer n given
+        refused zero h = absurd (h refl)
+        refused (suc k) h = alone k z given

@@ -1,0 +1,29 @@
+-- `sinc_read::kernel::read` meets its contract, by the refusal that is due. Assumes nothing.
+use borrow.Author.Needs.{needs}
+use mathlib.Core.Path.{sym, _∙_}
+use lib.Ieee.{ofBits}
+use denote.Ref.{now}
+use Rattle.sinc_read.proofs.Answered.{read-is, not-read}
+use Rattle.sinc_read.proofs.kernel.read.Statement.{statement}
+use Rattle.sinc_read.proofs.kernel.read.Tie as tie
+
+refusal-requires : tie.Need-refusal-requires
+refusal-requires c κs = search needs
+
+at-requires : tie.Need-at-requires
+at-requires c κs = search needs
+
+returns : tie.Need-returns
+returns c =
+    let i = c .before in
+    let a = i .before .before .before .before .args in
+    c .at .ensures ∙ read-is (now (a .table)) (a .taps) (a .phases) (now (a .source)) (a .count) (a .position) (sym (i .before .refusal .ensures) ∙ i .if1 .taken)
+
+returns-2 : tie.Need-returns-2
+unfolding ofBits
+returns-2 c =
+    let a = c .before .before .before .before .args in
+    not-read (now (a .table)) (a .taps) (a .phases) (now (a .source)) (a .count) (a .position) (λ z. c .if1 .left (c .before .refusal .ensures ∙ z))
+
+pub read-spec : {M : Type 1} → statement M
+read-spec = tie.close (tie.spec refusal-requires at-requires returns returns-2)

@@ -1,0 +1,83 @@
+// K3, N1, N2. The reading at a position, and the refusal that is due.
+ghost use mathlib.Core.Path.{_≡_};
+ghost use lib.ListN.{length};
+ghost use Rattle.answer.specs.Answers.{answerOf};
+ghost use Rattle.sinc_read.specs.Reading.{sincAt, readOf, sampleVerdict};
+use crate::first_tap;
+use crate::held;
+use crate::one_by_one;
+use crate::phase_at;
+use answer::Answer;
+
+// N1, N2. The refusal that is due, or 0: the taps, the phases and the position in range, then the table's length. Both widths.
+pub fn refusal(taps: usize, phases: usize, len: usize, position: f64) -> u8
+    ensures { λ r. ⌜ r ≡ sampleVerdict taps phases len position ⌝ }
+{
+    if ring::position_ok(position) {
+        sinc_settings::table_refusal(taps, phases, len)
+    } else {
+        1
+    }
+}
+
+// The reading at a position in range. Where every tap is held none is tested.
+fn at<'a>(
+    table: &'a [f64],
+    taps: usize,
+    phases: usize,
+    source: &'a [f64],
+    count: u64,
+    position: f64,
+) -> f64
+    requires { ⌜ sampleVerdict taps phases (length (now table)) position ≡ 0 ⌝ }
+    ensures { λ r. ⌜ r ≡ sincAt (now (table .entry)) taps phases (now (source .entry)) count position ⌝ }
+{
+    let between = phase_at(position, phases);
+    let phase = between.phase;
+    let blend = between.blend;
+    let first = first_tap(position, taps);
+    let start = ring::run_start(source.len(), count, first, taps as u64);
+    let place = start.place;
+    if start.held {
+        held(table, taps, phase, blend, source, place)
+    } else {
+        one_by_one(table, taps, phase, blend, source, count, first)
+    }
+}
+
+// The reading at a position; zero where a setting or the position is out of range, or the table has another length.
+pub fn read<'a>(
+    table: &'a [f64],
+    taps: usize,
+    phases: usize,
+    source: &'a [f64],
+    count: u64,
+    position: f64,
+) -> f64
+    ensures { λ r. ⌜ r ≡ readOf (now (table .entry)) taps phases (now (source .entry)) count position ⌝ }
+{
+    if refusal(taps, phases, table.len(), position) == 0 {
+        at(table, taps, phases, source, count, position)
+    } else {
+        0.0
+    }
+}
+
+// The reading of a lent slice by a lent table: refusal 1 for a setting or a position out of its range, 2 for a table of another length.
+pub fn sample<'a>(
+    table: &'a [f64],
+    taps: usize,
+    phases: usize,
+    source: &'a [f64],
+    count: u64,
+    position: f64,
+) -> Answer
+    ensures { λ r. ⌜ r ≡ answerOf (sampleVerdict taps phases (length (now (table .entry))) position) (readOf (now (table .entry)) taps phases (now (source .entry)) count position) ⌝ }
+{
+    let no = refusal(taps, phases, table.len(), position);
+    if no == 0 {
+        answer::answered(0, at(table, taps, phases, source, count, position))
+    } else {
+        answer::answered(no, 0.0)
+    }
+}
