@@ -1,8 +1,21 @@
-// A line of standard input, which is a letter and three words of sixteen hex digits, and one of standard output, which is two such words.
+// A line of standard input, which is a letter and three words of sixteen hex digits, one of standard output, which is two such words, and what is kept between two lines.
 use libc::STDIN_FILENO;
 use libc::STDOUT_FILENO;
+use variable_delay::VariableDelay;
 use word_bytes::hex16;
 use word_bytes::word_at;
+
+// The settings of the tables that are built or read next, and the reader.
+pub struct Player {
+    pub shape: Shape,
+    pub state: VariableDelay,
+}
+
+pub struct Shape {
+    pub taps: usize,
+    pub phases: usize,
+    pub beta: f64,
+}
 
 pub struct Line {
     pub whole: bool,

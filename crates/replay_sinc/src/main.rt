@@ -1,29 +1,15 @@
 // O5. Replays a stored list of the original's answers: tables of its WindowedSinc and WindowedSincF32, and runs of VariableDelay and VariableDelayF32 over them.
 // A line is answered by a line, and after a table is built its elements follow, a line for each (docs/ORACLE.md has the letters); oracle/src/lists/sinc.rs makes the
 // list. A trailing part of a line is ignored.
-mod lines; // a line that is read, and one that is written
+mod lines; // a line that is read, one that is written, and what is kept between
 mod readers; // a reader of either width
 mod tables; // a table of either width, built, set and written
 
 use lines::Line;
+use lines::Player;
+use lines::Shape;
 use lines::hear;
-use lines::say;
-use readers::Turn;
-use tables::Shape;
 use variable_delay::VariableDelay;
-
-// The settings of the tables that are built or read next, and the reader.
-struct Player {
-    shape: Shape,
-    state: VariableDelay,
-}
-
-// What a reader answers, and the accepted number afterwards.
-fn answered(shape: Shape, turn: Turn) -> Player {
-    let state = turn.state;
-    say(turn.answer, state.accepted);
-    Player { shape, state }
-}
 
 // Whom a letter concerns: the tables, a reader of f32, or one of f64.
 fn concerned(letter: u8) -> u8 {
@@ -42,19 +28,14 @@ fn replay(
     table_f32: &mut [f32],
     line: Line,
 ) -> Player {
-    let shape = before.shape;
-    let state = before.state;
     let whom = concerned(line.letter);
     if whom == 0 {
-        let shape = tables::call(shape, table, table_f32, line);
-        return Player { shape, state };
+        return tables::call(before, table, table_f32, line);
     }
     if whom == 1 {
-        let t = readers::call_f32(state, shape, ring_f32, &table_f32[..], line);
-        return answered(shape, t);
+        return readers::call_f32(before, ring_f32, &table_f32[..], line);
     }
-    let t = readers::call(state, shape, ring, &table[..], line);
-    answered(shape, t)
+    readers::call(before, ring, &table[..], line)
 }
 
 // Line after line: as many as a u64 counts, which no input outlasts.

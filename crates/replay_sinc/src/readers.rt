@@ -1,7 +1,9 @@
 // A reader of either width, over the parts of its ring and its table that the settings take.
 ghost use Prim.Native.Nat.{_≤_};
 use crate::lines::Line;
-use crate::tables::Shape;
+use crate::lines::Player;
+use crate::lines::Shape;
+use crate::lines::say;
 use crate::tables::part;
 use crate::tables::refused;
 use crate::tables::single;
@@ -13,9 +15,16 @@ use patterns::float_of;
 use variable_delay::Opened;
 use variable_delay::VariableDelay;
 
-pub struct Turn {
-    pub state: VariableDelay,
-    pub answer: u64,
+struct Turn {
+    state: VariableDelay,
+    answer: u64,
+}
+
+// What a reader answers, and the accepted number afterwards.
+fn answered(shape: Shape, turn: Turn) -> Player {
+    let state = turn.state;
+    say(turn.answer, state.accepted);
+    Player { shape, state }
 }
 
 // O4. Where the original answers 0.0 and does not advance (4, 5) so does this.
@@ -102,16 +111,13 @@ fn called<'a>(
     }
 }
 
-pub fn call<'a>(
-    s: VariableDelay,
-    shape: Shape,
-    ring: &mut [f64],
-    table: &'a [f64],
-    line: Line,
-) -> Turn {
+pub fn call<'a>(before: Player, ring: &mut [f64], table: &'a [f64], line: Line) -> Player {
+    let shape = before.shape;
+    let s = before.state;
     let end = ring_part(s, line.letter == b'o', line, ring.len());
     let to = part(shape.taps, shape.phases, table.len());
-    called(s, shape, &mut ring[..end], &table[..to], line)
+    let turn = called(s, shape, &mut ring[..end], &table[..to], line);
+    answered(shape, turn)
 }
 
 fn process_f32<'a>(
@@ -151,14 +157,11 @@ fn called_f32<'a>(
     }
 }
 
-pub fn call_f32<'a>(
-    s: VariableDelay,
-    shape: Shape,
-    ring: &mut [f32],
-    table: &'a [f32],
-    line: Line,
-) -> Turn {
+pub fn call_f32<'a>(before: Player, ring: &mut [f32], table: &'a [f32], line: Line) -> Player {
+    let shape = before.shape;
+    let s = before.state;
     let end = ring_part(s, line.letter == b'O', line, ring.len());
     let to = part(shape.taps, shape.phases, table.len());
-    called_f32(s, shape, &mut ring[..end], &table[..to], line)
+    let turn = called_f32(s, shape, &mut ring[..end], &table[..to], line);
+    answered(shape, turn)
 }

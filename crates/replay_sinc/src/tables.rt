@@ -1,6 +1,8 @@
 // The tables of both widths: built from the same settings, or set element by element, and written as patterns.
 ghost use Prim.Native.Nat.{_≤_};
 use crate::lines::Line;
+use crate::lines::Player;
+use crate::lines::Shape;
 use crate::lines::say;
 use patterns::bits_of;
 use patterns::bits_of_f32;
@@ -8,24 +10,22 @@ use patterns::float_of;
 use patterns::float_of_f32;
 use sinc_settings::Settings;
 
-pub struct Shape {
-    pub taps: usize,
-    pub phases: usize,
-    pub beta: f64,
-}
-
 // A word's pattern of single precision: its lower half.
 pub fn single(n: u64) -> f32 {
     float_of_f32((n % 0x1_0000_0000) as u32)
 }
 
 // `s`: the taps, the phases and beta of what follows.
-fn shaped(line: Line) -> Shape {
+fn shaped(before: Player, line: Line) -> Player {
     say(0, 0);
-    Shape {
-        taps: line.a as usize,
-        phases: line.b as usize,
-        beta: float_of(line.c),
+    let state = before.state;
+    Player {
+        shape: Shape {
+            taps: line.a as usize,
+            phases: line.b as usize,
+            beta: float_of(line.c),
+        },
+        state,
     }
 }
 
@@ -62,6 +62,42 @@ fn built_f32(kernel: windowed_sinc_f32::Built) -> u64 {
     }
 }
 
+// `n` is `new`, of the cutoff.
+fn settings(shape: Shape, line: Line) -> Settings {
+    Settings {
+        taps: shape.taps,
+        phases: shape.phases,
+        cutoff: float_of(line.a),
+        beta: shape.beta,
+    }
+}
+
+// `m` is `for_max_rate`, of the rate and the passband.
+fn build(shape: Shape, table: &mut [f64], line: Line) -> u64 {
+    if line.letter == b'n' {
+        return built(windowed_sinc::new(settings(shape, line), table));
+    }
+    let rate = float_of(line.a);
+    let passband = float_of(line.b);
+    built(windowed_sinc::for_max_rate(shape.taps, shape.phases, rate, passband, shape.beta, table))
+}
+
+fn build_f32(shape: Shape, table: &mut [f32], line: Line) -> u64 {
+    if line.letter == b'n' {
+        return built_f32(windowed_sinc_f32::new(settings(shape, line), table));
+    }
+    let rate = float_of(line.a);
+    let passband = float_of(line.b);
+    built_f32(windowed_sinc_f32::for_max_rate(
+        shape.taps,
+        shape.phases,
+        rate,
+        passband,
+        shape.beta,
+        table,
+    ))
+}
+
 fn element_f32(table: &[f32], at: usize) -> u64 {
     if at < table.len() {
         bits_of_f32(table[at]) as u64
@@ -76,33 +112,6 @@ fn write<'a>(table: &'a [f64], table_f32: &'a [f32]) {
         say(bits_of(table[at]), element_f32(table_f32, at));
         at += 1;
     }
-}
-
-// `n`: both `new`, of the cutoff.
-fn new(shape: Shape, table: &mut [f64], table_f32: &mut [f32], line: Line) {
-    let settings = Settings {
-        taps: shape.taps,
-        phases: shape.phases,
-        cutoff: float_of(line.a),
-        beta: shape.beta,
-    };
-    let a = windowed_sinc::new(settings, table);
-    let b = windowed_sinc_f32::new(settings, table_f32);
-    say(built(a), built_f32(b));
-    write(&table[..], &table_f32[..]);
-}
-
-// `m`: both `for_max_rate`, of the rate and the passband.
-fn for_max_rate(shape: Shape, table: &mut [f64], table_f32: &mut [f32], line: Line) {
-    let taps = shape.taps;
-    let phases = shape.phases;
-    let beta = shape.beta;
-    let rate = float_of(line.a);
-    let passband = float_of(line.b);
-    let a = windowed_sinc::for_max_rate(taps, phases, rate, passband, beta, table);
-    let b = windowed_sinc_f32::for_max_rate(taps, phases, rate, passband, beta, table_f32);
-    say(built(a), built_f32(b));
-    write(&table[..], &table_f32[..]);
 }
 
 fn put(table: &mut [f64], at: usize, x: f64) {
@@ -124,26 +133,25 @@ fn set(table: &mut [f64], table_f32: &mut [f32], line: Line) {
     say(0, 0);
 }
 
-fn called(shape: Shape, table: &mut [f64], table_f32: &mut [f32], line: Line) -> Shape {
-    let letter = line.letter;
-    if letter == b's' {
-        return shaped(line);
+fn called(shape: Shape, table: &mut [f64], table_f32: &mut [f32], line: Line) {
+    if line.letter == b'e' {
+        set(table, table_f32, line);
+        return;
     }
-    if letter == b'n' {
-        new(shape, table, table_f32, line);
-        return shape;
-    }
-    if letter == b'm' {
-        for_max_rate(shape, table, table_f32, line);
-        return shape;
-    }
-    set(table, table_f32, line);
-    shape
+    let a = build(shape, table, line);
+    let b = build_f32(shape, table_f32, line);
+    say(a, b);
+    write(&table[..], &table_f32[..]);
 }
 
 // A call about the tables, over the parts of them that the settings take.
-pub fn call(shape: Shape, table: &mut [f64], table_f32: &mut [f32], line: Line) -> Shape {
+pub fn call(before: Player, table: &mut [f64], table_f32: &mut [f32], line: Line) -> Player {
+    if line.letter == b's' {
+        return shaped(before, line);
+    }
+    let shape = before.shape;
     let end = part(shape.taps, shape.phases, table.len());
     let to = part(shape.taps, shape.phases, table_f32.len());
-    called(shape, &mut table[..end], &mut table_f32[..to], line)
+    called(shape, &mut table[..end], &mut table_f32[..to], line);
+    before
 }

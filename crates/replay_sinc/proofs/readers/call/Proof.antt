@@ -23,6 +23,9 @@ slice-aggregate-called-2 c = sym (length-take-le _ _ (search needs))
 called-requires : tie.Need-called-requires
 called-requires c κs = search needs
 
+answered-requires : tie.Need-answered-requires
+answered-requires c κs = search needs
+
 same-length : tie.Need-same-length
 same-length c = search needs
 
@@ -39,5 +42,6 @@ call-spec =
     slice-aggregate-called
     slice-aggregate-called-2
     called-requires
+    answered-requires
     same-length
     returns)

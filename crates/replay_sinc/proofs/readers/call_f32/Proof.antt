@@ -23,6 +23,9 @@ slice-aggregate-called-f32-2 c = sym (length-take-le _ _ (search needs))
 called-f32-requires : tie.Need-called-f32-requires
 called-f32-requires c κs = search needs
 
+answered-requires : tie.Need-answered-requires
+answered-requires c κs = search needs
+
 same-length : tie.Need-same-length
 same-length c = search needs
 
@@ -39,5 +42,6 @@ call-f32-spec =
     slice-aggregate-called-f32
     slice-aggregate-called-f32-2
     called-f32-requires
+    answered-requires
     same-length
     returns)

@@ -5,6 +5,12 @@ use lib.Seq.{length-take-le}
 use Rattle.replay_sinc.proofs.tables.call.Statement.{statement}
 use Rattle.replay_sinc.proofs.tables.call.Tie as tie
 
+shaped-requires : tie.Need-shaped-requires
+shaped-requires c κs = search needs
+
+returns : tie.Need-returns
+returns c = search needs
+
 part-requires : tie.Need-part-requires
 part-requires c κs = search needs
 
@@ -32,13 +38,15 @@ same-length c = search needs
 same-length-2 : tie.Need-same-length-2
 same-length-2 c = search needs
 
-returns : tie.Need-returns
-returns c = search needs
+returns-2 : tie.Need-returns-2
+returns-2 c = search needs
 
 pub call-spec : {M : Type 1} → statement M
 call-spec =
     tie.close
     (tie.spec
+    shaped-requires
+    returns
     part-requires
     part-requires-2
     slice-relend-prefix-called
@@ -48,4 +56,4 @@ call-spec =
     called-requires
     same-length
     same-length-2
-    returns)
+    returns-2)
