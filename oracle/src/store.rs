@@ -8,12 +8,14 @@
 
 mod random;
 mod lists {
+    pub mod bank;
     pub mod delays;
     pub mod wander;
 }
 
 /// A file of lists/ each.
-const LISTS: [(&str, fn(&mut List)); 2] = [("delays", lists::delays::write), ("wander", lists::wander::write)];
+const LISTS: [(&str, fn(&mut List)); 3] =
+    [("bank", lists::bank::write), ("delays", lists::delays::write), ("wander", lists::wander::write)];
 
 pub struct List {
     stdin: String,
@@ -42,6 +44,15 @@ pub fn pattern(x: f64) -> u64 {
         0x7FF8_0000_0000_0000
     } else {
         x.to_bits()
+    }
+}
+
+/// Likewise of an f32, in a word: its NaN is 7FC00000.
+pub fn pattern_f32(x: f32) -> u64 {
+    if x.is_nan() {
+        0x7FC0_0000
+    } else {
+        x.to_bits() as u64
     }
 }
 

@@ -21,6 +21,10 @@ pub fn choice(max_rate: f64, rate: f64) -> Words {
     let c = bank_choice::choose(max_rate, rate);
     Words {
         first: packed(small(c.safe), small(c.tighter), c.which),
-        second: if c.which == 2 { bits_of_f32(c.blend) as u64 } else { 0 },
+        second: if c.which == 2 {
+            bits_of_f32(c.blend) as u64
+        } else {
+            0
+        },
     }
 }
