@@ -109,7 +109,19 @@ fn sets(list: &mut List, max: f64, rates: &[f64], bank: Option<&SincBankF32>) {
             choice(list, max, rates, bank, near);
         }
     }
-    for outside in [f64::NEG_INFINITY, -f64::MAX, -0.0, 0.5, 1.0f64.next_down(), 1.0, max, max.next_up(), 3.0, f64::INFINITY, f64::NAN] {
+    for outside in [
+        f64::NEG_INFINITY,
+        -f64::MAX,
+        -0.0,
+        0.5,
+        1.0f64.next_down(),
+        1.0,
+        max,
+        max.next_up(),
+        3.0,
+        f64::INFINITY,
+        f64::NAN,
+    ] {
         choice(list, max, rates, bank, outside);
     }
 }
@@ -160,7 +172,24 @@ fn state(list: &mut List, reader: &QualityVariableDelayF32, letter: char, words:
 /// Rings of 4, 8 and 16 places, filled twice: with samples as a recording has them, and with others.
 fn draft(list: &mut List) {
     const TINY: f32 = f32::MIN_POSITIVE;
-    let others = [0.0, -0.0, 1e-45, -1e-45, TINY, -TINY / 2.0, -f32::MAX, -f32::MAX, 1.0, -1.0, 3e38, -0.0, 1e-30, 0.1, -1e-40, f32::INFINITY];
+    let others = [
+        0.0,
+        -0.0,
+        1e-45,
+        -1e-45,
+        TINY,
+        -TINY / 2.0,
+        -f32::MAX,
+        -f32::MAX,
+        1.0,
+        -1.0,
+        3e38,
+        -0.0,
+        1e-30,
+        0.1,
+        -1e-40,
+        f32::INFINITY,
+    ];
     let mut random = Random::new(7);
     let fine = [0; 16].map(|_| random.within(-1 << 23, 1 << 23) as f32 / 8388608.0);
     for samples in [fine, others] {
