@@ -3,14 +3,13 @@
 // (Q1, Q2), `p` and `d` a slice and Draft's reading of it. oracle/src/lists/bank.rs makes the list. A trailing part of a line is ignored.
 mod quality; // a change of quality, and its two words
 mod sets; // a bank's sets, and the choice's two words
+mod slice; // a slice of samples, and Draft's reading of it
 
 ghost use Prim.Native.Nat.{_≤_};
 ghost use lib.ListN.{length};
 use libc::STDIN_FILENO;
 use libc::STDOUT_FILENO;
-use patterns::bits_of_f32;
 use patterns::float_of;
-use patterns::float_of_f32;
 use quality_fade::Fade;
 use quality_mode::QualityMode;
 use word_bytes::hex16;
@@ -46,39 +45,12 @@ fn packed(a: u8, b: u8, c: u8) -> u64 {
     a as u64 * 65536 + b as u64 * 256 + c as u64
 }
 
-fn put(source: &mut [f32], place: u64, bits: u32) -> Words {
-    if place < source.len() as u64 {
-        source[place as usize] = float_of_f32(bits);
-        Words {
-            first: place,
-            second: bits as u64,
-        }
-    } else {
-        refused(1)
-    }
-}
-
-fn at_most(n: u64, room: usize) -> usize
-    ensures { λ r. ⌜ r ≤ room ⌝ }
-{
-    if n < room as u64 { n as usize } else { room }
-}
-
-// 000's cubic_sample_f32 over the first places of the slice, as many as the line says.
-fn draft(source: &[f32], count: u64, position: f64, places: u64) -> Words {
-    let end = at_most(places, source.len());
-    Words {
-        first: bits_of_f32(cubic_farrow_f32::read(&source[..end], count, position)) as u64,
-        second: end as u64,
-    }
-}
-
 fn answer(source: &mut [f32], letter: u8, a: u64, b: u64, c: u64) -> Words {
     match letter {
         b's' => sets::rate(float_of(a), b),
         b'c' => sets::choice(float_of(a), float_of(b)),
-        b'p' => put(source, a, (b % 0x1_0000_0000) as u32),
-        b'd' => draft(source, a, float_of(b), c),
+        b'p' => slice::put(source, a, (b % 0x1_0000_0000) as u32),
+        b'd' => slice::draft(source, a, float_of(b), c),
         _ => refused(0),
     }
 }

@@ -1,9 +1,9 @@
--- `replay_bank::draft` keeps within the slice: the part that is read is no longer than the slice is. Assumes nothing.
+-- `replay_bank::slice::draft` keeps within the slice: the part that is read is no longer than the slice is. Assumes nothing.
 use borrow.Author.Needs.{needs}
 use mathlib.Core.Path.{sym}
 use lib.Seq.{length-take-le}
-use Rattle.replay_bank.proofs.draft.Statement.{statement}
-use Rattle.replay_bank.proofs.draft.Tie as tie
+use Rattle.replay_bank.proofs.slice.draft.Statement.{statement}
+use Rattle.replay_bank.proofs.slice.draft.Tie as tie
 
 at-most-requires : tie.Need-at-most-requires
 at-most-requires c κs = search needs
