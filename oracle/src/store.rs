@@ -8,14 +8,19 @@
 
 mod random;
 mod lists {
+    pub mod bank;
     pub mod delays;
     pub mod sinc;
     pub mod wander;
 }
 
 /// A file of lists/ each.
-const LISTS: [(&str, fn(&mut List)); 3] =
-    [("delays", lists::delays::write), ("sinc", lists::sinc::write), ("wander", lists::wander::write)];
+const LISTS: [(&str, fn(&mut List)); 4] = [
+    ("bank", lists::bank::write),
+    ("delays", lists::delays::write),
+    ("sinc", lists::sinc::write),
+    ("wander", lists::wander::write),
+];
 
 pub struct List {
     stdin: String,
@@ -52,6 +57,7 @@ pub fn pattern(x: f64) -> u64 {
     }
 }
 
+/// Likewise of an f32, in a word: its NaN is 7FC00000.
 pub fn pattern_f32(x: f32) -> u64 {
     if x.is_nan() {
         0x7FC0_0000
