@@ -42,7 +42,7 @@ static void sinc(void)
     for (int n = 0; n < 4; n++) {
         if (fugnadri_engine_next(words, 0.55, 8, 0, 12, 0, 0, 0, 0, &left, &right) != 0)
             exit(1);
-        uint8_t number = fugnadri_windowed_sinc_f32_process_bits(1000, 0, &accepted, ring, 1024, 1.0f / (float)(n + 1), left - 9, table, 65 * 32, 32, 64, &sample);
+        uint8_t number = fugnadri_windowed_sinc_f32_process_bits(1000, 0, &accepted, ring, 1024, 1.0f / (float)(n + 1), left - 63, table, 65 * 32, 32, 64, &sample);
         say("sinc", n, number, 8, sample);
     }
 }

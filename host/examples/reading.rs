@@ -3,7 +3,10 @@
 //! A line is the reader, the number of the call from 0, and the answer's pattern in hex, or `refused` and the number.
 
 use fugnadri::strict::modulation::{ModulationEngine, ModulationParams};
-use fugnadri::strict::{CubicFarrow, QualityMode, QualityVariableDelayF32, Refusal, SincBankF32, VariableDelay, VariableDelayF32, WindowedSincF32};
+use fugnadri::strict::{
+    CubicFarrow, QualityMode, QualityVariableDelayF32, Refusal, SincBankF32, VariableDelay, VariableDelayF32,
+    WindowedSincF32,
+};
 use std::{error::Error, sync::Arc};
 
 fn main() -> Result<(), Box<dyn Error>> {
@@ -19,7 +22,7 @@ fn main() -> Result<(), Box<dyn Error>> {
     let mut sinc = VariableDelayF32::new(1000, 0, WindowedSincF32::new(32, 64, 1.0, 12.0)?)?;
     for n in 0..4 {
         let offset = engine.next(ModulationParams::default())?;
-        say("sinc", n, sinc.process_sample(1.0 / (n + 1) as f32, offset.left - 9.0).map(word));
+        say("sinc", n, sinc.process_sample(1.0 / (n + 1) as f32, offset.left - 63.0).map(word));
     }
 
     // a bank of one set; the second call starts a change of quality that takes two calls

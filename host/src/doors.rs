@@ -6,10 +6,10 @@ use crate::{
     Refusal,
 };
 
-/// A kernel over f64.
+/// A kernel over f64. No method has a name that the original's `Kernel` has, so that `kernel.name()` is one thing where `K: Kernel`.
 pub trait Door {
     fn taps(&self) -> usize;
-    fn name(&self) -> &'static str;
+    fn called(&self) -> &'static str;
     fn process(&self, reader: &mut Reader, input: f64, delay: f64, sample: &mut f64) -> u8;
     fn read(&self, source: &[f64], count: u64, position: f64, sample: &mut f64) -> u8;
 }

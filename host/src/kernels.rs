@@ -26,7 +26,7 @@ impl Door for CubicFarrow {
     fn taps(&self) -> usize {
         4
     }
-    fn name(&self) -> &'static str {
+    fn called(&self) -> &'static str {
         "cubic-farrow"
     }
     #[inline]
@@ -42,7 +42,7 @@ impl<const TAPS: usize> Door for Lagrange<TAPS> {
     fn taps(&self) -> usize {
         TAPS
     }
-    fn name(&self) -> &'static str {
+    fn called(&self) -> &'static str {
         "lagrange"
     }
     #[inline]
@@ -58,7 +58,7 @@ impl Door for Farrow8 {
     fn taps(&self) -> usize {
         8
     }
-    fn name(&self) -> &'static str {
+    fn called(&self) -> &'static str {
         "farrow-8"
     }
     #[inline]

@@ -32,7 +32,7 @@ impl<K: Door> Kernel for K {
         or_panic(read(self, source, position))
     }
     fn name(&self) -> &'static str {
-        Door::name(self)
+        self.called()
     }
 }
 

@@ -41,7 +41,12 @@ pub struct Gathered<T> {
     pub count: u64,
 }
 
-pub fn gather<T: Copy + Default>(taps: usize, position: f64, at: impl Fn(i64) -> T, bits: impl Fn(T) -> u64) -> Result<Gathered<T>, Refusal> {
+pub fn gather<T: Copy + Default>(
+    taps: usize,
+    position: f64,
+    at: impl Fn(i64) -> T,
+    bits: impl Fn(T) -> u64,
+) -> Result<Gathered<T>, Refusal> {
     let mut gathered = Gathered { ring: [T::default(); MOST], count: 0 };
     let in_range = position.abs() <= 68_719_476_736.0 && (2..=MOST).contains(&taps);
     if !in_range {

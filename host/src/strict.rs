@@ -29,7 +29,7 @@ impl<K: Door> Kernel for K {
         read(self, source, position)
     }
     fn name(&self) -> &'static str {
-        Door::name(self)
+        self.called()
     }
 }
 

@@ -22,8 +22,17 @@ pub struct QualityVariableDelayF32 {
 
 impl QualityVariableDelayF32 {
     #[track_caller]
-    pub fn new(max_delay_samples: usize, kernel_margin: usize, kernels: Arc<SincBankF32>, quality: QualityMode, crossfade_samples: u32) -> Self {
-        Self { reader: or_panic(strict::Fading::new(max_delay_samples, kernel_margin, quality, crossfade_samples)), kernels }
+    pub fn new(
+        max_delay_samples: usize,
+        kernel_margin: usize,
+        kernels: Arc<SincBankF32>,
+        quality: QualityMode,
+        crossfade_samples: u32,
+    ) -> Self {
+        Self {
+            reader: or_panic(strict::Fading::new(max_delay_samples, kernel_margin, quality, crossfade_samples)),
+            kernels,
+        }
     }
 
     #[inline]
@@ -36,8 +45,15 @@ impl QualityVariableDelayF32 {
     /// Panics where the rate is NaN: the original then answers NaN, and in Draft a sample.
     #[inline]
     #[track_caller]
-    pub fn process_sample_rate_aware(&mut self, input: f32, delay_samples: f64, requested_quality: QualityMode, playback_rate: f64) -> f32 {
-        let answer = self.reader.process_rate_aware(&self.kernels.0, input, delay_samples, requested_quality, playback_rate);
+    pub fn process_sample_rate_aware(
+        &mut self,
+        input: f32,
+        delay_samples: f64,
+        requested_quality: QualityMode,
+        playback_rate: f64,
+    ) -> f32 {
+        let answer =
+            self.reader.process_rate_aware(&self.kernels.0, input, delay_samples, requested_quality, playback_rate);
         or_silence(answer, input.is_finite(), delay_samples)
     }
 

@@ -36,8 +36,8 @@ impl Door for WindowedSinc {
     fn taps(&self) -> usize {
         self.0.taps()
     }
-    fn name(&self) -> &'static str {
-        Door::name(&self.0)
+    fn called(&self) -> &'static str {
+        self.0.called()
     }
     #[inline]
     fn process(&self, reader: &mut Reader, input: f64, delay: f64, sample: &mut f64) -> u8 {

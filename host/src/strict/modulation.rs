@@ -37,8 +37,17 @@ impl ModulationEngine {
         let p = params;
         let mut offset = StereoDelayOffset::default();
         let number = boundary::engine_next(
-            &mut self.words, p.wow_rate_hz, p.wow_depth_cents, p.wow_shape, p.flutter_rate_hz, p.flutter_depth_cents, p.flutter_shape,
-            p.drift_amount, p.stereo_amount, &mut offset.left, &mut offset.right,
+            &mut self.words,
+            p.wow_rate_hz,
+            p.wow_depth_cents,
+            p.wow_shape,
+            p.flutter_rate_hz,
+            p.flutter_depth_cents,
+            p.flutter_shape,
+            p.drift_amount,
+            p.stereo_amount,
+            &mut offset.left,
+            &mut offset.right,
         );
         Refusal::of(number).map(|()| offset)
     }
@@ -52,7 +61,11 @@ fn value(call: impl FnOnce(&mut f64) -> u8) -> Result<f64, Refusal> {
 }
 
 /// Conservative delay excursion for one oscillator across every shape. The least rate is from 0.001 to 1000 Hz.
-pub fn maximum_delay_excursion_samples(max_depth_cents: f64, min_rate_hz: f64, sample_rate: f64) -> Result<f64, Refusal> {
+pub fn maximum_delay_excursion_samples(
+    max_depth_cents: f64,
+    min_rate_hz: f64,
+    sample_rate: f64,
+) -> Result<f64, Refusal> {
     value(|result| boundary::maximum_delay_excursion_samples(max_depth_cents, min_rate_hz, sample_rate, result))
 }
 
@@ -67,7 +80,13 @@ pub fn shape_primitive(phase: f64, shape: f64) -> Result<f64, Refusal> {
 }
 
 /// The original's private three, which the port exports too.
-pub fn oscillator_delay(phase: f64, rate_hz: f64, depth_cents: f64, shape: f64, sample_rate: f64) -> Result<f64, Refusal> {
+pub fn oscillator_delay(
+    phase: f64,
+    rate_hz: f64,
+    depth_cents: f64,
+    shape: f64,
+    sample_rate: f64,
+) -> Result<f64, Refusal> {
     value(|result| boundary::oscillator_delay(phase, rate_hz, depth_cents, shape, sample_rate, result))
 }
 

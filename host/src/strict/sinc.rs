@@ -63,13 +63,24 @@ impl Door for WindowedSinc {
     fn taps(&self) -> usize {
         self.table.taps
     }
-    fn name(&self) -> &'static str {
+    fn called(&self) -> &'static str {
         "windowed-sinc"
     }
     #[inline]
     fn process(&self, r: &mut Reader, input: f64, delay: f64, sample: &mut f64) -> u8 {
         let Table { taps, phases, values } = &self.table;
-        f64::sinc_process(r.maximum, r.margin, &mut r.accepted, &mut r.ring, input, delay, values, *taps, *phases, sample)
+        f64::sinc_process(
+            r.maximum,
+            r.margin,
+            &mut r.accepted,
+            &mut r.ring,
+            input,
+            delay,
+            values,
+            *taps,
+            *phases,
+            sample,
+        )
     }
     fn read(&self, source: &[f64], count: u64, position: f64, sample: &mut f64) -> u8 {
         let Table { taps, phases, values } = &self.table;
@@ -101,7 +112,18 @@ impl DoorF32 for WindowedSincF32 {
     #[inline]
     fn process(&self, r: &mut ReaderF32, input: f32, delay: f64, sample: &mut f32) -> u8 {
         let Table { taps, phases, values } = &self.table;
-        f32::sinc_process(r.maximum, r.margin, &mut r.accepted, &mut r.ring, input, delay, values, *taps, *phases, sample)
+        f32::sinc_process(
+            r.maximum,
+            r.margin,
+            &mut r.accepted,
+            &mut r.ring,
+            input,
+            delay,
+            values,
+            *taps,
+            *phases,
+            sample,
+        )
     }
     fn read(&self, source: &[f32], count: u64, position: f64, sample: &mut f32) -> u8 {
         let Table { taps, phases, values } = &self.table;
