@@ -1,9 +1,12 @@
 //! The original's names, with a `Result` wherever a call can be refused. After a refusal everything is as it was.
 
+mod bank;
 mod delays;
+mod fading;
 pub mod modulation;
 mod quality;
 mod sinc;
+mod table;
 
 pub use crate::{
     kernels::{CubicFarrow, Farrow8, Lagrange},
@@ -11,9 +14,10 @@ pub use crate::{
     sources::{SampleSource, SampleSourceF32, SliceSource},
     Refusal,
 };
+pub use bank::SincBankF32;
 pub use delays::{VariableDelay, VariableDelayF32};
-pub(crate) use quality::Fading;
-pub use quality::{QualityVariableDelayF32, SincBankF32};
+pub(crate) use fading::Fading;
+pub use quality::QualityVariableDelayF32;
 pub use sinc::{WindowedSinc, WindowedSincF32};
 
 use crate::doors::{read, read_f32, Door, DoorF32};
