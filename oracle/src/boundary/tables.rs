@@ -96,7 +96,7 @@ macro_rules! width {
 
 width!(
     f64, u64, fugnadri_windowed_sinc_new, fugnadri_windowed_sinc_for_max_rate, fugnadri_windowed_sinc_sample, fugnadri_windowed_sinc_sample_bits,
-    crate::readers::fugnadri_open, crate::readers::fugnadri_reset, fugnadri_windowed_sinc_process, fugnadri_windowed_sinc_process_bits
+    super::readers::fugnadri_open, super::readers::fugnadri_reset, fugnadri_windowed_sinc_process, fugnadri_windowed_sinc_process_bits
 );
 width!(
     f32, u32, fugnadri_windowed_sinc_f32_new, fugnadri_windowed_sinc_f32_for_max_rate, fugnadri_windowed_sinc_f32_sample, fugnadri_windowed_sinc_f32_sample_bits,

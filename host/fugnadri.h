@@ -1,0 +1,187 @@
+/* fugnadri.h: every function that Fugnadri's static libraries export, for C.
+ *
+ * Libraries (x86-64, System V calls): libfugnadri.a, libfugnadri_tables.a, libfugnadri_bank.a; `rt staticlib NAME` makes each. They want
+ * `memset` and nothing else of a C library, allocate nothing, keep nothing between calls and may be called by any thread that owns what it lends.
+ *
+ * Lent memory: a slice is a pointer to its first element and a length in elements. A pointer is never null (of an empty slice it may be any other
+ * aligned address) and what is written through must not overlap anything else that is lent in the same call.
+ *
+ * Answers: where a function returns uint8_t, that is the refusal's number, 0 for none. A refused call writes 0.0 through its last pointer(s), the
+ * sample or value, and leaves the state and every lent element as they were. Each function is proved to answer as said for all arguments.
+ *
+ *   1  a setting or an argument is outside its range      5  the delay is NaN, infinite or below zero
+ *   2  a lent ring or table has not the needed length     6  the delay is above 2^36
+ *   3  a field of the state is outside its range          7  the playback rate is NaN
+ *   4  the input sample is NaN or infinite                8  2^36 samples were accepted already
+ *
+ * They are tested in this order. `maximum`, `margin`, taps, phases, rates and the fade length are settings (1) wherever they are handed in.
+ * A name that ends in _bits is the same call with floats as IEEE 754 patterns; a NaN is then 7FF8000000000000, or 7FC00000 for float.
+ */
+#ifndef FUGNADRI_H
+#define FUGNADRI_H
+
+#include <stddef.h>
+#include <stdint.h>
+
+#ifdef __cplusplus
+extern "C" {
+#endif
+
+enum {
+    FUGNADRI_SETTING = 1,
+    FUGNADRI_LENGTH = 2,
+    FUGNADRI_STATE = 3,
+    FUGNADRI_INPUT = 4,
+    FUGNADRI_DELAY = 5,
+    FUGNADRI_LONG_DELAY = 6,
+    FUGNADRI_RATE = 7,
+    FUGNADRI_FULL = 8
+};
+
+/* ---- libfugnadri.a: delay readers without a table ----------------------------------------------------------------------------------------
+ *
+ * A reader is `maximum` (the longest delay, in samples), `margin` (the kernel's), `accepted` (how many samples it has accepted) and a ring, whose
+ * length is maximum + 2 * margin + 8 raised to the next power of two, at most 2^24. Open it once; hand the four on as the last call left them. */
+
+/* Zeroes the ring and the count. Refused by 1 or 2; reset by 3 too. */
+uint8_t fugnadri_open(size_t maximum, size_t margin, uint64_t *accepted, double *ring, size_t ring_len);
+uint8_t fugnadri_reset(size_t maximum, size_t margin, uint64_t *accepted, double *ring, size_t ring_len);
+
+/* One call: `input` is stored, `accepted` grows by 1, `*sample` is what the kernel reads `delay` samples behind it. Refused by 1 to 6 or 8.
+ * cubic: four points. lagrange: `taps` even, 2 to 16, else 1. farrow8: eight points. */
+uint8_t fugnadri_cubic_process(size_t maximum, size_t margin, uint64_t *accepted, double *ring, size_t ring_len, double input, double delay, double *sample);
+uint8_t fugnadri_cubic_process_bits(size_t maximum, size_t margin, uint64_t *accepted, double *ring, size_t ring_len, double input, double delay, uint64_t *sample);
+uint8_t fugnadri_lagrange_process(size_t maximum, size_t margin, uint64_t *accepted, double *ring, size_t ring_len, double input, double delay, uint64_t taps, double *sample);
+uint8_t fugnadri_lagrange_process_bits(size_t maximum, size_t margin, uint64_t *accepted, double *ring, size_t ring_len, double input, double delay, uint64_t taps, uint64_t *sample);
+uint8_t fugnadri_farrow8_process(size_t maximum, size_t margin, uint64_t *accepted, double *ring, size_t ring_len, double input, double delay, double *sample);
+uint8_t fugnadri_farrow8_process_bits(size_t maximum, size_t margin, uint64_t *accepted, double *ring, size_t ring_len, double input, double delay, uint64_t *sample);
+
+/* A kernel over a slice at a position from -2^36 to 2^36; before the start and past the end stands zero. `count` is source_len for a plain slice;
+ * with another count the slice is a ring that has accepted so many samples. Refused by 1: the position, or the taps. */
+uint8_t fugnadri_cubic_sample(const double *source, size_t source_len, uint64_t count, double position, double *sample);
+uint8_t fugnadri_cubic_sample_bits(const double *source, size_t source_len, uint64_t count, double position, uint64_t *sample);
+uint8_t fugnadri_lagrange_sample(const double *source, size_t source_len, uint64_t count, double position, uint64_t taps, double *sample);
+uint8_t fugnadri_lagrange_sample_bits(const double *source, size_t source_len, uint64_t count, double position, uint64_t taps, uint64_t *sample);
+uint8_t fugnadri_farrow8_sample(const double *source, size_t source_len, uint64_t count, double position, double *sample);
+uint8_t fugnadri_farrow8_sample_bits(const double *source, size_t source_len, uint64_t count, double position, uint64_t *sample);
+
+/* ---- libfugnadri.a: modulation -----------------------------------------------------------------------------------------------------------
+ *
+ * The engine's state is 15 words: the sample rate, the two phases, then six for each generator; a float is its pattern. Sample rate 8000 to
+ * 768000. A refusal by 1 is for an argument or the kept sample rate, by 3 for any other word. */
+
+/* Refused by 1. The words may hold anything before; a refusal leaves them, with one pattern for every NaN. */
+uint8_t fugnadri_engine_new(double sample_rate, uint64_t seed, uint64_t words[15]);
+/* Refused by 1 or 3. A seed that a generator holds already leaves it as it is. */
+uint8_t fugnadri_engine_set_sample_rate(uint64_t words[15], double sample_rate);
+uint8_t fugnadri_engine_set_seed(uint64_t words[15], uint64_t seed);
+uint8_t fugnadri_engine_reset(uint64_t words[15]);
+/* The two sides' delay offsets in samples, then one step. All eight finite, rates -1000 to 1000, depths -1200 to 1200; shapes are clamped to
+ * -1..1, drift and stereo to 0..1. Refused by 1 or 3. */
+uint8_t fugnadri_engine_next(uint64_t words[15], double wow_rate_hz, double wow_depth_cents, double wow_shape, double flutter_rate_hz, double flutter_depth_cents, double flutter_shape, double drift_amount, double stereo_amount, double *left, double *right);
+
+/* What stands outside the engine; each refused by 1 alone. Depths, rates and sample rates as above; the phase of advance_phase at least 0 and below
+ * 2 pi, the others' -51 to 51; min_rate_hz 0.001 to 1000; shape finite. An empty list of depths gives -0.0. */
+uint8_t fugnadri_speed_delta(double depth_cents, double *result);
+uint8_t fugnadri_advance_phase(double phase, double rate_hz, double sample_rate, double *result);
+uint8_t fugnadri_shape_primitive(double phase, double shape, double *result);
+uint8_t fugnadri_oscillator_delay(double phase, double rate_hz, double depth_cents, double shape, double sample_rate, double *result);
+uint8_t fugnadri_maximum_delay_excursion_samples(double max_depth_cents, double min_rate_hz, double sample_rate, double *result);
+uint8_t fugnadri_maximum_rate_delta(const double *depths_cents, size_t depths_cents_len, double *result);
+
+/* Sine and cosine of a magnitude up to 256, 2^x of one up to 1: refused by 1 beyond, and at NaN. _value hands the value out, 0.0 where refused. */
+uint8_t fugnadri_sine(double x, double *result);
+double fugnadri_sine_value(double x);
+uint8_t fugnadri_cosine(double x, double *result);
+double fugnadri_cosine_value(double x);
+uint8_t fugnadri_exp2(double x, double *result);
+double fugnadri_exp2_value(double x);
+
+/* ---- libfugnadri.a: numbers, for every argument, never refused ---------------------------------------------------------------------------- */
+
+/* To the nearest float, ties to even. */
+float fugnadri_narrow(double x);
+uint32_t fugnadri_narrow_bits(uint64_t x);
+/* a * b + c, rounded once. */
+float fugnadri_fused32(float a, float b, float c);
+uint32_t fugnadri_fused32_bits(uint32_t a, uint32_t b, uint32_t c);
+double fugnadri_fused64(double a, double b, double c);
+uint64_t fugnadri_fused64_bits(uint64_t a, uint64_t b, uint64_t c);
+/* Correctly rounded. */
+double fugnadri_square_root(double x);
+uint64_t fugnadri_square_root_bits(uint64_t x);
+/* Towards minus infinity; past an end of the range that end, 0 at NaN. */
+int64_t fugnadri_floor(double x);
+/* x minus its floor, rounded: it may be exactly 1. */
+double fugnadri_fraction(double x);
+uint64_t fugnadri_fraction_bits(uint64_t x);
+/* Of a NaN and a number the number; of two that compare equal the second. */
+double fugnadri_max(double x, double least);
+double fugnadri_min(double x, double most);
+float fugnadri_min_f32(float a, float b);
+/* A NaN stays a NaN. */
+double fugnadri_clamp(double x, double low, double high);
+float fugnadri_clamp_f32(float a, float low, float high);
+/* Modulo 2^64; a shift by 64 or more gives 0. */
+uint64_t fugnadri_wrapping_mul(uint64_t a, uint64_t b);
+uint64_t fugnadri_shl(uint64_t a, uint64_t n);
+/* A float's pattern, with one pattern for every NaN, and the float of a pattern. */
+uint64_t fugnadri_bits_of(double x);
+double fugnadri_float_of(uint64_t n);
+uint32_t fugnadri_bits_of_f32(float a);
+float fugnadri_float_of_f32(uint32_t n);
+
+/* ---- libfugnadri_tables.a: the windowed sinc ---------------------------------------------------------------------------------------------
+ *
+ * A table of taps and phases has (phases + 1) * taps elements. Taps even, 4 to 128; phases 2 to 4096; cutoff 1/1024 to 1; beta 0 to 20. */
+
+/* Build a table. for_max_rate: rate 1 to 2, passband above 0 to 1, cutoff = passband / max_rate. Refused by 1 or 2. */
+uint8_t fugnadri_windowed_sinc_new(size_t taps, size_t phases, double cutoff, double beta, double *table, size_t table_len);
+uint8_t fugnadri_windowed_sinc_for_max_rate(size_t taps, size_t phases, double max_rate, double passband, double beta, double *table, size_t table_len);
+uint8_t fugnadri_windowed_sinc_f32_new(size_t taps, size_t phases, double cutoff, double beta, float *table, size_t table_len);
+uint8_t fugnadri_windowed_sinc_f32_for_max_rate(size_t taps, size_t phases, double max_rate, double passband, double beta, float *table, size_t table_len);
+
+/* A table's reading of a slice, as the kernels' above. Refused by 1 or 2. */
+uint8_t fugnadri_windowed_sinc_sample(const double *table, size_t table_len, size_t taps, size_t phases, const double *source, size_t source_len, uint64_t count, double position, double *sample);
+uint8_t fugnadri_windowed_sinc_sample_bits(const double *table, size_t table_len, size_t taps, size_t phases, const double *source, size_t source_len, uint64_t count, double position, uint64_t *sample);
+uint8_t fugnadri_windowed_sinc_f32_sample(const float *table, size_t table_len, size_t taps, size_t phases, const float *source, size_t source_len, uint64_t count, double position, float *sample);
+uint8_t fugnadri_windowed_sinc_f32_sample_bits(const float *table, size_t table_len, size_t taps, size_t phases, const float *source, size_t source_len, uint64_t count, double position, uint32_t *sample);
+
+/* The readers over a table; a double reader is opened by fugnadri_open. Refused as the readers above. */
+uint8_t fugnadri_open_f32(size_t maximum, size_t margin, uint64_t *accepted, float *ring, size_t ring_len);
+uint8_t fugnadri_reset_f32(size_t maximum, size_t margin, uint64_t *accepted, float *ring, size_t ring_len);
+uint8_t fugnadri_windowed_sinc_process(size_t maximum, size_t margin, uint64_t *accepted, double *ring, size_t ring_len, double input, double delay, const double *table, size_t table_len, size_t taps, size_t phases, double *sample);
+uint8_t fugnadri_windowed_sinc_process_bits(size_t maximum, size_t margin, uint64_t *accepted, double *ring, size_t ring_len, double input, double delay, const double *table, size_t table_len, size_t taps, size_t phases, uint64_t *sample);
+uint8_t fugnadri_windowed_sinc_f32_process(size_t maximum, size_t margin, uint64_t *accepted, float *ring, size_t ring_len, float input, double delay, const float *table, size_t table_len, size_t taps, size_t phases, float *sample);
+uint8_t fugnadri_windowed_sinc_f32_process_bits(size_t maximum, size_t margin, uint64_t *accepted, float *ring, size_t ring_len, float input, double delay, const float *table, size_t table_len, size_t taps, size_t phases, uint32_t *sample);
+
+/* ---- libfugnadri_bank.a: the bank, and the reader whose quality may change -----------------------------------------------------------------
+ *
+ * A bank of a rate from 1 to 2 is fugnadri_bank_length(max_rate) floats: sets of 1081648, each with three tables. A quality is 0 Draft, 1 Normal,
+ * 2 Hq, 3 Ultra. */
+
+/* How many floats, how many sets (0 out of range), and the rate of a set, counted from 0 (0.0 where there is no such set). */
+size_t fugnadri_bank_length(double max_rate);
+size_t fugnadri_bank_steps(double max_rate);
+double fugnadri_bank_set_rate(double max_rate, size_t set);
+/* Which sets a rate reads, counted from 0: `which` is 0 for the safe one alone, 1 for the tighter alone, 2 for both, mixed by `blend`. Refused by
+ * 1, and then all four are zero. */
+uint8_t fugnadri_bank_choose(double max_rate, double rate, size_t *safe, size_t *tighter, uint8_t *which, float *blend);
+/* Build one set of a rate, or the whole bank. Refused by 1 or 2. */
+uint8_t fugnadri_bank_build_set(double rate, float *set, size_t set_len);
+uint8_t fugnadri_bank_build(double max_rate, float *sets, size_t sets_len);
+
+/* A quality reader's state is a reader's and current, target, crossfade_position; crossfade_samples, 0 to 16777216, is the fade's length. Opening
+ * is refused by 1 or 2, and then leaves the four as they were; reset by 3 too. */
+uint8_t fugnadri_quality_open(size_t maximum, size_t margin, uint8_t quality, uint32_t crossfade_samples, uint64_t *accepted, uint8_t *current, uint8_t *target, uint32_t *crossfade_position, float *ring, size_t ring_len);
+uint8_t fugnadri_quality_reset(size_t maximum, size_t margin, uint64_t *accepted, uint8_t *current, uint8_t *target, uint32_t *crossfade_position, uint32_t crossfade_samples, float *ring, size_t ring_len);
+/* One call at the bank's rate, or at a rate of its own, which is clamped. Refused by 1 to 6 or 8, with a rate of its own by 7 too; a refused call
+ * forgets the quality that it asked for. */
+uint8_t fugnadri_quality_process(size_t maximum, size_t margin, uint64_t *accepted, uint8_t *current, uint8_t *target, uint32_t *crossfade_position, uint32_t crossfade_samples, float *ring, size_t ring_len, const float *sets, size_t sets_len, double max_rate, float input, double delay, uint8_t quality, float *sample);
+uint8_t fugnadri_quality_process_rate_aware(size_t maximum, size_t margin, uint64_t *accepted, uint8_t *current, uint8_t *target, uint32_t *crossfade_position, uint32_t crossfade_samples, float *ring, size_t ring_len, const float *sets, size_t sets_len, double max_rate, float input, double delay, uint8_t quality, double playback_rate, float *sample);
+
+#ifdef __cplusplus
+}
+#endif
+
+#endif

@@ -1,0 +1,63 @@
+//! The bank of tables, and the reader whose quality may change, as the original has them.
+
+use super::{or_panic, or_silence};
+use crate::{quality_mode::QualityMode, strict};
+use std::sync::Arc;
+
+/// Prebuilt interpolation tables for allocation-free quality switching.
+pub struct SincBankF32(strict::SincBankF32);
+
+impl SincBankF32 {
+    #[track_caller]
+    pub fn for_max_rate(max_rate: f64) -> Self {
+        Self(or_panic(strict::SincBankF32::for_max_rate(max_rate)))
+    }
+}
+
+/// Shared-table variable delay with click-free, allocation-free quality changes.
+pub struct QualityVariableDelayF32 {
+    reader: strict::Fading,
+    kernels: Arc<SincBankF32>,
+}
+
+impl QualityVariableDelayF32 {
+    #[track_caller]
+    pub fn new(
+        max_delay_samples: usize,
+        kernel_margin: usize,
+        kernels: Arc<SincBankF32>,
+        quality: QualityMode,
+        crossfade_samples: u32,
+    ) -> Self {
+        Self {
+            reader: or_panic(strict::Fading::new(max_delay_samples, kernel_margin, quality, crossfade_samples)),
+            kernels,
+        }
+    }
+
+    #[inline]
+    #[track_caller]
+    pub fn process_sample(&mut self, input: f32, delay_samples: f64, requested_quality: QualityMode) -> f32 {
+        let answer = self.reader.process(&self.kernels.0, input, delay_samples, requested_quality);
+        or_silence(answer, input.is_finite(), delay_samples)
+    }
+
+    /// Panics where the rate is NaN: the original then answers NaN, and in Draft a sample.
+    #[inline]
+    #[track_caller]
+    pub fn process_sample_rate_aware(
+        &mut self,
+        input: f32,
+        delay_samples: f64,
+        requested_quality: QualityMode,
+        playback_rate: f64,
+    ) -> f32 {
+        let answer =
+            self.reader.process_rate_aware(&self.kernels.0, input, delay_samples, requested_quality, playback_rate);
+        or_silence(answer, input.is_finite(), delay_samples)
+    }
+
+    pub fn reset(&mut self) {
+        self.reader.reset();
+    }
+}

@@ -1,0 +1,77 @@
+//! The kernels that read a table, as the original has them.
+
+use super::or_panic;
+use crate::{
+    boundary::Reader,
+    doors::{Door, DoorF32, ReaderF32},
+    strict,
+};
+
+/// Dense phase-table, Kaiser-windowed sinc interpolator.
+pub struct WindowedSinc(strict::WindowedSinc);
+
+impl WindowedSinc {
+    #[track_caller]
+    pub fn new(taps: usize, phases: usize, cutoff: f64, beta: f64) -> Self {
+        Self(or_panic(strict::WindowedSinc::new(taps, phases, cutoff, beta)))
+    }
+
+    #[track_caller]
+    pub fn for_max_rate(taps: usize, phases: usize, max_rate: f64, passband: f64, beta: f64) -> Self {
+        Self(or_panic(strict::WindowedSinc::for_max_rate(taps, phases, max_rate, passband, beta)))
+    }
+
+    pub fn taps(&self) -> usize {
+        self.0.taps()
+    }
+    pub fn phases(&self) -> usize {
+        self.0.phases()
+    }
+    pub fn cutoff(&self) -> f64 {
+        self.0.cutoff()
+    }
+}
+
+impl Door for WindowedSinc {
+    fn taps(&self) -> usize {
+        self.0.taps()
+    }
+    fn called(&self) -> &'static str {
+        self.0.called()
+    }
+    #[inline]
+    fn process(&self, reader: &mut Reader, input: f64, delay: f64, sample: &mut f64) -> u8 {
+        self.0.process(reader, input, delay, sample)
+    }
+    fn read(&self, source: &[f64], count: u64, position: f64, sample: &mut f64) -> u8 {
+        self.0.read(source, count, position, sample)
+    }
+}
+
+/// The table rounded once to f32.
+pub struct WindowedSincF32(strict::WindowedSincF32);
+
+impl WindowedSincF32 {
+    #[track_caller]
+    pub fn new(taps: usize, phases: usize, cutoff: f64, beta: f64) -> Self {
+        Self(or_panic(strict::WindowedSincF32::new(taps, phases, cutoff, beta)))
+    }
+
+    #[track_caller]
+    pub fn for_max_rate(taps: usize, phases: usize, max_rate: f64, passband: f64, beta: f64) -> Self {
+        Self(or_panic(strict::WindowedSincF32::for_max_rate(taps, phases, max_rate, passband, beta)))
+    }
+}
+
+impl DoorF32 for WindowedSincF32 {
+    fn taps(&self) -> usize {
+        self.0.taps()
+    }
+    #[inline]
+    fn process(&self, reader: &mut ReaderF32, input: f32, delay: f64, sample: &mut f32) -> u8 {
+        self.0.process(reader, input, delay, sample)
+    }
+    fn read(&self, source: &[f32], count: u64, position: f64, sample: &mut f32) -> u8 {
+        self.0.read(source, count, position, sample)
+    }
+}

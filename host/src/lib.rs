@@ -1,0 +1,28 @@
+//! Fugnadri for Rust: the original's types and methods over the proved static libraries, which allocate nothing; the types own the rings and
+//! tables that they lend.
+//!
+//! Two ways to the same answers:
+//! - the crate's root, which is [`lenient`]: the original's own names and signatures. Where the original, in a release build, answers 0.0 and does
+//!   not advance, so does this; where it panics, or the arguments leave the range in which the port is proved, it panics and says why. A user of the original changes
+//!   one line of Cargo.toml: `wow-dsp = { package = "fugnadri-host", path = "fugnadri/host" }`.
+//! - [`strict`]: the same names, and a `Result` with a [`Refusal`] wherever a call can be refused. After a refusal everything is as it was.
+//!
+//! Not taken over: the two oversampled readers and their filters, and kernels that a user writes ([`Kernel`] is closed; a source may be anyone's).
+//! Sine, cosine and powers of two are the port's own (docs/ELEMENTARY.md); docs/DIFFERENCES.md lists every difference.
+//!
+//! What is proved is what the libraries do with what they are handed. This crate itself is plain Rust: it chooses lengths, lends, and hands on.
+
+#[allow(dead_code, unused_imports, clippy::too_many_arguments)]
+#[path = "../../oracle/src/boundary.rs"]
+mod boundary;
+mod doors;
+mod kernels;
+pub mod lenient;
+mod params;
+mod quality_mode;
+mod refusal;
+mod sources;
+pub mod strict;
+
+pub use lenient::*;
+pub use refusal::Refusal;

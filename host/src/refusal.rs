@@ -1,0 +1,67 @@
+//! Why a call was refused: 01's numbers 1 to 8.
+
+use std::{error::Error, fmt};
+
+/// Why a call was refused. Its state, its ring and its table are what they were before.
+#[derive(Clone, Copy, Debug, Eq, Hash, PartialEq)]
+#[repr(u8)]
+pub enum Refusal {
+    /// A setting or an argument is outside its range.
+    Setting = 1,
+    /// A lent ring or table has not the length that the settings need.
+    Length = 2,
+    /// A field of the state is outside its range.
+    State = 3,
+    /// The input sample is NaN or infinite.
+    Input = 4,
+    /// The delay is NaN, infinite or below zero.
+    Delay = 5,
+    /// The delay is above 2^36.
+    LongDelay = 6,
+    /// The playback rate is NaN.
+    Rate = 7,
+    /// 2^36 samples were accepted already.
+    Full = 8,
+}
+
+use Refusal::*;
+
+impl Refusal {
+    pub fn number(self) -> u8 {
+        self as u8
+    }
+
+    /// The number that an exported function hands back, 0 for none.
+    pub(crate) fn of(number: u8) -> Result<(), Refusal> {
+        Err(match number {
+            0 => return Ok(()),
+            1 => Setting,
+            2 => Length,
+            3 => State,
+            4 => Input,
+            5 => Delay,
+            6 => LongDelay,
+            7 => Rate,
+            8 => Full,
+            other => unreachable!("the static libraries refuse by 1 to 8, not by {other}: they are not the ones that this crate was written for"),
+        })
+    }
+}
+
+impl fmt::Display for Refusal {
+    fn fmt(&self, f: &mut fmt::Formatter) -> fmt::Result {
+        let why = match self {
+            Setting => "a setting or an argument is outside its range: fugnadri.h lists the ranges; choose one inside",
+            Length => "a lent ring or table has not the length that its settings need: lend one of exactly that length",
+            State => "a field of the state is outside its range: hand the state on as the last call left it",
+            Input => "the input sample is NaN or infinite: leave it out or replace it, then go on with this reader",
+            Delay => "the delay is NaN, infinite or below zero: give one from 0 on",
+            LongDelay => "the delay is above 2^36 samples: give a shorter one",
+            Rate => "the playback rate is NaN: give a number; one out of range is clamped",
+            Full => "2^36 samples were accepted already: reset the reader",
+        };
+        write!(f, "refused by {}: {why}", self.number())
+    }
+}
+
+impl Error for Refusal {}

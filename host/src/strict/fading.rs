@@ -1,0 +1,59 @@
+//! A reader whose quality may change, and its ring.
+
+use super::SincBankF32;
+use crate::{boundary::QualityReader, doors::ring_length, quality_mode::QualityMode, Refusal};
+
+/// A quality reader without its bank, which each of the two ways holds as its own type.
+pub(crate) struct Fading(QualityReader);
+
+impl Fading {
+    pub fn new(maximum: usize, margin: usize, quality: QualityMode, crossfade_samples: u32) -> Result<Self, Refusal> {
+        let (current, ring) = (quality as u8, vec![0.0; ring_length(maximum, margin)]);
+        let mut reader = QualityReader {
+            maximum,
+            margin,
+            accepted: 0,
+            current,
+            target: current,
+            crossfade_position: 0,
+            crossfade_samples,
+            ring,
+        };
+        Refusal::of(reader.open(current))?;
+        Ok(Self(reader))
+    }
+
+    #[inline]
+    pub fn process(
+        &mut self,
+        bank: &SincBankF32,
+        input: f32,
+        delay: f64,
+        quality: QualityMode,
+    ) -> Result<f32, Refusal> {
+        let mut sample = 0.0;
+        let number = self.0.process(&bank.sets, bank.max_rate, input, delay, quality as u8, &mut sample);
+        Refusal::of(number).map(|()| sample)
+    }
+
+    #[inline]
+    pub fn process_rate_aware(
+        &mut self,
+        bank: &SincBankF32,
+        input: f32,
+        delay: f64,
+        quality: QualityMode,
+        rate: f64,
+    ) -> Result<f32, Refusal> {
+        let mut sample = 0.0;
+        let number =
+            self.0.process_rate_aware(&bank.sets, bank.max_rate, input, delay, quality as u8, rate, &mut sample);
+        Refusal::of(number).map(|()| sample)
+    }
+
+    /// Never refused: the settings were accepted, and the state is the port's own.
+    pub fn reset(&mut self) {
+        let number = self.0.reset();
+        debug_assert_eq!(number, 0);
+    }
+}

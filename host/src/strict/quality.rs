@@ -1,0 +1,51 @@
+//! The reader whose quality may change, with the bank that it shares.
+
+use super::{Fading, SincBankF32};
+use crate::{quality_mode::QualityMode, Refusal};
+use std::sync::Arc;
+
+/// Shared-table variable delay with click-free, allocation-free quality changes.
+pub struct QualityVariableDelayF32 {
+    reader: Fading,
+    kernels: Arc<SincBankF32>,
+}
+
+impl QualityVariableDelayF32 {
+    /// Refused by 1 where the ring would be longer than 2^24, or the fade longer than 2^24 samples.
+    pub fn new(
+        max_delay_samples: usize,
+        kernel_margin: usize,
+        kernels: Arc<SincBankF32>,
+        quality: QualityMode,
+        crossfade_samples: u32,
+    ) -> Result<Self, Refusal> {
+        Ok(Self { reader: Fading::new(max_delay_samples, kernel_margin, quality, crossfade_samples)?, kernels })
+    }
+
+    /// Reads at the bank's own rate. Refused by 4, 5, 6 or 8; a refused call forgets the quality that it asked for.
+    #[inline]
+    pub fn process_sample(
+        &mut self,
+        input: f32,
+        delay_samples: f64,
+        requested_quality: QualityMode,
+    ) -> Result<f32, Refusal> {
+        self.reader.process(&self.kernels, input, delay_samples, requested_quality)
+    }
+
+    /// Reads at a rate of its own, clamped from 1 to the bank's. Refused by 7 too, where the rate is NaN, in Draft also.
+    #[inline]
+    pub fn process_sample_rate_aware(
+        &mut self,
+        input: f32,
+        delay_samples: f64,
+        requested_quality: QualityMode,
+        playback_rate: f64,
+    ) -> Result<f32, Refusal> {
+        self.reader.process_rate_aware(&self.kernels, input, delay_samples, requested_quality, playback_rate)
+    }
+
+    pub fn reset(&mut self) {
+        self.reader.reset();
+    }
+}

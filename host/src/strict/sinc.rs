@@ -1,0 +1,108 @@
+//! The kernels that read a table: each owns its own, which is built when it is made.
+
+use super::table::Table;
+use crate::{
+    boundary::{Reader, Width},
+    doors::{Door, DoorF32, ReaderF32},
+    Refusal,
+};
+
+/// Dense phase-table, Kaiser-windowed sinc interpolator.
+pub struct WindowedSinc {
+    table: Table<f64>,
+    cutoff: f64,
+}
+
+impl WindowedSinc {
+    /// Taps even, 4 to 128; phases 2 to 4096; cutoff 1/1024 to 1; beta 0 to 20: else refused by 1.
+    pub fn new(taps: usize, phases: usize, cutoff: f64, beta: f64) -> Result<Self, Refusal> {
+        Ok(Self { table: Table::new(taps, phases, cutoff, beta)?, cutoff })
+    }
+
+    /// Rate 1 to 2, passband above 0 to 1, and their quotient, the cutoff, in its range: else refused by 1.
+    pub fn for_max_rate(taps: usize, phases: usize, max_rate: f64, passband: f64, beta: f64) -> Result<Self, Refusal> {
+        Ok(Self { table: Table::for_max_rate(taps, phases, max_rate, passband, beta)?, cutoff: passband / max_rate })
+    }
+
+    pub fn taps(&self) -> usize {
+        self.table.taps
+    }
+    pub fn phases(&self) -> usize {
+        self.table.phases
+    }
+    pub fn cutoff(&self) -> f64 {
+        self.cutoff
+    }
+}
+
+impl Door for WindowedSinc {
+    fn taps(&self) -> usize {
+        self.table.taps
+    }
+    fn called(&self) -> &'static str {
+        "windowed-sinc"
+    }
+    #[inline]
+    fn process(&self, r: &mut Reader, input: f64, delay: f64, sample: &mut f64) -> u8 {
+        let Table { taps, phases, values } = &self.table;
+        f64::sinc_process(
+            r.maximum,
+            r.margin,
+            &mut r.accepted,
+            &mut r.ring,
+            input,
+            delay,
+            values,
+            *taps,
+            *phases,
+            sample,
+        )
+    }
+    fn read(&self, source: &[f64], count: u64, position: f64, sample: &mut f64) -> u8 {
+        let Table { taps, phases, values } = &self.table;
+        f64::sinc_sample(values, *taps, *phases, source, count, position, sample)
+    }
+}
+
+/// The table rounded once to f32.
+pub struct WindowedSincF32 {
+    table: Table<f32>,
+}
+
+impl WindowedSincF32 {
+    /// As `WindowedSinc::new`.
+    pub fn new(taps: usize, phases: usize, cutoff: f64, beta: f64) -> Result<Self, Refusal> {
+        Ok(Self { table: Table::new(taps, phases, cutoff, beta)? })
+    }
+
+    /// As `WindowedSinc::for_max_rate`.
+    pub fn for_max_rate(taps: usize, phases: usize, max_rate: f64, passband: f64, beta: f64) -> Result<Self, Refusal> {
+        Ok(Self { table: Table::for_max_rate(taps, phases, max_rate, passband, beta)? })
+    }
+}
+
+impl DoorF32 for WindowedSincF32 {
+    fn taps(&self) -> usize {
+        self.table.taps
+    }
+    #[inline]
+    fn process(&self, r: &mut ReaderF32, input: f32, delay: f64, sample: &mut f32) -> u8 {
+        let Table { taps, phases, values } = &self.table;
+        f32::sinc_process(
+            r.maximum,
+            r.margin,
+            &mut r.accepted,
+            &mut r.ring,
+            input,
+            delay,
+            values,
+            *taps,
+            *phases,
+            sample,
+        )
+    }
+    fn read(&self, source: &[f32], count: u64, position: f64, sample: &mut f32) -> u8 {
+        let Table { taps, phases, values } = &self.table;
+        f32::sinc_sample(values, *taps, *phases, source, count, position, sample)
+    }
+}
