@@ -24,37 +24,36 @@ mod workloads {
 use std::hint::black_box;
 use std::time::Instant;
 
-/// A file of workloads/ each.
-const WORKLOADS: [fn() -> Workload; 25] = [
-    workloads::narrow::workload,
-    workloads::fused32::workload,
-    workloads::fused64::workload,
-    workloads::square_root::workload,
-    workloads::floor::workload,
-    workloads::elementary::sine,
-    workloads::elementary::cosine,
-    workloads::elementary::exp2,
-    workloads::modulation::engine,
-    workloads::modulation::engine_default,
-    workloads::readers::cubic,
-    workloads::readers::lagrange8,
-    workloads::readers::lagrange16,
-    workloads::readers::farrow8,
-    workloads::sinc::sinc32,
-    workloads::sinc::sinc96,
-    workloads::sinc::sinc_f32_32,
-    workloads::sinc::sinc_f32_80,
-    workloads::sinc::sinc_f32_96,
-    workloads::sinc::sinc_f32_128,
-    workloads::sinc::table_f32,
-    workloads::quality::draft,
-    workloads::quality::plain,
-    workloads::quality::blended,
-    workloads::quality::mixed,
+/// A file of workloads/ each, by name: making one may take seconds.
+const WORKLOADS: [(&str, fn() -> Workload); 25] = [
+    ("narrow", workloads::narrow::workload),
+    ("fused32", workloads::fused32::workload),
+    ("fused64", workloads::fused64::workload),
+    ("square_root", workloads::square_root::workload),
+    ("floor", workloads::floor::workload),
+    ("sine", workloads::elementary::sine),
+    ("cosine", workloads::elementary::cosine),
+    ("exp2", workloads::elementary::exp2),
+    ("engine", workloads::modulation::engine),
+    ("engine_default", workloads::modulation::engine_default),
+    ("cubic", workloads::readers::cubic),
+    ("lagrange8", workloads::readers::lagrange8),
+    ("lagrange16", workloads::readers::lagrange16),
+    ("farrow8", workloads::readers::farrow8),
+    ("sinc32", workloads::sinc::sinc32),
+    ("sinc96", workloads::sinc::sinc96),
+    ("sinc_f32_32", workloads::sinc::sinc_f32_32),
+    ("sinc_f32_80", workloads::sinc::sinc_f32_80),
+    ("sinc_f32_96", workloads::sinc::sinc_f32_96),
+    ("sinc_f32_128", workloads::sinc::sinc_f32_128),
+    ("table_f32", workloads::sinc::table_f32),
+    ("quality_draft", workloads::quality::draft),
+    ("quality_hq", workloads::quality::plain),
+    ("quality_hq_two_sets", workloads::quality::blended),
+    ("quality_mixed", workloads::quality::mixed),
 ];
 
 pub struct Workload {
-    pub name: &'static str,
     /// How many answers one pass gives.
     pub answers: usize,
     pub rust: Side,
@@ -78,7 +77,7 @@ pub fn one_by_one<A: Copy + 'static>(inputs: &[A], answer: impl Fn(A) -> u64 + '
 pub extern "C" fn main(_: i32, _: *const *const u8) -> i32 {
     let words: Vec<String> = std::env::args().skip(1).collect();
     match words.iter().map(String::as_str).collect::<Vec<_>>()[..] {
-        ["list"] => WORKLOADS.iter().for_each(|w| println!("{}", w().name)),
+        ["list"] => WORKLOADS.iter().for_each(|(name, _)| println!("{name}")),
         ["time", passes] => return time(passes.parse().expect("PASSES")),
         ["count", name, side, passes] => count(name, side, passes.parse().expect("PASSES")),
         _ => panic!("bench time PASSES | count NAME rust|port PASSES | list"),
@@ -89,8 +88,8 @@ pub extern "C" fn main(_: i32, _: *const *const u8) -> i32 {
 /// A line for each workload: its name, nanoseconds an answer for the Rust and for the port, and how many answers differ.
 fn time(passes: u32) -> i32 {
     let mut wrong = 0;
-    for workload in WORKLOADS {
-        let Workload { name, answers, mut rust, mut port } = workload();
+    for (name, workload) in WORKLOADS {
+        let Workload { answers, mut rust, mut port } = workload();
         let (mut theirs, mut ours) = (vec![0; answers], vec![1; answers]);
         let (mut best_rust, mut best_port) = (f64::MAX, f64::MAX);
         for _ in 0..passes {
@@ -113,7 +112,8 @@ fn seconds(side: &mut Side, answers: &mut [u64]) -> f64 {
 
 /// Passes of one side alone. The number of answers in a pass is printed.
 fn count(name: &str, side: &str, passes: u32) {
-    let found = WORKLOADS.iter().map(|w| w()).find(|w| w.name == name).expect("a workload");
+    let (_, workload) = WORKLOADS.iter().find(|(n, _)| *n == name).expect("a workload");
+    let found = workload();
     let mut pass = if side == "rust" { found.rust } else { found.port };
     let mut answers = vec![0; found.answers];
     for _ in 0..passes {

@@ -4,11 +4,10 @@
 use crate::random::Random;
 use crate::{one_by_one, Workload};
 
-fn workload(name: &'static str, range: f64, rust: fn(f64) -> f64, port: fn(f64) -> f64) -> Workload {
+fn workload(range: f64, rust: fn(f64) -> f64, port: fn(f64) -> f64) -> Workload {
     let mut random = Random::new(1);
     let inputs: Vec<f64> = (0..20000).map(|_| (random.unit() * 2.0 - 1.0) * range).collect();
     Workload {
-        name,
         answers: inputs.len(),
         rust: one_by_one(&inputs, move |x| near(rust(x))),
         port: one_by_one(&inputs, move |x| near(port(x))),
@@ -36,13 +35,13 @@ fn powf(x: f64) -> f64 {
 }
 
 pub fn sine() -> Workload {
-    workload("sine", 51.0, sin, boundary::sine)
+    workload(51.0, sin, boundary::sine)
 }
 
 pub fn cosine() -> Workload {
-    workload("cosine", 51.0, cos, boundary::cosine)
+    workload(51.0, cos, boundary::cosine)
 }
 
 pub fn exp2() -> Workload {
-    workload("exp2", 1.0, powf, boundary::exp2)
+    workload(1.0, powf, boundary::exp2)
 }

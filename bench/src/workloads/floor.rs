@@ -12,7 +12,6 @@ pub fn workload() -> Workload {
     let mut random = Random::new(1);
     let inputs: Vec<f64> = (0..20000).map(|_| random.unit() * 48000.0 - 100.0).collect();
     Workload {
-        name: "floor",
         answers: inputs.len(),
         rust: one_by_one(&inputs, |x| rust(x) as u64),
         port: one_by_one(&inputs, |x| boundary::floor(x) as u64),

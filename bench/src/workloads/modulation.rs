@@ -5,13 +5,12 @@ use crate::random::Random;
 use crate::Workload;
 use wow_dsp::modulation::{ModulationEngine, ModulationParams};
 
-fn workload(name: &'static str, inputs: Vec<ModulationParams>) -> Workload {
+fn workload(inputs: Vec<ModulationParams>) -> Workload {
     let settings = inputs.clone();
     let mut theirs = ModulationEngine::new(48000.0, 1);
     let mut ours = [0; 15];
     boundary::engine_new(48000.0, 1, &mut ours);
     Workload {
-        name,
         answers: inputs.len(),
         rust: Box::new(move |answers| {
             for (to, p) in answers.iter_mut().zip(&inputs) {
@@ -47,7 +46,7 @@ fn both(left: f64, right: f64) -> u64 {
 }
 
 pub fn engine_default() -> Workload {
-    workload("engine_default", vec![ModulationParams::default(); 20000])
+    workload(vec![ModulationParams::default(); 20000])
 }
 
 pub fn engine() -> Workload {
@@ -63,5 +62,5 @@ pub fn engine() -> Workload {
         drift_amount: near(0.5),
         stereo_amount: near(0.5),
     });
-    workload("engine", inputs.collect())
+    workload(inputs.collect())
 }

@@ -12,7 +12,6 @@ pub fn workload() -> Workload {
     let mut random = Random::new(1);
     let inputs: Vec<f64> = (0..20000).map(|_| random.unit() * 2.0 - 1.0).collect();
     Workload {
-        name: "narrow",
         answers: inputs.len(),
         rust: one_by_one(&inputs, |x| rust(x).to_bits() as u64),
         port: one_by_one(&inputs, |x| boundary::narrow(x).to_bits() as u64),

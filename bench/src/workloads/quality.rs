@@ -11,7 +11,7 @@ const MAX: f64 = 1.02;
 const MODES: [QualityMode; 4] = [QualityMode::Draft, QualityMode::Normal, QualityMode::Hq, QualityMode::Ultra];
 
 /// Calls ask for the qualities in turn. Two that are not the one opened with make a fade that never ends: each call starts it again.
-fn workload(name: &'static str, opened: u8, asked: &'static [u8], rate: f64, fade: u32) -> Workload {
+fn workload(opened: u8, asked: &'static [u8], rate: f64, fade: u32) -> Workload {
     let mut random = Random::new(1);
     let inputs: Vec<(f32, f64)> = (0..20000)
         .map(|i| ((random.unit() * 2.0 - 1.0) as f32, 200.0 + (i % 777) as f64 * 0.25 + random.unit() * 3.0))
@@ -32,7 +32,6 @@ fn workload(name: &'static str, opened: u8, asked: &'static [u8], rate: f64, fad
     };
     assert_eq!(ours.open(opened), 0);
     Workload {
-        name,
         answers: inputs.len(),
         rust: Box::new(move |answers| {
             for (i, (to, (input, delay))) in answers.iter_mut().zip(&inputs).enumerate() {
@@ -51,18 +50,18 @@ fn workload(name: &'static str, opened: u8, asked: &'static [u8], rate: f64, fad
 }
 
 pub fn draft() -> Workload {
-    workload("quality_draft", 0, &[0], 1.0, 960)
+    workload(0, &[0], 1.0, 960)
 }
 
 pub fn plain() -> Workload {
-    workload("quality_hq", 2, &[2], 1.0, 960)
+    workload(2, &[2], 1.0, 960)
 }
 
 pub fn blended() -> Workload {
-    workload("quality_hq_two_sets", 2, &[2], 1.004, 960)
+    workload(2, &[2], 1.004, 960)
 }
 
 /// From Hq to Normal and to Ultra in turn: every call is mixed.
 pub fn mixed() -> Workload {
-    workload("quality_mixed", 2, &[1, 3], 1.0, 960)
+    workload(2, &[1, 3], 1.0, 960)
 }

@@ -5,7 +5,7 @@ use crate::Workload;
 use boundary::Reader;
 use wow_dsp::{CubicFarrow, Farrow8, Kernel, Lagrange, VariableDelay};
 
-fn workload<K: Kernel + 'static>(name: &'static str, kernel: K, port: impl Fn(&mut Reader, f64, f64, &mut f64) -> u8 + 'static) -> Workload {
+fn workload<K: Kernel + 'static>(kernel: K, port: impl Fn(&mut Reader, f64, f64, &mut f64) -> u8 + 'static) -> Workload {
     let mut random = Random::new(1);
     let inputs: Vec<[f64; 2]> = (0..20000)
         .map(|i| [random.unit() * 2.0 - 1.0, 100.0 + (i % 777) as f64 * 0.25 + random.unit() * 3.0])
@@ -14,7 +14,6 @@ fn workload<K: Kernel + 'static>(name: &'static str, kernel: K, port: impl Fn(&m
     let mut theirs = VariableDelay::new(1000, 0, kernel);
     let mut ours = Reader { maximum: 1000, margin: 0, accepted: 0, ring: vec![0.0; 1024] };
     Workload {
-        name,
         answers: inputs.len(),
         rust: Box::new(move |answers| {
             for (to, [input, delay]) in answers.iter_mut().zip(&inputs) {
@@ -32,17 +31,17 @@ fn workload<K: Kernel + 'static>(name: &'static str, kernel: K, port: impl Fn(&m
 }
 
 pub fn cubic() -> Workload {
-    workload("cubic", CubicFarrow, |reader, input, delay, to| reader.cubic(input, delay, to))
+    workload(CubicFarrow, |reader, input, delay, to| reader.cubic(input, delay, to))
 }
 
 pub fn lagrange8() -> Workload {
-    workload("lagrange8", Lagrange::<8>, |reader, input, delay, to| reader.lagrange(input, delay, 8, to))
+    workload(Lagrange::<8>, |reader, input, delay, to| reader.lagrange(input, delay, 8, to))
 }
 
 pub fn lagrange16() -> Workload {
-    workload("lagrange16", Lagrange::<16>, |reader, input, delay, to| reader.lagrange(input, delay, 16, to))
+    workload(Lagrange::<16>, |reader, input, delay, to| reader.lagrange(input, delay, 16, to))
 }
 
 pub fn farrow8() -> Workload {
-    workload("farrow8", Farrow8, |reader, input, delay, to| reader.farrow8(input, delay, to))
+    workload(Farrow8, |reader, input, delay, to| reader.farrow8(input, delay, to))
 }

@@ -22,7 +22,6 @@ macro_rules! reader {
             assert_eq!(<$float>::build($taps, $phases, CUTOFF, BETA, &mut table), 0);
             let (samples, again, mut accepted) = (inputs(), inputs(), 0);
             Workload {
-                name: stringify!($name),
                 answers: samples.len(),
                 rust: Box::new(move |answers| {
                     for (to, (input, delay)) in answers.iter_mut().zip(&samples) {
@@ -61,7 +60,6 @@ pub fn table_f32() -> Workload {
         }
     };
     Workload {
-        name: "table_f32",
         answers: table.len(),
         rust: Box::new(move |answers| patterns(answers, &WindowedSincF32::for_max_rate(TAPS, PHASES, 1.02, 0.995, 14.0).table)),
         port: Box::new(move |answers| {

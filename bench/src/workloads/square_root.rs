@@ -12,7 +12,6 @@ pub fn workload() -> Workload {
     let mut random = Random::new(1);
     let inputs: Vec<f64> = (0..20000).map(|_| random.unit()).collect();
     Workload {
-        name: "square_root",
         answers: inputs.len(),
         rust: one_by_one(&inputs, |x| rust(x).to_bits()),
         port: one_by_one(&inputs, |x| boundary::square_root(x).to_bits()),
