@@ -4,7 +4,10 @@ use mathlib.Core.Bool.{Bool, true, false}
 use mathlib.Core.List.{List}
 use Prim.Native.Nat.{ℕ, zero, suc}
 use native.Mathlib.Omega.{arith}
+use borrow.Author.Tests.{leb-true}
 use lib.Ieee.{Float}
+use Rattle.quality_mode.specs.Quality.{codeOf}
+use Rattle.fugnadri_bank.specs.Codes.{modeOf, codeOk}
 use Rattle.fugnadri_bank.specs.declared.Called.{Called}
 use Rattle.fugnadri_bank.specs.Calls.{pickCalled, pickRing, unlessRefused}
 
@@ -27,3 +30,11 @@ kept (suc k) before after h = refl
 pub given : (n before after : ℕ) → n ≡ 0 → after ≡ unlessRefused n before after
 given zero before after h = refl
 given (suc k) before after h = absurd (omega arith)
+
+-- D1c. A quality that went in as a number comes out as the same number, so that a refused call leaves both numbers of the state.
+pub same-code : (c : ℕ) → codeOk c ≡ true → codeOf (modeOf c) ≡ c
+same-code zero h = refl
+same-code (suc zero) h = refl
+same-code (suc (suc zero)) h = refl
+same-code (suc (suc (suc zero))) h = refl
+same-code (suc (suc (suc (suc k)))) h = let l = leb-true (suc (suc (suc (suc k)))) 3 h in absurd (omega arith)
