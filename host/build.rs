@@ -1,8 +1,8 @@
-//! Finds the three static libraries: in the folder that FUGNADRI_LIB names (a whole path), or in ../target/staticlib.
+//! Finds the five static libraries: in the folder that FUGNADRI_LIB names (a whole path), or in ../target/staticlib.
 
 use std::{env, path::PathBuf, process::exit};
 
-const LIBRARIES: [&str; 3] = ["fugnadri_bank", "fugnadri_tables", "fugnadri"];
+const LIBRARIES: [&str; 5] = ["fugnadri_bank", "fugnadri_tables", "fugnadri_wander", "fugnadri_numbers", "fugnadri"];
 
 fn main() {
     println!("cargo:rerun-if-env-changed=FUGNADRI_LIB");

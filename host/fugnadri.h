@@ -1,7 +1,8 @@
 /* fugnadri.h: every function that Fugnadri's static libraries export, for C.
  *
- * Libraries (x86-64, System V calls): libfugnadri.a, libfugnadri_tables.a, libfugnadri_bank.a; `rt staticlib NAME` makes each. They want
- * `memset` and nothing else of a C library, allocate nothing, keep nothing between calls and may be called by any thread that owns what it lends.
+ * Libraries (x86-64, System V calls): libfugnadri.a, libfugnadri_wander.a, libfugnadri_numbers.a, libfugnadri_tables.a, libfugnadri_bank.a;
+ * `rt staticlib NAME` makes each. They want `memset` and nothing else of a C library, allocate nothing, keep nothing between calls and may be called by
+ * any thread that owns what it lends.
  *
  * Lent memory: a slice is a pointer to its first element and a length in elements. A pointer is never null (of an empty slice it may be any other
  * aligned address) and what is written through must not overlap anything else that is lent in the same call.
@@ -65,7 +66,7 @@ uint8_t fugnadri_lagrange_sample_bits(const double *source, size_t source_len, u
 uint8_t fugnadri_farrow8_sample(const double *source, size_t source_len, uint64_t count, double position, double *sample);
 uint8_t fugnadri_farrow8_sample_bits(const double *source, size_t source_len, uint64_t count, double position, uint64_t *sample);
 
-/* ---- libfugnadri.a: modulation -----------------------------------------------------------------------------------------------------------
+/* ---- libfugnadri_wander.a: modulation ----------------------------------------------------------------------------------------------------
  *
  * The engine's state is 15 words: the sample rate, the two phases, then six for each generator; a float is its pattern. Sample rate 8000 to
  * 768000. A refusal by 1 is for an argument or the kept sample rate, by 3 for any other word. */
@@ -89,6 +90,8 @@ uint8_t fugnadri_oscillator_delay(double phase, double rate_hz, double depth_cen
 uint8_t fugnadri_maximum_delay_excursion_samples(double max_depth_cents, double min_rate_hz, double sample_rate, double *result);
 uint8_t fugnadri_maximum_rate_delta(const double *depths_cents, size_t depths_cents_len, double *result);
 
+/* ---- libfugnadri_numbers.a: numbers -------------------------------------------------------------------------------------------------------- */
+
 /* Sine and cosine of a magnitude up to 256, 2^x of one up to 1: refused by 1 beyond, and at NaN. _value hands the value out, 0.0 where refused. */
 uint8_t fugnadri_sine(double x, double *result);
 double fugnadri_sine_value(double x);
@@ -97,7 +100,7 @@ double fugnadri_cosine_value(double x);
 uint8_t fugnadri_exp2(double x, double *result);
 double fugnadri_exp2_value(double x);
 
-/* ---- libfugnadri.a: numbers, for every argument, never refused ---------------------------------------------------------------------------- */
+/* What follows serves every argument, and refuses nothing. */
 
 /* To the nearest float, ties to even. */
 float fugnadri_narrow(double x);

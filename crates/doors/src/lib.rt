@@ -7,6 +7,8 @@ use answer::Answer;
 use answer::AnswerF32;
 use variable_delay::Opened;
 
+pub mod values; // the same for the elementary functions and the oscillators
+
 pub fn number(a: Answer) -> u8
     ensures { λ r. ⌜ r ≡ numberOf a ⌝ }
 {
