@@ -1,8 +1,8 @@
 //! Hostile calls of every export: any bits in every number, state, ring, table and length.
 //!
-//! `hostile SEED CALLS FROM LIMIT`: the calls number FROM on, each export in its turn. Nothing may crash, and none may take longer than LIMIT seconds of the
+//! `hostile SEED CALLS FROM LIMIT AGAIN`: the calls number FROM on, each export in its turn. Nothing may crash, and none may take longer than LIMIT seconds of the
 //! processor; after a refusal every byte that was lent is as it was, after an accepted call what it may not touch. A call's inputs come from the seed and its
-//! number alone, so a fault names both and can be met again. `hostile list` writes the exports' names.
+//! number alone, so a fault names both behind the command AGAIN. `hostile list` writes the exports' names.
 // The emulator that runs this on Arm cannot open what Rust's own `main` opens.
 #![no_main]
 
@@ -43,7 +43,8 @@ pub extern "C" fn main(_: i32, _: *const *const u8) -> i32 {
         text.parse().expect("a number")
     };
     let (seed, calls, from, limit) = (word(1), word(2), word(3), word(4));
-    watch::start(seed, exports.iter().map(|(name, _)| *name).collect(), limit);
+    let again = std::env::args().nth(5).unwrap_or_default();
+    watch::start(seed, exports.iter().map(|(name, _)| *name).collect(), limit, again);
     let memory = Memory::new(seed);
     let mut tally = Tally::new(exports.len());
     let (start, mut told) = (Instant::now(), Instant::now());

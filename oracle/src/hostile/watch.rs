@@ -14,6 +14,8 @@ static LIMIT: AtomicU64 = AtomicU64::new(0);
 static MET: AtomicU64 = AtomicU64::new(u64::MAX);
 static TICKS: AtomicU64 = AtomicU64::new(0);
 static NAMES: OnceLock<Vec<&'static str>> = OnceLock::new();
+/// The command by which the call is made again.
+static AGAIN: OnceLock<String> = OnceLock::new();
 
 // glibc's for x86-64
 #[repr(C)]
@@ -46,10 +48,10 @@ const CRASHES: [i32; 6] = [4, 5, 6, 7, 8, 11];
 const PROF: i32 = 2;
 const SIGPROF: i32 = 27;
 
-pub fn start(seed: u64, names: Vec<&'static str>, limit: u64) {
+pub fn start(seed: u64, names: Vec<&'static str>, limit: u64, again: String) {
     SEED.store(seed, Relaxed);
     LIMIT.store(limit, Relaxed);
-    let _ = NAMES.set(names);
+    let _ = (NAMES.set(names), AGAIN.set(again));
     // a stack of its own: a call that overruns the stack must be told too
     let stack = Stack { at: Box::leak(vec![0u8; 1 << 16].into_boxed_slice()).as_mut_ptr().cast(), flags: 0, size: 1 << 16 };
     let on = |signal: i32, handler| unsafe {
@@ -102,5 +104,6 @@ fn tell(what: &str) {
     let (seed, number) = (SEED.load(Relaxed), NUMBER.load(Relaxed));
     let names = NAMES.get().map_or(&[][..], |names| &names[..]);
     let name = names.get((number % names.len().max(1) as u64) as usize).unwrap_or(&"");
-    println!("FAULT in {name}: {what}\n  again: oracle/hostile --seed {seed} --from {number} --calls 1");
+    let again = AGAIN.get().map_or("", |again| &again[..]);
+    println!("FAULT in {name}: {what}\n  again: {again} --seed {seed} --from {number} --calls 1");
 }
