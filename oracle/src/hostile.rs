@@ -1,0 +1,65 @@
+//! Hostile calls of every export: any bits in every number, state, ring, table and length.
+//!
+//! `hostile SEED CALLS FROM LIMIT AGAIN`: the calls number FROM on, each export in its turn. Nothing may crash, and none may take longer than LIMIT seconds of the
+//! processor; after a refusal every byte that was lent is as it was, after an accepted call what it may not touch. A call's inputs come from the seed and its
+//! number alone, so a fault names both behind the command AGAIN. `hostile list` writes the exports' names.
+// The emulator that runs this on Arm cannot open what Rust's own `main` opens.
+#![no_main]
+
+mod random;
+mod hostile {
+    pub mod bank;
+    pub mod draw;
+    pub mod memory;
+    pub mod numbers;
+    pub mod outside;
+    pub mod readers;
+    pub mod tables;
+    pub mod tally;
+    pub mod turn;
+    pub mod wander;
+    pub mod watch;
+}
+
+use hostile::{bank, memory::Memory, numbers, outside, readers, tables, tally::Tally, turn::Turn, wander, watch};
+use std::time::{Duration, Instant};
+
+/// An export, and one hostile call of it, which gives the number that it answered: 0 for none, and where there is none.
+pub type Export = (&'static str, fn(&mut Turn) -> u8);
+
+fn exports() -> Vec<Export> {
+    [numbers::EXPORTS, outside::EXPORTS, wander::EXPORTS, readers::EXPORTS, tables::EXPORTS, bank::EXPORTS].concat()
+}
+
+#[no_mangle]
+pub extern "C" fn main(_: i32, _: *const *const u8) -> i32 {
+    let exports = exports();
+    if std::env::args().nth(1).as_deref() == Some("list") {
+        exports.iter().for_each(|(name, _)| println!("{name}"));
+        return 0;
+    }
+    let word = |n: usize| -> u64 {
+        let text = std::env::args().nth(n).expect("SEED CALLS FROM LIMIT");
+        text.parse().expect("a number")
+    };
+    let (seed, calls, from, limit) = (word(1), word(2), word(3), word(4));
+    let again = std::env::args().nth(5).unwrap_or_default();
+    watch::start(seed, exports.iter().map(|(name, _)| *name).collect(), limit, again);
+    let memory = Memory::new(seed);
+    let mut tally = Tally::new(exports.len());
+    let (start, mut told) = (Instant::now(), Instant::now());
+    for number in from..from + calls {
+        let place = (number % exports.len() as u64) as usize;
+        watch::at(number);
+        let answer = (exports[place].1)(&mut Turn::new(&memory, seed, number, number / exports.len() as u64));
+        tally.count(place, answer);
+        if number % 65536 == 0 && told.elapsed() >= Duration::from_secs(60) {
+            told = Instant::now();
+            eprintln!("{:.0} s: {} calls", start.elapsed().as_secs_f64(), number - from + 1);
+        }
+    }
+    watch::stop();
+    tally.report(&exports);
+    println!("no fault: seed {seed}, {calls} calls from {from} on, {:.1} s", start.elapsed().as_secs_f64());
+    tally.silent(&exports)
+}

@@ -1,0 +1,101 @@
+//! The bank, and the reader whose quality may change. The sets that it reads lie in memory that cannot be written.
+
+use super::{
+    memory::{Lent, SET, SETS},
+    readers::{left, Shape},
+    turn::Turn,
+};
+use crate::Export;
+use boundary::{self as b, QualityReader};
+use std::mem::ManuallyDrop;
+
+pub const EXPORTS: &[Export] = &[
+    ("fugnadri_bank_choose", choose),
+    ("fugnadri_bank_build_set", |t| build(t, 2.0, b::bank_build_set)),
+    // up to 1.02 a bank has one set
+    ("fugnadri_bank_build", |t| build(t, 1.02, b::bank_build)),
+    ("fugnadri_quality_open", |t| {
+        let quality = t.random.count(0, 3) as u8;
+        opened(t, |reader| reader.open(quality))
+    }),
+    ("fugnadri_quality_reset", |t| opened(t, |reader| reader.reset())),
+    ("fugnadri_quality_process", |t| process(t, false)),
+    ("fugnadri_quality_process_rate_aware", |t| process(t, true)),
+];
+
+fn choose(t: &mut Turn) -> u8 {
+    let (number, c) = b::bank_choose(t.random.ranged(1.0, 2.0), t.random.ranged(1.0, 2.0));
+    let zero = (c.safe, c.tighter, c.which, c.blend.to_bits()) == (0, 0, 0, 0);
+    t.hold(number <= 8 && (number == 0 || zero), "a refused choice is not zero");
+    number
+}
+
+/// A whole set takes long to build: the first call in 100,000 is lent one.
+fn build(t: &mut Turn, most: f64, call: fn(f64, &mut [f32]) -> u8) -> u8 {
+    let whole = t.index % 100_000 == 0;
+    let length = if whole { SET } else { t.random.pick(&[0, 1, 7, SET / 1000, 100]) };
+    let rate = if whole { 1.0 + t.random.unit() * (most - 1.0) } else { t.random.ranged(1.0, most) };
+    let set = t.memory.ring.lend(&mut t.random, t.memory.floats, length);
+    let number = call(rate, set.slice());
+    t.hold(number <= 8, "the answer is no refusal's number");
+    t.hold(if number == 0 { set.zone_kept() } else { set.kept() }, "a refused build has changed the set, or an accepted one what is beside it");
+    number
+}
+
+/// A state that is mostly an open reader's, over a ring that is lent.
+fn reader(t: &mut Turn) -> (ManuallyDrop<QualityReader>, Lent<f32>) {
+    let Shape { maximum, margin, accepted, length } = t.random.shape();
+    let ring = t.memory.ring.lend(&mut t.random, t.memory.floats, length);
+    let r = &mut t.random;
+    let crossfade_samples = if r.one_in(8) { r.count(0, 1 << 24) } else { r.word() % 8 } as u32;
+    let [current, target] = [r.count(0, 3) as u8, r.count(0, 3) as u8];
+    let below = crossfade_samples as u64 + (current == target) as u64;
+    let crossfade_position = if r.one_in(16) || below == 0 { r.whole() } else { r.word() % below } as u32;
+    let target = if below == 0 && !r.one_in(16) { current } else { target };
+    let ring_of = ring.vector();
+    let reader = QualityReader { maximum, margin, accepted, current, target, crossfade_position, crossfade_samples, ring: ring_of };
+    (ManuallyDrop::new(reader), ring)
+}
+
+/// Every number of the state.
+fn numbers(r: &QualityReader) -> (usize, usize, usize, u64, u8, u8, u32, u32) {
+    (r.maximum, r.margin, r.ring.len(), r.accepted, r.current, r.target, r.crossfade_position, r.crossfade_samples)
+}
+
+fn opened(t: &mut Turn, call: impl FnOnce(&mut QualityReader) -> u8) -> u8 {
+    let (mut reader, ring) = reader(t);
+    let before = numbers(&reader);
+    let number = call(&mut reader);
+    t.hold(number <= 8, "the answer is no refusal's number");
+    if number == 0 {
+        let zero = ring.slice().iter().all(|x| x.to_bits() == 0) && ring.zone_kept();
+        let one = reader.current == reader.target && reader.crossfade_position == reader.crossfade_samples;
+        t.hold(zero && one && reader.accepted == 0, "an accepted call leaves something else than zeros and one quality");
+    } else {
+        t.hold(ring.kept() && numbers(&reader) == before, "a refused call has changed the ring or the state");
+    }
+    number
+}
+
+fn process(t: &mut Turn, rate_aware: bool) -> u8 {
+    let (mut reader, ring) = reader(t);
+    let before = numbers(&reader);
+    let r = &mut t.random;
+    let max_rate = r.ranged(1.0, 1.0 + 0.02 * SETS as f64);
+    // 0.02 * SETS is a little more than so many steps
+    let right = b::bank_length(max_rate).min(SETS * SET + 1);
+    let sets = t.memory.sets.last::<f32>(r.length(right, SETS * SET + 1));
+    let input = if r.one_in(16) { r.float32() } else { r.sample() as f32 };
+    let (delay, quality) = (r.delay(ring.slice().len()), r.count(0, 3) as u8);
+    let rate = if r.one_in(16) { r.float() } else { r.ranged(1.0, max_rate) };
+    let number = t.value(|_, v| match rate_aware {
+        true => reader.process_rate_aware(sets, max_rate, input, delay, quality, rate, v),
+        false => reader.process(sets, max_rate, input, delay, quality, v),
+    });
+    let after = numbers(&reader);
+    t.hold((after.0, after.1, after.2, after.7) == (before.0, before.1, before.2, before.7), "something beside the state is written");
+    t.hold(number == 0 || after == before, "a refused call has changed the state");
+    t.hold(number != 0 || after.4 <= 3 && after.5 == quality, "an accepted call does not have the quality that it asked for as its target");
+    left(t, number, &ring, before.3, after.3, input);
+    number
+}

@@ -1,0 +1,92 @@
+//! The number functions: they refuse nothing. Where a pattern is handed out, a NaN is the one pattern.
+
+use super::turn::{Turn, Value};
+use crate::Export;
+use boundary as b;
+use std::hint::black_box;
+
+/// A function that hands out a float or a word.
+macro_rules! plain {
+    ($symbol:literal, $call:path, $($draw:ident),*) => {
+        ($symbol, |t: &mut Turn| {
+            let r = &mut t.random;
+            black_box($call($(r.$draw() as _),*));
+            0
+        })
+    };
+}
+
+/// One that takes and hands out patterns.
+macro_rules! bits {
+    ($symbol:literal, $call:path, $($draw:ident),*) => {
+        ($symbol, |t: &mut Turn| {
+            let r = &mut t.random;
+            let bits = $call($(r.$draw().to_bits()),*);
+            t.hold(!bits.odd(), "a NaN is handed out as another pattern");
+            0
+        })
+    };
+}
+
+pub const EXPORTS: &[Export] = &[
+    plain!("fugnadri_narrow", b::narrow, float),
+    bits!("fugnadri_narrow_bits", b::narrow_bits, float),
+    plain!("fugnadri_fused32", b::fused32, float32, float32, float32),
+    bits!("fugnadri_fused32_bits", b::fused32_bits, float32, float32, float32),
+    plain!("fugnadri_fused64", b::fused64, float, float, float),
+    bits!("fugnadri_fused64_bits", b::fused64_bits, float, float, float),
+    plain!("fugnadri_square_root", b::square_root, float),
+    bits!("fugnadri_square_root_bits", b::square_root_bits, float),
+    plain!("fugnadri_floor", b::floor, float),
+    plain!("fugnadri_fraction", b::fraction, float),
+    bits!("fugnadri_fraction_bits", b::fraction_bits, float),
+    plain!("fugnadri_max", b::max, float, float),
+    plain!("fugnadri_min", b::min, float, float),
+    plain!("fugnadri_min_f32", b::min_f32, float32, float32),
+    plain!("fugnadri_clamp", b::clamp, float, float, float),
+    plain!("fugnadri_clamp_f32", b::clamp_f32, float32, float32, float32),
+    plain!("fugnadri_wrapping_mul", b::wrapping_mul, whole, whole),
+    plain!("fugnadri_shl", b::shl, whole, whole),
+    ("fugnadri_bits_of", |t| {
+        let bits = b::bits_of(t.random.float());
+        t.hold(!bits.odd(), "a NaN is handed out as another pattern");
+        0
+    }),
+    ("fugnadri_bits_of_f32", |t| {
+        let bits = b::bits_of_f32(t.random.float32());
+        t.hold(!bits.odd(), "a NaN is handed out as another pattern");
+        0
+    }),
+    ("fugnadri_float_of", |t| {
+        black_box(b::float_of(t.random.float().to_bits()));
+        0
+    }),
+    ("fugnadri_float_of_f32", |t| {
+        black_box(b::float_of_f32(t.random.float32().to_bits()));
+        0
+    }),
+    ("fugnadri_sine_value", |t| {
+        black_box(b::sine(t.random.ranged(-256.0, 256.0)));
+        0
+    }),
+    ("fugnadri_cosine_value", |t| {
+        black_box(b::cosine(t.random.ranged(-256.0, 256.0)));
+        0
+    }),
+    ("fugnadri_exp2_value", |t| {
+        black_box(b::exp2(t.random.ranged(-1.0, 1.0)));
+        0
+    }),
+    ("fugnadri_bank_length", |t| {
+        black_box(b::bank_length(t.random.ranged(1.0, 2.0)));
+        0
+    }),
+    ("fugnadri_bank_steps", |t| {
+        black_box(b::bank_steps(t.random.ranged(1.0, 2.0)));
+        0
+    }),
+    ("fugnadri_bank_set_rate", |t| {
+        black_box(b::bank_set_rate(t.random.ranged(1.0, 2.0), t.random.count(0, 50) as usize));
+        0
+    }),
+];

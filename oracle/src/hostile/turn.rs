@@ -1,0 +1,99 @@
+//! One call: its generator, and what it is held to.
+
+use super::{memory::Memory, watch};
+use crate::random::Random;
+
+pub struct Turn<'a> {
+    pub random: Random,
+    /// How often this export was called before.
+    pub index: u64,
+    pub memory: &'a Memory,
+}
+
+impl<'a> Turn<'a> {
+    pub fn new(memory: &'a Memory, seed: u64, number: u64, index: u64) -> Self {
+        // splitmix64: neighbouring calls have nothing in common
+        let mut x = seed.wrapping_add(number.wrapping_mul(0x9E37_79B9_7F4A_7C15));
+        x = (x ^ x >> 30).wrapping_mul(0xBF58_476D_1CE4_E5B9);
+        x = (x ^ x >> 27).wrapping_mul(0x94D0_49BB_1331_11EB);
+        Turn { random: Random::new(x ^ x >> 31), index, memory }
+    }
+
+    #[inline]
+    pub fn hold(&self, same: bool, what: &str) {
+        if !same {
+            watch::fault(what)
+        }
+    }
+
+    /// A call that answers a number through its result and a value through its last argument: the value is 0.0 where it is refused, and nothing beside it
+    /// is written.
+    #[inline]
+    pub fn value<T: Value>(&mut self, call: impl FnOnce(&mut Self, &mut T) -> u8) -> u8 {
+        let word = self.random.word();
+        let mut around = [T::of(word), T::of(!word), T::of(word)];
+        let [low, value, high] = &mut around;
+        let number = call(self, value);
+        self.hold(number <= 8, "the answer is no refusal's number");
+        self.hold(low.bits() == T::of(word).bits() && high.bits() == T::of(word).bits(), "something beside the value is written");
+        self.hold(number == 0 || value.bits() == 0, "a refused call's value is not 0.0");
+        self.hold(!value.odd(), "a NaN is handed out as another pattern");
+        number
+    }
+}
+
+/// What is handed out through a pointer: a float, or a pattern.
+pub trait Value: Copy {
+    fn of(word: u64) -> Self;
+    fn bits(self) -> u64;
+    /// A pattern of a NaN other than the one that is handed out.
+    fn odd(self) -> bool;
+}
+
+impl Value for f64 {
+    fn of(word: u64) -> Self {
+        f64::from_bits(word)
+    }
+    fn bits(self) -> u64 {
+        self.to_bits()
+    }
+    fn odd(self) -> bool {
+        false
+    }
+}
+
+impl Value for f32 {
+    fn of(word: u64) -> Self {
+        f32::from_bits(word as u32)
+    }
+    fn bits(self) -> u64 {
+        self.to_bits().into()
+    }
+    fn odd(self) -> bool {
+        false
+    }
+}
+
+impl Value for u64 {
+    fn of(word: u64) -> Self {
+        word
+    }
+    fn bits(self) -> u64 {
+        self
+    }
+    fn odd(self) -> bool {
+        f64::from_bits(self).is_nan() && self != 0x7FF8_0000_0000_0000
+    }
+}
+
+impl Value for u32 {
+    fn of(word: u64) -> Self {
+        word as u32
+    }
+    fn bits(self) -> u64 {
+        self.into()
+    }
+    fn odd(self) -> bool {
+        f32::from_bits(self).is_nan() && self != 0x7FC0_0000
+    }
+}
