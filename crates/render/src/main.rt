@@ -1,10 +1,10 @@
 // The program `render` (X2): binary32 samples, low byte first, from standard input are read by a WindowedSincF32 at a wandering delay, and each is answered by a sample on
-// standard output. What is written is proved in the crate render_samples.
+// standard output. What is written is proved in the crates render_start, render_samples and render_blocks.
 use libc::STDERR_FILENO;
 use libc::STDIN_FILENO;
 use libc::STDOUT_FILENO;
-use render_samples::Opened;
 use render_samples::Rendering;
+use render_start::Opened;
 
 // 2048 samples, so that only the last block has a trailing part.
 const BLOCK: usize = 8192;
@@ -33,7 +33,7 @@ fn goes_on(n: usize, written: bool, spare: &mut [u8]) -> bool {
 fn block<'a>(state: Rendering, ring: &mut [f32], table: &'a [f32]) -> Turn {
     let mut samples = [0u8; BLOCK];
     let n = io::read_full(STDIN_FILENO, &mut samples);
-    let r = render_samples::render_block(state, ring, table, &mut samples[..n]);
+    let r = render_blocks::render_block(state, ring, table, &mut samples[..n]);
     let m = r.length;
     let written = io::write_all(STDOUT_FILENO, &samples[..m]);
     let after = r.state;
@@ -59,7 +59,7 @@ fn run<'a>(start: Rendering, ring: &mut [f32], table: &'a [f32]) {
 fn main() {
     let mut ring = [0.0f32; 1024];
     let mut table = [0.0f32; 2080];
-    let Opened::Started(start) = render_samples::open(&mut ring, &mut table) else {
+    let Opened::Started(start) = render_start::open(&mut ring, &mut table) else {
         return;
     };
     run(start, &mut ring, &table);

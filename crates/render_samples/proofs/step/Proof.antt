@@ -22,8 +22,8 @@ delay-of-requires c κs = search needs
 process-sample-requires : tie.Need-process-sample-requires
 process-sample-requires c κs = search needs
 
-value-of-requires : tie.Need-value-of-requires
-value-of-requires c κs = search needs
+value-f32-requires : tie.Need-value-f32-requires
+value-f32-requires c κs = search needs
 
 bits-of-f32-requires : tie.Need-bits-of-f32-requires
 bits-of-f32-requires c κs = search needs
@@ -43,7 +43,7 @@ returns c =
     (called .before .delay-of .ensures)
     (called .process-sample .ensures .0)
     (called .process-sample .ensures .1)
-    (c .before .value-of .ensures)
+    (c .before .value-f32 .ensures)
     (c .bits-of-f32 .ensures)
 
 pub step-spec : {M : Type 1} → statement M
@@ -55,7 +55,7 @@ step-spec =
     float-of-f32-requires
     delay-of-requires
     process-sample-requires
-    value-of-requires
+    value-f32-requires
     bits-of-f32-requires
     same-length
     returns)

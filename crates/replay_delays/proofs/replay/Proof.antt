@@ -5,18 +5,6 @@ use lib.Seq.{length-take-le}
 use Rattle.replay_delays.proofs.replay.Statement.{statement}
 use Rattle.replay_delays.proofs.replay.Tie as tie
 
-first-requires : tie.Need-first-requires
-first-requires c κs = search needs
-
-word-at-requires : tie.Need-word-at-requires
-word-at-requires c κs = search needs
-
-word-at-requires-2 : tie.Need-word-at-requires-2
-word-at-requires-2 c κs = search needs
-
-word-at-requires-3 : tie.Need-word-at-requires-3
-word-at-requires-3 c κs = search needs
-
 part-requires : tie.Need-part-requires
 part-requires c κs = search needs
 
@@ -39,10 +27,6 @@ pub replay-spec : {M : Type 1} → statement M
 replay-spec =
     tie.close
     (tie.spec
-    first-requires
-    word-at-requires
-    word-at-requires-2
-    word-at-requires-3
     part-requires
     slice-relend-prefix-call
     slice-aggregate-call

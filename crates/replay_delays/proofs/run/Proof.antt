@@ -6,16 +6,25 @@ use Rattle.replay_delays.proofs.run.Statement.{statement}
 use Rattle.replay_delays.proofs.run.Tie as tie
 
 abbrev Inv-loop : tie.InvT-loop
-Inv-loop ring₀ reader₀ more₀ turns₀ ring reader more turns = length ring ≡ length ring₀
+Inv-loop ring₀ reader₀ heard₀ more₀ turns₀ ring reader heard more turns = length ring ≡ length ring₀
 
 abbrev μ-loop : tie.MeasureT-loop
-μ-loop ring₀ reader₀ more₀ turns₀ ring reader more turns = turns
+μ-loop ring₀ reader₀ heard₀ more₀ turns₀ ring reader heard more turns = turns
+
+hear-requires : tie.Need-hear-requires Inv-loop μ-loop
+hear-requires c κs = search needs
 
 loop-holds : tie.Need-loop-holds Inv-loop μ-loop
 loop-holds c = search needs
 
-some-requires : tie.Need-some-requires Inv-loop μ-loop
-some-requires c κs = search needs
+replay-requires : tie.Need-replay-requires Inv-loop μ-loop
+replay-requires c κs = search needs
+
+say-requires : tie.Need-say-requires Inv-loop μ-loop
+say-requires c κs = search needs
+
+hear-requires-2 : tie.Need-hear-requires-2 Inv-loop μ-loop
+hear-requires-2 c κs = search needs
 
 sub-turns : tie.Need-sub-turns Inv-loop μ-loop
 sub-turns c = search needs
@@ -44,8 +53,11 @@ run-spec =
     (tie.spec
     Inv-loop
     μ-loop
+    hear-requires
     loop-holds
-    some-requires
+    replay-requires
+    say-requires
+    hear-requires-2
     sub-turns
     loop-less
     loop-again

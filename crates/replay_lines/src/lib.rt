@@ -1,0 +1,41 @@
+// O5. What the programs that replay a stored list share: a line, which is a letter, a mark beside it and three words of sixteen hex digits with a blank before each; the word
+// for a refusal; how much of a room is lent.
+ghost use mathlib.Core.Path.{_≡_};
+ghost use Prim.Native.Nat.{_+_, _≤_, min};
+ghost use Rattle.replay_lines.specs.Lines.{lineOf};
+use word_bytes::word_at;
+
+pub struct Line {
+    pub letter: u8,
+    pub mark: u8,
+    pub a: u64,
+    pub b: u64,
+    pub c: u64,
+}
+
+pub fn line_of(text: &[u8; 53]) -> Line
+    ensures { λ r. ⌜ r ≡ lineOf (now (text .entry)) ⌝ }
+{
+    Line {
+        letter: text[0],
+        mark: text[1],
+        a: word_at(text, 2),
+        b: word_at(text, 19),
+        c: word_at(text, 36),
+    }
+}
+
+// A refusal is no answer of the original's, nor looks like one.
+pub fn refused(no: u8) -> u64
+    ensures { λ r. ⌜ r ≡ 18446744073709551360 + no ⌝ }
+{
+    0xffff_ffff_ffff_ff00 + no as u64
+}
+
+// So much of a room as is needed, and no more than there is.
+pub fn within(need: usize, room: usize) -> usize
+    ensures { λ r. ⌜ r ≡ min need room ⌝ }
+    ensures { λ r. ⌜ r ≤ room ⌝ }
+{
+    if need < room { need } else { room }
+}
