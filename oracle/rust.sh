@@ -71,6 +71,12 @@ build_boundary_crate() { # FOLDER of the static libraries
     build rlib boundary "$root/oracle/src/boundary.rs" -L "native=$1" $(doors | sed 's/^/-l static=/')
 }
 
+# host/'s crate as the crate `host`, with what the comparison looks at (host/src/compare.rs).
+build_host() {
+    # shellcheck disable=SC2046
+    build rlib host "$root/host/src/lib.rs" --cfg compare -L "native=$root/target/staticlib" $(doors | sed 's/^/-l static=/')
+}
+
 # The original, in release mode, from a copy below target/ with the edits that docs/ORACLE.md lists: as the crate `wow_dsp`.
 build_original() {
     copy=$out/original

@@ -15,6 +15,8 @@
 #[allow(dead_code, unused_imports, clippy::too_many_arguments)]
 #[path = "../../oracle/src/boundary.rs"]
 mod boundary;
+#[cfg(compare)]
+pub mod compare;
 mod doors;
 mod kernels;
 pub mod lenient;

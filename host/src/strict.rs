@@ -6,7 +6,7 @@ mod fading;
 pub mod modulation;
 mod quality;
 mod sinc;
-mod table;
+pub(crate) mod table;
 
 pub use crate::{
     kernels::{CubicFarrow, Farrow8, Lagrange},

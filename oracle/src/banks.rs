@@ -1,13 +1,15 @@
-//! Banks of the original and of the port, built once and held for the whole run.
+//! Banks of the original and of host/, in both ways, built once and held for the whole run.
 
+use host::{lenient, strict};
 use std::sync::{Arc, OnceLock};
 use wow_dsp::SincBankF32;
 
 pub struct Bank {
     pub max_rate: f64,
     pub rust: Arc<SincBankF32>,
-    /// The port's sets, one behind the other.
-    pub sets: Vec<f32>,
+    pub strict: Arc<strict::SincBankF32>,
+    /// None for the large one: it would be the same floats again.
+    pub lenient: Option<Arc<lenient::SincBankF32>>,
 }
 
 /// Rates whose banks are small; 1.02 is a little above 1.02 in f64, so it has two sets.
@@ -19,8 +21,15 @@ pub fn bank(max_rate: f64) -> &'static Bank {
     let place = SMALL.iter().position(|r| *r == max_rate).unwrap_or(3);
     BANKS[place].get_or_init(|| {
         let rust = Arc::new(SincBankF32::for_max_rate(max_rate));
-        let mut sets = vec![f32::NAN; boundary::bank_length(max_rate)];
-        assert_eq!(boundary::bank_build(max_rate, &mut sets), 0, "the bank of {max_rate} is refused");
-        Bank { max_rate, rust, sets }
+        let strict = Arc::new(strict::SincBankF32::for_max_rate(max_rate).expect("a rate in range"));
+        let lenient = (max_rate != LARGE).then(|| Arc::new(lenient::SincBankF32::for_max_rate(max_rate)));
+        Bank { max_rate, rust, strict, lenient }
     })
+}
+
+impl Bank {
+    /// The port's sets, one behind the other.
+    pub fn sets(&self) -> &[f32] {
+        self.strict.sets()
+    }
 }

@@ -51,7 +51,11 @@ impl Context {
             println!("{name:<18} {:<38} {:>12} {told:>12}", c.kind, c.compared);
             last = c.subject;
         }
-        let total: u64 = self.counts.iter().map(|c| c.compared).sum();
-        println!("{:<18} {:<38} {:>12}", "", "", total);
+        println!("{:<18} {:<38} {:>12}", "", "", self.compared());
+    }
+
+    /// How much was compared so far.
+    pub fn compared(&self) -> u64 {
+        self.counts.iter().map(|c| c.compared).sum()
     }
 }

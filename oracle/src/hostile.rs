@@ -22,6 +22,7 @@ mod hostile {
 }
 
 use hostile::{bank, memory::Memory, numbers, outside, readers, tables, tally::Tally, turn::Turn, wander, watch};
+use std::sync::atomic::Ordering::Relaxed;
 use std::time::{Duration, Instant};
 
 /// An export, and one hostile call of it, which gives the number that it answered: 0 for none, and where there is none.
@@ -47,11 +48,14 @@ pub extern "C" fn main(_: i32, _: *const *const u8) -> i32 {
     watch::start(seed, exports.iter().map(|(name, _)| *name).collect(), limit, again);
     let memory = Memory::new(seed);
     let mut tally = Tally::new(exports.len());
-    let (start, mut told) = (Instant::now(), Instant::now());
+    let (start, mut told, mut sum) = (Instant::now(), Instant::now(), 0u64);
     for number in from..from + calls {
         let place = (number % exports.len() as u64) as usize;
         watch::at(number);
-        let answer = (exports[place].1)(&mut Turn::new(&memory, seed, number, number / exports.len() as u64));
+        let mut turn = Turn::new(&memory, seed, number, number / exports.len() as u64);
+        let answer = (exports[place].1)(&mut turn);
+        turn.saw(answer);
+        sum = sum.wrapping_add(turn.sum);
         tally.count(place, answer);
         if number % 65536 == 0 && told.elapsed() >= Duration::from_secs(60) {
             told = Instant::now();
@@ -60,6 +64,7 @@ pub extern "C" fn main(_: i32, _: *const *const u8) -> i32 {
     }
     watch::stop();
     tally.report(&exports);
-    println!("no fault: seed {seed}, {calls} calls from {from} on, {:.1} s", start.elapsed().as_secs_f64());
+    println!("after {} refused calls of the engine a NaN that had another pattern is 7FF8000000000000", wander::ONE_PATTERN.load(Relaxed));
+    println!("no fault: seed {seed}, {calls} calls from {from} on, sum of all answers {sum:016X}, {:.1} s", start.elapsed().as_secs_f64());
     tally.silent(&exports)
 }

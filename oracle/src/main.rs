@@ -9,7 +9,9 @@
 mod banks;
 mod context;
 mod delays;
+mod engines;
 mod format;
+mod hosts;
 mod inputs;
 mod kernels;
 mod pair;
@@ -70,11 +72,16 @@ pub extern "C" fn main(_: i32, _: *const *const u8) -> i32 {
         _ => start.elapsed() >= Duration::from_secs(seconds),
     };
     let mut context = Context::new(seed);
+    let mut told = Instant::now();
     while context.round == 0 || !over(context.round) {
         for subject in SUBJECTS {
             subject(&mut context);
         }
         context.round += 1;
+        if told.elapsed() >= Duration::from_secs(60) {
+            told = Instant::now();
+            eprintln!("{:.0} s: {} rounds, {} compared, no difference", start.elapsed().as_secs_f64(), context.round, context.compared());
+        }
     }
     context.report();
     println!("no difference: seed {seed}, {} rounds, {:.1} s", context.round, start.elapsed().as_secs_f64());

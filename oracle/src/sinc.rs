@@ -1,7 +1,10 @@
-//! The original's windowed sinc in both widths, each beside the port's exports of it.
+//! The original's windowed sinc in both widths, each beside the types of host/ and the port's exports of it.
 
+use crate::hosts::{caught, panicked, refused, Hosted, Own};
+use crate::random::Random;
 use crate::shape::{bits32, bits64};
 use boundary::Width;
+use host::{lenient, strict};
 use wow_dsp::{
     SampleSource, SampleSourceF32, VariableDelay, VariableDelayF32, WindowedSinc, WindowedSincF32,
 };
@@ -18,7 +21,25 @@ pub trait Sinc: Width {
     /// The original's kernel over a plain slice, with a table that may hold anything.
     fn at(table: &[Self], taps: usize, phases: usize, source: &[Self], position: f64) -> Self;
     fn reader(maximum: usize, margin: usize, table: &[Self], taps: usize, phases: usize) -> Self::Reader;
+    /// By host/, one of its two ways: a table, or the number by which it is refused.
+    fn host_table(way: Way, taps: usize, phases: usize, cutoff: f64, beta: f64) -> Result<Vec<Self>, u8>;
+    fn host_table_for_max_rate(way: Way, taps: usize, phases: usize, max_rate: f64, passband: f64, beta: f64) -> Result<Vec<Self>, u8>;
+    fn host_at(way: Way, table: &[Self], taps: usize, phases: usize, source: &[Self], position: f64) -> (u8, Self);
+    fn host_reader(way: Way, maximum: usize, margin: usize, table: &[Self], taps: usize, phases: usize) -> Box<dyn Hosted<Self>>;
 }
+
+#[derive(Clone, Copy, Debug)]
+pub enum Way {
+    Strict,
+    Lenient,
+}
+
+impl Way {
+    pub fn any(random: &mut Random) -> Way {
+        random.pick(&[Way::Strict, Way::Lenient])
+    }
+}
+
 
 pub trait OriginalSinc<T> {
     fn process(&mut self, input: T, delay: f64) -> T;
@@ -42,7 +63,7 @@ impl SampleSourceF32 for Slice<'_, f32> {
 }
 
 macro_rules! original {
-    ($float:ty, $reader:ident, $kernel:ident, $trait:ident, $sample:ident, $bits:path, $name:literal, { $($cutoff:ident)? }) => {
+    ($float:ty, $reader:ident, $kernel:ident, $trait:ident, $sample:ident, $slice:path, $bits:path, $name:literal, { $($cutoff:ident)? }) => {
         impl OriginalSinc<$float> for $reader<$kernel> {
             fn process(&mut self, input: $float, delay: f64) -> $float {
                 self.process_sample(input, delay)
@@ -84,9 +105,34 @@ macro_rules! original {
             fn reader(maximum: usize, margin: usize, table: &[Self], taps: usize, phases: usize) -> Self::Reader {
                 $reader::new(maximum, margin, $kernel { taps, phases, table: table.to_vec(), $($cutoff: 1.0)? })
             }
+            fn host_table(way: Way, taps: usize, phases: usize, cutoff: f64, beta: f64) -> Result<Vec<Self>, u8> {
+                match way {
+                    Way::Strict => strict::$kernel::new(taps, phases, cutoff, beta).map(|k| k.values().to_vec()).map_err(|r| r.number()),
+                    Way::Lenient => panicked(|| lenient::$kernel::new(taps, phases, cutoff, beta)).map(|k| k.values().to_vec()),
+                }
+            }
+            fn host_table_for_max_rate(way: Way, taps: usize, phases: usize, max_rate: f64, passband: f64, beta: f64) -> Result<Vec<Self>, u8> {
+                match way {
+                    Way::Strict => strict::$kernel::for_max_rate(taps, phases, max_rate, passband, beta).map(|k| k.values().to_vec()).map_err(|r| r.number()),
+                    Way::Lenient => panicked(|| lenient::$kernel::for_max_rate(taps, phases, max_rate, passband, beta)).map(|k| k.values().to_vec()),
+                }
+            }
+            fn host_at(way: Way, table: &[Self], taps: usize, phases: usize, source: &[Self], position: f64) -> (u8, Self) {
+                match way {
+                    Way::Strict => refused(strict::$trait::$sample(&strict::$kernel::of(taps, phases, table.to_vec()), &$slice(source), position)),
+                    Way::Lenient => caught(|| lenient::$trait::$sample(&lenient::$kernel::of(taps, phases, table.to_vec()), &Own(source), position)),
+                }
+            }
+            fn host_reader(way: Way, maximum: usize, margin: usize, table: &[Self], taps: usize, phases: usize) -> Box<dyn Hosted<Self>> {
+                let values = table.to_vec();
+                match way {
+                    Way::Strict => Box::new(strict::$reader::new(maximum, margin, strict::$kernel::of(taps, phases, values)).expect("settings in range")),
+                    Way::Lenient => Box::new(lenient::$reader::new(maximum, margin, lenient::$kernel::of(taps, phases, values))),
+                }
+            }
         }
     };
 }
 
-original!(f64, VariableDelay, WindowedSinc, Kernel, sample, bits64, "sinc f64", { cutoff });
-original!(f32, VariableDelayF32, WindowedSincF32, KernelF32, sample_f32, bits32, "sinc f32", {});
+original!(f64, VariableDelay, WindowedSinc, Kernel, sample, host::SliceSource, bits64, "sinc f64", { cutoff });
+original!(f32, VariableDelayF32, WindowedSincF32, KernelF32, sample_f32, Own, bits32, "sinc f32", {});

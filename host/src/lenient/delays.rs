@@ -7,7 +7,7 @@ use crate::{
 };
 
 /// Circular-buffer variable-delay reader. Allocates only when it is made.
-pub struct VariableDelay<K>(strict::VariableDelay<K>);
+pub struct VariableDelay<K>(pub(crate) strict::VariableDelay<K>);
 
 impl<K: Door> VariableDelay<K> {
     #[track_caller]
@@ -28,7 +28,7 @@ impl<K: Door> VariableDelay<K> {
 }
 
 /// The same over f32; the position read stays f64.
-pub struct VariableDelayF32<K>(strict::VariableDelayF32<K>);
+pub struct VariableDelayF32<K>(pub(crate) strict::VariableDelayF32<K>);
 
 impl<K: DoorF32> VariableDelayF32<K> {
     #[track_caller]

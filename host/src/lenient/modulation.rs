@@ -6,7 +6,7 @@ use crate::strict::modulation as strict;
 pub use crate::params::{ModulationParams, StereoDelayOffset, MAX_SHAPE_PRIMITIVE};
 
 /// Two independent speed LFOs with seeded, rate-derived drift sources. Deterministic after reset; allocates nothing.
-pub struct ModulationEngine(strict::ModulationEngine);
+pub struct ModulationEngine(pub(crate) strict::ModulationEngine);
 
 impl ModulationEngine {
     #[track_caller]

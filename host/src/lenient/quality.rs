@@ -5,7 +5,7 @@ use crate::{quality_mode::QualityMode, strict};
 use std::sync::Arc;
 
 /// Prebuilt interpolation tables for allocation-free quality switching.
-pub struct SincBankF32(strict::SincBankF32);
+pub struct SincBankF32(pub(crate) strict::SincBankF32);
 
 impl SincBankF32 {
     #[track_caller]
@@ -16,7 +16,7 @@ impl SincBankF32 {
 
 /// Shared-table variable delay with click-free, allocation-free quality changes.
 pub struct QualityVariableDelayF32 {
-    reader: strict::Fading,
+    pub(crate) reader: strict::Fading,
     kernels: Arc<SincBankF32>,
 }
 

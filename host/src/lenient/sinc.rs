@@ -8,7 +8,7 @@ use crate::{
 };
 
 /// Dense phase-table, Kaiser-windowed sinc interpolator.
-pub struct WindowedSinc(strict::WindowedSinc);
+pub struct WindowedSinc(pub(crate) strict::WindowedSinc);
 
 impl WindowedSinc {
     #[track_caller]
@@ -49,7 +49,7 @@ impl Door for WindowedSinc {
 }
 
 /// The table rounded once to f32.
-pub struct WindowedSincF32(strict::WindowedSincF32);
+pub struct WindowedSincF32(pub(crate) strict::WindowedSincF32);
 
 impl WindowedSincF32 {
     #[track_caller]

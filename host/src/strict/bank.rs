@@ -7,7 +7,7 @@ use crate::{
 
 /// Prebuilt interpolation tables for allocation-free quality switching: 1081648 f32 for each set, a set for each 0.02 of rate above 1.
 pub struct SincBankF32 {
-    pub(super) sets: Vec<f32>,
+    pub(crate) sets: Vec<f32>,
     pub(super) max_rate: f64,
 }
 

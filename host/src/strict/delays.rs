@@ -8,7 +8,7 @@ use crate::{
 
 /// Circular-buffer variable-delay reader. Allocates only when it is made.
 pub struct VariableDelay<K> {
-    reader: Reader,
+    pub(crate) reader: Reader,
     kernel: K,
 }
 
@@ -38,7 +38,7 @@ impl<K: Door> VariableDelay<K> {
 
 /// The same over f32; the position read stays f64.
 pub struct VariableDelayF32<K> {
-    reader: ReaderF32,
+    pub(crate) reader: ReaderF32,
     kernel: K,
 }
 

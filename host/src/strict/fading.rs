@@ -4,7 +4,7 @@ use super::SincBankF32;
 use crate::{boundary::QualityReader, doors::ring_length, quality_mode::QualityMode, Refusal};
 
 /// A quality reader without its bank, which each of the two ways holds as its own type.
-pub(crate) struct Fading(QualityReader);
+pub(crate) struct Fading(pub(crate) QualityReader);
 
 impl Fading {
     pub fn new(maximum: usize, margin: usize, quality: QualityMode, crossfade_samples: u32) -> Result<Self, Refusal> {

@@ -6,7 +6,7 @@ pub use crate::params::{ModulationParams, StereoDelayOffset, MAX_SHAPE_PRIMITIVE
 
 /// Two independent speed LFOs with seeded, rate-derived drift sources. Deterministic after reset; allocates nothing.
 pub struct ModulationEngine {
-    words: [u64; 15],
+    pub(crate) words: [u64; 15],
 }
 
 impl ModulationEngine {

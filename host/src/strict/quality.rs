@@ -6,7 +6,7 @@ use std::sync::Arc;
 
 /// Shared-table variable delay with click-free, allocation-free quality changes.
 pub struct QualityVariableDelayF32 {
-    reader: Fading,
+    pub(crate) reader: Fading,
     kernels: Arc<SincBankF32>,
 }
 

@@ -9,8 +9,8 @@ use crate::{
 
 /// Dense phase-table, Kaiser-windowed sinc interpolator.
 pub struct WindowedSinc {
-    table: Table<f64>,
-    cutoff: f64,
+    pub(crate) table: Table<f64>,
+    pub(crate) cutoff: f64,
 }
 
 impl WindowedSinc {
@@ -66,7 +66,7 @@ impl Door for WindowedSinc {
 
 /// The table rounded once to f32.
 pub struct WindowedSincF32 {
-    table: Table<f32>,
+    pub(crate) table: Table<f32>,
 }
 
 impl WindowedSincF32 {

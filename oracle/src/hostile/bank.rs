@@ -3,6 +3,7 @@
 use super::{
     memory::{Lent, SET, SETS},
     readers::{left, Shape},
+    tables::built,
     turn::Turn,
 };
 use crate::Export;
@@ -27,6 +28,10 @@ fn choose(t: &mut Turn) -> u8 {
     let (number, c) = b::bank_choose(t.random.ranged(1.0, 2.0), t.random.ranged(1.0, 2.0));
     let zero = (c.safe, c.tighter, c.which, c.blend.to_bits()) == (0, 0, 0, 0);
     t.hold(number <= 8 && (number == 0 || zero), "a refused choice is not zero");
+    t.saw(c.safe);
+    t.saw(c.tighter);
+    t.saw(c.which);
+    t.saw(c.blend);
     number
 }
 
@@ -37,9 +42,7 @@ fn build(t: &mut Turn, most: f64, call: fn(f64, &mut [f32]) -> u8) -> u8 {
     let rate = if whole { 1.0 + t.random.unit() * (most - 1.0) } else { t.random.ranged(1.0, most) };
     let set = t.memory.ring.lend(&mut t.random, t.memory.floats, length);
     let number = call(rate, set.slice());
-    t.hold(number <= 8, "the answer is no refusal's number");
-    t.hold(if number == 0 { set.zone_kept() } else { set.kept() }, "a refused build has changed the set, or an accepted one what is beside it");
-    number
+    built(t, number, &set)
 }
 
 /// A state that is mostly an open reader's, over a ring that is lent.
@@ -97,5 +100,7 @@ fn process(t: &mut Turn, rate_aware: bool) -> u8 {
     t.hold(number == 0 || after == before, "a refused call has changed the state");
     t.hold(number != 0 || after.4 <= 3 && after.5 == quality, "an accepted call does not have the quality that it asked for as its target");
     left(t, number, &ring, before.3, after.3, input);
+    t.saw(reader.current);
+    t.saw(reader.crossfade_position);
     number
 }

@@ -3,14 +3,14 @@
 use super::turn::{Turn, Value};
 use crate::Export;
 use boundary as b;
-use std::hint::black_box;
 
 /// A function that hands out a float or a word.
 macro_rules! plain {
     ($symbol:literal, $call:path, $($draw:ident),*) => {
         ($symbol, |t: &mut Turn| {
             let r = &mut t.random;
-            black_box($call($(r.$draw() as _),*));
+            let answer = $call($(r.$draw() as _),*);
+            t.saw(answer);
             0
         })
     };
@@ -23,6 +23,7 @@ macro_rules! bits {
             let r = &mut t.random;
             let bits = $call($(r.$draw().to_bits()),*);
             t.hold(!bits.odd(), "a NaN is handed out as another pattern");
+            t.saw(bits);
             0
         })
     };
@@ -50,43 +51,53 @@ pub const EXPORTS: &[Export] = &[
     ("fugnadri_bits_of", |t| {
         let bits = b::bits_of(t.random.float());
         t.hold(!bits.odd(), "a NaN is handed out as another pattern");
+        t.saw(bits);
         0
     }),
     ("fugnadri_bits_of_f32", |t| {
         let bits = b::bits_of_f32(t.random.float32());
         t.hold(!bits.odd(), "a NaN is handed out as another pattern");
+        t.saw(bits);
         0
     }),
     ("fugnadri_float_of", |t| {
-        black_box(b::float_of(t.random.float().to_bits()));
+        let answer = b::float_of(t.random.float().to_bits());
+        t.saw(answer);
         0
     }),
     ("fugnadri_float_of_f32", |t| {
-        black_box(b::float_of_f32(t.random.float32().to_bits()));
+        let answer = b::float_of_f32(t.random.float32().to_bits());
+        t.saw(answer);
         0
     }),
     ("fugnadri_sine_value", |t| {
-        black_box(b::sine(t.random.ranged(-256.0, 256.0)));
+        let answer = b::sine(t.random.ranged(-256.0, 256.0));
+        t.saw(answer);
         0
     }),
     ("fugnadri_cosine_value", |t| {
-        black_box(b::cosine(t.random.ranged(-256.0, 256.0)));
+        let answer = b::cosine(t.random.ranged(-256.0, 256.0));
+        t.saw(answer);
         0
     }),
     ("fugnadri_exp2_value", |t| {
-        black_box(b::exp2(t.random.ranged(-1.0, 1.0)));
+        let answer = b::exp2(t.random.ranged(-1.0, 1.0));
+        t.saw(answer);
         0
     }),
     ("fugnadri_bank_length", |t| {
-        black_box(b::bank_length(t.random.ranged(1.0, 2.0)));
+        let answer = b::bank_length(t.random.ranged(1.0, 2.0));
+        t.saw(answer);
         0
     }),
     ("fugnadri_bank_steps", |t| {
-        black_box(b::bank_steps(t.random.ranged(1.0, 2.0)));
+        let answer = b::bank_steps(t.random.ranged(1.0, 2.0));
+        t.saw(answer);
         0
     }),
     ("fugnadri_bank_set_rate", |t| {
-        black_box(b::bank_set_rate(t.random.ranged(1.0, 2.0), t.random.count(0, 50) as usize));
+        let answer = b::bank_set_rate(t.random.ranged(1.0, 2.0), t.random.count(0, 50) as usize);
+        t.saw(answer);
         0
     }),
 ];

@@ -51,13 +51,16 @@ impl Random {
 }
 
 /// A refused build has written nothing; an accepted one nothing beside the table.
-fn built<T: Copy>(t: &Turn, number: u8, table: &Lent<T>) -> u8 {
+pub fn built<T: Value>(t: &mut Turn, number: u8, table: &Lent<T>) -> u8 {
     t.hold(number <= 8, "the answer is no refusal's number");
     t.hold(if number == 0 { table.zone_kept() } else { table.kept() }, "a refused build has changed the table, or an accepted one what is beside it");
+    if number == 0 {
+        table.slice().iter().for_each(|x| t.saw(*x));
+    }
     number
 }
 
-fn build<T: Width>(t: &mut Turn, pool: &'static [T]) -> u8 {
+fn build<T: Width + Value>(t: &mut Turn, pool: &'static [T]) -> u8 {
     let Settings { taps, phases, length } = t.random.settings(true);
     let table = t.memory.table.lend(&mut t.random, pool, length);
     let (cutoff, beta) = (t.random.ranged(0.0009765625, 1.0), t.random.ranged(0.0, 20.0));
@@ -65,7 +68,7 @@ fn build<T: Width>(t: &mut Turn, pool: &'static [T]) -> u8 {
     built(t, number, &table)
 }
 
-fn build_for_max_rate<T: Width>(t: &mut Turn, pool: &'static [T]) -> u8 {
+fn build_for_max_rate<T: Width + Value>(t: &mut Turn, pool: &'static [T]) -> u8 {
     let Settings { taps, phases, length } = t.random.settings(true);
     let table = t.memory.table.lend(&mut t.random, pool, length);
     let (rate, passband, beta) = (t.random.ranged(1.0, 2.0), t.random.ranged(0.0, 1.0), t.random.ranged(0.0, 20.0));

@@ -8,6 +8,8 @@ pub struct Turn<'a> {
     /// How often this export was called before.
     pub index: u64,
     pub memory: &'a Memory,
+    /// A sum over every answer.
+    pub sum: u64,
 }
 
 impl<'a> Turn<'a> {
@@ -16,7 +18,7 @@ impl<'a> Turn<'a> {
         let mut x = seed.wrapping_add(number.wrapping_mul(0x9E37_79B9_7F4A_7C15));
         x = (x ^ x >> 30).wrapping_mul(0xBF58_476D_1CE4_E5B9);
         x = (x ^ x >> 27).wrapping_mul(0x94D0_49BB_1331_11EB);
-        Turn { random: Random::new(x ^ x >> 31), index, memory }
+        Turn { random: Random::new(x ^ x >> 31), index, memory, sum: 0 }
     }
 
     #[inline]
@@ -24,6 +26,12 @@ impl<'a> Turn<'a> {
         if !same {
             watch::fault(what)
         }
+    }
+
+    /// Takes an answer into the sum; every NaN alike.
+    #[inline]
+    pub fn saw<T: Value>(&mut self, answer: T) {
+        self.sum = (self.sum.rotate_left(5) ^ answer.alike()).wrapping_mul(0x9E37_79B9_7F4A_7C15);
     }
 
     /// A call that answers a number through its result and a value through its last argument: the value is 0.0 where it is refused, and nothing beside it
@@ -38,6 +46,8 @@ impl<'a> Turn<'a> {
         self.hold(low.bits() == T::of(word).bits() && high.bits() == T::of(word).bits(), "something beside the value is written");
         self.hold(number == 0 || value.bits() == 0, "a refused call's value is not 0.0");
         self.hold(!value.odd(), "a NaN is handed out as another pattern");
+        let value = *value;
+        self.saw(value);
         number
     }
 }
@@ -47,7 +57,13 @@ pub trait Value: Copy {
     fn of(word: u64) -> Self;
     fn bits(self) -> u64;
     /// A pattern of a NaN other than the one that is handed out.
-    fn odd(self) -> bool;
+    fn odd(self) -> bool {
+        false
+    }
+    /// The bits, and the same for every NaN that is a float.
+    fn alike(self) -> u64 {
+        self.bits()
+    }
 }
 
 impl Value for f64 {
@@ -57,8 +73,12 @@ impl Value for f64 {
     fn bits(self) -> u64 {
         self.to_bits()
     }
-    fn odd(self) -> bool {
-        false
+    fn alike(self) -> u64 {
+        if self.is_nan() {
+            1
+        } else {
+            self.to_bits()
+        }
     }
 }
 
@@ -69,8 +89,12 @@ impl Value for f32 {
     fn bits(self) -> u64 {
         self.to_bits().into()
     }
-    fn odd(self) -> bool {
-        false
+    fn alike(self) -> u64 {
+        if self.is_nan() {
+            1
+        } else {
+            self.to_bits().into()
+        }
     }
 }
 
@@ -97,3 +121,19 @@ impl Value for u32 {
         f32::from_bits(self).is_nan() && self != 0x7FC0_0000
     }
 }
+
+/// A whole number, a place or a code, which hands out no pattern.
+macro_rules! whole {
+    ($($of:ty),*) => {
+        $(impl Value for $of {
+            fn of(word: u64) -> Self {
+                word as $of
+            }
+            fn bits(self) -> u64 {
+                self as u64
+            }
+        })*
+    };
+}
+
+whole!(i64, usize, u8);

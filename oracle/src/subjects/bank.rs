@@ -1,11 +1,13 @@
-//! T3 to T5. The bank: how many sets, each set's rate, every element of every set, and which sets a
-//! rate reads, beside 000's lines.
+//! T3 to T5. The bank: how many sets, each set's rate, every element of every set by both ways of
+//! host/, and which sets a rate reads, beside 000's lines.
 
 use crate::banks::{self, Bank};
 use crate::context::Context;
+use crate::hosts::panicked;
 use crate::random::Random;
 use crate::shape::{bits32, bits64};
 use boundary::Choice;
+use host::{lenient, strict};
 
 /// 163920 + 393312 + 524416.
 const SET: usize = 1_081_648;
@@ -18,10 +20,14 @@ fn stop(what: &str, rest: impl std::fmt::Debug) -> ! {
 /// Every set of a bank, and the lengths and rates; how many elements.
 fn elements(bank: &Bank) -> u64 {
     let (rust, max) = (&bank.rust, bank.max_rate);
-    if boundary::bank_steps(max) != rust.sets.len() || bank.sets.len() != SET * rust.sets.len() {
+    let whole = |sets: &[f32]| sets.len() == SET * rust.sets.len();
+    if boundary::bank_steps(max) != rust.sets.len() || !whole(bank.sets()) || bank.lenient.as_ref().is_some_and(|b| !whole(b.sets())) {
         stop("number of sets", (max, rust.sets.len(), boundary::bank_steps(max)));
     }
-    for (i, (theirs, ours)) in rust.sets.iter().zip(bank.sets.chunks(SET)).enumerate() {
+    let lenient = bank.lenient.as_ref().map_or(&[][..], |bank| bank.sets());
+    let ours = bank.sets().chunks(SET).chain(lenient.chunks(SET));
+    for (i, (theirs, ours)) in rust.sets.iter().cycle().zip(ours).enumerate() {
+        let i = i % rust.sets.len();
         if bits64(theirs.rate) != bits64(boundary::bank_set_rate(max, i)) {
             stop("rate of a set", (max, i, theirs.rate, boundary::bank_set_rate(max, i)));
         }
@@ -30,7 +36,7 @@ fn elements(bank: &Bank) -> u64 {
             stop("element of a set", (max, i, k, ours[k]));
         }
     }
-    bank.sets.len() as u64
+    (bank.sets().len() + lenient.len()) as u64
 }
 
 /// Set lengths and rates of banks that are not built: the sets' rates by 000's lines.
@@ -117,7 +123,14 @@ fn refused(context: &mut Context) {
             stop("another length", (length, numbers));
         }
     }
-    context.count("bank", "builds refused", 24, None);
+    for bad in [f64::NAN, 1.0f64.next_down(), 2.0f64.next_up(), f64::INFINITY, 0.0] {
+        let strict = strict::SincBankF32::for_max_rate(bad).err().map(|refusal| refusal.number());
+        let lenient = panicked(|| lenient::SincBankF32::for_max_rate(bad)).err();
+        if [strict, lenient] != [Some(1); 2] {
+            stop("a rate out of range, by host/", (bad, strict, lenient));
+        }
+    }
+    context.count("bank", "builds refused", 34, None);
 }
 
 pub fn run(context: &mut Context) {

@@ -1,25 +1,16 @@
 //! 001's engine, beside the port's: runs of calls, with both offsets and every field of the state
-//! compared bit for bit after each call.
+//! compared bit for bit after each call. The port is host/'s engine, in one of its two ways.
 
 use crate::context::Context;
+use crate::engines::{self, Call, Engine, Words};
 use crate::random::Random;
 use crate::shape::bits64;
 use std::f64::consts::TAU;
 use wow_dsp::modulation::{ModulationEngine, ModulationParams, SmoothRandom};
 
-type Words = [u64; 15];
-
 /// Seeds that 01 names: 0 and what it becomes, and the seed whose flutter seed is 0.
 const SEEDS: [u64; 5] = [0, 0xA076_1D64_78BD_642F, 0xD1B5_4A32_D192_ED03, 1, u64::MAX];
 const RATES: [f64; 8] = [8000.0, 11025.0, 44100.0, 48000.0, 96000.0, 192000.0, 767999.9999999999, 768000.0];
-
-#[derive(Clone, Copy, Debug)]
-enum Call {
-    Step(ModulationParams),
-    SetSeed(u64),
-    SetSampleRate(f64),
-    Reset,
-}
 
 /// The original's state, field by field in its order.
 fn words(e: &ModulationEngine) -> Words {
@@ -49,30 +40,6 @@ fn rust(e: &mut ModulationEngine, call: &Call) -> [u64; 2] {
         Call::Reset => e.reset(),
     }
     [0; 2]
-}
-
-/// The same by the port, with the number of the refusal: 0 where the call was served.
-fn port(words: &mut Words, call: &Call) -> ([u64; 2], u8) {
-    let (mut left, mut right) = (0.0, 0.0);
-    let refusal = match call {
-        Call::Step(p) => boundary::engine_next(
-            words,
-            p.wow_rate_hz,
-            p.wow_depth_cents,
-            p.wow_shape,
-            p.flutter_rate_hz,
-            p.flutter_depth_cents,
-            p.flutter_shape,
-            p.drift_amount,
-            p.stereo_amount,
-            &mut left,
-            &mut right,
-        ),
-        Call::SetSeed(seed) => boundary::engine_set_seed(words, *seed),
-        Call::SetSampleRate(rate) => boundary::engine_set_sample_rate(words, *rate),
-        Call::Reset => boundary::engine_reset(words),
-    };
-    ([bits64(left), bits64(right)], refusal)
 }
 
 impl Random {
@@ -174,17 +141,17 @@ impl Random {
 
 /// A run of calls from the same state on both sides. Counts the calls, and those after which a
 /// generator has drawn: they tell the drift from one that keeps its first targets.
-fn compare(context: &mut Context, kind: &'static str, mut e: ModulationEngine, mut w: Words, calls: u64, others: bool) {
+fn compare(context: &mut Context, kind: &'static str, mut e: ModulationEngine, mut port: Box<dyn Engine>, calls: u64, others: bool) {
     let mut held = context.random.settings();
     let mut drawn = 0;
     for _ in 0..calls {
         let call = context.random.call(&mut held, others);
         let before = words(&e);
         let right = rust(&mut e, &call);
-        let (found, refusal) = port(&mut w, &call);
+        let (found, refusal) = port.call(&call);
         let after = words(&e);
-        if refusal != 0 || found != right || w != after {
-            stop(kind, &call, &before, (right, &after), (found, &w), refusal);
+        if refusal != 0 || found != right || *port.words() != after {
+            stop(kind, &call, &before, (right, &after), (found, port.words()), refusal);
         }
         drawn += (after[4] != before[4] || after[10] != before[10]) as u64;
     }
@@ -202,14 +169,13 @@ fn stop(kind: &str, call: &Call, before: &Words, rust: ([u64; 2], &Words), port:
 fn opened(context: &mut Context, kind: &'static str, calls: u64) {
     let (rate, seed) = (context.random.sample_rate(), context.random.seed());
     let engine = ModulationEngine::new(rate, seed);
-    let mut state = [0; 15];
-    let refusal = boundary::engine_new(rate, seed, &mut state);
+    let mut port = engines::open(&mut context.random, rate, seed);
     let right = words(&engine);
-    if refusal != 0 || state != right {
-        println!("engine_new({rate:e}, {seed:016X})");
-        stop(kind, &Call::Reset, &[0; 15], ([0; 2], &right), ([0; 2], &state), refusal);
+    if *port.words() != right {
+        println!("new({rate:e}, {seed:016X})");
+        stop(kind, &Call::Reset, &[0; 15], ([0; 2], &right), ([0; 2], port.words()), 0);
     }
-    compare(context, kind, engine, state, calls, true);
+    compare(context, kind, engine, port, calls, true);
 }
 
 /// A step or two from any state that 01 allows.
@@ -222,8 +188,9 @@ fn anywhere(context: &mut Context, kind: &'static str) {
         wow_drift: r.generator(),
         flutter_drift: r.generator(),
     };
-    let state = words(&engine);
-    compare(context, kind, engine, state, 2, false);
+    let mut port = engines::open(r, engine.sample_rate, 1);
+    *port.words() = words(&engine);
+    compare(context, kind, engine, port, 2, false);
 }
 
 /// G6, G7. A setting or a sample rate that is out of range is refusal 1; a state that is, 3 (G8). The port alone is asked: the offsets are
@@ -273,16 +240,57 @@ fn refused(context: &mut Context, kind: &'static str) {
         }
     };
     let mut after = state;
-    let (found, refusal) = port(&mut after, &call);
+    let (found, refusal) = after.call(&call);
     if refusal != number || found != [0; 2] || after != state {
         stop(kind, &call, &state, ([0; 2], &state), (found, &after), refusal);
     }
+    // by host/, whose seed and reset tell no number, and whose lenient way leaves aside a sample rate that the original leaves aside
+    let mut host = engines::open(r, rate, seed);
+    *host.words() = state;
+    let (found, refusal) = host.call(&call);
+    let silent = refusal == 0 && !matches!(call, Call::Step(_));
+    if refusal != number && !silent || found != [0; 2] || *host.words() != state {
+        stop("refused calls by host/", &call, &state, ([0; 2], &state), (found, host.words()), refusal);
+    }
+    context.count("modulation", kind, 2, None);
+}
+
+/// The words that are floats.
+const FLOATS: [usize; 11] = [0, 1, 2, 5, 6, 7, 8, 11, 12, 13, 14];
+const NANS: [u64; 6] =
+    [0x7FF8_0000_0000_0000, 0xFFF8_0000_0000_0000, 0x7FF0_0000_0000_0001, 0xFFF0_0000_0000_0001, u64::MAX, 0x7FF4_0000_0000_BEEF];
+
+/// A NaN of any pattern in the state: refused by 3, in the sample rate by 1, and every word stays, bit by bit. fugnadri.h leaves it open whether a NaN keeps its
+/// pattern or becomes the one that is handed out: which of the two is counted.
+fn refused_with_nan(context: &mut Context) {
+    let r = &mut context.random;
+    let mut state = [0; 15];
+    boundary::engine_new(r.sample_rate(), r.seed(), &mut state);
+    let place = r.pick(&FLOATS);
+    state[place] = r.pick(&NANS);
+    let number = if place == 0 { 1 } else { 3 };
+    let call = match r.within(0, 3) {
+        0 => Call::SetSeed(r.seed()),
+        1 => Call::Reset,
+        // a new rate takes the place of the old one, which is not looked at
+        2 if place != 0 => Call::SetSampleRate(r.sample_rate()),
+        _ => Call::Step(r.settings()),
+    };
+    let mut after = state;
+    let (found, refusal) = after.call(&call);
+    let mut one = state;
+    one[place] = NANS[0];
+    if refusal != number || found != [0; 2] || after != state && after != one {
+        stop("a NaN in the state", &call, &state, ([0; 2], &state), (found, &after), refusal);
+    }
+    let kind = if after == state { "refused, a NaN word left as it was" } else { "refused, a NaN word made 7FF80..0" };
     context.count("modulation", kind, 1, None);
 }
 
 pub fn run(context: &mut Context) {
     for _ in 0..512 {
         refused(context, "refused calls, the port alone");
+        refused_with_nan(context);
     }
     for _ in 0..8 {
         opened(context, "runs of 2048 calls from a new engine", 2048);

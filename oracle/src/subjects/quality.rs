@@ -1,21 +1,25 @@
 //! Q1 to Q3, T4, T5. The reader whose quality may change, call by call beside the original's: every
 //! answer, the count, both qualities, the fade place and the ring. Fades of length 0, 1, 2 and 960,
-//! every change of quality at every place of a short one, rates at, between and outside the sets'.
+//! every change of quality at every place of a short one, rates at, between and outside the sets'. The
+//! port is host/'s reader, in one of its two ways.
 
 use crate::banks::{self, Bank};
 use crate::context::Context;
 use crate::delays::{self, END};
+use crate::hosts::{asked, caught, told};
 use crate::random::Random;
 use crate::shape::bits32;
-use boundary::QualityReader;
+use host::{compare::QualityReader, lenient, strict};
+use std::convert::identity;
 use wow_dsp::{QualityMode, QualityVariableDelayF32};
 
 const MODES: [QualityMode; 4] = [QualityMode::Draft, QualityMode::Normal, QualityMode::Hq, QualityMode::Ultra];
+const HOSTS: [host::QualityMode; 4] = [host::QualityMode::Draft, host::QualityMode::Normal, host::QualityMode::Hq, host::QualityMode::Ultra];
 
 struct Session {
     bank: &'static Bank,
     rust: QualityVariableDelayF32,
-    port: QualityReader,
+    port: Box<dyn Port>,
     elements: u64,
 }
 
@@ -27,6 +31,41 @@ struct Call {
     rate: Option<f64>,
 }
 
+/// A quality reader of host/.
+trait Port {
+    fn process(&mut self, call: &Call) -> (u8, f32);
+    fn reset(&mut self);
+    fn state(&mut self) -> &mut QualityReader;
+    /// The number that it tells where this one is due, and the name of its way.
+    fn tells(&self, number: u8) -> (u8, &'static str);
+}
+
+macro_rules! port {
+    ($way:ident, $given:ident, $tells:expr) => {
+        impl Port for $way::QualityVariableDelayF32 {
+            fn process(&mut self, call: &Call) -> (u8, f32) {
+                let quality = HOSTS[call.quality as usize];
+                $given(|| match call.rate {
+                    None => self.process_sample(call.input, call.delay, quality),
+                    Some(rate) => self.process_sample_rate_aware(call.input, call.delay, quality, rate),
+                })
+            }
+            fn reset(&mut self) {
+                $way::QualityVariableDelayF32::reset(self)
+            }
+            fn state(&mut self) -> &mut QualityReader {
+                $way::QualityVariableDelayF32::state(self)
+            }
+            fn tells(&self, number: u8) -> (u8, &'static str) {
+                ($tells(number), stringify!($way))
+            }
+        }
+    };
+}
+
+port!(strict, asked, identity);
+port!(lenient, caught, told);
+
 fn code(mode: QualityMode) -> u8 {
     MODES.iter().position(|m| *m == mode).unwrap() as u8
 }
@@ -36,61 +75,70 @@ impl Session {
         let (maximum, margin) = delays::settings(random);
         let quality = random.within(0, 3) as u8;
         let rust = QualityVariableDelayF32::new(maximum, margin, bank.rust.clone(), MODES[quality as usize], crossfade_samples);
-        // opening must set all of it
-        let port = QualityReader {
-            maximum,
-            margin,
-            accepted: random.word(),
-            current: 9,
-            target: 9,
-            crossfade_position: 77,
-            crossfade_samples,
-            ring: vec![f32::NAN; rust.buffer.len()],
+        let mode = HOSTS[quality as usize];
+        let port: Box<dyn Port> = match bank.lenient.clone().filter(|_| random.coin()) {
+            Some(bank) => Box::new(lenient::QualityVariableDelayF32::new(maximum, margin, bank, mode, crossfade_samples)),
+            None => {
+                let port = strict::QualityVariableDelayF32::new(maximum, margin, bank.strict.clone(), mode, crossfade_samples);
+                Box::new(port.expect("settings in range"))
+            }
         };
         let mut session = Session { bank, rust, port, elements: 0 };
-        let opened = session.port.open(quality);
+        session.whole("new");
+        // opening must set all of it
+        let state = session.port.state();
+        (state.accepted, state.current, state.target, state.crossfade_position) = (random.word(), 9, 9, 77);
+        state.ring.fill(f32::NAN);
+        let opened = state.open(quality);
         session.hold(opened == 0, "open", None);
         session.whole("open");
         session
     }
 
-    fn due(&self, call: &Call) -> u8 {
+    fn due(&mut self, call: &Call) -> u8 {
         match () {
             _ if call.quality > 3 => 1,
             _ if !call.input.is_finite() => 4,
             _ if !call.delay.is_finite() || call.delay < 0.0 => 5,
             _ if call.delay > END => 6,
             _ if call.rate.is_some_and(f64::is_nan) => 7,
-            _ if self.port.accepted == END as u64 => 8,
+            _ if self.port.state().accepted == END as u64 => 8,
             _ => 0,
         }
     }
 
     fn call(&mut self, call: &Call) -> u8 {
-        let (number, count) = (self.due(call), self.port.accepted);
-        let place = count as usize & (self.port.ring.len() - 1);
+        let (number, count) = (self.due(call), self.port.state().accepted);
+        let place = count as usize & (self.rust.buffer.len() - 1);
         let known = number == 0 || number == 4 || number == 5;
         let right = match call.rate {
             _ if !known => 0.0,
             None => self.rust.process_sample(call.input, call.delay, MODES[call.quality as usize]),
             Some(rate) => self.rust.process_sample_rate_aware(call.input, call.delay, MODES[call.quality as usize], rate),
         };
-        let (bank, mut answer) = (self.bank, f32::NAN);
-        let (sets, max) = (&bank.sets[..], bank.max_rate);
-        let given = match call.rate {
-            None => self.port.process(sets, max, call.input, call.delay, call.quality, &mut answer),
-            Some(rate) => self.port.process_rate_aware(sets, max, call.input, call.delay, call.quality, rate, &mut answer),
+        let ((told, _), (given, answer)) = match call.quality {
+            0..=3 => (self.port.tells(number), self.port.process(call)),
+            // host/ has no such quality: its own state is handed to the export
+            _ => {
+                let (bank, state, mut answer) = (self.bank, self.port.state(), f32::NAN);
+                let (sets, max) = (bank.sets(), bank.max_rate);
+                let given = match call.rate {
+                    None => state.process(sets, max, call.input, call.delay, call.quality, &mut answer),
+                    Some(rate) => state.process_rate_aware(sets, max, call.input, call.delay, call.quality, rate, &mut answer),
+                };
+                ((number, ""), (given, answer))
+            }
         };
-        let stored = bits32(self.port.ring[place]) == bits32(self.rust.buffer[place]);
-        if given != number || bits32(answer) != bits32(right) || !stored || !self.fields() {
-            println!("  Rust {:X}, Fugnadri {:X}; number due {number}, given {given}", bits32(right), bits32(answer));
+        let stored = bits32(self.port.state().ring[place]) == bits32(self.rust.buffer[place]);
+        if given != told || bits32(answer) != bits32(right) || !stored || !self.fields() {
+            println!("  Rust {:X}, Fugnadri {:X}; number due {told}, given {given}", bits32(right), bits32(answer));
             self.hold(false, "process", Some(call));
         }
         number
     }
 
-    fn fields(&self) -> bool {
-        let (r, p) = (&self.rust, &self.port);
+    fn fields(&mut self) -> bool {
+        let (r, p) = (&self.rust, self.port.state());
         p.accepted == r.write_index as u64
             && [p.current, p.target] == [code(r.current_quality), code(r.target_quality)]
             && p.crossfade_position == r.crossfade_position
@@ -98,23 +146,24 @@ impl Session {
 
     fn reset(&mut self) {
         self.rust.reset();
-        let done = self.port.reset();
-        self.hold(done == 0, "reset", None);
+        self.port.reset();
         self.whole("reset");
     }
 
     fn whole(&mut self, what: &str) {
-        let same = self.port.ring.iter().zip(&self.rust.buffer).all(|(a, b)| bits32(*a) == bits32(*b));
-        self.elements += self.port.ring.len() as u64;
-        self.hold(same && self.fields(), what, None);
+        let ring = &self.port.state().ring;
+        let same = ring.len() == self.rust.buffer.len() && ring.iter().zip(&self.rust.buffer).all(|(a, b)| bits32(*a) == bits32(*b));
+        self.elements += self.rust.buffer.len() as u64;
+        let fields = self.fields();
+        self.hold(same && fields, what, None);
     }
 
     /// What an open reader never has, or is never lent: refused by 1, 2 and 3, and nothing changes.
     fn damaged(&mut self) {
-        let sets = &self.bank.sets[..];
+        let sets = self.bank.sets();
         let max = self.bank.max_rate;
         let short = &sets[1..];
-        let good = self.port.clone();
+        let good = self.port.state().clone();
         let with = |change: fn(&mut QualityReader)| {
             let mut reader = good.clone();
             change(&mut reader);
@@ -147,10 +196,10 @@ impl Session {
         }
     }
 
-    fn hold(&self, alike: bool, what: &str, call: Option<&Call>) {
+    fn hold(&mut self, alike: bool, what: &str, call: Option<&Call>) {
         if !alike {
-            println!("DIFFERENCE in the quality reader, at {what}; bank {}", self.bank.max_rate);
-            let (r, p) = (&self.rust, &self.port);
+            println!("DIFFERENCE in the quality reader of host/, {}, at {what}; bank {}", self.port.tells(0).1, self.bank.max_rate);
+            let (r, p) = (&self.rust, self.port.state());
             println!("  maximum {}, margin {}, ring {}, fade {}", p.maximum, p.margin, p.ring.len(), p.crossfade_samples);
             let theirs = (r.write_index, code(r.current_quality), code(r.target_quality), r.crossfade_position);
             println!("  count, current, target, fade place after it: Rust {theirs:?}");
@@ -193,7 +242,7 @@ fn calls(session: &mut Session, random: &mut Random, hostile: bool, often: i64, 
         let asked = if hostile && random.within(0, 60) == 0 { random.within(0, 255) as u8 } else { quality };
         let call = Call {
             input: sample(random, hostile),
-            delay: delays::delay(random, session.port.ring.len(), hostile),
+            delay: delays::delay(random, session.rust.buffer.len(), hostile),
             quality: asked,
             rate: rate(random, session.bank, hostile),
         };
@@ -239,7 +288,7 @@ pub fn run(context: &mut Context) {
         if hostile {
             // a count that no run of calls here would reach
             let count = END as u64 - 64;
-            (session.port.accepted, session.rust.write_index) = (count, count as i64);
+            (session.port.state().accepted, session.rust.write_index) = (count, count as i64);
             refused += calls(&mut session, random, hostile, often, 256);
         }
         session.reset();

@@ -1,20 +1,21 @@
 //! The delay readers, call by call beside the original's `VariableDelay`: every sample, the count,
-//! and the ring. Refusals stand in between: 4 and 5 beside the original's 0.0 without an advance; 6
+//! and the ring, by both ways of host/ and by the exports that hand out patterns. Refusals stand in between: 4 and 5 beside the original's 0.0 without an advance; 6
 //! and 8, which it does not know, alone; after each, nothing has changed.
 
 use crate::context::Context;
 use crate::delays::{self, END};
+use crate::hosts::Hosted;
 use crate::kernels::{Beside, Original, KERNELS};
 use crate::random::Random;
 use crate::shape::bits64;
 use boundary::Reader;
 
-/// The original's reader, and the port's by floats and by patterns.
+/// The original's reader, and the port's: by host/, strict and lenient, and by patterns.
 struct Session<'a> {
     kernel: &'a Beside,
     rust: Box<dyn Original>,
+    hosts: [Box<dyn Hosted<f64>>; 2],
     port: Reader,
-    twin: Reader,
     /// Elements of rings compared so far.
     elements: u64,
 }
@@ -36,9 +37,9 @@ impl<'a> Session<'a> {
         let mut rust = (kernel.open)(maximum, margin);
         // opening must set both
         let port = Reader { maximum, margin, accepted: random.word(), ring: vec![f64::NAN; rust.ring().len()] };
-        let mut session = Session { kernel, rust, twin: port.clone(), port, elements: 0 };
-        let opened = [session.port.open(), session.twin.open()];
-        session.hold(opened == [0, 0], "open", 0.0, 0.0);
+        let mut session = Session { kernel, rust, hosts: (kernel.host)(maximum, margin), port, elements: 0 };
+        let opened = session.port.open();
+        session.hold(opened == 0, "open", 0.0, 0.0);
         session.whole("open");
         session
     }
@@ -47,9 +48,10 @@ impl<'a> Session<'a> {
     fn put(&mut self, count: u64, mut sample: impl FnMut() -> f64) {
         *self.rust.count() = count as i64;
         self.rust.ring().iter_mut().for_each(|x| *x = sample());
-        for port in [&mut self.port, &mut self.twin] {
-            port.accepted = count;
-            port.ring.clone_from(self.rust.ring());
+        let hosts = self.hosts.iter_mut().map(|host| host.parts());
+        for (accepted, ring) in hosts.chain([(&mut self.port.accepted, &mut self.port.ring)]) {
+            *accepted = count;
+            ring.clone_from(self.rust.ring());
         }
     }
 
@@ -59,16 +61,16 @@ impl<'a> Session<'a> {
         let (count, number) = (self.port.accepted, due(self.port.accepted, input, delay));
         let place = count as usize & (self.port.ring.len() - 1);
         let right = bits64(if number < 6 { self.rust.process(input, delay) } else { 0.0 });
-        let (mut sample, mut bits) = (f64::NAN, 1);
-        let given = [
-            (self.kernel.process)(&mut self.port, input, delay, &mut sample),
-            (self.kernel.process_bits)(&mut self.twin, input, delay, &mut bits),
-        ];
-        let same = given == [number; 2] && [bits64(sample), bits] == [right; 2];
-        let silent = number == 0 || right == 0 && self.port.accepted == count;
-        let counts = [self.port.accepted, self.twin.accepted] == [*self.rust.count() as u64; 2];
-        let stored = bits64(self.rust.ring()[place]);
-        same && silent && counts && [self.port.ring[place], self.twin.ring[place]].map(bits64) == [stored; 2]
+        let mut bits = 1;
+        let given = (self.kernel.process_bits)(&mut self.port, input, delay, &mut bits);
+        let mut same = (given, bits) == (number, right) && (number == 0 || right == 0 && self.port.accepted == count);
+        let after = (*self.rust.count() as u64, bits64(self.rust.ring()[place]));
+        for host in &mut self.hosts {
+            let (given, sample) = host.process(input, delay);
+            let (accepted, ring) = host.parts();
+            same &= (*accepted, bits64(ring[place])) == after && bits64(sample) == right && given == host.tells(number);
+        }
+        same && (self.port.accepted, bits64(self.port.ring[place])) == after
     }
 
     /// One call, compared; the number that was due.
@@ -103,23 +105,26 @@ impl<'a> Session<'a> {
             part /= 2;
         }
         let held: Vec<(usize, f64)> = ring.iter().copied().enumerate().filter(|(_, x)| x.to_bits() != 0).collect();
-        self.put(count, || 0.0);
-        for (k, x) in &held {
-            (self.rust.ring()[*k], self.port.ring[*k]) = (*x, *x);
-        }
-        let (mut sample, number) = (f64::NAN, due(count, input, delay));
+        let mut elements = ring.iter().copied();
+        self.put(count, || elements.next().unwrap_or(0.0));
+        let (mut bits, number) = (1, due(count, input, delay));
         let right = if number < 6 { self.rust.process(input, delay) } else { 0.0 };
-        let given = (self.kernel.process)(&mut self.port, input, delay, &mut sample);
+        let given = (self.kernel.process_bits)(&mut self.port, input, delay, &mut bits);
         println!("  count before it {count}; elements of the ring that are not 0.0: {held:?}");
-        println!("  Rust {:016X}, Fugnadri {:016X}; number due {number}, given {given}", bits64(right), bits64(sample));
+        println!("  Rust {:016X}, Fugnadri {bits:016X}; number due {number}, given {given}", bits64(right));
+        for (way, host) in ["strict", "lenient"].iter().zip(&mut self.hosts) {
+            let (given, sample) = host.process(input, delay);
+            println!("  by host/, {way}: {:016X}, number due {}, given {given}; its count {}", bits64(sample), host.tells(number), host.parts().0);
+        }
         self.hold(false, "process", input, delay);
         unreachable!()
     }
 
     fn reset(&mut self) {
         self.rust.reset();
-        let done = [self.port.reset(), self.twin.reset()];
-        self.hold(done == [0, 0], "reset", 0.0, 0.0);
+        self.hosts.iter_mut().for_each(|host| host.reset());
+        let done = self.port.reset();
+        self.hold(done == 0, "reset", 0.0, 0.0);
         self.whole("reset");
     }
 
@@ -139,10 +144,14 @@ impl<'a> Session<'a> {
 
     /// Every element of the ring, and the count.
     fn whole(&mut self, what: &str) {
-        let rings = same_ring(&self.port.ring, self.rust.ring()) && same_ring(&self.twin.ring, self.rust.ring());
-        let counts = [self.port.accepted, self.twin.accepted] == [*self.rust.count() as u64; 2];
+        let count = *self.rust.count() as u64;
+        let mut same = self.port.accepted == count && same_ring(&self.port.ring, self.rust.ring());
+        for host in &mut self.hosts {
+            let (accepted, ring) = host.parts();
+            same &= *accepted == count && same_ring(ring, self.rust.ring());
+        }
         self.elements += self.port.ring.len() as u64;
-        self.hold(rings && counts, what, 0.0, 0.0);
+        self.hold(same, what, 0.0, 0.0);
     }
 
     fn hold(&mut self, same: bool, what: &str, input: f64, delay: f64) {

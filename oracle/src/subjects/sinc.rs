@@ -1,11 +1,13 @@
 //! The windowed sinc in both widths: the reading over plain slices, and the delay readers call by
-//! call beside the original's, over real tables and over tables of anything. Refusals stand in
+//! call beside the original's, over real tables and over tables of anything, by the types of host/ in
+//! one of their ways and now and then by the exports that hand out patterns. Refusals stand in
 //! between; after each, nothing has changed.
 
 use crate::context::Context;
 use crate::delays::{self, END};
 use crate::random::Random;
-use crate::sinc::{OriginalSinc, Sinc};
+use crate::hosts::Hosted;
+use crate::sinc::{OriginalSinc, Sinc, Way};
 
 /// A table, lent to both sides.
 #[derive(Clone)]
@@ -48,10 +50,10 @@ fn sample<T: Sinc>(random: &mut Random, hostile: bool) -> T {
 struct Session<T: Sinc> {
     table: Table<T>,
     rust: T::Reader,
+    port: Box<dyn Hosted<T>>,
+    way: Way,
     maximum: usize,
     margin: usize,
-    accepted: u64,
-    ring: Vec<T>,
     elements: u64,
 }
 
@@ -69,49 +71,48 @@ impl<T: Sinc> Session<T> {
     fn open(table: Table<T>, random: &mut Random) -> Self {
         let (maximum, margin) = delays::settings(random);
         let mut rust = T::reader(maximum, margin, &table.elements, table.taps, table.phases);
-        let ring = vec![T::of(f64::NAN); rust.ring().len()];
-        let mut session = Session { table, rust, maximum, margin, accepted: random.word(), ring, elements: 0 };
-        let opened = T::open(maximum, margin, &mut session.accepted, &mut session.ring);
-        session.hold(opened == 0, "open", T::of(0.0), 0.0);
+        let (way, mut count, mut ring) = (Way::any(random), random.word(), vec![T::of(f64::NAN); rust.ring().len()]);
+        let port = T::host_reader(way, maximum, margin, &table.elements, table.taps, table.phases);
+        let mut session = Session { table, rust, port, way, maximum, margin, elements: 0 };
+        // opening must set both
+        let opened = T::open(maximum, margin, &mut count, &mut ring);
+        let alike = (opened, count) == (0, 0) && same(&ring, session.rust.ring());
+        session.hold(alike, "open", T::of(0.0), 0.0);
         session.whole("open");
         session
     }
 
     /// Both sides in a state that no run of calls here would reach.
     fn put(&mut self, count: u64, mut sample: impl FnMut() -> T) {
-        self.ring.iter_mut().for_each(|x| *x = sample());
-        self.accepted = count;
+        let (accepted, ring) = self.port.parts();
+        ring.iter_mut().for_each(|x| *x = sample());
+        *accepted = count;
         *self.rust.count() = count as i64;
-        self.rust.ring().clone_from(&self.ring);
+        self.rust.ring().clone_from(ring);
     }
 
     /// One call on both sides; the number that was due.
     fn call(&mut self, input: T, delay: f64, random: &mut Random) -> u8 {
-        let (count, number) = (self.accepted, due(self.accepted, input, delay));
-        let place = count as usize & (self.ring.len() - 1);
+        let count = *self.port.parts().0;
+        let number = due(count, input, delay);
+        let place = count as usize & (self.rust.ring().len() - 1);
         let right = if number < 6 { self.rust.process(input, delay) } else { T::of(0.0) };
         let Table { taps, phases, elements } = &self.table;
         // a call now and then by the export that hands out patterns
-        let (given, answer) = if random.within(0, 7) == 0 {
-            let mut bits = T::Bits::default();
-            let (maximum, margin) = (self.maximum, self.margin);
-            let given = T::sinc_process_bits(
-                maximum, margin, &mut self.accepted, &mut self.ring, input, delay, elements, *taps, *phases, &mut bits,
-            );
-            (given, bits.into())
+        let (given, told, answer) = if random.within(0, 7) == 0 {
+            let (mut bits, (accepted, ring)) = (T::Bits::default(), self.port.parts());
+            let given = T::sinc_process_bits(self.maximum, self.margin, accepted, ring, input, delay, elements, *taps, *phases, &mut bits);
+            (given, number, bits.into())
         } else {
-            let mut sample = T::of(f64::NAN);
-            let (maximum, margin) = (self.maximum, self.margin);
-            let given = T::sinc_process(
-                maximum, margin, &mut self.accepted, &mut self.ring, input, delay, elements, *taps, *phases, &mut sample,
-            );
-            (given, sample.pattern())
+            let (given, sample) = self.port.process(input, delay);
+            (given, self.port.tells(number), sample.pattern())
         };
-        let silent = number == 0 || answer == 0 && self.accepted == count;
-        let counts = self.accepted == *self.rust.count() as u64;
-        let stored = self.ring[place].pattern() == self.rust.ring()[place].pattern();
-        if given != number || answer != right.pattern() || !silent || !counts || !stored {
-            println!("  Rust {:X}, Fugnadri {answer:X}; number due {number}, given {given}", right.pattern());
+        let (accepted, ring) = self.port.parts();
+        let silent = number == 0 || answer == 0 && *accepted == count;
+        let counts = *accepted == *self.rust.count() as u64;
+        let stored = ring[place].pattern() == self.rust.ring()[place].pattern();
+        if given != told || answer != right.pattern() || !silent || !counts || !stored {
+            println!("  Rust {:X}, Fugnadri {answer:X}; number due {told}, given {given}", right.pattern());
             self.hold(false, "process", input, delay);
         }
         number
@@ -119,15 +120,15 @@ impl<T: Sinc> Session<T> {
 
     fn reset(&mut self) {
         self.rust.reset();
-        let done = T::reset(self.maximum, self.margin, &mut self.accepted, &mut self.ring);
-        self.hold(done == 0, "reset", T::of(0.0), 0.0);
+        self.port.reset();
         self.whole("reset");
     }
 
     /// Settings, lengths and counts that an open reader never has: refused by 1, 2 and 3, and nothing changes.
     fn damaged(&mut self) {
         let Table { taps, phases, elements } = self.table.clone();
-        let (maximum, ring, count) = (self.maximum, self.ring.clone(), self.accepted);
+        let (count, ring) = self.port.parts();
+        let (maximum, ring, count) = (self.maximum, ring.clone(), *count);
         let short = elements[1..].to_vec();
         let cases: [(u8, usize, usize, &[T], usize, u64, usize); 9] = [
             (1, taps, phases, &elements, (1 << 24) - 7, count, ring.len()),
@@ -151,18 +152,19 @@ impl<T: Sinc> Session<T> {
     }
 
     fn whole(&mut self, what: &str) {
-        let rings = same(&self.ring, self.rust.ring());
-        let counts = self.accepted == *self.rust.count() as u64;
-        self.elements += self.ring.len() as u64;
+        let (accepted, ring) = self.port.parts();
+        let rings = same(ring, self.rust.ring());
+        let counts = *accepted == *self.rust.count() as u64;
+        self.elements += ring.len() as u64;
         self.hold(rings && counts, what, T::of(0.0), 0.0);
     }
 
     fn hold(&mut self, alike: bool, what: &str, input: T, delay: f64) {
         if !alike {
-            println!("DIFFERENCE in the reader of {}, at {what}", T::NAME);
-            println!("  maximum {}, margin {}, ring {}", self.maximum, self.margin, self.ring.len());
+            println!("DIFFERENCE in the reader of {}, by host/ in its {:?} way, at {what}", T::NAME, self.way);
+            println!("  maximum {}, margin {}, ring {}", self.maximum, self.margin, self.rust.ring().len());
             println!("  {} taps, {} phases, table of {}", self.table.taps, self.table.phases, self.table.elements.len());
-            println!("  count after it: Rust {}, Fugnadri {}", self.rust.count(), self.accepted);
+            println!("  count after it: Rust {}, Fugnadri {}", self.rust.count(), self.port.parts().0);
             println!("  input {:X}, delay {:016X}  {delay:e}", input.pattern(), delay.to_bits());
             std::process::exit(1)
         }
@@ -193,7 +195,7 @@ fn readers<T: Sinc>(context: &mut Context) {
             for _ in 0..CALLS / 2 {
                 // a ring of hostile samples alone answers little but NaN
                 let input = if hostile { now_and_then(random, 64) } else { sample(random, false) };
-                let delay = delays::delay(random, session.ring.len(), hostile);
+                let delay = delays::delay(random, session.rust.ring().len(), hostile);
                 refused += (session.call(input, delay, random) != 0) as u64;
             }
             session.whole("the end of a run of calls");
@@ -222,13 +224,17 @@ fn slices<T: Sinc>(context: &mut Context) {
             let number = if position.abs() <= END { 0 } else { 1 };
             let right = if number == 0 { T::at(&elements, taps, phases, &source, position) } else { T::of(0.0) };
             let (mut answer, mut bits) = (T::of(f64::NAN), T::Bits::default());
+            let way = Way::any(random);
+            let (by_host, host_answer) = T::host_at(way, &elements, taps, phases, &source, position);
             let given = [
                 T::sinc_sample(&elements, taps, phases, &source, length as u64, position, &mut answer),
                 T::sinc_sample_bits(&elements, taps, phases, &source, length as u64, position, &mut bits),
+                by_host,
             ];
-            if given != [number; 2] || answer.pattern() != right.pattern() || bits.into() != right.pattern() {
+            let answers = [answer.pattern(), bits.into(), host_answer.pattern()];
+            if given != [number; 3] || answers != [right.pattern(); 3] {
                 println!("DIFFERENCE in {} over a slice of {length}, {taps} taps, {phases} phases, position {position:e}", T::NAME);
-                println!("  Rust {:X}, Fugnadri {:X}; number due {number}, given {given:?}", right.pattern(), answer.pattern());
+                println!("  Rust {:X}, Fugnadri by floats, by patterns and by host/, {way:?}: {answers:X?}; number due {number}, given {given:?}", right.pattern());
                 std::process::exit(1)
             }
             compared += 1;

@@ -1,5 +1,6 @@
 //! G3. The kernels over a plain slice, beside the original's over a `SliceSource`: a ring whose
-//! count is its length. A position that is not finite or beyond 2^36 is refusal 1.
+//! count is its length. A position that is not finite or beyond 2^36 is refusal 1. By host/ in both ways,
+//! and by the two exports.
 
 use crate::context::Context;
 use crate::delays::{self, END};
@@ -14,7 +15,8 @@ fn differs(kernel: &Beside, source: &[f64], position: f64) -> bool {
         (kernel.sample)(source, count, position, &mut sample),
         (kernel.sample_bits)(source, count, position, &mut bits),
     ];
-    given != [number; 2] || bits64(sample) != right || bits != right
+    let host = (kernel.host_at)(source, position).map(|(given, sample)| (given, bits64(sample)));
+    given != [number; 2] || bits64(sample) != right || bits != right || host != [(number, right); 2]
 }
 
 /// Ever shorter and emptier slices, as long as the two sides still differ.
@@ -40,6 +42,7 @@ fn stop(kernel: &Beside, mut source: Vec<f64>, position: f64) -> ! {
     );
     println!("  samples {source:?}");
     println!("  Rust {:e}, Fugnadri {sample:e} with the number {number}", (kernel.at)(&source, position));
+    println!("  host/, strict and lenient: {:?}", (kernel.host_at)(&source, position));
     std::process::exit(1)
 }
 

@@ -1,9 +1,9 @@
-//! T1. Tables of many settings, element by element beside the original's; settings out of range and
-//! tables of another length, which are refused and leave every element.
+//! T1. Tables of many settings, element by element beside the original's, by the types of host/;
+//! settings out of range and tables of another length, which are refused and leave every element.
 
 use crate::context::Context;
 use crate::random::Random;
-use crate::sinc::Sinc;
+use crate::sinc::{Sinc, Way};
 
 #[derive(Clone, Copy, Debug)]
 struct Settings {
@@ -41,6 +41,7 @@ fn settings(random: &mut Random, large: bool) -> Settings {
 }
 
 fn same<T: Sinc>(what: &str, settings: impl std::fmt::Debug, right: &[T], table: &[T]) {
+    number::<T>(what, (&settings, right.len(), table.len()), 0, (right.len() != table.len()) as u8);
     if let Some(k) = (0..right.len()).find(|&k| right[k].pattern() != table[k].pattern()) {
         println!("DIFFERENCE in the table of {} by {what}, at element {k}: {settings:?}", T::NAME);
         println!("  Rust {:X}, Fugnadri {:X}", right[k].pattern(), table[k].pattern());
@@ -55,17 +56,22 @@ fn number<T: Sinc>(what: &str, settings: impl std::fmt::Debug, due: u8, given: u
     }
 }
 
+/// A table of host/'s, in either way.
+fn made<T: Sinc>(what: &str, settings: impl std::fmt::Debug, table: Result<Vec<T>, u8>) -> Vec<T> {
+    number::<T>(what, settings, 0, table.as_ref().err().copied().unwrap_or(0));
+    table.unwrap_or_default()
+}
+
 /// Tables of both builders; how many elements were compared.
 fn built<T: Sinc>(random: &mut Random, large: bool) -> u64 {
     let s @ Settings { taps, phases, cutoff, beta } = settings(random, large);
-    let mut table = vec![T::of(f64::NAN); (phases + 1) * taps];
-    number::<T>("new", s, 0, T::build(taps, phases, cutoff, beta, &mut table));
+    let table = made("new", s, T::host_table(Way::any(random), taps, phases, cutoff, beta));
     same("new", s, &T::table(taps, phases, cutoff, beta), &table);
 
     let max_rate = if random.within(0, 4) == 0 { random.pick(&[1.0, 2.0]) } else { 1.0 + random.unit() };
     let passband = if random.within(0, 4) == 0 { random.pick(&[1.0, 0.995]) } else { 0.002 + 0.998 * random.unit() };
     let at = (s, max_rate, passband);
-    number::<T>("for_max_rate", at, 0, T::build_for_max_rate(taps, phases, max_rate, passband, beta, &mut table));
+    let table = made("for_max_rate", at, T::host_table_for_max_rate(Way::any(random), taps, phases, max_rate, passband, beta));
     same("for_max_rate", at, &T::table_for_max_rate(taps, phases, max_rate, passband, beta), &table);
     2 * table.len() as u64
 }
@@ -117,6 +123,16 @@ fn refused<T: Sinc>(random: &mut Random) {
     let at = (s, max_rate, passband, length);
     number::<T>("for_max_rate", at, due, T::build_for_max_rate(s.taps, s.phases, max_rate, passband, s.beta, &mut table));
     same("a refusal", at, &before, &table);
+    // host/ lends the right length itself
+    if due == 1 {
+        for way in [Way::Strict, Way::Lenient] {
+            if !rate_only {
+                number::<T>("new of host/", (way, s), 1, T::host_table(way, s.taps, s.phases, s.cutoff, s.beta).err().unwrap_or(0));
+            }
+            let given = T::host_table_for_max_rate(way, s.taps, s.phases, max_rate, passband, s.beta);
+            number::<T>("for_max_rate of host/", (way, at), 1, given.err().unwrap_or(0));
+        }
+    }
 }
 
 fn both<T: Sinc>(context: &mut Context) {
