@@ -26,12 +26,6 @@ module _ (table : List Float) (taps phases : ℕ) (xs : List Float) (count : ℕ
   pub not-read : (v ≡ 0 → ⊥) → zero-f ≡ readOf table taps phases xs count p
   not-read = given.not-read r taps phases (length table) p
 
-  pub sampled : v ≡ 0 → answerOf 0 r ≡ answerOf v (readOf table taps phases xs count p)
-  sampled = given.sampled r taps phases (length table) p answerOf (λ k a b. refl)
-
-  pub refused-by : {n : ℕ} (z : Float) → n ≡ v → (n ≡ 0 → ⊥) → answerOf n z ≡ answerOf v (readOf table taps phases xs count p)
-  refused-by = given.refused-by r taps phases (length table) p answerOf (λ k a b. refl)
-
   -- a reader's own tests say the same
   pub read-in-range : tapsOk taps && phasesOk phases ≡ true → eqb (length table) (tableLength taps phases) ≡ true → positionOk p ≡ true → readOf table taps phases xs count p ≡ r
   read-in-range = given.read-in-range r taps phases (length table) p

@@ -1,17 +1,17 @@
--- The whole part of a float, held to a top: above the top it is the top, between 0 and the top the library's cast, below 0 nothing. Assumes nothing.
+-- The whole part of a float, held to a top: above the top it is the top, between 0 and the top its floor, below 0 nothing. Assumes nothing.
 use mathlib.Core.Path.{_≡_, refl, sym, _∙_, ap, subst}
 use mathlib.Core.Bool.{Bool, true, false, true≢false}
 use Prim.Native.Nat.{ℕ, _+_, _*_, _/_, _^_, _<_, _≤_}
 use native.Mathlib.Nat.{mul-one, mul-comm, mul-right-comm, mul-le-mul-right, le-of-mul-le-mul-right, lt-of-mul-lt-mul-right, le-trans, le-of-lt, min-eq-left, min-eq-right, min-le-right, zero-div, div-le-of-le-mul, le-div-iff-mul-le}
 use native.Mathlib.Omega.{arith}
-use borrow.Author.Tests.{ltb-true, ltb-false, lt-ltb}
-use denote.Floats.{passes}
-use lib.Dec.{T, lit≤}
+use borrow.Author.Tests.{ltb-true, ltb-false}
+use lib.Dec.{lit≤}
 use lib.IntN.{pos}
-use lib.Ieee.{Float, nan, inf, fin, up, down, lt, toUnsigned}
+use lib.Ieee.{Float, nan, inf, fin, up, down, lt}
 use lib.Ieee.Fits.{down-pos}
 use lib.Ieee.Exact.{HasValue}
 use Rattle.answer.specs.Answers.{zero-f}
+use Rattle.integer_part.specs.Parts.{floorOf}
 use Rattle.sinc_read.specs.Phases.{cutTo}
 
 no : {A : Type 0} → _≡_ {A = Bool} true false → A
@@ -41,26 +41,15 @@ under top (fin false m e) (fin false n d) v p h =
     (ap (λ (z : ℕ). z * down e) (sym (mul-one (n * up d)) ∙ v .1) ∙ mul-right-comm top (down d) (down e))
     (ltb-true (m * up e * down d) (n * up d * down e) h))
 
--- what the cast asks
-pub asks : (top : ℕ) (x : Float) → top ≤ 2 ^ 53 → Under top x → T (lt (fin true 1 (pos 0)) x) × T (lt x (fin false 1 (pos 64)))
-unfolding lt
-asks top nan l u = absurd u
-asks top (inf s) l u = absurd u
-asks top (fin true m e) l u = absurd u
-asks top (fin false m e) l u =
-    let g : top * down e ≤ 2 ^ 53 * down e = mul-le-mul-right (down e) l in (
-      passes _ (lt-ltb 0 (1 * 1 * down e + m * up e * 1) (omega (arith, down-pos e))),
-      passes _ (lt-ltb (m * up e * 1) (1 * 2 ^ 64 * down e) (omega (arith, down-pos e))),
-    )
-
-pub exact : (top : ℕ) (x : Float) → top ≤ 2 ^ 53 → Under top x → toUnsigned 64 x ≡ cutTo top x
-unfolding toUnsigned cutTo
-exact top nan l u = absurd u
-exact top (inf s) l u = absurd u
-exact top (fin true m e) l u = absurd u
-exact top (fin false m e) l u =
+-- and its floor is the cut
+pub whole : (top : ℕ) (x : Float) → top ≤ 2 ^ 53 → Under top x → floorOf x ≡ pos (cutTo top x)
+unfolding floorOf cutTo
+whole top nan l u = absurd u
+whole top (inf s) l u = absurd u
+whole top (fin true m e) l u = absurd u
+whole top (fin false m e) l u =
     let q : m * up e / down e ≤ top = div-le-of-le-mul (down e) (subst (λ (z : ℕ). m * up e ≤ z) (mul-comm top (down e)) (le-of-lt u)) in
-    min-eq-left (le-trans q (le-trans l (lit≤ tt))) ∙ sym (min-eq-left q)
+    ap pos (min-eq-left (le-trans q (le-trans l (lit≤ tt))) ∙ sym (min-eq-left q))
 
 pub over : (top : ℕ) (x y : Float) → HasValue y false top 1 → lt zero-f x ≡ true → lt x y ≡ false → top ≡ cutTo top x
 unfolding lt cutTo

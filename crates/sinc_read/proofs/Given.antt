@@ -33,15 +33,3 @@ module _ (r : Float) (taps phases len : ℕ) (p : Float) where
   -- a reader's own tests say the same
   pub read-in-range : tapsOk taps && phasesOk phases ≡ true → eqb len (tableLength taps phases) ≡ true → positionOk p ≡ true → given ≡ r
   read-in-range a b c = rw (a, b, c)
-
-  -- an answer of either width: a refusal's has no sample in it
-  module _ {A : Type 0} (answer : ℕ → Float → A) (alone : (k : ℕ) (a b : Float) → answer (suc k) a ≡ answer (suc k) b) where
-    pub sampled : v ≡ 0 → answer 0 r ≡ answer v given
-    sampled h = ap (answer 0) (read-is h) ∙ ap (λ (n : ℕ). answer n given) (sym h)
-
-    pub refused-by : {n : ℕ} (z : Float) → n ≡ v → (n ≡ 0 → ⊥) → answer n z ≡ answer v given
-    refused-by {n} z e h = refused n h ∙ ap (λ (n : ℕ). answer n given) e
-      where
-        refused : (n : ℕ) → (n ≡ 0 → ⊥) → answer n z ≡ answer n given
-        refused zero h = absurd (h refl)
-        refused (suc k) h = alone k z given

@@ -75,9 +75,8 @@ pub fn sample<'a>(
     ensures { λ r. ⌜ r ≡ answerOf (sampleVerdict taps phases (length (now (table .entry))) position) (readOf (now (table .entry)) taps phases (now (source .entry)) count position) ⌝ }
 {
     let no = refusal(taps, phases, table.len(), position);
-    if no == 0 {
-        answer::answered(0, at(table, taps, phases, source, count, position))
-    } else {
-        answer::answered(no, 0.0)
-    }
+    answer::answered(
+        no,
+        read(table, taps, phases, source, count, position),
+    )
 }

@@ -14,8 +14,8 @@ fn cut_to(x: f64, top: u64) -> u64
     ensures { λ r. ⌜ r ≡ cutTo top x ⌝ }
 {
     if x > 0.0 {
-        if x < std::num::nearest_u64_to_f64(top) {
-            std::num::truncating_f64_to_u64(x)
+        if x < (top as f64) {
+            integer_part::floor(x) as u64
         } else {
             top
         }
@@ -40,11 +40,11 @@ pub fn phase_at(position: f64, phases: usize) -> Phase
     ensures { λ r. ⌜ r ≡ phaseAt position phases ⌝ }
 {
     if phases_in_range(position, phases) {
-        let x = integer_part::fraction(position) * std::num::nearest_u64_to_f64(phases as u64);
+        let x = integer_part::fraction(position) * (phases as f64);
         let phase = cut_to(x, (phases - 1) as u64);
         Phase {
             phase: phase as usize,
-            blend: x - std::num::nearest_u64_to_f64(phase),
+            blend: x - ((phase as i64) as f64),
         }
     } else {
         Phase {

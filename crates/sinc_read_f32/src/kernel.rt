@@ -63,9 +63,8 @@ pub fn sample<'a>(
     ensures { λ r. ⌜ r ≡ answerF32Of (sampleVerdict taps phases (length (now (table .entry))) position) (readOf (now (table .entry)) taps phases (now (source .entry)) count position) ⌝ }
 {
     let no = sinc_read::refusal(taps, phases, table.len(), position);
-    if no == 0 {
-        answer::answered_f32(0, at(table, taps, phases, source, count, position))
-    } else {
-        answer::answered_f32(no, 0.0)
-    }
+    answer::answered_f32(
+        no,
+        read(table, taps, phases, source, count, position),
+    )
 }

@@ -1,4 +1,6 @@
 // 000's VariableDelayF32: variable_delay over a ring of f32. The state and what opening answers are variable_delay's; the delay and the position stay f64.
+mod served; // a call of which nothing is to be refused
+
 ghost use mathlib.Core.Path.{_≡_};
 ghost use mathlib.Core.Bool.{_&&_};
 ghost use lib.ListN.{length};
@@ -50,7 +52,7 @@ pub fn reset(state: VariableDelay, ring: &mut [f32]) -> Opened
     })
 }
 
-// The refusal that is due, in 01's order, and 0 for none.
+// The refusal that is due, in 01's order, and 0 for none. A common call is told by fewer tests than the order has.
 pub fn refusal(
     state: VariableDelay,
     own: bool,
@@ -61,6 +63,9 @@ pub fn refusal(
 ) -> u8
     ensures { λ r. ⌜ r ≡ verdict own lent state len input delay ⌝ }
 {
+    if served::served(state, own, lent, len, input, delay) {
+        return 0;
+    }
     let n = state.accepted;
     let length = ring::length_for(state.maximum, state.margin);
     let t1 = both(length != 0, own);

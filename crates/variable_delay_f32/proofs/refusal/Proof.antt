@@ -1,6 +1,6 @@
--- `variable_delay_f32::refusal` meets its contract: each test is the definition's, the first two by `settled`. Assumes nothing.
+-- `variable_delay_f32::refusal` meets its contract: a common call is refused nothing; else each test is the definition's, the first two by `settled`. Assumes nothing.
 use borrow.Author.Needs.{needs}
-use mathlib.Core.Path.{refl}
+use mathlib.Core.Path.{refl, sym}
 use mathlib.Core.Bool.{Bool, true, false, _&&_}
 use Prim.Native.Nat.{_^_}
 use lib.Dec.{leb, ltb}
@@ -11,6 +11,12 @@ use Rattle.answer.specs.Refusals.{firstOf}
 use Rattle.variable_delay.proofs.Settings.{settled}
 use Rattle.variable_delay_f32.proofs.refusal.Statement.{statement}
 use Rattle.variable_delay_f32.proofs.refusal.Tie as tie
+
+served-requires : tie.Need-served-requires
+served-requires c κs = search needs
+
+returns : tie.Need-returns
+returns c = sym (c .before .served .ensures (c .if1 .taken))
 
 length-for-requires : tie.Need-length-for-requires
 length-for-requires c κs = search needs
@@ -33,11 +39,11 @@ both-requires-3 c κs = search needs
 first-requires : tie.Need-first-requires
 first-requires c κs = search needs
 
-returns : tie.Need-returns
+returns-2 : tie.Need-returns-2
 unfolding ofBits
-returns c =
+returns-2 c =
     let f = c .before .before .before .before .before .before in
-    let a = f .before .args in
+    let a = f .before .before .before .args in
     let s = a .state in
     rw (
       c .first .ensures,
@@ -57,6 +63,8 @@ pub refusal-spec : {M : Type 1} → statement M
 refusal-spec =
     tie.close
     (tie.spec
+    served-requires
+    returns
     length-for-requires
     both-requires
     both-requires-2
@@ -64,4 +72,4 @@ refusal-spec =
     is-finite-requires
     both-requires-3
     first-requires
-    returns)
+    returns-2)

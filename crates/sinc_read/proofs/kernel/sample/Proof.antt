@@ -1,37 +1,19 @@
--- `sinc_read::kernel::sample` meets its contract, by the refusal that is due. Assumes nothing.
+-- `sinc_read::kernel::sample` meets its contract: the refusal that is due, and what `read` gives. Assumes nothing.
 use borrow.Author.Needs.{needs}
-use mathlib.Core.Path.{sym, _∙_, ap}
-use denote.Ref.{now}
-use Rattle.answer.specs.Answers.{answerOf}
-use Rattle.sinc_read.proofs.Answered.{sampled, refused-by}
 use Rattle.sinc_read.proofs.kernel.sample.Statement.{statement}
 use Rattle.sinc_read.proofs.kernel.sample.Tie as tie
 
 refusal-requires : tie.Need-refusal-requires
 refusal-requires c κs = search needs
 
-at-requires : tie.Need-at-requires
-at-requires c κs = search needs
+read-requires : tie.Need-read-requires
+read-requires c κs = search needs
 
 answered-requires : tie.Need-answered-requires
 answered-requires c κs = search needs
 
-answered-requires-2 : tie.Need-answered-requires-2
-answered-requires-2 c κs = search needs
-
 returns : tie.Need-returns
-returns c =
-    let i = c .before .before in
-    let a = i .before .before .before .before .args in
-    c .answered .ensures
-    ∙ ap (answerOf 0) (c .before .at .ensures)
-    ∙ sampled (now (a .table)) (a .taps) (a .phases) (now (a .source)) (a .count) (a .position) (sym (i .before .refusal .ensures) ∙ i .if1 .taken)
-
-returns-2 : tie.Need-returns-2
-returns-2 c =
-    let i = c .before in
-    let a = i .before .before .before .before .args in
-    c .answered2 .ensures ∙ refused-by (now (a .table)) (a .taps) (a .phases) (now (a .source)) (a .count) (a .position) _ (i .before .refusal .ensures) (i .if1 .left)
+returns c = rw (c .answered .ensures, c .before .before .refusal .ensures, c .before .read .ensures)
 
 pub sample-spec : {M : Type 1} → statement M
-sample-spec = tie.close (tie.spec refusal-requires at-requires answered-requires answered-requires-2 returns returns-2)
+sample-spec = tie.close (tie.spec refusal-requires read-requires answered-requires returns)

@@ -1,0 +1,36 @@
+-- Where the tests of a common call pass, nothing is to be refused: each of 01's is among them, or follows. Assumes nothing.
+use mathlib.Core.Path.{_≡_, refl, sym, _∙_, ap}
+use mathlib.Core.Bool.{Bool, true, false, cond}
+use Prim.Native.Nat.{ℕ, _^_, _<_}
+use native.Mathlib.Omega.{arith}
+use borrow.Author.Tests.{eqb-true, le-leb, lt-ltb}
+use denote.Floats.{passes}
+use lib.Dec.{eqb}
+use lib.IntN.{pos}
+use lib.Ieee.{Float, fin, le}
+use lib.Ieee.Bits.{is-true}
+use lib.Ieee.Scale.{finite}
+use Rattle.interval.proofs.Between.{between}
+use Rattle.ring.specs.Length.{settingsOk, lengthFor}
+use Rattle.variable_delay.specs.Reader.{verdict}
+use Rattle.variable_delay.specs.declared.VariableDelay.{VariableDelay}
+
+-- a ring that is not empty and has the length that `length_for` gives
+pub fitting : (maximum margin len n : ℕ) → n ≡ cond (settingsOk maximum margin) (lengthFor maximum margin) 0 → (len ≡ 0 → ⊥) → eqb len n ≡ true
+    → (settingsOk maximum margin ≡ true) × (eqb len (lengthFor maximum margin) ≡ true)
+fitting maximum margin len n e some h = go (settingsOk maximum margin) refl
+  where
+    go : (b : Bool) → settingsOk maximum margin ≡ b → (settingsOk maximum margin ≡ true) × (eqb len (lengthFor maximum margin) ≡ true)
+    go true s = (s, ap (eqb len) (sym (e ∙ ap (λ (b : Bool). cond b (lengthFor maximum margin) 0) s)) ∙ h)
+    go false s = absurd (some (eqb-true len n h ∙ e ∙ ap (λ (b : Bool). cond b (lengthFor maximum margin) 0) s))
+
+-- a delay from 0 to 2^36 is finite
+pub delay-finite : (y : Float) → le (fin false 0 (pos 0)) y ≡ true → le y (fin false 1 (pos 36)) ≡ true → finite y ≡ true
+delay-finite y a b = is-true (finite y) (between {low = fin false 0 (pos 0)} {high = fin false 1 (pos 36)} tt tt (passes _ a) (passes _ b) .above .second)
+
+pub none-due : (own lent : Bool) (d : VariableDelay) (len : ℕ) (x y : Float) (n : ℕ) → own ≡ true → lent ≡ true → d .accepted < 2 ^ 36
+    → le (fin false 0 (pos 0)) y ≡ true → le y (fin false 1 (pos 36)) ≡ true → finite x ≡ true → (len ≡ 0 → ⊥)
+    → n ≡ cond (settingsOk (d .maximum) (d .margin)) (lengthFor (d .maximum) (d .margin)) 0 → eqb len n ≡ true → verdict own lent d len x y ≡ 0
+none-due own lent d len x y n o l room a b f some e h =
+    let s = fitting (d .maximum) (d .margin) len n e some h in
+    rw (s .0, o, s .1, l, le-leb (d .accepted) (2 ^ 36) (omega arith), f, delay-finite y a b, a, b, lt-ltb (d .accepted) (2 ^ 36) room)

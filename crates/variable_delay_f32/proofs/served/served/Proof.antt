@@ -1,0 +1,64 @@
+-- `variable_delay_f32::served::served` meets its contract: the tests that it makes leave no refusal, by `Passing`. Assumes nothing.
+use borrow.Author.Needs.{needs}
+use mathlib.Core.Path.{sym, _∙_}
+use mathlib.Core.Bool.{false≢true}
+use lib.Ieee.{ofBits}
+use Rattle.variable_delay_f32.proofs.Passing.{none-due}
+use Rattle.variable_delay_f32.proofs.served.served.Statement.{statement}
+use Rattle.variable_delay_f32.proofs.served.served.Tie as tie
+
+is-finite-f32-requires : tie.Need-is-finite-f32-requires
+is-finite-f32-requires c κs = search needs
+
+length-for-requires : tie.Need-length-for-requires
+length-for-requires c κs = search needs
+
+returns : tie.Need-returns
+unfolding ofBits
+returns c =
+    let some = c .before in
+    let input = some .before in
+    let below = input .before .before in
+    let above = below .before in
+    let room = above .before in
+    let lent = room .before .before in
+    let own = lent .before in
+    let a = own .before .args in
+    λ h. none-due (a .own) (a .lent) (a .state) (a .len) (a .input) (a .delay) (c .length-for .result) (own .if1 .taken) (lent .if2 .taken) (room .if3 .taken) (above .if4 .taken) (below .if5 .taken)
+    (sym (input .before .is-finite-f32 .ensures) ∙ input .if6 .taken) (some .if7 .taken) (c .length-for .ensures) h
+
+returns-2 : tie.Need-returns-2
+returns-2 c = λ h. absurd (false≢true h)
+
+returns-3 : tie.Need-returns-3
+returns-3 c = λ h. absurd (false≢true h)
+
+returns-4 : tie.Need-returns-4
+returns-4 c = λ h. absurd (false≢true h)
+
+returns-5 : tie.Need-returns-5
+returns-5 c = λ h. absurd (false≢true h)
+
+returns-6 : tie.Need-returns-6
+returns-6 c = λ h. absurd (false≢true h)
+
+returns-7 : tie.Need-returns-7
+returns-7 c = λ h. absurd (false≢true h)
+
+returns-8 : tie.Need-returns-8
+returns-8 c = λ h. absurd (false≢true h)
+
+pub served-spec : {M : Type 1} → statement M
+served-spec =
+    tie.close
+    (tie.spec
+    is-finite-f32-requires
+    length-for-requires
+    returns
+    returns-2
+    returns-3
+    returns-4
+    returns-5
+    returns-6
+    returns-7
+    returns-8)

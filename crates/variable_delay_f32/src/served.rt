@@ -1,0 +1,34 @@
+// The tests of a common call, which passes them all: each leads away at once, and none of them picks a number.
+ghost use mathlib.Core.Path.{_≡_};
+ghost use mathlib.Core.Bool.{true};
+ghost use Rattle.variable_delay.specs.Reader.{verdict};
+use variable_delay::VariableDelay;
+
+// Whether nothing is to be refused. A delay between two finite numbers is finite; a ring that is empty has no settings.
+pub(crate) fn served(
+    state: VariableDelay,
+    own: bool,
+    lent: bool,
+    len: usize,
+    input: f32,
+    delay: f64,
+) -> bool
+    ensures { λ r. ⌜ (r ≡ true → verdict own lent state len input delay ≡ 0) ⌝ }
+{
+    if own {
+        if lent {
+            if state.accepted < 68719476736 {
+                if delay >= 0.0 {
+                    if delay <= 68719476736.0 {
+                        if magnitude::is_finite_f32(input) {
+                            if len != 0 {
+                                return len == ring::length_for(state.maximum, state.margin);
+                            }
+                        }
+                    }
+                }
+            }
+        }
+    }
+    false
+}
