@@ -17,4 +17,5 @@ pub mod Products
 pub mod Mirror
 pub mod Comparing
 pub mod Nearest
+pub mod Ties
 pub mod Fusing

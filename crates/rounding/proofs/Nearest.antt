@@ -46,11 +46,11 @@ module _ (f : Format) (num den : ℕ) (D : 0 < den) where
   near : (v : ℕ) → (q < v → n * 2 ≤ (q + v) * (den * 2 ^ k)) × (v < q → (q + v) * (den * 2 ^ k) ≤ n * 2)
   near v = beside n (den * 2 ^ k) q v (closest-near n (den * 2 ^ k) (mul-pos D (pow-pos k)))
 
-  both : (v : ℕ) → (q * 2 ^ k + v * 2 ^ k) * den ≡ (q + v) * (den * 2 ^ k)
+  pub both : (v : ℕ) → (q * 2 ^ k + v * 2 ^ k) * den ≡ (q + v) * (den * 2 ^ k)
   both v = ap (λ (x : ℕ). x * den) (sym (add-mul q v (2 ^ k))) ∙ mul-assoc (q + v) (2 ^ k) den ∙ ap (λ (x : ℕ). (q + v) * x) (mul-comm (2 ^ k) den)
 
   -- below the least number of as many digits
-  least : 0 < k → (q + hid f) * (den * 2 ^ k) ≤ n * 2
+  pub least : 0 < k → (q + hid f) * (den * 2 ^ k) ≤ n * 2
   least K = elim (eq-or-lt-of-le (kept-ge (prec f) n den (prec-pos f) K)) [
     | inl e ↦
         let P = prec-pos f in
@@ -61,7 +61,7 @@ module _ (f : Format) (num den : ℕ) (D : 0 < den) where
     | inr l ↦ near (hid f) .1 l
   ]
 
-  on-grid : (y j : ℕ) → y < 2 ^ prec f → ((v : ℕ) × (y * 2 ^ j ≡ v * 2 ^ k)) ⊎ ((0 < k) × (y * 2 ^ j < hid f * 2 ^ k))
+  pub on-grid : (y j : ℕ) → y < 2 ^ prec f → ((v : ℕ) × (y * 2 ^ j ≡ v * 2 ^ k)) ⊎ ((0 < k) × (y * 2 ^ j < hid f * 2 ^ k))
   on-grid y j h =
       let P = prec-pos f in
       dite (decLe k j)
@@ -87,18 +87,20 @@ value-one (inf u) s t a b c p q = absurd p
 value-one (fin u m e) s t a b c p q = eq-of-mul-eq-mul-right (down e) (down-pos e) a b (sym (p .1) ∙ q .1)
 
 -- a value of the format is a number of at most prec digits, at some place
-few-digits : (f : Format) (y : Float) (Y : ℕ) → T (fits f y) → HasValue y false Y (2 ^ low f) → (w : ℕ) × (j : ℕ) × (Y ≡ w * 2 ^ j) × (w < 2 ^ prec f)
+pub few-digits : (f : Format) (y : Float) (Y : ℕ) → T (fits f y) → HasValue y false Y (2 ^ low f) → (w : ℕ) × (j : ℕ) × (Y ≡ w * 2 ^ j) × (w < 2 ^ prec f)
 few-digits f nan Y h v = absurd v
 few-digits f (inf t) Y h v = absurd v
 few-digits f (fin t m e) Y h v =
     let z = fits-units f t m e h in
     (m, z .0, value-one (fin t m e) false t Y (m * 2 ^ (z .0)) (2 ^ low f) v (z .1), z .2)
 
+-- a finite result, in units of the smallest value
+pub rounded-grid : (f : Format) (num den R : ℕ) → HasValue (round f false num den) false R (2 ^ low f) → R ≡ grid f num den
+rounded-grid f num den R r =
+    let x = round f false num den in
+    value-one x false false R (grid f num den) (2 ^ low f) r (round-val f num den (round-under f num den (value-finite x false R (2 ^ low f) r)))
+
 -- In units of the smallest value the result is R and any other value Y: the fraction lies on R's side of their middle.
 pub round-nearest : (f : Format) (num den R Y : ℕ) (y : Float) → 0 < den → HasValue (round f false num den) false R (2 ^ low f) → T (fits f y) → HasValue y false Y (2 ^ low f)
     → (R < Y → num * 2 ^ low f * 2 ≤ (R + Y) * den) × (Y < R → (R + Y) * den ≤ num * 2 ^ low f * 2)
-round-nearest f num den R Y y D r held v =
-    let z = few-digits f y Y held v in
-    let x = round f false num den in
-    let e : R ≡ grid f num den = value-one x false false R (grid f num den) (2 ^ low f) r (round-val f num den (round-under f num den (value-finite x false R (2 ^ low f) r))) in
-    rw e (grid-nearest f num den D Y (z .0) (z .1) (z .2) (z .3))
+round-nearest f num den R Y y D r held v = let z = few-digits f y Y held v in rw (rounded-grid f num den R r) (grid-nearest f num den D Y (z .0) (z .1) (z .2) (z .3))
