@@ -5,20 +5,14 @@ mod quality; // a change of quality, and its two words
 mod sets; // a bank's sets, and the choice's two words
 mod slice; // a slice of samples, and Draft's reading of it
 
-ghost use Prim.Native.Nat.{_≤_};
-ghost use lib.ListN.{length};
 use libc::STDIN_FILENO;
 use libc::STDOUT_FILENO;
 use patterns::float_of;
 use quality_fade::Fade;
 use quality_mode::QualityMode;
+use replay_lines::Line;
+use replay_lines::line_of;
 use word_bytes::hex16;
-use word_bytes::word_at;
-
-// A line that is read has 53 bytes, and the line that answers it 34. A block is 512 lines.
-const LINE: usize = 53;
-
-const BLOCK: usize = 27136;
 
 // The two words that answer a line.
 struct Words {
@@ -35,7 +29,7 @@ struct Turn {
 // No answer of the original looks like a refusal.
 fn refused(no: u8) -> Words {
     Words {
-        first: 0xffff_ffff_ffff_ff00 + no as u64,
+        first: replay_lines::refused(no),
         second: 0,
     }
 }
@@ -67,84 +61,41 @@ fn call(before: Fade, source: &mut [f32], letter: u8, a: u64, b: u64, c: u64) ->
     }
 }
 
-fn first(line: &[u8]) -> u8 {
-    if 0 < line.len() { line[0] } else { 0 }
+struct Heard {
+    whole: bool,
+    line: Line,
 }
 
-fn replay(before: Fade, source: &mut [f32], line: &[u8]) -> Turn {
-    let letter = first(line);
-    let a = word_at(line, 2);
-    let b = word_at(line, 19);
-    let c = word_at(line, 36);
-    call(before, source, letter, a, b, c)
-}
-
-fn put_turn(out: &mut [u8], at: usize, one: u64, two: u64) -> usize
-    ensures { λ r. ⌜ r ≤ length (now (out .entry)) ⌝ }
-{
-    let digits = hex16(one);
-    let more = hex16(two);
-    let blank = text::put(out, at, &digits);
-    let next = text::put(out, blank, b" ");
-    let end = text::put(out, next, &more);
-    text::put(out, end, b"\n")
-}
-
-// The change of quality after the lines of a block, and where their answers end.
-struct Replayed {
-    fade: Fade,
-    length: usize,
-}
-
-// The answers to the whole lines of a block.
-fn put_block(start: Fade, source: &mut [f32], block: &[u8], out: &mut [u8]) -> Replayed
-    ensures { λ r. ⌜ r .length ≤ length (now (out .entry)) ⌝ }
-{
-    let mut fade = start;
-    let mut to: usize = 0;
-    let mut at: usize = 0;
-    while LINE <= block.len() - at {
-        let end = at + LINE;
-        let t = replay(fade, source, &block[at..end]);
-        fade = t.fade;
-        to = put_turn(out, to, t.words.first, t.words.second);
-        at = end;
-    }
-    Replayed {
-        fade: fade,
-        length: to,
+// The next 53 bytes, where there are so many.
+fn hear() -> Heard {
+    let mut text = [0u8; 53];
+    let n = io::read_full(STDIN_FILENO, &mut text);
+    Heard {
+        whole: n == 53,
+        line: line_of(&text),
     }
 }
 
-struct More {
-    fade: Fade,
-    more: bool,
+fn say(first: u64, second: u64) {
+    io::write_all(STDOUT_FILENO, &hex16(first));
+    io::write_all(STDOUT_FILENO, b" ");
+    io::write_all(STDOUT_FILENO, &hex16(second));
+    io::write_all(STDOUT_FILENO, b"\n");
 }
 
-// One block: whether more is to come.
-fn some(start: Fade, source: &mut [f32]) -> More {
-    let mut block = [0u8; BLOCK];
-    let mut out = [0u8; 17408];
-    let n = io::read_full(STDIN_FILENO, &mut block);
-    let d = put_block(start, source, &block[..n], &mut out);
-    let m = d.length;
-    let taken = io::write_all(STDOUT_FILENO, &out[..m]);
-    let after = d.fade;
-    More {
-        fade: after,
-        more: if taken { n == BLOCK } else { false },
-    }
-}
-
-// Block after block: as many as a u64 counts, which no input outlasts.
+// Line after line: as many as a u64 counts, which no input outlasts.
 fn run(source: &mut [f32]) {
     let mut fade = quality_fade::open(QualityMode::Draft, 0);
-    let mut more = true;
+    let mut heard = hear();
+    let mut more = heard.whole;
     let mut turns = u64::MAX;
     while turns > 0 && more {
-        let t = some(fade, source);
+        let line = heard.line;
+        let t = call(fade, source, line.letter, line.a, line.b, line.c);
         fade = t.fade;
-        more = t.more;
+        say(t.words.first, t.words.second);
+        heard = hear();
+        more = heard.whole;
         turns -= 1;
     }
 }

@@ -1,9 +1,9 @@
 // A slice of samples that the lines fill, and Draft's reading of it: nothing lies outside of it, whatever a line brings.
-ghost use Prim.Native.Nat.{_≤_};
 use super::Words;
 use super::refused;
 use patterns::bits_of_f32;
 use patterns::float_of_f32;
+use replay_lines::within;
 
 // Puts a sample at a place.
 pub fn put(source: &mut [f32], place: u64, bits: u32) -> Words {
@@ -18,15 +18,9 @@ pub fn put(source: &mut [f32], place: u64, bits: u32) -> Words {
     }
 }
 
-fn at_most(n: u64, room: usize) -> usize
-    ensures { λ r. ⌜ r ≤ room ⌝ }
-{
-    if n < room as u64 { n as usize } else { room }
-}
-
 // 000's cubic_sample_f32 over the first places of the slice, as many as the line says.
 pub fn draft(source: &[f32], count: u64, position: f64, places: u64) -> Words {
-    let end = at_most(places, source.len());
+    let end = within(places as usize, source.len());
     Words {
         first: bits_of_f32(cubic_farrow_f32::read(&source[..end], count, position)) as u64,
         second: end as u64,

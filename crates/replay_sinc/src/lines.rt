@@ -1,9 +1,10 @@
-// A line of standard input, which is a letter and three words of sixteen hex digits, one of standard output, which is two such words, and what is kept between two lines.
+// A line of standard input and one of standard output, which is two words of sixteen hex digits, and what is kept between two lines.
 use libc::STDIN_FILENO;
 use libc::STDOUT_FILENO;
+use replay_lines::Line;
+use replay_lines::line_of;
 use variable_delay::VariableDelay;
 use word_bytes::hex16;
-use word_bytes::word_at;
 
 // The settings of the tables that are built or read next, and the reader.
 pub struct Player {
@@ -17,24 +18,18 @@ pub struct Shape {
     pub beta: f64,
 }
 
-pub struct Line {
+pub struct Heard {
     pub whole: bool,
-    pub letter: u8,
-    pub a: u64,
-    pub b: u64,
-    pub c: u64,
+    pub line: Line,
 }
 
 // The next 53 bytes, where there are so many.
-pub fn hear() -> Line {
+pub fn hear() -> Heard {
     let mut text = [0u8; 53];
     let n = io::read_full(STDIN_FILENO, &mut text);
-    Line {
+    Heard {
         whole: n == 53,
-        letter: text[0],
-        a: word_at(&text, 2),
-        b: word_at(&text, 19),
-        c: word_at(&text, 36),
+        line: line_of(&text),
     }
 }
 

@@ -1,14 +1,16 @@
 // O5. Replays a stored list of the original's answers: tables of its WindowedSinc and WindowedSincF32, and runs of VariableDelay and VariableDelayF32 over them.
 // A line is answered by a line, and after a table is built its elements follow, a line for each (docs/ORACLE.md has the letters); oracle/src/lists/sinc.rs makes the
 // list. A trailing part of a line is ignored.
+mod elements; // the elements of the tables, set and written
 mod lines; // a line that is read, one that is written, and what is kept between
 mod readers; // a reader of either width
-mod tables; // a table of either width, built, set and written
+mod tables; // a table of either width, built
+mod turns; // what a reader answers, and what it leaves
 
-use lines::Line;
 use lines::Player;
 use lines::Shape;
 use lines::hear;
+use replay_lines::Line;
 use variable_delay::VariableDelay;
 
 // Whom a letter concerns: the tables, a reader of f32, or one of f64.
@@ -52,13 +54,14 @@ fn run(ring: &mut [f64], ring_f32: &mut [f32], table: &mut [f64], table_f32: &mu
             accepted: 0,
         },
     };
-    let mut line = hear();
-    let mut more = line.whole;
+    let mut heard = hear();
+    let mut more = heard.whole;
     let mut turns = u64::MAX;
     while turns > 0 && more {
+        let line = heard.line;
         player = replay(player, ring, ring_f32, table, table_f32, line);
-        line = hear();
-        more = line.whole;
+        heard = hear();
+        more = heard.whole;
         turns -= 1;
     }
 }

@@ -1,66 +1,17 @@
 // A reader of either width, over the parts of its ring and its table that the settings take.
 ghost use Prim.Native.Nat.{_≤_};
-use crate::lines::Line;
+use crate::elements::single;
 use crate::lines::Player;
 use crate::lines::Shape;
-use crate::lines::say;
 use crate::tables::part;
-use crate::tables::refused;
-use crate::tables::single;
-use answer::Answer;
-use answer::AnswerF32;
-use patterns::bits_of;
-use patterns::bits_of_f32;
+use crate::turns::Turn;
+use crate::turns::answered;
+use crate::turns::pattern;
+use crate::turns::pattern_f32;
+use crate::turns::started;
 use patterns::float_of;
-use variable_delay::Opened;
+use replay_lines::Line;
 use variable_delay::VariableDelay;
-
-struct Turn {
-    state: VariableDelay,
-    answer: u64,
-}
-
-// What a reader answers, and the accepted number afterwards.
-fn answered(shape: Shape, turn: Turn) -> Player {
-    let state = turn.state;
-    say(turn.answer, state.accepted);
-    Player { shape, state }
-}
-
-// O4. Where the original answers 0.0 and does not advance (4, 5) so does this.
-fn silent(no: u8) -> u64 {
-    match no {
-        4 | 5 => 0,
-        _ => refused(no),
-    }
-}
-
-fn pattern(answer: Answer) -> u64 {
-    match answer {
-        Answer::Sample(y) => bits_of(y),
-        Answer::Refused(no) => silent(no),
-    }
-}
-
-fn pattern_f32(answer: AnswerF32) -> u64 {
-    match answer {
-        AnswerF32::Sample(y) => bits_of_f32(y) as u64,
-        AnswerF32::Refused(no) => silent(no),
-    }
-}
-
-fn started(before: VariableDelay, opened: Opened) -> Turn {
-    match opened {
-        Opened::Reader(s) => Turn {
-            state: s,
-            answer: 0,
-        },
-        Opened::Refused(no) => Turn {
-            state: before,
-            answer: refused(no),
-        },
-    }
-}
 
 // How much of a room the ring of some settings takes: opening brings its own.
 fn ring_part(s: VariableDelay, opens: bool, line: Line, room: usize) -> usize
@@ -71,7 +22,7 @@ fn ring_part(s: VariableDelay, opens: bool, line: Line, room: usize) -> usize
     } else {
         ring::length_for(s.maximum, s.margin)
     };
-    if need < room { need } else { room }
+    replay_lines::within(need, room)
 }
 
 fn process<'a>(

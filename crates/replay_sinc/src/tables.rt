@@ -1,19 +1,16 @@
-// The tables of both widths: built from the same settings, or set element by element, and written as patterns.
+// The tables of both widths, built from the same settings.
 ghost use Prim.Native.Nat.{_≤_};
-use crate::lines::Line;
+use crate::elements::set;
+use crate::elements::write;
 use crate::lines::Player;
 use crate::lines::Shape;
 use crate::lines::say;
 use patterns::bits_of;
-use patterns::bits_of_f32;
 use patterns::float_of;
-use patterns::float_of_f32;
+use replay_lines::Line;
+use replay_lines::refused;
+use replay_lines::within;
 use sinc_settings::Settings;
-
-// A word's pattern of single precision: its lower half.
-pub fn single(n: u64) -> f32 {
-    float_of_f32((n % 0x1_0000_0000) as u32)
-}
 
 // `s`: the taps, the phases and beta of what follows.
 fn shaped(before: Player, line: Line) -> Player {
@@ -40,12 +37,7 @@ pub fn part(taps: usize, phases: usize, room: usize) -> usize
         return room;
     }
     let need = (phases + 1) * taps;
-    if need < room { need } else { room }
-}
-
-// A refusal is no answer of the original's, nor looks like one.
-pub fn refused(no: u8) -> u64 {
-    0xffff_ffff_ffff_ff00 + no as u64
+    within(need, room)
 }
 
 fn built(kernel: windowed_sinc::Built) -> u64 {
@@ -96,41 +88,6 @@ fn build_f32(shape: Shape, table: &mut [f32], line: Line) -> u64 {
         shape.beta,
         table,
     ))
-}
-
-fn element_f32(table: &[f32], at: usize) -> u64 {
-    if at < table.len() {
-        bits_of_f32(table[at]) as u64
-    } else {
-        0
-    }
-}
-
-fn write<'a>(table: &'a [f64], table_f32: &'a [f32]) {
-    let mut at: usize = 0;
-    while at < table.len() {
-        say(bits_of(table[at]), element_f32(table_f32, at));
-        at += 1;
-    }
-}
-
-fn put(table: &mut [f64], at: usize, x: f64) {
-    if at < table.len() {
-        table[at] = x;
-    }
-}
-
-fn put_f32(table: &mut [f32], at: usize, x: f32) {
-    if at < table.len() {
-        table[at] = x;
-    }
-}
-
-// `e`: an element of both.
-fn set(table: &mut [f64], table_f32: &mut [f32], line: Line) {
-    put(table, line.a as usize, float_of(line.b));
-    put_f32(table_f32, line.a as usize, single(line.c));
-    say(0, 0);
 }
 
 fn called(shape: Shape, table: &mut [f64], table_f32: &mut [f32], line: Line) {

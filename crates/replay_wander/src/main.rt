@@ -2,20 +2,18 @@
 // digits, answers among them, which are compared here bit for bit (docs/ORACLE.md has the letters); oracle/src/lists/wander.rs makes the list. Where a star stands
 // for the blank, a bit of the answer was changed on purpose: such a line must differ. A line that differs and has no star is named. A trailing part is ignored.
 mod calls; // the engine's calls, and what each hands out
+mod letters; // what each letter of a line asks for
 mod lines; // a line, and what it is compared with
 
 use calls::opened_first;
+use letters::Player;
 use libc::STDIN_FILENO;
 use libc::STDOUT_FILENO;
-use lines::Player;
 use lines::Verdict;
 use lines::heard;
 use modulation::default_params;
-
-// A line has 53 bytes, a block 512 lines.
-const LINE: usize = 53;
-
-const BLOCK: usize = 27136;
+use replay_lines::Line;
+use replay_lines::line_of;
 
 // How many lines were read, how many of them had an answer, without and with a star, and how many of those differ.
 struct Seen {
@@ -40,7 +38,7 @@ fn one_more(n: u64, by: bool) -> u64 {
     n
 }
 
-fn line(text: &[u8], n: u64) {
+fn tell(text: &[u8], n: u64) {
     io::write_all(STDOUT_FILENO, text);
     io::print_decimal(STDOUT_FILENO, n);
     io::write_all(STDOUT_FILENO, b"\n");
@@ -59,13 +57,13 @@ fn counted(before: Seen, verdict: Verdict) -> Seen {
     }
 }
 
-fn replay(before: Course, text: &[u8]) -> Course {
+fn replay(before: Course, line: Line) -> Course {
     let player = before.player;
     let seen = before.seen;
-    let verdict = heard(player, text);
+    let verdict = heard(player, line);
     let after = counted(seen, verdict);
     if after.different != seen.different {
-        line(b"differs: line ", after.lines);
+        tell(b"differs: line ", after.lines);
     }
     let player = verdict.player;
     Course {
@@ -74,42 +72,32 @@ fn replay(before: Course, text: &[u8]) -> Course {
     }
 }
 
-// The whole lines of a block.
-fn replay_block(start: Course, block: &[u8]) -> Course {
-    let mut r = start;
-    let mut at: usize = 0;
-    while LINE <= block.len() - at {
-        let end = at + LINE;
-        r = replay(r, &block[at..end]);
-        at = end;
-    }
-    r
+struct Heard {
+    whole: bool,
+    line: Line,
 }
 
-struct More {
-    course: Course,
-    more: bool,
-}
-
-// One block: whether more is to come.
-fn some(start: Course) -> More {
-    let mut block = [0u8; BLOCK];
-    let n = io::read_full(STDIN_FILENO, &mut block);
-    More {
-        course: replay_block(start, &block[..n]),
-        more: n == BLOCK,
+// The next 53 bytes, where there are so many.
+fn hear() -> Heard {
+    let mut text = [0u8; 53];
+    let n = io::read_full(STDIN_FILENO, &mut text);
+    Heard {
+        whole: n == 53,
+        line: line_of(&text),
     }
 }
 
-// Block after block: as many as a u64 counts, which no input outlasts.
+// Line after line: as many as a u64 counts, which no input outlasts.
 fn run(start: Course) -> Seen {
     let mut r = start;
-    let mut more = true;
+    let mut next = hear();
+    let mut more = next.whole;
     let mut turns = u64::MAX;
     while turns > 0 && more {
-        let t = some(r);
-        r = t.course;
-        more = t.more;
+        let line = next.line;
+        r = replay(r, line);
+        next = hear();
+        more = next.whole;
         turns -= 1;
     }
     r.seen
@@ -130,8 +118,8 @@ fn main() {
         },
     };
     let seen = run(start);
-    line(b"answers compared: ", seen.compared);
-    line(b"of these different: ", seen.different);
-    line(b"changed on purpose: ", seen.changed);
-    line(b"of these different: ", seen.noticed);
+    tell(b"answers compared: ", seen.compared);
+    tell(b"of these different: ", seen.different);
+    tell(b"changed on purpose: ", seen.changed);
+    tell(b"of these different: ", seen.noticed);
 }

@@ -6,19 +6,28 @@ use Rattle.replay_bank.proofs.run.Statement.{statement}
 use Rattle.replay_bank.proofs.run.Tie as tie
 
 abbrev Inv-loop : tie.InvT-loop
-Inv-loop source₀ fade₀ more₀ turns₀ source fade more turns = length source ≡ length source₀
+Inv-loop source₀ fade₀ heard₀ more₀ turns₀ source fade heard more turns = length source ≡ length source₀
 
 abbrev μ-loop : tie.MeasureT-loop
-μ-loop source₀ fade₀ more₀ turns₀ source fade more turns = turns
+μ-loop source₀ fade₀ heard₀ more₀ turns₀ source fade heard more turns = turns
 
 open-requires : tie.Need-open-requires Inv-loop μ-loop
 open-requires c κs = search needs
 
+hear-requires : tie.Need-hear-requires Inv-loop μ-loop
+hear-requires c κs = search needs
+
 loop-holds : tie.Need-loop-holds Inv-loop μ-loop
 loop-holds c = search needs
 
-some-requires : tie.Need-some-requires Inv-loop μ-loop
-some-requires c κs = search needs
+call-requires : tie.Need-call-requires Inv-loop μ-loop
+call-requires c κs = search needs
+
+say-requires : tie.Need-say-requires Inv-loop μ-loop
+say-requires c κs = search needs
+
+hear-requires-2 : tie.Need-hear-requires-2 Inv-loop μ-loop
+hear-requires-2 c κs = search needs
 
 sub-turns : tie.Need-sub-turns Inv-loop μ-loop
 sub-turns c = search needs
@@ -48,8 +57,11 @@ run-spec =
     Inv-loop
     μ-loop
     open-requires
+    hear-requires
     loop-holds
-    some-requires
+    call-requires
+    say-requires
+    hear-requires-2
     sub-turns
     loop-less
     loop-again

@@ -6,11 +6,11 @@ use Rattle.replay_sinc.proofs.run.Statement.{statement}
 use Rattle.replay_sinc.proofs.run.Tie as tie
 
 abbrev Inv-loop : tie.InvT-loop
-Inv-loop ring₀ ring-f32₀ table₀ table-f32₀ player₀ line₀ more₀ turns₀ ring ring-f32 table table-f32 player line more turns =
+Inv-loop ring₀ ring-f32₀ table₀ table-f32₀ player₀ heard₀ more₀ turns₀ ring ring-f32 table table-f32 player heard more turns =
     (length ring ≡ length ring₀) × (length ring-f32 ≡ length ring-f32₀) × (length table ≡ length table₀) × (length table-f32 ≡ length table-f32₀)
 
 abbrev μ-loop : tie.MeasureT-loop
-μ-loop ring₀ ring-f32₀ table₀ table-f32₀ player₀ line₀ more₀ turns₀ ring ring-f32 table table-f32 player line more turns = turns
+μ-loop ring₀ ring-f32₀ table₀ table-f32₀ player₀ heard₀ more₀ turns₀ ring ring-f32 table table-f32 player heard more turns = turns
 
 hear-requires : tie.Need-hear-requires Inv-loop μ-loop
 hear-requires c κs = search needs

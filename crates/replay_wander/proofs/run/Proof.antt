@@ -5,16 +5,22 @@ use Rattle.replay_wander.proofs.run.Statement.{statement}
 use Rattle.replay_wander.proofs.run.Tie as tie
 
 abbrev Inv-loop : tie.InvT-loop
-Inv-loop r₀ more₀ turns₀ r more turns = turns ≡ turns
+Inv-loop r₀ next₀ more₀ turns₀ r next more turns = turns ≡ turns
 
 abbrev μ-loop : tie.MeasureT-loop
-μ-loop r₀ more₀ turns₀ r more turns = turns
+μ-loop r₀ next₀ more₀ turns₀ r next more turns = turns
+
+hear-requires : tie.Need-hear-requires Inv-loop μ-loop
+hear-requires c κs = search needs
 
 loop-holds : tie.Need-loop-holds Inv-loop μ-loop
 loop-holds c = search needs
 
-some-requires : tie.Need-some-requires Inv-loop μ-loop
-some-requires c κs = search needs
+replay-requires : tie.Need-replay-requires Inv-loop μ-loop
+replay-requires c κs = search needs
+
+hear-requires-2 : tie.Need-hear-requires-2 Inv-loop μ-loop
+hear-requires-2 c κs = search needs
 
 sub-turns : tie.Need-sub-turns Inv-loop μ-loop
 sub-turns c = search needs
@@ -31,4 +37,14 @@ returns c = search needs
 pub run-spec : {M : Type 1} → statement M
 run-spec =
     tie.close
-    (tie.spec Inv-loop μ-loop loop-holds some-requires sub-turns loop-less loop-again returns)
+    (tie.spec
+    Inv-loop
+    μ-loop
+    hear-requires
+    loop-holds
+    replay-requires
+    hear-requires-2
+    sub-turns
+    loop-less
+    loop-again
+    returns)

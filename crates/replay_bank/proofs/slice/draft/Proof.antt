@@ -5,8 +5,8 @@ use lib.Seq.{length-take-le}
 use Rattle.replay_bank.proofs.slice.draft.Statement.{statement}
 use Rattle.replay_bank.proofs.slice.draft.Tie as tie
 
-at-most-requires : tie.Need-at-most-requires
-at-most-requires c κs = search needs
+within-requires : tie.Need-within-requires
+within-requires c κs = search needs
 
 slice-aggregate-read : tie.Need-slice-aggregate-read
 slice-aggregate-read c = sym (length-take-le _ _ (search needs))
@@ -17,8 +17,8 @@ read-requires c κs = search needs
 bits-of-f32-requires : tie.Need-bits-of-f32-requires
 bits-of-f32-requires c κs = search needs
 
-cast-t11 : tie.Need-cast-t11
-cast-t11 c = search needs
+cast-t12 : tie.Need-cast-t12
+cast-t12 c = search needs
 
 returns : tie.Need-returns
 returns c = search needs
@@ -27,9 +27,9 @@ pub draft-spec : {M : Type 1} → statement M
 draft-spec =
     tie.close
     (tie.spec
-    at-most-requires
+    within-requires
     slice-aggregate-read
     read-requires
     bits-of-f32-requires
-    cast-t11
+    cast-t12
     returns)

@@ -21,11 +21,11 @@ add-need c = search needs
 mul-need : tie.Need-mul-need
 mul-need c = let a = c .before .before .args in omega (arith, short (a .taps) (a .phases) (omega (arith, c .before .if1 .left)) (omega (arith, c .if2 .left)))
 
+within-requires : tie.Need-within-requires
+within-requires c κs = search needs
+
 returns-3 : tie.Need-returns-3
 returns-3 c = search needs
 
-returns-4 : tie.Need-returns-4
-returns-4 c = search needs
-
 pub part-spec : {M : Type 1} → statement M
-part-spec = tie.close (tie.spec returns returns-2 add-need mul-need returns-3 returns-4)
+part-spec = tie.close (tie.spec returns returns-2 add-need mul-need within-requires returns-3)

@@ -1,9 +1,0 @@
--- `fugnadri_bank::codes::decode` meets its contract: both qualities are `mode`'s. Assumes nothing.
-use Rattle.fugnadri_bank.proofs.codes.decode.Statement.{statement}
-use Rattle.fugnadri_bank.proofs.codes.decode.Tie as tie
-
-returns : tie.Need-returns
-returns c = rw (c .mode2 .ensures, c .before .mode .ensures)
-
-pub decode-spec : {M : Type 1} → statement M
-decode-spec = tie.close (tie.spec (λ c κs. tt) (λ c κs. tt) returns)

@@ -1,9 +1,0 @@
--- `fugnadri_bank::codes::encode` meets its contract: both numbers are `code`'s. Assumes nothing.
-use Rattle.fugnadri_bank.proofs.codes.encode.Statement.{statement}
-use Rattle.fugnadri_bank.proofs.codes.encode.Tie as tie
-
-returns : tie.Need-returns
-returns c = rw (c .code2 .ensures, c .before .code .ensures)
-
-pub encode-spec : {M : Type 1} → statement M
-encode-spec = tie.close (tie.spec (λ c κs. tt) (λ c κs. tt) returns)

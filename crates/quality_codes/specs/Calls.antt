@@ -1,0 +1,57 @@
+-- A quality reader's call, opening and reset on plain numbers: quality_variable_delay's where every number names a quality, else refused with nothing changed. Definitions only.
+use Prim.Native.Nat.{ℕ, zero, suc}
+use mathlib.Core.Bool.{Bool, true, false, _&&_}
+use mathlib.Core.List.{List}
+use lib.ListN.{length}
+use lib.Ieee.{Float}
+use Rattle.answer.specs.Answers.{numberF32Of, valueF32Of, zero-f}
+use Rattle.quality_variable_delay.specs.declared.ProcessedQ.{ProcessedQ}
+use Rattle.quality_variable_delay.specs.declared.Opened.{Opened}
+use Rattle.quality_variable_delay.specs.declared.Opened.the-variants.{Reader, Refused}
+use Rattle.quality_variable_delay.specs.Bank.{dueOf, processed, ringLeft}
+use Rattle.quality_variable_delay.specs.Opening.{resetVerdict, resetOf, ringReset}
+use Rattle.quality_codes.specs.declared.Coded.{Coded}
+use Rattle.quality_codes.specs.declared.Called.{Called}
+use Rattle.quality_codes.specs.Codes.{modeOf, codeOk, decoded, coded, fieldsOk, oddNumber}
+
+abbrev pub pickCalled : Bool → Called → Called → Called
+pickCalled true a b = a
+pickCalled false a b = b
+
+abbrev pub pickRing : Bool → List Float → List Float → List Float
+pickRing true a b = a
+pickRing false a b = b
+
+abbrev pub refusedBy : ℕ → Coded → Called
+refusedBy number s = record { state = s; number = number; sample = zero-f }
+
+abbrev pub takenApart : ProcessedQ → Called
+takenApart p = record { state = coded (p .state); number = numberF32Of (p .answer); sample = valueF32Of (p .answer) }
+
+-- process_sample_rate_aware
+abbrev pub calledOf : List Float → Float → Coded → List Float → Float → Float → ℕ → Float → Called
+calledOf sets top s xs x y q rate =
+    pickCalled (codeOk q && fieldsOk s) (takenApart (processed sets top (decoded s) xs x y (modeOf q) rate))
+    (refusedBy (oddNumber (codeOk q) (dueOf (length sets) top (decoded s) (length xs) x y rate)) s)
+
+abbrev pub ringCalled : List Float → Float → Coded → List Float → Float → Float → ℕ → Float → List Float
+ringCalled sets top s xs x y q rate = pickRing (codeOk q && fieldsOk s) (ringLeft sets top (decoded s) xs x y rate) xs
+
+-- reset, which asks for no quality; opening resets a state that has accepted nothing and holds its one quality, whose number is an argument
+abbrev pub openedApart : Coded → Opened → Called
+openedApart s (Reader d) = record { state = coded d; number = 0; sample = zero-f }
+openedApart s (Refused k) = record { state = s; number = k; sample = zero-f }
+
+abbrev pub renewedOf : Bool → Coded → ℕ → Called
+renewedOf asked s len = pickCalled (asked && fieldsOk s) (openedApart s (resetOf (decoded s) len)) (refusedBy (oddNumber asked (resetVerdict (decoded s) len)) s)
+
+abbrev pub ringRenewed : Bool → Coded → List Float → List Float
+ringRenewed asked s xs = pickRing (asked && fieldsOk s) (ringReset (decoded s) xs) xs
+
+-- Opening: a state that has accepted nothing and holds its one quality. What stood where the opened state is to stand is kept by a refusal.
+abbrev pub freshOf : ℕ → ℕ → ℕ → ℕ → Coded
+freshOf maximum margin quality crossfade = record { maximum = maximum; margin = margin; accepted = 0; current = quality; target = quality; place = crossfade; crossfade = crossfade }
+
+abbrev pub unlessRefused : ℕ → ℕ → ℕ → ℕ
+unlessRefused zero before after = after
+unlessRefused (suc k) before after = before

@@ -1,0 +1,52 @@
+-- N1, N3. A quality as its number, and a reader's state as plain numbers. A number above 3 names no quality: one that is asked for is an argument, refused by 1; one
+-- of a state is a field, refused by 3, after 1 and 2. Definitions only.
+use Prim.Native.Nat.{ℕ}
+use mathlib.Core.Bool.{Bool, true, false, _&&_, cond}
+use lib.Dec.{leb}
+use Rattle.quality_mode.specs.declared.QualityMode.{QualityMode}
+use Rattle.quality_mode.specs.declared.QualityMode.the-variants.{Draft, Normal, Hq, Ultra}
+use Rattle.quality_mode.specs.Quality.{codeOf}
+use Rattle.quality_variable_delay.specs.declared.QualityVariableDelayF32.{QualityVariableDelayF32}
+use Rattle.quality_codes.specs.declared.Coded.{Coded}
+
+abbrev pub pickMode : Bool → QualityMode → QualityMode → QualityMode
+pickMode true a b = a
+pickMode false a b = b
+
+abbrev pub modeOf : ℕ → QualityMode
+modeOf code = pickMode (leb code 0) Draft (pickMode (leb code 1) Normal (pickMode (leb code 2) Hq Ultra))
+
+abbrev pub codeOk : ℕ → Bool
+codeOk code = leb code 3
+
+abbrev pub decoded : Coded → QualityVariableDelayF32
+decoded s = record {
+  maximum = s .maximum;
+  margin = s .margin;
+  accepted = s .accepted;
+  «current_quality» = modeOf (s .current);
+  «target_quality» = modeOf (s .target);
+  «crossfade_position» = s .place;
+  «crossfade_samples» = s .crossfade;
+}
+
+abbrev pub coded : QualityVariableDelayF32 → Coded
+coded d = record {
+  maximum = d .maximum;
+  margin = d .margin;
+  accepted = d .accepted;
+  current = codeOf (d .«current_quality»);
+  target = codeOf (d .«target_quality»);
+  place = d .«crossfade_position»;
+  crossfade = d .«crossfade_samples»;
+}
+
+abbrev pub stateOf : ℕ → ℕ → ℕ → ℕ → ℕ → ℕ → ℕ → Coded
+stateOf maximum margin accepted current target place crossfade = record { maximum = maximum; margin = margin; accepted = accepted; current = current; target = target; place = place; crossfade = crossfade }
+
+abbrev pub fieldsOk : Coded → Bool
+fieldsOk s = codeOk (s .current) && codeOk (s .target)
+
+-- the refusal where some number names no quality; v is the one that is due else
+abbrev pub oddNumber : Bool → ℕ → ℕ
+oddNumber asked v = cond asked (cond (leb 1 v && leb v 2) v 3) 1

@@ -1,0 +1,65 @@
+// A quality as its number, and a quality reader's state as plain numbers.
+ghost use mathlib.Core.Path.{_≡_};
+ghost use mathlib.Core.Bool.{_&&_};
+ghost use Rattle.quality_codes.specs.Codes.{pickMode, modeOf, decoded, coded, fieldsOk};
+use super::Coded;
+use quality_mode::QualityMode;
+use quality_variable_delay::QualityVariableDelayF32;
+
+fn picked(test: bool, a: QualityMode, b: QualityMode) -> QualityMode
+    ensures { λ r. ⌜ r ≡ pickMode test a b ⌝ }
+{
+    if test { a } else { b }
+}
+
+pub fn mode(code: u8) -> QualityMode
+    ensures { λ r. ⌜ r ≡ modeOf code ⌝ }
+{
+    let upper = picked(code <= 2, QualityMode::Hq, QualityMode::Ultra);
+    let upper = picked(code <= 1, QualityMode::Normal, upper);
+    picked(code <= 0, QualityMode::Draft, upper)
+}
+
+pub fn decode(s: Coded) -> QualityVariableDelayF32
+    ensures { λ r. ⌜ r ≡ decoded s ⌝ }
+{
+    let current = mode(s.current);
+    let target = mode(s.target);
+    QualityVariableDelayF32 {
+        maximum: s.maximum,
+        margin: s.margin,
+        accepted: s.accepted,
+        current_quality: current,
+        target_quality: target,
+        crossfade_position: s.place,
+        crossfade_samples: s.crossfade,
+    }
+}
+
+pub fn encode(d: QualityVariableDelayF32) -> Coded
+    ensures { λ r. ⌜ r ≡ coded d ⌝ }
+{
+    let current = d.current_quality;
+    let target = d.target_quality;
+    Coded {
+        maximum: d.maximum,
+        margin: d.margin,
+        accepted: d.accepted,
+        current: quality_mode::code(current),
+        target: quality_mode::code(target),
+        place: d.crossfade_position,
+        crossfade: d.crossfade_samples,
+    }
+}
+
+pub fn both(a: bool, b: bool) -> bool
+    ensures { λ r. ⌜ r ≡ (a && b) ⌝ }
+{
+    if a { b } else { false }
+}
+
+pub fn fields_ok(s: Coded) -> bool
+    ensures { λ r. ⌜ r ≡ fieldsOk s ⌝ }
+{
+    both(s.current <= 3, s.target <= 3)
+}
