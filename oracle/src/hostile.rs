@@ -13,15 +13,18 @@ mod hostile {
     pub mod memory;
     pub mod numbers;
     pub mod outside;
+    pub mod pool;
     pub mod readers;
+    pub mod shapes;
     pub mod tables;
     pub mod tally;
     pub mod turn;
+    pub mod value;
     pub mod wander;
     pub mod watch;
 }
 
-use hostile::{bank, memory::Memory, numbers, outside, readers, tables, tally::Tally, turn::Turn, wander, watch};
+use hostile::{bank, numbers, outside, pool::Memory, readers, tables, tally::Tally, turn::Turn, wander, watch};
 use std::sync::atomic::Ordering::Relaxed;
 use std::time::{Duration, Instant};
 

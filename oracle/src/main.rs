@@ -15,6 +15,7 @@ mod hosts;
 mod inputs;
 mod kernels;
 mod pair;
+mod qualities;
 mod random;
 mod shape;
 mod sinc;

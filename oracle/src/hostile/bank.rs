@@ -1,8 +1,10 @@
 //! The bank, and the reader whose quality may change. The sets that it reads lie in memory that cannot be written.
 
 use super::{
-    memory::{Lent, SET, SETS},
-    readers::{left, Shape},
+    memory::Lent,
+    pool::{SET, SETS},
+    readers::left,
+    shapes::Shape,
     tables::built,
     turn::Turn,
 };

@@ -98,44 +98,4 @@ impl Random {
             _ => low + self.word() % (high - low + 1),
         }
     }
-
-    /// A length that is mostly `right`, with what lies beside it.
-    pub fn length(&mut self, right: usize, most: usize) -> usize {
-        match self.word() % 32 {
-            0 => self.pick(&[0, 1, right.wrapping_sub(1), right + 1, right / 2, right * 2, 3]).min(most),
-            1 => (self.word() % 100) as usize,
-            _ => right,
-        }
-    }
-
-    /// A sample of a recording, or anything.
-    pub fn sample(&mut self) -> f64 {
-        match self.word() % 16 {
-            0 => self.float(),
-            1 => self.pick(&[f64::MAX, -f64::MAX, 1e308, 5e-324, 0.0, -0.0]),
-            _ => 2.0 * self.unit() - 1.0,
-        }
-    }
-
-    /// A delay about a ring of this length, or anything.
-    pub fn delay(&mut self, length: usize) -> f64 {
-        let whole = (self.word() % (length as u64 + 4)) as f64;
-        match self.word() % 16 {
-            0 => self.float(),
-            1 => self.pick(&[END, END.next_up(), END.next_down(), -5e-324, 1e-300, f64::NAN, f64::INFINITY]),
-            2 | 3 => self.pick(&[whole, whole.next_up(), whole.next_down(), 0.0, -0.0]),
-            _ => self.unit() * (length as f64 + 4.0),
-        }
-    }
-
-    /// A position about a slice of this length, or anything.
-    pub fn position(&mut self, length: usize) -> f64 {
-        let whole = (self.word() % (length as u64 + 8)) as f64 - 4.0;
-        match self.word() % 16 {
-            0 => self.float(),
-            1 => self.pick(&[END, END.next_up(), -END, -END.next_up(), END - 0.5, 1e-300, -1e-300]),
-            2 | 3 => self.pick(&[whole, whole.next_up(), whole.next_down()]),
-            _ => whole + self.unit(),
-        }
-    }
 }

@@ -1,6 +1,6 @@
 //! The number functions: they refuse nothing. Where a pattern is handed out, a NaN is the one pattern.
 
-use super::turn::{Turn, Value};
+use super::{turn::Turn, value::Value};
 use crate::Export;
 use boundary as b;
 

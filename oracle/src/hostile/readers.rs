@@ -1,10 +1,6 @@
 //! The delay readers without a table, and their kernels over slices.
 
-use super::{
-    draw::END,
-    memory::Lent,
-    turn::{Turn, Value},
-};
+use super::{memory::Lent, shapes::Shape, turn::Turn, value::Value};
 use crate::{random::Random, Export};
 use boundary::{self as b, Reader, Width};
 use std::mem::ManuallyDrop;
@@ -25,47 +21,6 @@ pub const EXPORTS: &[Export] = &[
     ("fugnadri_farrow8_sample", |t| sample(t, |s, count, at, _, v: &mut f64| b::farrow8_sample(s, count, at, v))),
     ("fugnadri_farrow8_sample_bits", |t| sample(t, |s, count, at, _, v: &mut u64| b::farrow8_sample_bits(s, count, at, v))),
 ];
-
-/// A reader's numbers and its ring's length: mostly those of an open reader, or one of them is anything.
-#[derive(Clone, Copy)]
-pub struct Shape {
-    pub maximum: usize,
-    pub margin: usize,
-    pub accepted: u64,
-    pub length: usize,
-}
-
-impl Random {
-    pub fn shape(&mut self) -> Shape {
-        // a long ring costs its length at each call, so it is seldom lent
-        let most = match self.word() % (1 << 20) {
-            0 => 24,
-            1..=63 => 16,
-            64..=8191 => 12,
-            _ => 6,
-        };
-        let right = 1usize << (3 + self.word() % (most - 2));
-        let least = if right == 8 { 8 } else { right / 2 + 1 };
-        let need = least + (self.word() % (right - least + 1) as u64) as usize;
-        let margin = (self.word() % ((need as u64 - 8) / 2 + 1)) as usize;
-        let accepted = match self.word() % 8 {
-            0 => END as u64 - self.word() % 3,
-            1 => END as u64 - self.word() % (2 * right as u64),
-            2 => self.word() >> 28,
-            _ => self.word() % (3 * right as u64),
-        };
-        let mut shape = Shape { maximum: need - 8 - 2 * margin, margin, accepted, length: self.length(right, 1 << 24) };
-        match self.word() % 64 {
-            0 => shape.maximum = self.pick(&[(1 << 24) - 8, (1 << 24) - 7, 1 << 24, usize::MAX, usize::MAX - 7]),
-            1 => shape.maximum = self.whole() as usize,
-            2 => shape.margin = self.whole() as usize,
-            3 => shape.accepted = self.pick(&[END as u64 + 1, u64::MAX, 1 << 63, END as u64 + 2]),
-            4 => shape.accepted = self.whole(),
-            _ => {}
-        }
-        shape
-    }
-}
 
 /// What a call of a reader leaves: one sample more, or everything as it was.
 pub fn left<T: Copy>(t: &Turn, number: u8, ring: &Lent<T>, before: u64, after: u64, input: T) {
@@ -122,17 +77,4 @@ fn sample<V: Value>(t: &mut Turn, call: impl FnOnce(&[f64], u64, f64, u64, &mut 
     let number = t.value(|_, v| call(source.slice(), count, position, taps, v));
     t.hold(source.kept(), "the source has changed");
     number
-}
-
-impl Random {
-    /// A slice's length, of any kind, and the count that goes with it: its length, or anything.
-    pub fn source(&mut self) -> (usize, u64) {
-        let length = match self.word() % 64 {
-            0 => self.word() % 60000,
-            1..=31 => 1 << (self.word() % 8),
-            _ => self.word() % 100,
-        };
-        let count = if self.one_in(2) { length } else { self.whole() };
-        (length as usize, count)
-    }
 }

@@ -2,8 +2,10 @@
 
 use super::{
     memory::Lent,
-    readers::{left, opened, Shape},
-    turn::{Turn, Value},
+    readers::{left, opened},
+    shapes::Shape,
+    turn::Turn,
+    value::Value,
 };
 use crate::{random::Random, Export};
 use boundary::Width;

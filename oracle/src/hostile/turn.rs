@@ -1,6 +1,6 @@
 //! One call: its generator, and what it is held to.
 
-use super::{memory::Memory, watch};
+use super::{pool::Memory, value::Value, watch};
 use crate::random::Random;
 
 pub struct Turn<'a> {
@@ -51,89 +51,3 @@ impl<'a> Turn<'a> {
         number
     }
 }
-
-/// What is handed out through a pointer: a float, or a pattern.
-pub trait Value: Copy {
-    fn of(word: u64) -> Self;
-    fn bits(self) -> u64;
-    /// A pattern of a NaN other than the one that is handed out.
-    fn odd(self) -> bool {
-        false
-    }
-    /// The bits, and the same for every NaN that is a float.
-    fn alike(self) -> u64 {
-        self.bits()
-    }
-}
-
-impl Value for f64 {
-    fn of(word: u64) -> Self {
-        f64::from_bits(word)
-    }
-    fn bits(self) -> u64 {
-        self.to_bits()
-    }
-    fn alike(self) -> u64 {
-        if self.is_nan() {
-            1
-        } else {
-            self.to_bits()
-        }
-    }
-}
-
-impl Value for f32 {
-    fn of(word: u64) -> Self {
-        f32::from_bits(word as u32)
-    }
-    fn bits(self) -> u64 {
-        self.to_bits().into()
-    }
-    fn alike(self) -> u64 {
-        if self.is_nan() {
-            1
-        } else {
-            self.to_bits().into()
-        }
-    }
-}
-
-impl Value for u64 {
-    fn of(word: u64) -> Self {
-        word
-    }
-    fn bits(self) -> u64 {
-        self
-    }
-    fn odd(self) -> bool {
-        f64::from_bits(self).is_nan() && self != 0x7FF8_0000_0000_0000
-    }
-}
-
-impl Value for u32 {
-    fn of(word: u64) -> Self {
-        word as u32
-    }
-    fn bits(self) -> u64 {
-        self.into()
-    }
-    fn odd(self) -> bool {
-        f32::from_bits(self).is_nan() && self != 0x7FC0_0000
-    }
-}
-
-/// A whole number, a place or a code, which hands out no pattern.
-macro_rules! whole {
-    ($($of:ty),*) => {
-        $(impl Value for $of {
-            fn of(word: u64) -> Self {
-                word as $of
-            }
-            fn bits(self) -> u64 {
-                self as u64
-            }
-        })*
-    };
-}
-
-whole!(i64, usize, u8);

@@ -6,15 +6,13 @@
 use crate::banks::{self, Bank};
 use crate::context::Context;
 use crate::delays::{self, END};
-use crate::hosts::{asked, caught, told};
+use crate::qualities::{Call, Port, HOSTS};
 use crate::random::Random;
 use crate::shape::bits32;
 use host::{compare::QualityReader, lenient, strict};
-use std::convert::identity;
 use wow_dsp::{QualityMode, QualityVariableDelayF32};
 
 const MODES: [QualityMode; 4] = [QualityMode::Draft, QualityMode::Normal, QualityMode::Hq, QualityMode::Ultra];
-const HOSTS: [host::QualityMode; 4] = [host::QualityMode::Draft, host::QualityMode::Normal, host::QualityMode::Hq, host::QualityMode::Ultra];
 
 struct Session {
     bank: &'static Bank,
@@ -22,49 +20,6 @@ struct Session {
     port: Box<dyn Port>,
     elements: u64,
 }
-
-struct Call {
-    input: f32,
-    delay: f64,
-    quality: u8,
-    /// None asks at the bank's own rate.
-    rate: Option<f64>,
-}
-
-/// A quality reader of host/.
-trait Port {
-    fn process(&mut self, call: &Call) -> (u8, f32);
-    fn reset(&mut self);
-    fn state(&mut self) -> &mut QualityReader;
-    /// The number that it tells where this one is due, and the name of its way.
-    fn tells(&self, number: u8) -> (u8, &'static str);
-}
-
-macro_rules! port {
-    ($way:ident, $given:ident, $tells:expr) => {
-        impl Port for $way::QualityVariableDelayF32 {
-            fn process(&mut self, call: &Call) -> (u8, f32) {
-                let quality = HOSTS[call.quality as usize];
-                $given(|| match call.rate {
-                    None => self.process_sample(call.input, call.delay, quality),
-                    Some(rate) => self.process_sample_rate_aware(call.input, call.delay, quality, rate),
-                })
-            }
-            fn reset(&mut self) {
-                $way::QualityVariableDelayF32::reset(self)
-            }
-            fn state(&mut self) -> &mut QualityReader {
-                $way::QualityVariableDelayF32::state(self)
-            }
-            fn tells(&self, number: u8) -> (u8, &'static str) {
-                ($tells(number), stringify!($way))
-            }
-        }
-    };
-}
-
-port!(strict, asked, identity);
-port!(lenient, caught, told);
 
 fn code(mode: QualityMode) -> u8 {
     MODES.iter().position(|m| *m == mode).unwrap() as u8

@@ -1,0 +1,51 @@
+//! The reader whose quality may change, by host/ in both ways.
+
+use crate::hosts::{asked, caught, told};
+use host::{compare::QualityReader, lenient, strict};
+use std::convert::identity;
+
+pub const HOSTS: [host::QualityMode; 4] = [host::QualityMode::Draft, host::QualityMode::Normal, host::QualityMode::Hq, host::QualityMode::Ultra];
+
+/// A call of it.
+pub struct Call {
+    pub input: f32,
+    pub delay: f64,
+    pub quality: u8,
+    /// None asks at the bank's own rate.
+    pub rate: Option<f64>,
+}
+
+/// A quality reader of host/.
+pub trait Port {
+    fn process(&mut self, call: &Call) -> (u8, f32);
+    fn reset(&mut self);
+    fn state(&mut self) -> &mut QualityReader;
+    /// The number that it tells where this one is due, and the name of its way.
+    fn tells(&self, number: u8) -> (u8, &'static str);
+}
+
+macro_rules! port {
+    ($way:ident, $given:ident, $tells:expr) => {
+        impl Port for $way::QualityVariableDelayF32 {
+            fn process(&mut self, call: &Call) -> (u8, f32) {
+                let quality = HOSTS[call.quality as usize];
+                $given(|| match call.rate {
+                    None => self.process_sample(call.input, call.delay, quality),
+                    Some(rate) => self.process_sample_rate_aware(call.input, call.delay, quality, rate),
+                })
+            }
+            fn reset(&mut self) {
+                $way::QualityVariableDelayF32::reset(self)
+            }
+            fn state(&mut self) -> &mut QualityReader {
+                $way::QualityVariableDelayF32::state(self)
+            }
+            fn tells(&self, number: u8) -> (u8, &'static str) {
+                ($tells(number), stringify!($way))
+            }
+        }
+    };
+}
+
+port!(strict, asked, identity);
+port!(lenient, caught, told);
