@@ -4,7 +4,7 @@ ghost use lib.ListN.{length};
 ghost use Rattle.render_samples.specs.Start.{openedOf, ringOpened, tableOpened};
 use crate::Opened;
 use crate::Rendering;
-use modulation::ModulationEngine;
+use modulation_engine::ModulationEngine;
 use sinc_settings::Settings;
 
 // Refuses by 2, or opens the reader over a ring of 1024, writes the table of 65 rows of 32, and makes the engine: seed 1, at 48000 Hz. The maximum delay 1016 and
@@ -34,7 +34,7 @@ pub fn open(ring: &mut [f32], table: &mut [f32]) -> Opened
     ) else {
         return Opened::Refused(1);
     };
-    let modulation::Opened::Engine(engine) = ModulationEngine::new(48000.0, 1) else {
+    let modulation_engine::Opened::Engine(engine) = ModulationEngine::new(48000.0, 1) else {
         return Opened::Refused(1);
     };
     Opened::Started(Rendering {

@@ -10,7 +10,7 @@ use libc::STDOUT_FILENO;
 use lines::Player;
 use lines::Verdict;
 use lines::heard;
-use modulation::default_params;
+use modulation_params::default_params;
 
 // A line has 53 bytes, a block 512 lines.
 const LINE: usize = 53;
