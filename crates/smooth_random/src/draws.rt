@@ -21,11 +21,11 @@ impl SmoothRandom {
     pub fn random_segment_rate_scale(mut self) -> Drawn
         ensures { λ r. ⌜ r ≡ scaleDrawn self ⌝ }
     {
-        let x = xorshift::step(self.state);
-        self.state = x;
+        let y = xorshift::step(self.state);
+        self.state = y;
         Drawn {
             random: self,
-            value: xorshift::scale(x),
+            value: xorshift::scale(y),
         }
     }
 }
