@@ -5,7 +5,7 @@ ghost use lib.Dec.{T};
 ghost use lib.Ieee as Ieee;
 ghost use Rattle.elementary.specs.Horner.{sineNear, cosineNear, powerNear};
 ghost use Rattle.elementary.specs.Reduction.{pick};
-ghost use Rattle.elementary.specs.Answers.{atMost, sineAt, cosineAt, powerAt, sineOf, cosineOf, exp2Of};
+ghost use Rattle.elementary.specs.Answers.{orZero, atMost, sineAt, cosineAt, powerAt, sineOf, cosineOf, exp2Of};
 ghost use Rattle.elementary.specs.Close.{SineClose, CosineClose, PowerClose, Each};
 ghost use Rattle.elementary.specs.Steps.{Guess, Rest, Settled};
 
@@ -213,4 +213,18 @@ pub fn exp2(x: f64) -> Answer
     } else {
         Answer::Refused(1)
     }
+}
+
+// The cosine as a number, handed back in a register, 0.0 where it is refused: for a caller whose arguments are in range.
+pub fn cosine_or_zero(x: f64) -> f64
+    ensures { λ r. ⌜ r ≡ orZero (cosineOf x) ⌝ }
+{
+    if inside(x, 256.0) { cosine_at(x) } else { 0.0 }
+}
+
+// The power of two in the same way.
+pub fn exp2_or_zero(x: f64) -> f64
+    ensures { λ r. ⌜ r ≡ orZero (exp2Of x) ⌝ }
+{
+    if inside(x, 1.0) { power_at(x) } else { 0.0 }
 }

@@ -1,27 +1,20 @@
 // 001's functions on floats alone, for every float: an engine that has tested its settings once calls these.
 ghost use mathlib.Core.Path.{_≡_};
 ghost use Rattle.waves.specs.Waves.{cos, pow2, speedDelta, advancePhase, shapePrimitive, amplitudeOf};
-use elementary::Answer;
 use oscillator_ranges::TAU;
 
 // f64::cos, and 0.0 where that is refused: no phase from -51 to 51 makes it so.
 fn cosine(x: f64) -> f64
     ensures { λ r. ⌜ r ≡ cos x ⌝ }
 {
-    match elementary::cosine(x) {
-        Answer::Value(v) => v,
-        Answer::Refused(_) => 0.0,
-    }
+    elementary::cosine_or_zero(x)
 }
 
 // 2.0_f64.powf, and 0.0 where that is refused: nothing from -1 to 1 makes it so.
 pub fn power_of_two(x: f64) -> f64
     ensures { λ r. ⌜ r ≡ pow2 x ⌝ }
 {
-    match elementary::exp2(x) {
-        Answer::Value(v) => v,
-        Answer::Refused(_) => 0.0,
-    }
+    elementary::exp2_or_zero(x)
 }
 
 pub fn speed_delta(depth_cents: f64) -> f64
