@@ -1,14 +1,18 @@
--- The quick guess: x times the rounded 1 / H, plus 256.5, cut to a whole number j, has |x - (j - 256) * H| ≤ 8/10. What is cut lies within 1/2 of j + 1/2; the
--- rest is two roundings and the constant's own error. Assumes nothing.
-use mathlib.Core.Path.{_≡_, subst}
-use mathlib.Core.Bool.{true, false}
-use Prim.Native.Nat.{ℕ, _+_, _-_, _*_, _/_, _^_, _≤_, _<_}
-use native.Mathlib.Nat.{mul-pos, mul-comm, le-trans, min-eq-left, div-mul-le-self, lt-mul-div-succ}
+-- The quick guess: x times the rounded 1 / H, plus 2 ^ 52 + 256, is a whole number 2 ^ 52 + j, whose pattern ends in j, and |x - (j - 256) * H| ≤ 8/10: from 2 ^ 52 on
+-- the sum's rounding is to the nearest whole number. The rest is the product's rounding and the constant's own error. Assumes nothing.
+use mathlib.Core.Path.{_≡_, refl, sym, _∙_, subst}
+use mathlib.Core.Bool.{true, false, not}
+use Prim.Native.Nat.{ℕ, suc, _+_, _-_, _*_, _^_, _≤_, _<_}
+use native.Mathlib.Nat.{mul-pos, mul-one, zero-add, pow-suc}
 use native.Mathlib.Omega.{arith}
 use lib.IntN.{pos, negsuc}
-use lib.Dec.{T, lt→ltb, lit≤, lit<}
-use lib.Ieee.{Float, nan, inf, fin, binary64, up, down, add, mul, lt, toUnsigned}
-use lib.Ieee.Fits.{down-pos}
+use lib.Dec.{T, lit≤, lit<}
+use lib.Pow.{pow-pos}
+use lib.Ieee.{Float, nan, inf, fin, binary64, up, down, add, mul, fits, isNan, toBits}
+use lib.Ieee.Fits.{down-pos, add-fits}
+use lib.Ieee.Exact.{HasValue}
+use Rattle.rounding.proofs.Values.{fits-parts}
+use Rattle.rounding.proofs.Units.{bits-units}
 use Rattle.fraction.specs.Fraction.{Frac, frac, nil, plus, times, Same, Within, Mag}
 use Rattle.fraction.specs.Value.{val, Rounds}
 use Rattle.fraction.proofs.Same.{sums, same-refl, same-sym, plus-comm, times-comm, times-one}
@@ -21,8 +25,9 @@ use Rattle.elementary.specs.Answers.{atMost}
 use Rattle.elementary.specs.Steps.{inverse, Guess}
 use Rattle.elementary.proofs.Squares.{at-most-finite, at-most-mag}
 
+-- 2 ^ 52 + 256
 abbrev middle : Float
-middle = fin false 513 (negsuc 0)
+middle = fin false 17592186044417 (pos 8)
 
 abbrev pub shifted : Float → Float
 shifted x = add binary64 (mul binary64 x inverse) middle
@@ -38,15 +43,15 @@ module _ (x : Float) (h : T (atMost 256 x)) where
       small : Within 100000 63662 (val inverse) nil
       small = omega arith
 
-  placed : Rounds u 2 (shifted x) (plus (val middle) (times (val x) (val inverse)))
+  placed : Rounds u (2 ^ 29 + 1) (shifted x) (plus (val middle) (times (val x) (val inverse)))
   placed =
       let i = is-val x (at-most-finite 256 x h) in
       let m = quotient-mag in
       let p : Rounds u 1 (mul binary64 x inverse) (times (val x) (val inverse)) = mul-approx binary64 1 0 8 tt i (at-most-mag 256 x h) (is-near u (is-val inverse tt)) (same-refl (m .left)) m (lit≤ tt) in
-      add-approx binary64 1 0 9 tt p (is-near u (is-val middle tt)) (plus-comm (times (val x) (val inverse)) (val middle) (m .left) (lit< tt)) (within-plus large m) (lit≤ tt)
+      add-approx binary64 (2 ^ 29) 0 53 tt p (is-near u (is-val middle tt)) (plus-comm (times (val x) (val inverse)) (val middle) (m .left) (lit< tt)) (within-plus large m) (lit≤ tt)
     where
-      large : Within u (257 * u) (val middle) nil
-      large = omega arith
+      large : Within u ((2 ^ 52 + 256) * u) (val middle) nil
+      large = record { left = lit< tt; right = lit< tt; above = lit≤ tt; below = lit≤ tt }
 
 -- ---- from there to the guess
 few : (j : ℕ) {X : Frac} → Mag 256 X → Within 10 8 X (times (frac j 256 1) H) → (1 ≤ j) × (j ≤ 511)
@@ -64,19 +69,17 @@ rotate-core hp hn hd xp xn xd ip in' id = simp sums
 rotate : (h x i : Frac) → 0 < h .d → 0 < x .d → 0 < i .d → Same (times h (times x i)) (times x (times i h))
 rotate h x i P Q R = record { left = mul-pos P (mul-pos Q R); right = mul-pos Q (mul-pos R P); cross = rotate-core (h .p) (h .n) (h .d) (x .p) (x .n) (x .d) (i .p) (i .n) (i .d) }
 
--- a / c, cut to j, lies within 1/2 of j + 1/2; less 256.5 that is j - 256
-cut-near : (a c j : ℕ) {t : Frac} → 0 < c → j * c ≤ a → a < (j + 1) * c → Within u 2 (frac a 0 c) (plus (val middle) t) → Within u (2 ^ 29 + 2) (frac j 256 1) t
-cut-near a c j {t} C l h w =
-    let s : Within u (2 ^ 29) (frac (j * 2 + 1) 0 2) (frac a 0 c) = omega arith in
-    from (omega arith) (to (off t (plus-right (w .right))) (within-plus (chain s w) (same-within u (same-refl {x = frac 0 513 2} (lit< tt)))))
+-- 2 ^ 52 + j less 2 ^ 52 + 256 is j - 256
+whole-near : (w j : ℕ) {t : Frac} → w ≡ 2 ^ 52 + j → Within u (2 ^ 29 + 1) (frac w 0 1) (plus (val middle) t) → Within u (2 ^ 29 + 1) (frac j 256 1) t
+whole-near w j {t} e h = from (omega (arith, e)) (to (off t (plus-right (h .right))) (within-plus h (same-within u (same-refl {x = frac 0 (2 ^ 52 + 256) 1} (lit< tt)))))
   where
-    plus-right : 0 < 2 * t .d → 0 < t .d
+    plus-right : 0 < 1 * t .d → 0 < t .d
     plus-right h = omega arith
 
-    off : (t : Frac) → 0 < t .d → Same (plus (plus (val middle) t) (frac 0 513 2)) t
+    off : (t : Frac) → 0 < t .d → Same (plus (plus (val middle) t) (frac 0 (2 ^ 52 + 256) 1)) t
     off t P = omega arith
 
-near-x : (j : ℕ) (X : Frac) → Mag 256 X → Within u (2 ^ 29 + 2) (frac j 256 1) (times X (val inverse)) → Within 10 8 X (times (frac j 256 1) H)
+near-x : (j : ℕ) (X : Frac) → Mag 256 X → Within u (2 ^ 29 + 1) (frac j 256 1) (times X (val inverse)) → Within 10 8 X (times (frac j 256 1) H)
 near-x j X m w =
     let a : Within 1000 786 (times H (frac j 256 1)) (times H (times X (val inverse))) = rescale (lit< tt) (lit≤ tt) (within-times-at H-mag w) in
     let b : Within 1000 1 (times X (times (val inverse) H)) X = rescale (lit< tt) (lit≤ tt) (to (times-one X (m .left)) (within-times m unit)) in
@@ -88,35 +91,51 @@ near-x j X m w =
     unit : Within (2 ^ 40) 1 (times (val inverse) H) (frac 1 0 1)
     unit = record { left = lit< tt; right = lit< tt; above = lit≤ tt; below = lit≤ tt }
 
-pub record Guessed (x y : Float) : Type 0 where
-  pub above : T (lt (fin true 1 (pos 0)) y)
-  pub below : T (lt y (fin false 1 (pos 64)))
-  pub guess : Guess x (toUnsigned 64 y)
+-- 1075 * 2 ^ 52, the pattern of 2 ^ 52
+abbrev pub zeroth : ℕ
+zeroth = 0x4330_0000_0000_0000
 
-cut : (x : Float) → T (atMost 256 x) → (y : Float) → Rounds u 2 y (plus (val middle) (times (val x) (val inverse))) → Within u (2 + 163 * u) (val y) (val middle) → Guessed x y
-unfolding lt toUnsigned
-cut x h nan r w = absurd (r .real)
-cut x h (inf s) r w = absurd (r .real)
-cut x h (fin true n d) r w = absurd (negative (n * up d) (down d) (down-pos d) w)
+pub record Guessed (x y : Float) : Type 0 where
+  pub number : T (not (isNan y))
+  pub enough : zeroth ≤ toBits binary64 y
+  pub guess : Guess x (toBits binary64 y - zeroth)
+
+abbrev reach : ℕ
+reach = 2 ^ 29 + 1 + 163 * u
+
+-- a whole number of 2 ^ 52 + 92 to 2 ^ 52 + 420
+placed-whole : (x : Float) → T (atMost 256 x) → (y : Float) (w j : ℕ) → w ≡ 2 ^ 52 + j → w ≤ 2 ^ 53 → T (not (isNan y)) → HasValue y false (w * 2 ^ 1074) (2 ^ 1074)
+    → Within u (2 ^ 29 + 1) (frac w 0 1) (plus (val middle) (times (val x) (val inverse))) → Guessed x y
+placed-whole x h y w j e top n v r =
+    let bits : toBits binary64 y ≡ 1074 * 2 ^ 52 + w = bits-units binary64 y false w 1074 top (λ k. omega (arith, e)) v ∙ zero-add _ in
+    let near = guess-of j x h (near-x j (val x) (at-most-mag 256 x h) (whole-near w j e r)) in
+    let is : toBits binary64 y - zeroth ≡ j = omega (arith, bits, e) in
+    record { number = n; enough = omega (arith, bits, e); guess = subst (Guess x) (sym is) near }
+
+cut : (x : Float) → T (atMost 256 x) → (y : Float) → T (fits binary64 y) → Rounds u (2 ^ 29 + 1) y (plus (val middle) (times (val x) (val inverse))) → Within u reach (val y) (val middle) → Guessed x y
+unfolding isNan
+cut x h nan f r w = absurd (r .real)
+cut x h (inf s) f r w = absurd (r .real)
+cut x h (fin true n d) f r w = absurd (negative (n * up d) (down d) (down-pos d) w)
   where
-    negative : (a c : ℕ) → 0 < c → Within u (2 + 163 * u) (frac 0 a c) (val middle) → ⊥
+    negative : (a c : ℕ) → 0 < c → Within u reach (frac 0 a c) (val middle) → ⊥
     negative a c C w = omega (arith, w .below)
-cut x h (fin false n d) r w =
-    let a = n * up d in
-    let c = down d in
-    let j = a / c in
-    let hi : a < (j + 1) * c = subst (λ (z : ℕ). a < z) (mul-comm c (j + 1)) (lt-mul-div-succ a (down-pos d)) in
-    let near = guess-of j x h (near-x j (val x) (at-most-mag 256 x h) (cut-near a c j (down-pos d) (div-mul-le-self a c) hi (r .near))) in
-    record {
-      above = lt→ltb 0 (1 * 1 * c + n * up d * 1) (omega (arith, down-pos d));
-      below = lt→ltb (n * up d * 1) (1 * 2 ^ 64 * c) (under (n * up d) c (down-pos d) w);
-      guess = rw (min-eq-left {n = j} {m = 2 ^ 64 - 1} (le-trans (near .high) (lit≤ tt))) near;
-    }
+cut x h (fin false n (negsuc k)) f r w = absurd (fine n (2 ^ k) (2 ^ suc k) (pow-suc 2 k) (pow-pos k) (fits-parts binary64 false n (negsuc k) f .0) (large (n * 1) (2 ^ suc k) (pow-pos (suc k)) w))
   where
-    under : (a c : ℕ) → 0 < c → Within u (2 + 163 * u) (frac a 0 c) (val middle) → a * 1 < 1 * 2 ^ 64 * c
-    under a c C w = let l : a < 421 * c = omega (arith, w .above) in omega arith
+    large : (a c : ℕ) → 0 < c → Within u reach (frac a 0 c) (val middle) → 2 ^ 52 * c ≤ a
+    large a c C w = omega (arith, w .below)
+
+    fine : (n b c : ℕ) → c ≡ b * 2 → 0 < b → n < 2 ^ 53 → 2 ^ 52 * c ≤ n * 1 → ⊥
+    fine n b c e B l h = omega (arith, e, B, l, h)
+cut x h (fin false n (pos k)) f r w =
+    let v = n * 2 ^ k in
+    let b = bounds v w in
+    placed-whole x h (fin false n (pos k)) v (v - 2 ^ 52) (omega (arith, b .0)) (omega (arith, b .1)) tt (refl, sym (mul-one (v * 2 ^ 1074))) (r .near)
+  where
+    bounds : (v : ℕ) → Within u reach (frac v 0 1) (val middle) → (2 ^ 52 ≤ v) × (v ≤ 2 ^ 53)
+    bounds v w = (omega (arith, w .below), omega (arith, w .above))
 
 pub guessed : (x : Float) → T (atMost 256 x) → Guessed x (shifted x)
 guessed x h =
     let r = placed x h in
-    cut x h (shifted x) r (chain (r .near) (beside (val middle) (lit< tt) (quotient-mag x h)))
+    cut x h (shifted x) (add-fits binary64 _ _) r (chain (r .near) (beside (val middle) (lit< tt) (quotient-mag x h)))

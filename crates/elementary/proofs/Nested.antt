@@ -29,16 +29,26 @@ power-pos x zero X = lit< tt
 power-pos x (suc n) X = mul-pos (power-pos x n X) X
 
 -- ---- a power spread over a step of the nest
-spread-core : (ap an ad cp cn cd zp zn zd np nn nd : ℕ) → let s = plus (frac cp cn cd) (times (frac zp zn zd) (frac np nn nd)) in let t = plus (times (frac ap an ad) (frac cp cn cd)) (times (times (frac ap an ad) (frac zp zn zd)) (frac np nn nd)) in
-    let l = times (frac ap an ad) s in l .p * t .d + t .n * l .d ≡ t .p * l .d + l .n * t .d
-spread-core ap an ad cp cn cd zp zn zd np nn nd = simp sums
+-- parts that are k times others name the same number
+same-parts : (k p n d : ℕ) {p' n' d' : ℕ} → p' ≡ k * p → n' ≡ k * n → d' ≡ k * d → p * d' + n' * d ≡ p' * d + n * d'
+same-parts k p n d e f h = rw (e, f, h) (ring-of k p n d)
+  where
+    ring-of : (k p n d : ℕ) → p * (k * d) + k * n * d ≡ k * p * d + n * (k * d)
+    ring-of k p n d = simp sums
+
+-- part by part the spread one is a's denominator times the other
+spread-core : (ap an ad cp cn cd zp zn zd np nn nd : ℕ) → let t = plus (times (frac ap an ad) (frac cp cn cd)) (times (times (frac ap an ad) (frac zp zn zd)) (frac np nn nd)) in
+    let l = times (frac ap an ad) (plus (frac cp cn cd) (times (frac zp zn zd) (frac np nn nd))) in (t .p ≡ ad * l .p) × (t .n ≡ ad * l .n) × (t .d ≡ ad * l .d)
+spread-core ap an ad cp cn cd zp zn zd np nn nd = (simp sums, simp sums, simp sums)
 
 spread : (a c z n : Frac) → 0 < a .d → 0 < c .d → 0 < z .d → 0 < n .d → Same (times a (plus c (times z n))) (plus (times a c) (times (times a z) n))
 spread a c z n A C Z N =
+    let l = times a (plus c (times z n)) in
+    let s = spread-core (a .p) (a .n) (a .d) (c .p) (c .n) (c .d) (z .p) (z .n) (z .d) (n .p) (n .n) (n .d) in
     record {
       left = mul-pos A (mul-pos C (mul-pos Z N));
       right = mul-pos (mul-pos A C) (mul-pos (mul-pos A Z) N);
-      cross = spread-core (a .p) (a .n) (a .d) (c .p) (c .n) (c .d) (z .p) (z .n) (z .d) (n .p) (n .n) (n .d);
+      cross = same-parts (a .d) (l .p) (l .n) (l .d) (s .0) (s .1) (s .2);
     }
 
 -- x ^ n / n!
@@ -56,12 +66,18 @@ rises y n zero Y = term-same y n Y
 rises y n (suc k) Y = let e : 1 + n ≡ suc n = omega arith in rw e (step y y (nested 1 y (suc n) k) n Y Y (nested-pos 1 y (suc n) k Y) (rises y (suc n) k Y))
 
 -- ---- alternating
+equal-parts : (p n d : ℕ) {p' n' d' : ℕ} → p' ≡ p → n' ≡ n → d' ≡ d → p * d' + n' * d ≡ p' * d + n * d'
+equal-parts p n d e f h = rw (e, f, h)
+
 turned-core : (pp pn pd xp xn xd tp tn td : ℕ) → let l = times (times (frac pp pn pd) (opp (times (frac xp xn xd) (frac xp xn xd)))) (frac tp tn td) in let r = opp (times (times (times (frac pp pn pd) (frac xp xn xd)) (frac xp xn xd)) (frac tp tn td)) in
-    l .p * r .d + r .n * l .d ≡ r .p * l .d + l .n * r .d
-turned-core pp pn pd xp xn xd tp tn td = simp sums
+    (r .p ≡ l .p) × (r .n ≡ l .n) × (r .d ≡ l .d)
+turned-core pp pn pd xp xn xd tp tn td = (simp sums, simp sums, simp sums)
 
 turned : (p x t : Frac) → 0 < p .d → 0 < x .d → 0 < t .d → Same (times (times p (opp (times x x))) t) (opp (times (times (times p x) x) t))
-turned p x t P X Q = record { left = mul-pos (mul-pos P (mul-pos X X)) Q; right = mul-pos (mul-pos (mul-pos P X) X) Q; cross = turned-core (p .p) (p .n) (p .d) (x .p) (x .n) (x .d) (t .p) (t .n) (t .d) }
+turned p x t P X Q =
+    let l = times (times p (opp (times x x))) t in
+    let s = turned-core (p .p) (p .n) (p .d) (x .p) (x .n) (x .d) (t .p) (t .n) (t .d) in
+    record { left = mul-pos (mul-pos P (mul-pos X X)) Q; right = mul-pos (mul-pos (mul-pos P X) X) Q; cross = equal-parts (l .p) (l .n) (l .d) (s .0) (s .1) (s .2) }
 
 pub alternates : (x : Frac) (n k : ℕ) → 0 < x .d → Same (times (power x n) (nested 2 (opp (times x x)) n k)) (alternating x n k)
 unfolding nested alternating power

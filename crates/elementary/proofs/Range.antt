@@ -5,14 +5,14 @@ use Prim.Native.Nat.{ℕ, _*_, _^_, _≤_}
 use native.Mathlib.Omega.{arith}
 use lib.IntN.{ℤ, pos}
 use lib.Dec.{leb, leb→le, le→leb}
-use lib.Ieee.{Float, nan, inf, fin, up, down, neg, le}
+use lib.Ieee.{Float, nan, inf, fin, binary64, up, down, neg, le, ofBits}
 use lib.Ieee.Fits.{and-l, and-r, and-i}
 use Rattle.rounding.proofs.Orders.{same-test}
 use Rattle.fraction.specs.Fraction.{Frac, frac}
 use Rattle.fraction.specs.Value.{signed}
 use Rattle.fraction.proofs.Compare.{side, le-is}
 use Rattle.elementary.specs.declared.Answer.the-variants.{Value, Refused}
-use Rattle.elementary.specs.Answers.{refusalOf, atMost, sineAt, cosineAt, powerAt, sineOf, cosineOf, exp2Of}
+use Rattle.elementary.specs.Answers.{refusalOf, orZero, atMost, sineAt, cosineAt, powerAt, sineOf, cosineOf, exp2Of}
 use Rattle.elementary.specs.Close.{Each}
 
 both : (a b c d m n : ℕ) → (a ≤ b → c ≤ d → m ≤ n) → (m ≤ n → (a ≤ b) × (c ≤ d)) → leb a b && leb c d ≡ leb m n
@@ -54,6 +54,13 @@ given {v} {P = P} b t e p = (rw (t, e), record { each = λ u q. let s : v ≡ u 
 
 pub refused : {P : Float → Type 0} (b : Bool) (w : Float) → b ≡ false → (Refused 1 ≡ cond b (Value w) (Refused 1)) × Each (Refused 1) P
 refused b w t = (rw t, record { each = λ u q. let e : _≡_ {A = ℕ} 0 1 = cc in absurd (omega arith) })
+
+-- ---- values
+pub value-given : {v w : Float} (b : Bool) → b ≡ true → v ≡ w → v ≡ orZero (cond b (Value w) (Refused 1))
+value-given b t e = rw (t, e)
+
+pub value-refused : (b : Bool) (w : Float) → b ≡ false → ofBits binary64 0 ≡ orZero (cond b (Value w) (Refused 1))
+value-refused b w t = rw t
 
 -- ---- exactly when the refusal is 1
 refusal : (b : Bool) (v : Float) → refusalOf (cond b (Value v) (Refused 1)) ≡ cond b 0 1

@@ -3,7 +3,7 @@ use mathlib.Core.Bool.{Bool, false, cond}
 use Prim.Native.Nat.{ℕ, _+_, _*_, _%_}
 use lib.IntN.{pos, negsuc}
 use lib.Dec.{leb}
-use lib.Ieee.{Float, nan, inf, fin, binary64, up, down, neg, add, sub, mul, lt}
+use lib.Ieee.{Float, nan, inf, fin, binary64, up, down, neg, add, sub, mul, lt, ofBits}
 use Rattle.elementary.specs.declared.Answer.{Answer}
 use Rattle.elementary.specs.declared.Answer.the-variants.{Value, Refused}
 use Rattle.elementary.specs.Horner.{sineNear, cosineNear, powerNear}
@@ -13,6 +13,11 @@ use Rattle.elementary.specs.Reduction.{turns, reduced, fourth, pick}
 abbrev pub refusalOf : Answer → ℕ
 refusalOf (Value v) = 0
 refusalOf (Refused n) = n
+
+-- C4. An answer's value; a refusal has none, and 0.0 stands for it.
+abbrev pub orZero : Answer → Float
+orZero (Value v) = v
+orZero (Refused n) = ofBits binary64 0
 
 -- a number of magnitude at most b
 abbrev pub atMost : ℕ → Float → Bool

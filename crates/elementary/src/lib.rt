@@ -5,7 +5,7 @@ ghost use lib.Dec.{T};
 ghost use lib.Ieee as Ieee;
 ghost use Rattle.elementary.specs.Horner.{sineNear, cosineNear, powerNear};
 ghost use Rattle.elementary.specs.Reduction.{pick};
-ghost use Rattle.elementary.specs.Answers.{atMost, sineAt, cosineAt, powerAt, sineOf, cosineOf, exp2Of};
+ghost use Rattle.elementary.specs.Answers.{orZero, atMost, sineAt, cosineAt, powerAt, sineOf, cosineOf, exp2Of};
 ghost use Rattle.elementary.specs.Close.{SineClose, CosineClose, PowerClose, Each};
 ghost use Rattle.elementary.specs.Steps.{Guess, Rest, Settled};
 
@@ -77,12 +77,12 @@ fn power_near(x: f64) -> f64
     1.0 + y * l
 }
 
-// A whole number near x / H + 256.
+// A whole number near x / H + 256: from 2^52 on the next float is the next whole number, so that the sum rounds to one, and its pattern ends in it.
 fn guess(x: f64) -> u64
     requires { ⌜ T (atMost 256 x) ⌝ }
     ensures { λ r. ⌜ Guess x r ⌝ }
 {
-    std::num::truncating_f64_to_u64(x * 0.6366197723675814 + 256.5)
+    f64::to_bits(x * 0.6366197723675814 + 4503599627370752.0) - 0x4330_0000_0000_0000
 }
 
 // x - k * H, k being j - 256: H in two parts, so that each step is exact.
@@ -90,7 +90,8 @@ fn rest(x: f64, j: u64) -> f64
     requires { ⌜ T (not (atMost 1 x)) ⌝ ∗ ⌜ T (atMost 256 x) ⌝ ∗ ⌜ Guess x j ⌝ }
     ensures { λ r. ⌜ Rest x j r ⌝ }
 {
-    let k = std::num::nearest_u64_to_f64(j) - 256.0;
+    let whole = j as u32;
+    let k = whole as f64 - 256.0;
     x - k * 1.570796310901641845703125 - k * 0.0000000158932547122958567342720925807952880859375
 }
 
@@ -212,4 +213,18 @@ pub fn exp2(x: f64) -> Answer
     } else {
         Answer::Refused(1)
     }
+}
+
+// The cosine as a number, handed back in a register, 0.0 where it is refused: for a caller whose arguments are in range.
+pub fn cosine_or_zero(x: f64) -> f64
+    ensures { λ r. ⌜ r ≡ orZero (cosineOf x) ⌝ }
+{
+    if inside(x, 256.0) { cosine_at(x) } else { 0.0 }
+}
+
+// The power of two in the same way.
+pub fn exp2_or_zero(x: f64) -> f64
+    ensures { λ r. ⌜ r ≡ orZero (exp2Of x) ⌝ }
+{
+    if inside(x, 1.0) { power_at(x) } else { 0.0 }
 }

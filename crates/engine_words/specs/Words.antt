@@ -4,11 +4,8 @@ use mathlib.Core.List.{List, [], _∷_}
 use lib.ListN.{getD}
 use lib.Ieee.{Float, binary64, ofBits, toBits}
 use Rattle.smooth_random.specs.declared.SmoothRandom.{SmoothRandom}
-use Rattle.oscillators.specs.Constants as numbers
-use Rattle.modulation.specs.declared.ModulationParams.{ModulationParams}
-use Rattle.modulation.specs.declared.ModulationEngine.{ModulationEngine}
-use Rattle.modulation.specs.declared.Offset.{Offset}
-use Rattle.modulation.specs.declared.Offset.the-variants.{Delay, Refused}
+use Rattle.modulation_params.specs.declared.ModulationParams.{ModulationParams}
+use Rattle.modulation_engine.specs.declared.ModulationEngine.{ModulationEngine}
 
 abbrev at : List ℕ → ℕ → ℕ
 at words k = getD words k 0
@@ -54,12 +51,3 @@ paramsOf wow-rate wow-depth wow-shape flutter-rate flutter-depth flutter-shape d
   «drift_amount» = drift;
   «stereo_amount» = stereo;
 }
-
--- The offset of a side; 0.0 where the step is refused.
-abbrev pub leftOf : Offset → Float
-leftOf (Delay d) = d .left
-leftOf (Refused k) = numbers.zero
-
-abbrev pub rightOf : Offset → Float
-rightOf (Delay d) = d .right
-rightOf (Refused k) = numbers.zero

@@ -1,15 +1,8 @@
-// 001's engine as 15 words in the order of its fields, a float as its pattern: what another language, or a line of text, can hold. `calls` has the engine's own.
-mod calls; // opened, set anew, started again, one sample on
-
-pub use calls::new;
-pub use calls::next;
-pub use calls::reset;
-pub use calls::set_sample_rate;
-pub use calls::set_seed;
+// 001's engine as 15 words in the order of its fields, a float as its pattern: what another language, or a line of text, can hold. `engine_calls` has the engine's own.
 ghost use mathlib.Core.Path.{_≡_};
 ghost use Rattle.engine_words.specs.Words.{randomOf, engineOf, wordsOf, paramsOf};
-use modulation::ModulationEngine;
-use modulation::ModulationParams;
+use modulation_engine::ModulationEngine;
+use modulation_params::ModulationParams;
 use patterns::bits_of;
 use patterns::float_of;
 use smooth_random::SmoothRandom;

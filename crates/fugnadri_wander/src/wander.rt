@@ -1,18 +1,19 @@
-// M1, M2, M5. 001's engine: its state goes in and out as 15 words (crates/engine_words), the settings as eight floats. The answer is the refusal's number, 0 for
+// M1, M2, M5. 001's engine: its state goes in and out as 15 words (crates/engine_words, crates/engine_calls), the settings as eight floats. The answer is the refusal's number, 0 for
 // none; a refused call leaves the engine as it was.
 ghost use mathlib.Core.Path.{_≡_};
-ghost use Rattle.modulation.specs.Engine.{openedOf, setSampleRateOf, setSeedOf, resetOf, numberOf};
+ghost use Rattle.modulation_engine.specs.Engine.{openedOf, setSampleRateOf, setSeedOf, resetOf, numberOf};
 ghost use Rattle.modulation.specs.Step.{nextOf};
 ghost use Rattle.modulation.specs.Step.{numberOf as refusalOf};
 ghost use Rattle.modulation.specs.Runs.{leftBy};
-ghost use Rattle.engine_words.specs.Words.{engineOf, wordsOf, paramsOf, leftOf, rightOf};
+ghost use Rattle.engine_words.specs.Words.{engineOf, wordsOf, paramsOf};
+ghost use Rattle.engine_doors.specs.Doors.{leftOf, rightOf};
 
 #[no_mangle]
 pub extern "C" fn fugnadri_engine_new(sample_rate: f64, seed: u64, words: &mut [u64; 15]) -> u8
     ensures { λ r. ⌜ r ≡ numberOf (openedOf «sample_rate» seed) ⌝ }
     ensures { λ r. ⌜ now (words .exit) ≡ wordsOf (leftBy (openedOf «sample_rate» seed) (engineOf (now (words .entry)))) ⌝ }
 {
-    engine_words::new(sample_rate, seed, words)
+    engine_calls::new(sample_rate, seed, words)
 }
 
 #[no_mangle]
@@ -20,7 +21,7 @@ pub extern "C" fn fugnadri_engine_set_sample_rate(words: &mut [u64; 15], sample_
     ensures { λ r. ⌜ r ≡ numberOf (setSampleRateOf (engineOf (now (words .entry))) «sample_rate») ⌝ }
     ensures { λ r. ⌜ now (words .exit) ≡ wordsOf (leftBy (setSampleRateOf (engineOf (now (words .entry))) «sample_rate») (engineOf (now (words .entry)))) ⌝ }
 {
-    engine_words::set_sample_rate(words, sample_rate)
+    engine_calls::set_sample_rate(words, sample_rate)
 }
 
 #[no_mangle]
@@ -28,7 +29,7 @@ pub extern "C" fn fugnadri_engine_set_seed(words: &mut [u64; 15], seed: u64) -> 
     ensures { λ r. ⌜ r ≡ numberOf (setSeedOf (engineOf (now (words .entry))) seed) ⌝ }
     ensures { λ r. ⌜ now (words .exit) ≡ wordsOf (leftBy (setSeedOf (engineOf (now (words .entry))) seed) (engineOf (now (words .entry)))) ⌝ }
 {
-    engine_words::set_seed(words, seed)
+    engine_calls::set_seed(words, seed)
 }
 
 #[no_mangle]
@@ -36,7 +37,7 @@ pub extern "C" fn fugnadri_engine_reset(words: &mut [u64; 15]) -> u8
     ensures { λ r. ⌜ r ≡ numberOf (resetOf (engineOf (now (words .entry)))) ⌝ }
     ensures { λ r. ⌜ now (words .exit) ≡ wordsOf (leftBy (resetOf (engineOf (now (words .entry)))) (engineOf (now (words .entry)))) ⌝ }
 {
-    engine_words::reset(words)
+    engine_calls::reset(words)
 }
 
 // The offsets of the two sides through pointers, 0.0 where the step is refused.
@@ -69,5 +70,5 @@ pub extern "C" fn fugnadri_engine_next(
         drift_amount,
         stereo_amount,
     );
-    engine_words::next(words, params, left, right)
+    engine_calls::next(words, params, left, right)
 }

@@ -19,15 +19,16 @@ use Rattle.smooth_random.specs.Ranges as ranges
 use Rattle.smooth_random.specs.Ranges.{within, argumentsOf, validOf}
 use Rattle.smooth_random.specs.Drift as drift
 use Rattle.smooth_random.specs.declared.SmoothRandom.{SmoothRandom}
-use Rattle.oscillators.specs.Constants as numbers
-use Rattle.oscillators.specs.Constants.{tau, one, octave}
-use Rattle.oscillators.specs.Ranges.{cycleOk, sampleRateOk, fastest}
-use Rattle.oscillators.specs.Waves.{speedDelta}
-use Rattle.oscillators.proofs.Inside.{Cosines, cosines-answer, power-answers, larger-at-most, delta-answers}
-use Rattle.modulation.specs.Settings.{paramsOk}
-use Rattle.modulation.specs.Step.{half, multiplierOf, sidePhase, wowPace, flutterPace, wowDrift, flutterDrift}
-use Rattle.modulation.specs.declared.ModulationEngine.{ModulationEngine}
-use Rattle.modulation.specs.declared.ModulationParams.{ModulationParams}
+use Rattle.oscillator_ranges.specs.Constants as numbers
+use Rattle.oscillator_ranges.specs.Constants.{tau, one, octave}
+use Rattle.oscillator_ranges.specs.Ranges.{cycleOk, sampleRateOk, fastest}
+use Rattle.waves.specs.Waves.{speedDelta}
+use Rattle.waves.proofs.Inside.{Cosines, cosines-answer, power-answers, larger-at-most, delta-answers}
+use Rattle.modulation_params.specs.Settings.{paramsOk}
+use Rattle.modulation_sample.specs.Sample.{half, multiplierOf, sidePhase}
+use Rattle.modulation.specs.Step.{wowPace, flutterPace, wowDrift, flutterDrift}
+use Rattle.modulation_engine.specs.declared.ModulationEngine.{ModulationEngine}
+use Rattle.modulation_params.specs.declared.ModulationParams.{ModulationParams}
 use Rattle.modulation.proofs.Held.{held}
 use Rattle.modulation.proofs.Paces.{wow-paces, flutter-paces}
 use Rattle.modulation.proofs.Terms.{Term, var, num, plus, minus, times, value, Ends, ends, sure, lies, lies-between}

@@ -5,11 +5,11 @@ use Prim.Native.Nat.{ℕ, _^_, _<_}
 use lib.Dec.{T, eqb}
 use lib.Ieee.{Float}
 use Rattle.words.proofs.Digitwise.{xor-below}
-use Rattle.smooth_random.specs.Seeds.{seedOf, flutterSeedOf}
+use Rattle.xorshift.specs.Seeds.{seedOf, flutterSeedOf}
 use Rattle.smooth_random.specs.Ranges.{validOf}
 use Rattle.smooth_random.specs.Drift as drift
 use Rattle.smooth_random.specs.declared.SmoothRandom.{SmoothRandom}
-use Rattle.smooth_random.proofs.Generator.{step-word}
+use Rattle.xorshift.proofs.Generator.{step-word}
 use Rattle.smooth_random.proofs.Starts.{seed-word, new-valid, reset-valid}
 use Rattle.smooth_random.proofs.Settles.{next-valid, next-kept}
 

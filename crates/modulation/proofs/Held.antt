@@ -5,10 +5,10 @@ use lib.Ieee.Fits.{and-l, and-r}
 use lib.Ieee.Bits.{is-true}
 use lib.Ieee.Scale.{finite}
 use Rattle.magnitude.specs.Bounds.{AtMost}
-use Rattle.oscillators.specs.Ranges.{rateOk, depthOk}
-use Rattle.oscillators.proofs.Inside.{rate-at-most, depth-at-most}
-use Rattle.modulation.specs.Settings.{paramsOk}
-use Rattle.modulation.specs.declared.ModulationParams.{ModulationParams}
+use Rattle.oscillator_ranges.specs.Ranges.{rateOk, depthOk}
+use Rattle.waves.proofs.Inside.{rate-at-most, depth-at-most}
+use Rattle.modulation_params.specs.Settings.{paramsOk}
+use Rattle.modulation_params.specs.declared.ModulationParams.{ModulationParams}
 
 pub record Held (p : ModulationParams) : Type 0 where
   pub wow-rate : AtMost 1000 (p .«wow_rate_hz»)

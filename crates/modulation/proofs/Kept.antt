@@ -10,16 +10,17 @@ use lib.Ieee.Fits.{and-i}
 use Rattle.magnitude.specs.Bounds.{AtMost}
 use Rattle.magnitude.proofs.Between.{at-most-mono, at-most-le}
 use Rattle.magnitude.proofs.Operations.{mul-at-most}
-use Rattle.smooth_random.specs.Seeds.{flutterSeedOf}
+use Rattle.xorshift.specs.Seeds.{flutterSeedOf}
 use Rattle.smooth_random.specs.Ranges.{validOf}
-use Rattle.oscillators.specs.Ranges.{cycleOk, sampleRateOk}
-use Rattle.oscillators.proofs.Powers.{pow2-at-most}
-use Rattle.oscillators.proofs.Cycle.{huge, advance-cycle}
-use Rattle.modulation.specs.Settings.{paramsOk}
-use Rattle.modulation.specs.Engine.{phasesOk, validEngine, fresh, rated, seeded, restarted}
-use Rattle.modulation.specs.Step.{multiplierOf, wowPace, flutterPace, steppedOf}
-use Rattle.modulation.specs.declared.ModulationEngine.{ModulationEngine}
-use Rattle.modulation.specs.declared.ModulationParams.{ModulationParams}
+use Rattle.oscillator_ranges.specs.Ranges.{cycleOk, sampleRateOk}
+use Rattle.waves.proofs.Powers.{pow2-at-most}
+use Rattle.waves.proofs.Cycle.{huge, advance-cycle}
+use Rattle.modulation_params.specs.Settings.{paramsOk}
+use Rattle.modulation_engine.specs.Engine.{phasesOk, validEngine, fresh, rated, seeded, restarted}
+use Rattle.modulation_sample.specs.Sample.{multiplierOf}
+use Rattle.modulation.specs.Step.{wowPace, flutterPace, steppedOf}
+use Rattle.modulation_engine.specs.declared.ModulationEngine.{ModulationEngine}
+use Rattle.modulation_params.specs.declared.ModulationParams.{ModulationParams}
 use Rattle.modulation.proofs.Held.{held}
 use Rattle.modulation.proofs.Generators.{Steady, new-steady, reset-steady, set-seed-steady, next-steady, flutter-word}
 

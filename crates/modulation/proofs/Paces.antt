@@ -18,10 +18,11 @@ use Rattle.order.proofs.Clamps.{clamped-ge, clamped-le}
 use Rattle.smooth_random.specs.Ranges.{within, argumentsOf, validOf, verdict}
 use Rattle.smooth_random.specs.Drift.{answer, nextOf}
 use Rattle.smooth_random.specs.declared.SmoothRandom.{SmoothRandom}
-use Rattle.oscillators.specs.Constants.{zero}
-use Rattle.oscillators.specs.Ranges.{fastest}
-use Rattle.modulation.specs.Step.{half, tenth, wowPace, flutterPace}
-use Rattle.modulation.specs.declared.ModulationParams.{ModulationParams}
+use Rattle.oscillator_ranges.specs.Constants.{zero}
+use Rattle.oscillator_ranges.specs.Ranges.{fastest}
+use Rattle.modulation_sample.specs.Sample.{half}
+use Rattle.modulation.specs.Step.{tenth, wowPace, flutterPace}
+use Rattle.modulation_params.specs.declared.ModulationParams.{ModulationParams}
 use Rattle.modulation.proofs.Held.{Held}
 
 -- 0 ≤ low ≤ high < 1000

@@ -6,13 +6,13 @@ use denote.Floats.{passes}
 use lib.Dec.{eqb}
 use lib.Ieee.Fits.{and-i, and-l, and-r}
 use Rattle.smooth_random.specs.Ranges.{within}
-use Rattle.oscillators.specs.Constants.{zero}
-use Rattle.oscillators.specs.Ranges.{fastest, sampleRateOk}
-use Rattle.modulation.specs.Settings.{paramsOk}
-use Rattle.modulation.specs.Engine.{phasesOk, validEngine, verdict}
+use Rattle.oscillator_ranges.specs.Constants.{zero}
+use Rattle.oscillator_ranges.specs.Ranges.{fastest, sampleRateOk}
+use Rattle.modulation_params.specs.Settings.{paramsOk}
+use Rattle.modulation_engine.specs.Engine.{phasesOk, validEngine, verdict}
 use Rattle.modulation.specs.Step.{wowPace, flutterPace, wowDrift, flutterDrift}
-use Rattle.modulation.specs.declared.ModulationEngine.{ModulationEngine}
-use Rattle.modulation.specs.declared.ModulationParams.{ModulationParams}
+use Rattle.modulation_engine.specs.declared.ModulationEngine.{ModulationEngine}
+use Rattle.modulation_params.specs.declared.ModulationParams.{ModulationParams}
 use Rattle.modulation.proofs.Held.{held}
 use Rattle.modulation.proofs.Paces.{wow-paces, flutter-paces, refuses-a-state-alone}
 

@@ -10,18 +10,18 @@ use lib.Dec.{T, eqb}
 use lib.Ieee.{Float}
 use lib.Ieee.Bits.{is-true}
 use Rattle.words.specs.Xor.{xor}
-use Rattle.smooth_random.specs.Seeds.{seedOf, flutterSeedOf}
+use Rattle.xorshift.specs.Seeds.{seedOf, flutterSeedOf}
 use Rattle.smooth_random.specs.Drift as drift
 use Rattle.smooth_random.specs.declared.SmoothRandom.{SmoothRandom}
 use Rattle.smooth_random.proofs.Starts.{seed-twice}
 use Rattle.smooth_random.proofs.Settles.{next-kept}
-use Rattle.oscillators.specs.Ranges.{sampleRateOk}
-use Rattle.modulation.specs.Settings.{paramsOk}
-use Rattle.modulation.specs.Engine.{validEngine, verdict, openedBy, fresh, rated}
+use Rattle.oscillator_ranges.specs.Ranges.{sampleRateOk}
+use Rattle.modulation_params.specs.Settings.{paramsOk}
+use Rattle.modulation_engine.specs.Engine.{validEngine, verdict, openedBy, fresh, rated}
 use Rattle.modulation.specs.Step.{wowPace, flutterPace, nextBy}
 use Rattle.modulation.specs.Runs.{Call, step, rate, seed, again, leftBy, after, run, rateAfter, lastRate, seedAfter, lastSeed, Word, Words}
-use Rattle.modulation.specs.declared.ModulationEngine.{ModulationEngine}
-use Rattle.modulation.specs.declared.ModulationParams.{ModulationParams}
+use Rattle.modulation_engine.specs.declared.ModulationEngine.{ModulationEngine}
+use Rattle.modulation_params.specs.declared.ModulationParams.{ModulationParams}
 use Rattle.modulation.proofs.Kept.{Sound, sound-valid, fresh-sound, rated-sound, seeded-sound, restarted-sound, stepped-sound}
 
 pub sound-verdict : {e : ModulationEngine} → Sound e → (arguments : Bool) → verdict arguments e ≡ cond arguments 0 1

@@ -7,15 +7,15 @@ use mathlib.Core.List.{List}
 use Prim.Native.Nat.{ℕ, _^_, _<_}
 use lib.Dec.{T}
 use lib.Ieee.{Float}
-use Rattle.smooth_random.specs.Seeds.{flutterSeedOf}
+use Rattle.xorshift.specs.Seeds.{flutterSeedOf}
 use Rattle.smooth_random.specs.Drift as drift
 use Rattle.smooth_random.specs.declared.SmoothRandom.{SmoothRandom}
 use Rattle.smooth_random.proofs.Starts.{set-held, set-zero, flutter-differs}
-use Rattle.oscillators.specs.Ranges.{sampleRateOk}
-use Rattle.modulation.specs.Engine.{openedOf, fresh, setSeedOf, resetOf}
+use Rattle.oscillator_ranges.specs.Ranges.{sampleRateOk}
+use Rattle.modulation_engine.specs.Engine.{openedOf, fresh, setSeedOf, resetOf}
 use Rattle.modulation.specs.Runs.{Call, run, offsets, lastRate, lastSeed, Words}
-use Rattle.modulation.specs.declared.ModulationEngine.{ModulationEngine}
-use Rattle.modulation.specs.declared.Opened.the-variants.{Engine}
+use Rattle.modulation_engine.specs.declared.ModulationEngine.{ModulationEngine}
+use Rattle.modulation_engine.specs.declared.Opened.the-variants.{Engine}
 use Rattle.modulation.proofs.Kept.{Sound}
 use Rattle.modulation.proofs.Running.{Running, sound-verdict, flutter-twice, fresh-running, running}
 

@@ -1,4 +1,2 @@
-pub mod Settings
-pub mod Engine
 pub mod Step
 pub mod Runs

@@ -3,14 +3,14 @@ use Prim.Native.Nat.{ℕ, _^_, _<_}
 use mathlib.Core.Bool.{cond}
 use mathlib.Core.List.{List, [], _∷_, _++_}
 use lib.Ieee.{Float}
-use Rattle.oscillators.specs.Ranges.{sampleRateOk}
-use Rattle.modulation.specs.Engine.{setSampleRateOf, setSeedOf, resetOf}
+use Rattle.oscillator_ranges.specs.Ranges.{sampleRateOk}
+use Rattle.modulation_engine.specs.Engine.{setSampleRateOf, setSeedOf, resetOf}
 use Rattle.modulation.specs.Step.{nextOf}
-use Rattle.modulation.specs.declared.ModulationEngine.{ModulationEngine}
-use Rattle.modulation.specs.declared.ModulationParams.{ModulationParams}
-use Rattle.modulation.specs.declared.Opened.{Opened}
-use Rattle.modulation.specs.declared.Opened.the-variants.{Engine, Refused}
-use Rattle.modulation.specs.declared.Offset.{Offset}
+use Rattle.modulation_engine.specs.declared.ModulationEngine.{ModulationEngine}
+use Rattle.modulation_params.specs.declared.ModulationParams.{ModulationParams}
+use Rattle.modulation_engine.specs.declared.Opened.{Opened}
+use Rattle.modulation_engine.specs.declared.Opened.the-variants.{Engine, Refused}
+use Rattle.modulation_sample.specs.declared.Offset.{Offset}
 
 -- next, set_sample_rate, set_seed and reset
 pub data Call : Type 0 where

@@ -5,8 +5,8 @@ use lib.Count.{trailingZeros}
 use lib.Ieee.{size, span, climb, odd, units, round, neg, mul, ofFields, ofBits}
 use Rattle.rounding.specs.Operations.{root}
 use Rattle.elementary.specs.declared.Answer.the-variants.{Value}
-use Rattle.oscillators.specs.Constants.{zero}
-use Rattle.oscillators.specs.Waves.{squaresFrom, rateDelta}
+use Rattle.oscillator_ranges.specs.Constants.{zero}
+use Rattle.waves.specs.Waves.{squaresFrom, rateDelta}
 use Rattle.oscillators.specs.Answers.{answeredBy, depthsOk, rateDeltaOf}
 
 pub M4 : rateDeltaOf [] ≡ Value (neg zero)

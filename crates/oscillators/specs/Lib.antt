@@ -1,4 +1,1 @@
-pub mod Constants
-pub mod Ranges
-pub mod Waves
 pub mod Answers

@@ -1,13 +1,11 @@
-// 001's oscillators: what stands outside its engine, each function total. Where an argument is outside 01's range the answer is refusal 1.
-pub mod plain; // the arithmetic, for every float
-pub mod ranges; // what is in range
-
+// 001's oscillators: what stands outside its engine, each function total. Where an argument is outside 01's range (`oscillator_ranges`) the answer is refusal 1,
+// else what the arithmetic gives (`waves`).
 ghost use mathlib.Core.Path.{_≡_};
 ghost use mathlib.Core.Bool.{_&&_};
 ghost use Rattle.oscillators.specs.Answers.{answeredBy, speedDeltaOf, advancePhaseOf, shapePrimitiveOf, oscillatorDelayOf, excursionOf, rateDeltaOf};
 use elementary::Answer;
-
-pub const TAU: f64 = 6.283185307179586;
+use oscillator_ranges as ranges;
+use oscillator_ranges::TAU;
 
 // The greatest magnitude of a shape: the rounded square reaches it at phase zero.
 pub const MAX_SHAPE_PRIMITIVE: f64 = 7.0 / 6.0;
@@ -35,7 +33,7 @@ pub fn speed_delta(depth_cents: f64) -> Answer
 {
     answered(
         ranges::depth_ok(depth_cents),
-        plain::speed_delta(depth_cents),
+        waves::speed_delta(depth_cents),
     )
 }
 
@@ -48,7 +46,7 @@ pub fn advance_phase(phase: f64, rate_hz: f64, sample_rate: f64) -> Answer
     );
     answered(
         both(ranges::cycle_ok(phase), rates),
-        plain::advance_phase(phase, rate_hz, sample_rate),
+        waves::advance_phase(phase, rate_hz, sample_rate),
     )
 }
 
@@ -58,7 +56,7 @@ pub fn shape_primitive(phase: f64, shape: f64) -> Answer
 {
     answered(
         both(ranges::phase_ok(phase), magnitude::is_finite(shape)),
-        plain::shape_primitive(phase, shape),
+        waves::shape_primitive(phase, shape),
     )
 }
 
@@ -73,10 +71,10 @@ pub fn oscillator_delay(
 {
     let wave = both(ranges::phase_ok(phase), magnitude::is_finite(shape));
     let swing = both(ranges::rate_ok(rate_hz), ranges::depth_ok(depth_cents));
-    let amplitude = plain::amplitude(rate_hz, depth_cents, sample_rate);
+    let amplitude = waves::amplitude(rate_hz, depth_cents, sample_rate);
     answered(
         both(wave, both(swing, ranges::sample_rate_ok(sample_rate))),
-        amplitude * plain::shape_primitive(phase, shape),
+        amplitude * waves::shape_primitive(phase, shape),
     )
 }
 
@@ -92,7 +90,7 @@ pub fn maximum_delay_excursion_samples(
         ranges::minimum_rate_ok(min_rate_hz),
         ranges::sample_rate_ok(sample_rate),
     );
-    let delta = plain::speed_delta(max_depth_cents);
+    let delta = waves::speed_delta(max_depth_cents);
     answered(
         both(ranges::depth_ok(max_depth_cents), rates),
         delta * sample_rate * MAX_SHAPE_PRIMITIVE / (TAU * min_rate_hz),
@@ -108,7 +106,7 @@ pub fn maximum_rate_delta(depths_cents: &[f64]) -> Answer
     while i < depths_cents.len() {
         let depth = depths_cents[i];
         if ranges::depth_ok(depth) {
-            let delta = plain::speed_delta(depth);
+            let delta = waves::speed_delta(depth);
             sum = sum + delta * delta;
             i += 1;
         } else {

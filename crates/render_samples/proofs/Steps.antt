@@ -10,10 +10,10 @@ use lib.Ieee.{Float, binary32, toBits}
 use Rattle.answer.specs.Answers.{valueF32Of}
 use Rattle.sinc_settings.specs.Ranges.{tapsOk, phasesOk}
 use Rattle.sinc_settings.specs.Refusals.{tableLength}
-use Rattle.modulation.specs.Settings.{defaultParams}
+use Rattle.modulation_params.specs.Settings.{defaultParams}
 use Rattle.modulation.specs.Step.{nextOf}
-use Rattle.modulation.specs.declared.Next.{Next}
-use Rattle.modulation.specs.declared.ModulationParams.{ModulationParams}
+use Rattle.modulation_sample.specs.declared.Next.{Next}
+use Rattle.modulation_params.specs.declared.ModulationParams.{ModulationParams}
 use Rattle.variable_delay.specs.Reader.{verdict, ringAfter}
 use Rattle.variable_delay.specs.declared.VariableDelay.{VariableDelay}
 use Rattle.variable_delay_f32.specs.Call.{processedF32By}

@@ -9,11 +9,11 @@ use lib.Ieee.{Float, nan, fin, binary64, add}
 use Rattle.answer.specs.Answers.{valueF32Of}
 use Rattle.answer.specs.declared.AnswerF32.{AnswerF32}
 use Rattle.sinc_settings.specs.Refusals.{tableLength}
-use Rattle.modulation.specs.Settings.{defaultParams}
+use Rattle.modulation_params.specs.Settings.{defaultParams}
 use Rattle.modulation.specs.Step.{nextOf}
-use Rattle.modulation.specs.declared.Next.{Next}
-use Rattle.modulation.specs.declared.Offset.{Offset}
-use Rattle.modulation.specs.declared.Offset.the-variants.{Delay, Refused}
+use Rattle.modulation_sample.specs.declared.Next.{Next}
+use Rattle.modulation_sample.specs.declared.Offset.{Offset}
+use Rattle.modulation_sample.specs.declared.Offset.the-variants.{Delay, Refused}
 use Rattle.variable_delay.specs.Reader.{verdict, stateAfter, ringAfter}
 use Rattle.variable_delay_f32.specs.Call.{processedF32By}
 use Rattle.sinc_read_f32.specs.Reading.{sincF32At}

@@ -4,8 +4,8 @@ ghost use mathlib.Core.Path.{_≡_};
 ghost use lib.Ieee as Ieee;
 ghost use lib.Ieee.{binary32};
 ghost use Rattle.render_samples.specs.Samples.{delayOf, heldOf, afterSample, sampleFor};
-use modulation::ModulationEngine;
-use modulation::Offset;
+use modulation_engine::ModulationEngine;
+use modulation_sample::Offset;
 use variable_delay::VariableDelay;
 
 pub struct Rendering {
@@ -35,7 +35,7 @@ pub fn step<'a>(state: Rendering, ring: &mut [f32], table: &'a [f32], bits: u32)
     ensures { λ r. ⌜ now (ring .exit) ≡ afterSample (now (table .entry)) (heldOf state (now (ring .entry))) (Ieee.ofBits binary32 bits) .ring ⌝ }
 {
     let engine = state.engine;
-    let n = engine.next(modulation::default_params());
+    let n = modulation::next(engine, modulation_params::default_params());
     let offset = n.offset;
     let x = patterns::float_of_f32(bits);
     let reader = state.reader;

@@ -21,11 +21,11 @@ use Rattle.variable_delay.specs.declared.VariableDelay.{VariableDelay}
 use Rattle.variable_delay.specs.declared.Opened as readers-opened
 use Rattle.variable_delay.specs.declared.Opened.the-variants as readers
 use Rattle.variable_delay.specs.declared.Opened.the-variants.{Reader}
-use Rattle.modulation.specs.Engine as engine
-use Rattle.modulation.specs.declared.ModulationEngine.{ModulationEngine}
-use Rattle.modulation.specs.declared.Opened as engines-opened
-use Rattle.modulation.specs.declared.Opened.the-variants as engines
-use Rattle.modulation.specs.declared.Opened.the-variants.{Engine}
+use Rattle.modulation_engine.specs.Engine as engine
+use Rattle.modulation_engine.specs.declared.ModulationEngine.{ModulationEngine}
+use Rattle.modulation_engine.specs.declared.Opened as engines-opened
+use Rattle.modulation_engine.specs.declared.Opened.the-variants as engines
+use Rattle.modulation_engine.specs.declared.Opened.the-variants.{Engine}
 use Rattle.render_start.specs.Start.{settings, fresh, lengthsOk}
 use Rattle.render_start.specs.declared.Opened.the-variants.{Started}
 

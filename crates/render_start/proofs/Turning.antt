@@ -7,10 +7,10 @@ use Prim.Native.Nat.{ℕ}
 use lib.Dec.{lit≤}
 use lib.IntN.{pos}
 use lib.Ieee.{Float, fin, binary64, add, le, neg, ofBits}
-use Rattle.modulation.specs.Settings.{defaultParams, paramsOk}
-use Rattle.modulation.specs.Step.{offsetOf}
+use Rattle.modulation_params.specs.Settings.{defaultParams, paramsOk}
+use Rattle.modulation_sample.specs.Sample.{offsetOf}
 use Rattle.modulation.specs.Runs.{Call, step, run}
-use Rattle.modulation.specs.declared.ModulationEngine.{ModulationEngine}
+use Rattle.modulation_engine.specs.declared.ModulationEngine.{ModulationEngine}
 use Rattle.modulation.proofs.Running.{Running, sound-verdict, fresh-running, after-running}
 use Rattle.render_samples.specs.Samples.{Held, heldOf, delayFor, afterSample, afterSamples}
 use Rattle.render_start.specs.Start.{fresh}

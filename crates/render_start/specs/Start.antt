@@ -9,7 +9,7 @@ use lib.Ieee.{Float, fin}
 use Rattle.ring.specs.Length.{zeros}
 use Rattle.sinc_settings.specs.declared.Settings.{Settings}
 use Rattle.windowed_sinc_f32.specs.Table.{tableF32Of}
-use Rattle.modulation.specs.Engine as engine
+use Rattle.modulation_engine.specs.Engine as engine
 use Rattle.variable_delay.specs.Opening as delay
 use Rattle.render_samples.specs.declared.Rendering.{Rendering}
 use Rattle.render_start.specs.declared.Opened.{Opened}

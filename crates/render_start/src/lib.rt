@@ -2,7 +2,7 @@
 ghost use mathlib.Core.Path.{_≡_};
 ghost use lib.ListN.{length};
 ghost use Rattle.render_start.specs.Start.{openedOf, ringOpened, tableOpened};
-use modulation::ModulationEngine;
+use modulation_engine::ModulationEngine;
 use render_samples::Rendering;
 use sinc_settings::Settings;
 
@@ -39,7 +39,7 @@ pub fn open(ring: &mut [f32], table: &mut [f32]) -> Opened
     ) else {
         return Opened::Refused(1);
     };
-    let modulation::Opened::Engine(engine) = ModulationEngine::new(48000.0, 1) else {
+    let modulation_engine::Opened::Engine(engine) = ModulationEngine::new(48000.0, 1) else {
         return Opened::Refused(1);
     };
     Opened::Started(Rendering {

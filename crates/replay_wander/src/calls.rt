@@ -1,8 +1,8 @@
 // The engine's calls, each as the engine that it leaves, the number of its refusal, 0 for none, and the offsets that it hands out as patterns, 0 where there are none.
-use modulation::ModulationEngine;
-use modulation::ModulationParams;
-use modulation::Offset;
-use modulation::Opened;
+use modulation_engine::ModulationEngine;
+use modulation_engine::Opened;
+use modulation_params::ModulationParams;
+use modulation_sample::Offset;
 use patterns::bits_of;
 
 pub struct Turn {
@@ -52,7 +52,7 @@ fn stepped(after: ModulationEngine, offset: Offset) -> Turn {
 }
 
 pub fn step(before: ModulationEngine, params: ModulationParams) -> Turn {
-    let next = before.next(params);
+    let next = modulation::next(before, params);
     let after = next.engine;
     let offset = next.offset;
     stepped(after, offset)

@@ -3,8 +3,8 @@ use crate::calls::Turn;
 use crate::calls::step;
 use crate::calls::steps;
 use crate::calls::turn_of;
-use modulation::ModulationEngine;
-use modulation::ModulationParams;
+use modulation_engine::ModulationEngine;
+use modulation_params::ModulationParams;
 use patterns::float_of;
 
 // The engine, and the settings of its next steps.

@@ -11,7 +11,7 @@ use libc::STDIN_FILENO;
 use libc::STDOUT_FILENO;
 use lines::Verdict;
 use lines::heard;
-use modulation::default_params;
+use modulation_params::default_params;
 use replay_lines::Line;
 use replay_lines::line_of;
 

@@ -19,11 +19,11 @@ use Rattle.windowed_sinc_f32.specs.Table as single
 use Rattle.sinc_bank_f32.specs.Building as bank
 use Rattle.smooth_random.specs.Drift as drift
 use Rattle.smooth_random.specs.declared.SmoothRandom.{SmoothRandom}
-use Rattle.modulation.specs.Engine as engine
+use Rattle.modulation_engine.specs.Engine as engine
 use Rattle.modulation.specs.Step as stepping
 use Rattle.modulation.specs.Runs.{leftBy}
-use Rattle.modulation.specs.declared.ModulationEngine.{ModulationEngine}
-use Rattle.modulation.specs.declared.ModulationParams.{ModulationParams}
+use Rattle.modulation_engine.specs.declared.ModulationEngine.{ModulationEngine}
+use Rattle.modulation_params.specs.declared.ModulationParams.{ModulationParams}
 
 -- ---- the readers, over what their kernels read: `v` is the verdict
 pub reader : (read : Reading) (v : ℕ) (d : VariableDelay) (xs : List Float) (x y : Float) → (numberOf (processedBy read v d xs x y .answer) ≡ 0 → ⊥)

@@ -6,8 +6,8 @@ use lib.Count.{trailingZeros}
 use lib.Ieee.{binary64, size, span, climb, odd, units, round, neg, sum, add, sub, mul, div, lt, eq, le, ofInt, ofFields, ofBits}
 use Rattle.interval.proofs.Between.{Between, point, whole-between, sum-between, difference-between}
 use Rattle.interval.proofs.Products.{product-between}
-use Rattle.smooth_random.specs.Xorshift.{valueOf}
-use Rattle.smooth_random.specs.Draws.{one, two, scale53, spread, bipolarOf, scaleOf}
+use Rattle.xorshift.specs.Xorshift.{valueOf}
+use Rattle.xorshift.specs.Draws.{one, two, scale53, spread, bipolarOf, scaleOf}
 use Rattle.smooth_random.specs.Ranges.{slowest, fastest}
 
 pub bipolar-between : (x : ℕ) → Between (neg one) one (bipolarOf x)

@@ -8,7 +8,7 @@ use lib.Ieee.{Float, odd, neg, lt, le, ofFields, ofBits}
 use lib.Ieee.Fits.{and-i, and-l, and-r, eq→eqb}
 use lib.Ieee.Scale.{finite}
 use Rattle.interval.proofs.Between.{Between, between}
-use Rattle.smooth_random.specs.Draws.{zero, one}
+use Rattle.xorshift.specs.Draws.{zero, one}
 use Rattle.smooth_random.specs.Ranges.{within, slowest, fastest, positionOf, targetsOf, paceOf, seedsOf, validOf}
 use Rattle.smooth_random.specs.declared.SmoothRandom.{SmoothRandom}
 

@@ -1,5 +1,3 @@
-pub mod Worked
-pub mod Generator
 pub mod Bounds
 pub mod Held
 pub mod Starts

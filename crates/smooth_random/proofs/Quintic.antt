@@ -11,7 +11,7 @@ use lib.Ieee.Scale.{finite}
 use Rattle.interval.proofs.Between.{Between, point, widen, sum-between, difference-between}
 use Rattle.interval.proofs.Products.{zero as nil, least, most, product-between}
 use Rattle.interval.proofs.Pieces.{all, all-of, passed, pieces}
-use Rattle.smooth_random.specs.Draws.{zero, one}
+use Rattle.xorshift.specs.Draws.{zero, one}
 use Rattle.smooth_random.specs.Drift.{quinticOf}
 
 -- 1.25, and the numbers of the quintic.

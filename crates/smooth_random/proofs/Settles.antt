@@ -12,13 +12,13 @@ use Rattle.magnitude.proofs.Comparisons.{lt→le}
 use Rattle.interval.proofs.Signed.{nle→lt, lt→nle, le-lt}
 use Rattle.interval.proofs.Between.{Between, between, point, sum-between, difference-between}
 use Rattle.interval.proofs.Products.{product-between, quotient-between}
-use Rattle.smooth_random.specs.Xorshift.{stepOf}
-use Rattle.smooth_random.specs.Draws as draws
-use Rattle.smooth_random.specs.Draws.{one}
+use Rattle.xorshift.specs.Xorshift.{stepOf}
+use Rattle.xorshift.specs.Draws as draws
+use Rattle.xorshift.specs.Draws.{one}
 use Rattle.smooth_random.specs.Ranges.{within, fastest, mostTargets, leastSamples, mostSamples, argumentsOf, validOf, verdict}
 use Rattle.smooth_random.specs.Drift.{advanced, turned, settled, answer, nextOf}
 use Rattle.smooth_random.specs.declared.SmoothRandom.{SmoothRandom}
-use Rattle.smooth_random.proofs.Generator.{step-word, step-zero}
+use Rattle.xorshift.proofs.Generator.{step-word, step-zero}
 use Rattle.smooth_random.proofs.Bounds.{bipolar-between, scale-between}
 use Rattle.smooth_random.proofs.Held.{Held, held, valid, in-range}
 

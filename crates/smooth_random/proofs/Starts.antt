@@ -9,13 +9,13 @@ use lib.Count.{trailingZeros}
 use lib.Ieee.{odd, lt, eq, le, ofFields, ofBits}
 use borrow.Author.Tests.{eq-eqb, ne-eqb, eqb-false}
 use Rattle.words.specs.Xor.{xorTo}
-use Rattle.smooth_random.specs.Xorshift.{stepOf}
-use Rattle.smooth_random.specs.Seeds.{seedOf, flutterSeedOf}
-use Rattle.smooth_random.specs.Draws.{at}
+use Rattle.xorshift.specs.Xorshift.{stepOf}
+use Rattle.xorshift.specs.Seeds.{seedOf, flutterSeedOf}
+use Rattle.smooth_random.specs.Drawing.{at}
 use Rattle.smooth_random.specs.Ranges.{validOf}
 use Rattle.smooth_random.specs.Drift.{started, newOf, resetOf, setSeedOf}
 use Rattle.smooth_random.specs.declared.SmoothRandom.{SmoothRandom}
-use Rattle.smooth_random.proofs.Generator.{step-word, step-zero}
+use Rattle.xorshift.proofs.Generator.{step-word, step-zero}
 use Rattle.smooth_random.proofs.Bounds.{bipolar-between, scale-between}
 use Rattle.smooth_random.proofs.Held.{held, valid}
 

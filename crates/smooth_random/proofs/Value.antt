@@ -13,7 +13,7 @@ use Rattle.order.proofs.Clamps.{clamped-ge, clamped-le}
 use Rattle.interval.proofs.Between.{Between, between, widen, sum-between, difference-between}
 use Rattle.interval.proofs.Products.{least, most, product-between}
 use Rattle.interval.proofs.Pieces.{all, all-of, passed, pieces}
-use Rattle.smooth_random.specs.Draws.{zero, one, two}
+use Rattle.xorshift.specs.Draws.{zero, one, two}
 use Rattle.smooth_random.specs.Ranges.{validOf}
 use Rattle.smooth_random.specs.Drift.{quinticOf, valueAt}
 use Rattle.smooth_random.specs.declared.SmoothRandom.{SmoothRandom}

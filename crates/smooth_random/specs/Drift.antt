@@ -4,10 +4,10 @@ use mathlib.Core.Bool.{cond}
 use lib.Dec.{eqb}
 use lib.Ieee.{Float, binary64, ofBits, add, sub, mul, div, le}
 use Rattle.order.specs.Choice.{clamped}
-use Rattle.smooth_random.specs.Xorshift.{stepOf}
-use Rattle.smooth_random.specs.Seeds.{seedOf}
-use Rattle.smooth_random.specs.Draws as draws
-use Rattle.smooth_random.specs.Draws.{one, bipolarOf, scaleOf}
+use Rattle.xorshift.specs.Xorshift.{stepOf}
+use Rattle.xorshift.specs.Seeds.{seedOf}
+use Rattle.xorshift.specs.Draws as draws
+use Rattle.xorshift.specs.Draws.{one, bipolarOf, scaleOf}
 use Rattle.smooth_random.specs.Ranges.{verdict}
 use Rattle.smooth_random.specs.declared.SmoothRandom.{SmoothRandom}
 use Rattle.smooth_random.specs.declared.Next.{Next}

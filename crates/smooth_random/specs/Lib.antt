@@ -1,5 +1,3 @@
-pub mod Xorshift
-pub mod Seeds
-pub mod Draws
+pub mod Drawing
 pub mod Ranges
 pub mod Drift

@@ -3,7 +3,7 @@ use Prim.Native.Nat.{ℕ}
 use mathlib.Core.Bool.{Bool, not, _&&_, cond}
 use lib.Dec.{eqb}
 use lib.Ieee.{Float, binary64, ofBits, neg, lt, le}
-use Rattle.smooth_random.specs.Draws.{zero, one}
+use Rattle.xorshift.specs.Draws.{zero, one}
 use Rattle.smooth_random.specs.declared.SmoothRandom.{SmoothRandom}
 
 abbrev pub within : Float → Float → Float → Bool

@@ -1,11 +1,10 @@
 // 001's SmoothRandom: a generator, the two targets that it drew last, and the way from one to the other.
 // F8. Each method takes the state by value and hands it back, with the number where there is one.
-mod draws; // the generator, and the numbers that are made of it
+mod draws; // the numbers that are made of the generator
 mod drift; // a step from one target towards the next
 
 ghost use mathlib.Core.Path.{_≡_};
 ghost use mathlib.Core.Bool.{_&&_};
-ghost use Rattle.smooth_random.specs.Seeds.{seedOf, flutterSeedOf};
 ghost use Rattle.smooth_random.specs.Ranges.{validOf};
 ghost use Rattle.smooth_random.specs.Drift.{newOf, resetOf, setSeedOf};
 
@@ -31,24 +30,6 @@ pub struct Next {
     pub refusal: u8,
 }
 
-// M1. 001's normalized_seed: the generator would stay at 0, so 0 is replaced.
-pub fn normalized_seed(seed: u64) -> u64
-    ensures { λ r. ⌜ r ≡ seedOf seed ⌝ }
-{
-    if seed == 0 {
-        0xA076_1D64_78BD_642F
-    } else {
-        seed
-    }
-}
-
-// M1. The seed of 001's second generator.
-pub fn flutter_seed(seed: u64) -> u64
-    ensures { λ r. ⌜ r ≡ flutterSeedOf seed ⌝ }
-{
-    normalized_seed(seed ^ 0xD1B5_4A32_D192_ED03)
-}
-
 fn both(a: bool, b: bool) -> bool
     ensures { λ r. ⌜ r ≡ (a && b) ⌝ }
 {
@@ -59,7 +40,7 @@ impl SmoothRandom {
     pub fn new(seed: u64) -> SmoothRandom
         ensures { λ r. ⌜ r ≡ newOf seed ⌝ }
     {
-        let seed = normalized_seed(seed);
+        let seed = xorshift::normalized_seed(seed);
         let result = SmoothRandom {
             initial_seed: seed,
             state: seed,
@@ -75,7 +56,7 @@ impl SmoothRandom {
     pub fn set_seed(mut self, seed: u64) -> SmoothRandom
         ensures { λ r. ⌜ r ≡ setSeedOf self seed ⌝ }
     {
-        let seed = normalized_seed(seed);
+        let seed = xorshift::normalized_seed(seed);
         if seed == self.initial_seed {
             return self;
         }

@@ -9,7 +9,7 @@ use Rattle.words.specs.Xor.{xorTo}
 use Rattle.integer_part.specs.Parts.{floorOf, fractionOf}
 use Rattle.ring.specs.Length.{lengthFor}
 use Rattle.cubic_farrow.specs.Cubic.{cubicAt}
-use Rattle.smooth_random.specs.Xorshift.{stepOf}
+use Rattle.xorshift.specs.Xorshift.{stepOf}
 use Rattle.runs.specs.Runs.{run}
 use Rattle.worked.specs.Cases.{cases, answerTo}
 

@@ -8,8 +8,8 @@ use Rattle.answer.specs.declared.Answer.{Answer}
 use Rattle.integer_part.specs.Parts.{floorOf, fractionOf}
 use Rattle.variable_delay.specs.Reader.{processed}
 use Rattle.cubic_farrow.specs.Cubic.{cubicAt}
-use Rattle.smooth_random.specs.Xorshift.{stepOf, valueOf}
-use Rattle.smooth_random.specs.Seeds.{flutterSeedOf}
+use Rattle.xorshift.specs.Xorshift.{stepOf, valueOf}
+use Rattle.xorshift.specs.Seeds.{flutterSeedOf}
 use Rattle.runs.specs.Runs.{Call, opened, run}
 
 -- the number n as an f64

@@ -89,5 +89,5 @@ fn main() {
     word(b"2^0: ", power(0.0));
     word(b"2^1: ", power(1.0));
     word(b"2^-1: ", power(-1.0));
-    word(b"seed 0: ", smooth_random::normalized_seed(0));
+    word(b"seed 0: ", xorshift::normalized_seed(0));
 }

@@ -1,16 +1,20 @@
--- `elementary::guess` meets its contract: `Guessing` says where the sum lies and what its whole part is. Assumes nothing.
+-- `elementary::guess` meets its contract: `Guessing` says which whole number the sum is, and what its pattern is. Assumes nothing.
 use lib.Ieee.{ofBits}
 use Rattle.elementary.proofs.Guessing.{guessed}
 use Rattle.elementary.proofs.guess.Statement.{statement}
 use Rattle.elementary.proofs.guess.Tie as tie
 
-truncating-f64-to-u64-requires : tie.Need-truncating-f64-to-u64-requires
+float-to-bits-result : tie.Need-float-to-bits-result
 unfolding ofBits
-truncating-f64-to-u64-requires c κs = let g = guessed (c .args .x) (c .pre) in (g .above, g .below)
+float-to-bits-result c = guessed (c .args .x) (c .pre) .number
+
+sub-result : tie.Need-sub-result
+unfolding ofBits
+sub-result c = guessed (c .args .x) (c .pre) .enough
 
 returns : tie.Need-returns
 unfolding ofBits
-returns c = rw (c .truncating-f64-to-u64 .ensures) (guessed (c .before .args .x) (c .before .pre) .guess)
+returns c = guessed (c .args .x) (c .pre) .guess
 
 pub guess-spec : {M : Type 1} → statement M
-guess-spec = tie.close (tie.spec truncating-f64-to-u64-requires returns)
+guess-spec = tie.close (tie.spec float-to-bits-result sub-result returns)

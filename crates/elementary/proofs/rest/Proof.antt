@@ -7,12 +7,15 @@ use Rattle.elementary.proofs.Remaining.{rest-law}
 use Rattle.elementary.proofs.rest.Statement.{statement}
 use Rattle.elementary.proofs.rest.Tie as tie
 
-nearest-u64-to-f64-requires : tie.Need-nearest-u64-to-f64-requires
-nearest-u64-to-f64-requires c κs = search needs
+cast-whole : tie.Need-cast-whole
+cast-whole c = search needs
+
+int-to-float-k : tie.Need-int-to-float-k
+int-to-float-k c = search needs
 
 returns : tie.Need-returns
 unfolding ofBits
-returns c = let b = c .before in rw (c .nearest-u64-to-f64 .ensures) (rest-law (b .args .x) (b .args .j) (subst T (sym (b .good .0 .1)) tt) (b .pre .0) (b .pre .1 .0) (b .pre .1 .1))
+returns c = let b = c .before in rest-law (b .args .x) (b .args .j) (subst T (sym (b .good .0 .1)) tt) (b .pre .0) (b .pre .1 .0) (b .pre .1 .1)
 
 pub rest-spec : {M : Type 1} → statement M
-rest-spec = tie.close (tie.spec nearest-u64-to-f64-requires returns)
+rest-spec = tie.close (tie.spec cast-whole int-to-float-k returns)

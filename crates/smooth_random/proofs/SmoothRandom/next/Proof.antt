@@ -2,7 +2,7 @@
 use mathlib.Core.Path.{_≡_, refl}
 use Prim.Native.Nat.{ℕ, zero, suc}
 use lib.Ieee.{Float}
-use Rattle.smooth_random.specs.Draws.{zero as zer}
+use Rattle.xorshift.specs.Draws.{zero as zer}
 use Rattle.smooth_random.specs.Drift.{settled, answer}
 use Rattle.smooth_random.specs.declared.SmoothRandom.{SmoothRandom}
 use borrow.Author.Needs.{needs}

@@ -1,17 +1,11 @@
--- `smooth_random::SmoothRandom::random_segment_rate_scale` meets its contract, by that of `random_bipolar`. Assumes nothing.
-use Rattle.smooth_random.specs.Draws.{scaleOf}
-use borrow.Author.Needs.{needs}
+-- `smooth_random::SmoothRandom::random_segment_rate_scale` meets its contract, by those of `step` and `scale`. Assumes nothing.
 use Rattle.smooth_random.proofs.SmoothRandom.random_segment_rate_scale.Statement.{
   statement,
 }
 use Rattle.smooth_random.proofs.SmoothRandom.random_segment_rate_scale.Tie as tie
 
-random-bipolar-requires : tie.Need-random-bipolar-requires
-random-bipolar-requires c κs = search needs
-
 returns : tie.Need-returns
-unfolding scaleOf
-returns c = rw (c .before .random-bipolar .ensures)
+returns c = rw (c .scale .ensures, c .before .step .ensures)
 
 pub random-segment-rate-scale-spec : {M : Type 1} → statement M
-random-segment-rate-scale-spec = tie.close (tie.spec random-bipolar-requires returns)
+random-segment-rate-scale-spec = tie.close (tie.spec (λ c κs. tt) (λ c κs. tt) returns)

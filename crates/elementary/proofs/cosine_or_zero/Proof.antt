@@ -1,0 +1,26 @@
+-- `elementary::cosine_or_zero` meets its contract: the range is tested, and `cosine_at` has the value. Assumes nothing.
+use mathlib.Core.Path.{_≡_, sym, _∙_, subst}
+use lib.Dec.{T}
+use lib.Ieee.{ofBits}
+use Rattle.elementary.specs.Answers.{atMost, cosineAt, cosineOf}
+use Rattle.elementary.proofs.Range.{inside-is, value-given, value-refused}
+use Rattle.elementary.proofs.cosine_or_zero.Statement.{statement}
+use Rattle.elementary.proofs.cosine_or_zero.Tie as tie
+
+tested : (c : tie.After-inside) → c .inside .result ≡ atMost 256 (c .before .args .x)
+unfolding ofBits
+tested c = c .inside .ensures ∙ inside-is 8 (c .before .args .x)
+
+cosine-at-requires : tie.Need-cosine-at-requires
+cosine-at-requires c κs = subst T (sym (c .if1 .taken) ∙ tested (c .before)) tt
+
+returns : tie.Need-returns
+unfolding cosineOf
+returns c = value-given (atMost 256 (c .before .before .before .args .x)) (sym (tested (c .before .before)) ∙ c .before .if1 .taken) (c .cosine-at .ensures .0)
+
+returns-2 : tie.Need-returns-2
+unfolding cosineOf
+returns-2 c = let x = c .before .before .args .x in value-refused (atMost 256 x) (cosineAt x) (sym (tested (c .before)) ∙ c .if1 .left)
+
+pub cosine-or-zero-spec : {M : Type 1} → statement M
+cosine-or-zero-spec = tie.close (tie.spec (λ c κs. tt) cosine-at-requires returns returns-2)

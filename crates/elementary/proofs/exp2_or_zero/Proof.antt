@@ -1,0 +1,26 @@
+-- `elementary::exp2_or_zero` meets its contract: the range is tested, and `power_at` has the value. Assumes nothing.
+use mathlib.Core.Path.{_≡_, sym, _∙_, subst}
+use lib.Dec.{T}
+use lib.Ieee.{ofBits}
+use Rattle.elementary.specs.Answers.{atMost, powerAt, exp2Of}
+use Rattle.elementary.proofs.Range.{inside-is, value-given, value-refused}
+use Rattle.elementary.proofs.exp2_or_zero.Statement.{statement}
+use Rattle.elementary.proofs.exp2_or_zero.Tie as tie
+
+tested : (c : tie.After-inside) → c .inside .result ≡ atMost 1 (c .before .args .x)
+unfolding ofBits
+tested c = c .inside .ensures ∙ inside-is 0 (c .before .args .x)
+
+power-at-requires : tie.Need-power-at-requires
+power-at-requires c κs = subst T (sym (c .if1 .taken) ∙ tested (c .before)) tt
+
+returns : tie.Need-returns
+unfolding exp2Of
+returns c = value-given (atMost 1 (c .before .before .before .args .x)) (sym (tested (c .before .before)) ∙ c .before .if1 .taken) (c .power-at .ensures .0)
+
+returns-2 : tie.Need-returns-2
+unfolding exp2Of
+returns-2 c = let x = c .before .before .args .x in value-refused (atMost 1 x) (powerAt x) (sym (tested (c .before)) ∙ c .if1 .left)
+
+pub exp2-or-zero-spec : {M : Type 1} → statement M
+exp2-or-zero-spec = tie.close (tie.spec (λ c κs. tt) power-at-requires returns returns-2)

@@ -1,0 +1,12 @@
+-- `engine_calls::next` meets its contract: what the calls ensure, one put into the other; none of them asks anything. Assumes nothing.
+use Rattle.engine_calls.proofs.next.Statement.{statement}
+use Rattle.engine_calls.proofs.next.Tie as tie
+
+returns : tie.Need-returns
+returns c =
+    let engine = c .before .before .before .before .before .before .engine-of .ensures in
+    let step = c .before .before .before .before .before .next .ensures in
+    (rw (c .refusal .ensures, step, engine), (rw (c .before .before .before .words-of .ensures, step, engine), (rw (c .before .before .left-of .ensures, step, engine), rw (c .before .right-of .ensures, step, engine))))
+
+pub next-spec : {M : Type 1} → statement M
+next-spec = tie.close (tie.spec (λ c κs. tt) (λ c κs. tt) (λ c κs. tt) (λ c κs. tt) (λ c κs. tt) (λ c κs. tt) returns)

@@ -1,0 +1,127 @@
+// M1, M2. 001's ModulationEngine: two phases, each with a generator of its own, opened, its sample rate, its seed or its whole course set anew.
+// A state goes in by value and comes back; each method refuses a state that is out of range, and nothing has changed then.
+ghost use mathlib.Core.Path.{_≡_};
+ghost use mathlib.Core.Bool.{_&&_};
+ghost use Rattle.modulation_engine.specs.Engine.{phasesOk, validEngine, verdict, openedBy, openedOf, setSampleRateOf, setSeedOf, resetOf};
+use oscillator_ranges as ranges;
+use smooth_random::SmoothRandom;
+
+pub struct ModulationEngine {
+    pub sample_rate: f64,
+    pub wow_phase: f64,
+    pub flutter_phase: f64,
+    pub wow_drift: SmoothRandom,
+    pub flutter_drift: SmoothRandom,
+}
+
+// An engine, or the number of a refusal.
+pub enum Opened {
+    Engine(ModulationEngine),
+    Refused(u8),
+}
+
+fn both(a: bool, b: bool) -> bool
+    ensures { λ r. ⌜ r ≡ (a && b) ⌝ }
+{
+    if a { b } else { false }
+}
+
+// The engine where no refusal is due (0), else the refusal.
+fn handed_back(refusal: u8, engine: ModulationEngine) -> Opened
+    ensures { λ r. ⌜ r ≡ openedBy refusal engine ⌝ }
+{
+    if refusal == 0 {
+        Opened::Engine(engine)
+    } else {
+        Opened::Refused(refusal)
+    }
+}
+
+impl ModulationEngine {
+    pub fn new(sample_rate: f64, seed: u64) -> Opened
+        ensures { λ r. ⌜ r ≡ openedOf «sample_rate» seed ⌝ }
+    {
+        let flutter_seed = xorshift::flutter_seed(seed);
+        if ranges::sample_rate_ok(sample_rate) {
+            let wow = SmoothRandom::new(seed);
+            let flutter = SmoothRandom::new(flutter_seed);
+            Opened::Engine(ModulationEngine {
+                sample_rate,
+                wow_phase: 0.0,
+                flutter_phase: 0.0,
+                wow_drift: wow,
+                flutter_drift: flutter,
+            })
+        } else {
+            Opened::Refused(1)
+        }
+    }
+
+    // Outside its range 001 leaves the old rate; here that is refused.
+    pub fn set_sample_rate(mut self, sample_rate: f64) -> Opened
+        ensures { λ r. ⌜ r ≡ setSampleRateOf self «sample_rate» ⌝ }
+    {
+        let refusal = self.refusal(ranges::sample_rate_ok(sample_rate));
+        self.sample_rate = sample_rate;
+        handed_back(refusal, self)
+    }
+
+    // M2. Each generator compares its own seed.
+    pub fn set_seed(mut self, seed: u64) -> Opened
+        ensures { λ r. ⌜ r ≡ setSeedOf self seed ⌝ }
+    {
+        let refusal = self.refusal(true);
+        let wow = self.wow_drift;
+        let flutter = self.flutter_drift;
+        let wow = wow.set_seed(seed);
+        let flutter = flutter.set_seed(xorshift::flutter_seed(seed));
+        self.wow_drift = wow;
+        self.flutter_drift = flutter;
+        handed_back(refusal, self)
+    }
+
+    pub fn reset(mut self) -> Opened
+        ensures { λ r. ⌜ r ≡ resetOf self ⌝ }
+    {
+        let refusal = self.refusal(true);
+        let wow = self.wow_drift;
+        let flutter = self.flutter_drift;
+        let wow = wow.reset();
+        let flutter = flutter.reset();
+        self.wow_phase = 0.0;
+        self.flutter_phase = 0.0;
+        self.wow_drift = wow;
+        self.flutter_drift = flutter;
+        handed_back(refusal, self)
+    }
+
+    // G8. Both phases in their range.
+    pub fn phases_ok(self) -> bool
+        ensures { λ r. ⌜ r ≡ phasesOk self ⌝ }
+    {
+        both(
+            ranges::cycle_ok(self.wow_phase),
+            ranges::cycle_ok(self.flutter_phase),
+        )
+    }
+
+    // G8. Every field in its range but the sample rate, which is a setting.
+    pub fn valid(self) -> bool
+        ensures { λ r. ⌜ r ≡ validEngine self ⌝ }
+    {
+        let wow = self.wow_drift;
+        let flutter = self.flutter_drift;
+        both(self.phases_ok(), both(wow.valid(), flutter.valid()))
+    }
+
+    // N1, N3, N9. 0, or the number of the lowest refusal that is due, where `arguments` says whether what was handed in with the state is in range.
+    fn refusal(self, arguments: bool) -> u8
+        ensures { λ r. ⌜ r ≡ verdict arguments self ⌝ }
+    {
+        if both(ranges::sample_rate_ok(self.sample_rate), arguments) {
+            if self.valid() { 0 } else { 3 }
+        } else {
+            1
+        }
+    }
+}

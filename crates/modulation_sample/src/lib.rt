@@ -1,0 +1,77 @@
+// M5. What a sample of 001's engine is made of: the offsets that it renders, and the phases that it advances. The settings and the state are tested before (`modulation`).
+ghost use mathlib.Core.Path.{_≡_};
+ghost use Rattle.modulation_sample.specs.Sample.{multiplierOf, offsetOf, steppedBy};
+use modulation_engine::ModulationEngine;
+use modulation_params::ModulationParams;
+use smooth_random::Next as Drift;
+
+pub struct StereoDelayOffset {
+    pub left: f64,
+    pub right: f64,
+}
+
+// The delay offsets of a sample, or the number of a refusal.
+pub enum Offset {
+    Delay(StereoDelayOffset),
+    Refused(u8),
+}
+
+// The engine afterwards, and the offsets before it advanced.
+pub struct Next {
+    pub engine: ModulationEngine,
+    pub offset: Offset,
+}
+
+// Full drift permits an oscillator to wander by half an octave.
+fn multiplier(drift_amount: f64, value: f64) -> f64
+    ensures { λ r. ⌜ r ≡ multiplierOf «drift_amount» value ⌝ }
+{
+    let drift = order::clamp(drift_amount, 0.0, 1.0);
+    waves::power_of_two(0.5 * drift * value)
+}
+
+// 001 renders each side by oscillator_delay; what that multiplies the shapes by is the same on both.
+pub fn render(engine: ModulationEngine, params: ModulationParams) -> StereoDelayOffset
+    ensures { λ r. ⌜ r ≡ offsetOf engine params ⌝ }
+{
+    let side = order::clamp(params.stereo_amount, 0.0, 1.0) * 1.5707963267948966;
+    let wow = waves::amplitude(
+        params.wow_rate_hz,
+        params.wow_depth_cents,
+        engine.sample_rate,
+    );
+    let flutter = waves::amplitude(
+        params.flutter_rate_hz,
+        params.flutter_depth_cents,
+        engine.sample_rate,
+    );
+    let left = wow * waves::shape_primitive(engine.wow_phase + (-side), params.wow_shape)
+        + flutter * waves::shape_primitive(engine.flutter_phase + (-side), params.flutter_shape);
+    let right = wow * waves::shape_primitive(engine.wow_phase + side, params.wow_shape)
+        + flutter * waves::shape_primitive(engine.flutter_phase + side, params.flutter_shape);
+    StereoDelayOffset { left, right }
+}
+
+// The phases, each advanced by its rate and its drift, and the generators as the draws left them.
+pub fn stepped(
+    mut engine: ModulationEngine,
+    params: ModulationParams,
+    wow: Drift,
+    flutter: Drift,
+) -> ModulationEngine
+    ensures { λ r. ⌜ r ≡ steppedBy wow flutter engine params ⌝ }
+{
+    let wow_rate = params.wow_rate_hz * multiplier(params.drift_amount, wow.value);
+    let flutter_rate = params.flutter_rate_hz * multiplier(params.drift_amount, flutter.value);
+    let wow_random = wow.random;
+    let flutter_random = flutter.random;
+    engine.wow_phase = waves::advance_phase(engine.wow_phase, wow_rate, engine.sample_rate);
+    engine.flutter_phase = waves::advance_phase(
+        engine.flutter_phase,
+        flutter_rate,
+        engine.sample_rate,
+    );
+    engine.wow_drift = wow_random;
+    engine.flutter_drift = flutter_random;
+    engine
+}

@@ -1,0 +1,23 @@
+-- M3. A draw hands back the generator one step on, and the number that 001 makes of it. Definitions only.
+use Prim.Native.Nat.{ℕ}
+use Rattle.xorshift.specs.Xorshift.{stepOf}
+use Rattle.xorshift.specs.Draws.{bipolarOf, scaleOf}
+use Rattle.smooth_random.specs.declared.SmoothRandom.{SmoothRandom}
+use Rattle.smooth_random.specs.declared.Drawn.{Drawn}
+
+-- The state with the generator at x.
+abbrev pub at : SmoothRandom → ℕ → SmoothRandom
+at r x = record {
+  «initial_seed» = r .«initial_seed»;
+  state = x;
+  current = r .current;
+  next = r .next;
+  position = r .position;
+  «segment_rate_scale» = r .«segment_rate_scale»;
+}
+
+abbrev pub bipolarDrawn : SmoothRandom → Drawn
+bipolarDrawn r = let x = stepOf (r .state) in record { random = at r x; value = bipolarOf x }
+
+abbrev pub scaleDrawn : SmoothRandom → Drawn
+scaleDrawn r = let x = stepOf (r .state) in record { random = at r x; value = scaleOf x }

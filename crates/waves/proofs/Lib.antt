@@ -1,0 +1,4 @@
+pub mod Values
+pub mod Inside
+pub mod Powers
+pub mod Cycle

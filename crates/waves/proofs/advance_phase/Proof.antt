@@ -1,0 +1,11 @@
+-- `waves::advance_phase` meets its contract: it is the definition. Assumes nothing.
+use Rattle.waves.specs.Waves.{advancePhase}
+use Rattle.waves.proofs.advance_phase.Statement.{statement}
+use Rattle.waves.proofs.advance_phase.Tie as tie
+
+returns : tie.Need-returns
+unfolding advancePhase
+returns c = rw (c .rem-euclid .ensures, c .before .max .ensures)
+
+pub advance-phase-spec : {M : Type 1} → statement M
+advance-phase-spec = tie.close (tie.spec (λ c κs. tt) (λ c κs. tt) returns)

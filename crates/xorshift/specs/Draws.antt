@@ -1,0 +1,31 @@
+-- M3. The numbers that 001 makes of a draw, in its order, each operation rounded once. Definitions only.
+use Prim.Native.Nat.{ℕ, _/_, _^_}
+use lib.IntN.{pos}
+use lib.Ieee.{Float, binary64, ofBits, ofInt, add, sub, mul, div}
+use Rattle.xorshift.specs.Xorshift.{valueOf}
+
+abbrev pub zero : Float
+zero = ofBits binary64 0
+
+abbrev pub one : Float
+one = ofBits binary64 0x3ff0_0000_0000_0000
+
+abbrev pub two : Float
+two = ofBits binary64 0x4000_0000_0000_0000
+
+-- 1.0 / 2^53
+abbrev pub scale53 : Float
+scale53 = div binary64 one (ofBits binary64 0x4340_0000_0000_0000)
+
+-- 0.35, to the nearest.
+abbrev pub spread : Float
+spread = ofBits binary64 0x3fd6_6666_6666_6666
+
+-- The number drawn where the state has become x: the value's 53 highest digits, as a number from 0 to 1, then stretched over -1 to 1.
+unfoldable pub bipolarOf : ℕ → Float
+bipolarOf x = let unit = mul binary64 (ofInt binary64 (pos (valueOf x / 2 ^ 11))) scale53 in sub binary64 (mul binary64 unit two) one
+
+-- How fast the next segment is passed.
+unfoldable pub scaleOf : ℕ → Float
+unfolding bipolarOf
+scaleOf x = add binary64 one (mul binary64 spread (bipolarOf x))

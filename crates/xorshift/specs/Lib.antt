@@ -1,0 +1,3 @@
+pub mod Xorshift
+pub mod Seeds
+pub mod Draws
