@@ -77,7 +77,7 @@ floor-around b (fin true m e) B h =
     rw (floor-negative b m e B h) (negated ((m * up e + (down e - 1)) / down e) m e (c .0) (c .1))
 
 -- no other integer lies so
-equal : (z w : ℤ) → posPart z + negPart w ≡ posPart w + negPart z → z ≡ w
+pub equal : (z w : ℤ) → posPart z + negPart w ≡ posPart w + negPart z → z ≡ w
 equal (pos a) (pos b) e = ap pos (omega arith)
 equal (pos a) (negsuc b) e = absurd (omega arith)
 equal (negsuc a) (pos b) e = absurd (omega arith)

@@ -2,7 +2,9 @@ pub mod Signed
 pub mod Shifted
 pub mod Floors
 pub mod Ends
-pub mod Beyond
+pub mod Outside
 pub mod Step
+pub mod Beside
+pub mod Nearby
 pub mod Fractions
 pub mod Worked

@@ -2,6 +2,7 @@
 ghost use mathlib.Core.Path.{_≡_};
 ghost use Prim.Native.Nat.{_^_};
 ghost use lib.Ieee as Ieee;
+ghost use lib.Ieee.{binary64};
 ghost use Rattle.magnitude.specs.Bounds.{AtMost};
 ghost use Rattle.integer_part.specs.Parts.{floorOf, fractionOf};
 
@@ -27,8 +28,8 @@ fn stepped(x: f64) -> i64
     if x < (t as f64) { t - 1 } else { t }
 }
 
-// Rust's `x.floor() as i64`. From 2^52 on every f64 is whole, so there is nothing to step over.
-pub fn floor(x: f64) -> i64
+// From 2^52 on every f64 is whole, so there is nothing to step over.
+fn beyond(x: f64) -> i64
     ensures { λ r. ⌜ r ≡ floorOf x ⌝ }
 {
     if magnitude::within(x, -4503599627370496.0, 4503599627370496.0) {
@@ -38,9 +39,35 @@ pub fn floor(x: f64) -> i64
     }
 }
 
+// The floor as a float, by no cast. Between 2^52 and 2^53 the floats are the whole numbers, so 3 * 2^51 added to x rounds to one of the two about x, and it is one too many
+// where it lies above.
+fn floored(x: f64) -> f64
+    requires { ⌜ AtMost (2 ^ 36) x ⌝ }
+    ensures { λ r. ⌜ r ≡ Ieee.ofInt binary64 (floorOf x) ⌝ }
+{
+    let t = x + 6755399441055744.0;
+    let step = if x < t - 6755399441055744.0 { 1.0 } else { 0.0 };
+    t - step - 6755399441055744.0
+}
+
+// Rust's `x.floor() as i64`. The quick way serves 01's positions, by `ring::position_ok`'s own test, which a compiler then makes once.
+pub fn floor(x: f64) -> i64
+    ensures { λ r. ⌜ r ≡ floorOf x ⌝ }
+{
+    if magnitude::within(x, -68719476736.0, 68719476736.0) {
+        floored(x) as i64
+    } else {
+        beyond(x)
+    }
+}
+
 // 000's `position - integer as f64`.
 pub fn fraction(x: f64) -> f64
     ensures { λ r. ⌜ r ≡ fractionOf x ⌝ }
 {
-    x - std::num::nearest_i64_to_f64(floor(x))
+    if magnitude::within(x, -68719476736.0, 68719476736.0) {
+        x - floored(x)
+    } else {
+        x - std::num::nearest_i64_to_f64(beyond(x))
+    }
 }

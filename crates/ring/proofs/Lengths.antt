@@ -2,10 +2,11 @@
 -- Assumes nothing.
 use mathlib.Core.Path.{_≡_, refl}
 use mathlib.Core.Logic.{_↔_}
-use Prim.Native.Nat.{ℕ, _-_, _^_, _≤_, _<_}
+use Prim.Native.Nat.{ℕ, _-_, _%_, _^_, _≤_, _<_}
 use native.Mathlib.Nat.{le-trans}
 use native.Mathlib.Omega.{arith}
 use lib.Pow.{pow-mono, pow-pos}
+use lib.Bits.{bitAnd, and-mask}
 use lib.Ieee.{size}
 use lib.Ieee.Digits.{size-lt, size-le}
 use Rattle.ring.specs.Length.{need, lengthFor}
@@ -25,6 +26,11 @@ module _ (maximum margin : ℕ) where
 
   pub at-most : need maximum margin ≤ 2 ^ 24 ↔ lengthFor maximum margin ≤ 2 ^ 24
   at-most = (least 24, le-trans enough)
+
+  -- so a mask by its predecessor is the remainder
+  pub masked : (k : ℕ) → bitAnd k (lengthFor maximum margin - 1) ≡ k % lengthFor maximum margin
+  unfolding lengthFor
+  masked k = and-mask k (size (need maximum margin - 1))
 
 none : lengthFor 0 0 ≡ 8
 unfolding lengthFor size

@@ -24,8 +24,8 @@ pub fn length_for(maximum: usize, margin: usize) -> usize
     if need > 0x100_0000 {
         return 0;
     }
-    let digits: u64 = 64 - u64::leading_zeros(need - 1) as u64;
-    (1u64 << digits) as usize
+    let last: u64 = 63 - u64::leading_zeros(need - 1) as u64;
+    (2u64 << last) as usize
 }
 
 // K1. Zeroes a ring, as opening and reset do.
@@ -39,7 +39,7 @@ pub fn clear(ring: &mut [f64])
     }
 }
 
-// K1. An index modulo the length: a mask where the length is a power of two, as a reader's ring is.
+// K1. An index modulo the length: a mask where the length is a power of two, as a reader's ring is, and no division in a slice that holds all it was handed.
 pub fn place(index: u64, len: usize) -> usize
     ensures { λ r. ⌜ r ≡ placeOf index len ⌝ }
 {
@@ -49,6 +49,9 @@ pub fn place(index: u64, len: usize) -> usize
     }
     if n & (n - 1) == 0 {
         return (index & (n - 1)) as usize;
+    }
+    if index < n {
+        return index as usize;
     }
     (index % n) as usize
 }
@@ -88,19 +91,20 @@ pub fn run_start(len: usize, count: u64, index: i64, taps: u64) -> Start
         };
     }
     let k = index as u64;
-    if count < taps {
+    if count < k {
         return Start {
             held: false,
             place: 0,
         };
     }
-    if count - taps < k {
+    let back = count - k;
+    if back < taps {
         return Start {
             held: false,
             place: 0,
         };
     }
-    if count - k > len as u64 {
+    if back > len as u64 {
         return Start {
             held: false,
             place: 0,

@@ -1,7 +1,7 @@
 -- A delay reader, defined once: over what its kernel reads and over what its kernel asks of its own settings (01, 'Reading a ring'). A kernel with none asks nothing.
 -- Samples are floats of either width. Definitions only.
 use Prim.Native.Nat.{ℕ, zero, suc, _+_, _%_, _^_}
-use mathlib.Core.Bool.{Bool, true, false, _&&_}
+use mathlib.Core.Bool.{Bool, true, false, not, _&&_}
 use mathlib.Core.List.{List}
 use lib.Dec.{eqb, leb, ltb}
 use lib.IntN.{pos}
@@ -30,6 +30,11 @@ verdict own lent d len x y =
     (le y (fin false 1 (pos 36)))
     true
     (ltb (d .accepted) (2 ^ 36))
+
+-- The same on the length that `ring::length_for` gives, which is 0 where the settings are out of range: as the code tests it.
+abbrev pub dueOf : ℕ → Bool → Bool → ℕ → ℕ → Float → Float → ℕ
+dueOf length own lent len accepted x y =
+    firstOf (not (eqb length 0) && own) (eqb len length && lent) (leb accepted (2 ^ 36)) (finite x) (finite y && le (fin false 0 (pos 0)) y) (le y (fin false 1 (pos 36))) true (ltb accepted (2 ^ 36))
 
 -- K1. Accepted sample i goes to place i modulo the length.
 abbrev pub stored : ℕ → List Float → Float → List Float

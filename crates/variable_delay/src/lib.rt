@@ -1,8 +1,9 @@
 // 000's VariableDelay: the state of a delay reader, what it refuses, and what an accepted call stores. The kernels' readers stand on this.
 ghost use mathlib.Core.Path.{_≡_};
 ghost use mathlib.Core.Bool.{_&&_};
+ghost use lib.Dec.{eqb};
 ghost use lib.ListN.{length};
-ghost use Rattle.variable_delay.specs.Reader.{verdict, acceptedOf, ringAfter};
+ghost use Rattle.variable_delay.specs.Reader.{verdict, dueOf, acceptedOf, ringAfter};
 ghost use Rattle.variable_delay.specs.Opening.{openedOf, ringOpened, resetOf, ringReset};
 use answer::Answer;
 
@@ -76,16 +77,48 @@ pub fn refusal(
 ) -> u8
     ensures { λ r. ⌜ r ≡ verdict own lent state len input delay ⌝ }
 {
-    let n = state.accepted;
     let length = ring::length_for(state.maximum, state.margin);
+    due(length, own, lent, len, state.accepted, input, delay)
+}
+
+// The same for the length that the settings need, 0 where they are out of range.
+fn due(
+    length: usize,
+    own: bool,
+    lent: bool,
+    len: usize,
+    accepted: u64,
+    input: f64,
+    delay: f64,
+) -> u8
+    ensures { λ r. ⌜ r ≡ dueOf length own lent len accepted input delay ⌝ }
+{
     let t1 = both(length != 0, own);
     let t2 = both(len == length, lent);
-    let t3 = n <= 68719476736;
+    let t3 = accepted <= 68719476736;
     let t4 = magnitude::is_finite(input);
     let t5 = both(magnitude::is_finite(delay), delay >= 0.0);
     let t6 = delay <= 68719476736.0;
-    let t8 = n < 68719476736;
+    let t8 = accepted < 68719476736;
     answer::first(t1, t2, t3, t4, t5, t6, true, t8)
+}
+
+// Whether none is due, which asks less: a delay from 0 to 2^36 is finite, and a count below 2^36 is in range.
+fn passes(
+    length: usize,
+    own: bool,
+    lent: bool,
+    len: usize,
+    accepted: u64,
+    input: f64,
+    delay: f64,
+) -> bool
+    ensures { λ r. ⌜ r ≡ eqb (dueOf length own lent len accepted input delay) 0 ⌝ }
+{
+    let t1 = both(length != 0, own);
+    let t2 = both(len == length, lent);
+    let t4 = both(magnitude::is_finite(input), magnitude::within(delay, 0.0, 68719476736.0));
+    both(both(t1, t2), both(accepted < 68719476736, t4))
 }
 
 fn both(a: bool, b: bool) -> bool
@@ -94,7 +127,7 @@ fn both(a: bool, b: bool) -> bool
     if a { b } else { false }
 }
 
-// Refuses, or stores the sample: what is left is to read at the position.
+// Refuses, or stores the sample: what is left is to read at the position. The length is a power of two, so a mask has the sample's place.
 pub fn accept(
     state: VariableDelay,
     own: bool,
@@ -107,20 +140,20 @@ pub fn accept(
     ensures { λ r. ⌜ now (ring .exit) ≡ ringAfter (verdict own lent state (length (now (ring .entry))) input delay) state (now (ring .entry)) input ⌝ }
 {
     let len = ring.len();
-    let no = refusal(state, own, lent, len, input, delay);
-    if no != 0 {
+    let length = ring::length_for(state.maximum, state.margin);
+    let i = state.accepted;
+    if passes(length, own, lent, len, i, input, delay) {
+        let at = (i & (len as u64 - 1)) as usize;
+        ring[at] = input;
         return Accepted {
-            refusal: no,
-            count: 0,
-            position: 0.0,
+            refusal: 0,
+            count: i + 1,
+            position: (i as i64) as f64 - delay,
         };
     }
-    let i = state.accepted;
-    let at = ring::place(i, len);
-    ring[at] = input;
     Accepted {
-        refusal: 0,
-        count: i + 1,
-        position: (i as i64) as f64 - delay,
+        refusal: due(length, own, lent, len, i, input, delay),
+        count: 0,
+        position: 0.0,
     }
 }

@@ -1,37 +1,46 @@
--- `integer_part::floor` meets its contract: within ±2 ^ 52 `stepped` has the floor, and outside the cast is the floor. Assumes nothing.
+-- `integer_part::floor` meets its contract: within ±2 ^ 36 `floored` has the floor as a float, which a cast gives back, and outside `beyond` has it. Assumes nothing.
 use borrow.Author.Needs.{needs}
-use mathlib.Core.Path.{sym, _∙_}
-use Prim.Native.Nat.{_^_}
-use lib.Dec.{lit≤}
-use denote.Floats.{passes}
-use lib.Ieee.{neg, ofBits, fits, binary64}
+use mathlib.Core.Path.{sym, ap, _∙_}
+use Prim.Native.Nat.{_^_, _≤_}
+use native.Mathlib.Nat.{le-trans}
+use lib.Dec.{lit≤, lit<}
+use lib.Signed.{mag}
+use lib.Ieee.{neg, ofBits, toSigned}
+use lib.Ieee.Casts.{toSigned-in}
 use mir.Syntax.{w64}
 use mir.ValLaws.{toZ-ofZ}
+use Rattle.magnitude.specs.Bounds.{AtMost}
 use Rattle.magnitude.proofs.Between.{within-at-most}
-use Rattle.integer_part.proofs.Beyond.{beyond}
+use Rattle.integer_part.specs.Parts.{floorOf}
+use Rattle.integer_part.proofs.Beside.{cast-back}
+use Rattle.integer_part.proofs.Floors.{floor-mag}
 use Rattle.integer_part.proofs.floor.Statement.{statement}
 use Rattle.integer_part.proofs.floor.Tie as tie
 
 within-requires : tie.Need-within-requires
 within-requires c κs = search needs
 
-stepped-requires : tie.Need-stepped-requires
+small : (c : tie.Then1) → AtMost (2 ^ 36) (c .before .before .args .x)
 unfolding neg ofBits
-stepped-requires c κs = within-at-most (2 ^ 52) _ (c .before .before .args .x) _ (lit≤ tt) (lit≤ tt) (sym (c .before .within .ensures) ∙ c .if1 .taken)
+small c = within-at-most (2 ^ 36) _ (c .before .before .args .x) _ (lit≤ tt) (lit≤ tt) (sym (c .before .within .ensures) ∙ c .if1 .taken)
 
-truncated-requires : tie.Need-truncated-requires
-truncated-requires c κs = search needs
+floored-requires : tie.Need-floored-requires
+floored-requires c κs = small c
+
+held : (c : tie.After-row-known) → mag (floorOf (c .before .before .before .before .args .x)) ≤ 2 ^ 52
+held c = le-trans (floor-mag (2 ^ 36) _ (lit< tt) (small (c .before .before))) (lit≤ tt)
+
+float-to-int-result : tie.Need-float-to-int-result
+float-to-int-result c = rw (c .before .floored .ensures) (cast-back _ (held c) .0)
+
+beyond-requires : tie.Need-beyond-requires
+beyond-requires c κs = search needs
 
 returns : tie.Need-returns
-returns c = search needs
+returns c = toZ-ofZ w64 _ (record { sfits = toSigned-in 63 (c .before .floored .result) }) ∙ ap (toSigned 63) (c .before .floored .ensures) ∙ cast-back _ (held c) .1
 
 returns-2 : tie.Need-returns-2
-unfolding neg ofBits
-returns-2 c =
-    let start = c .before .before .before in
-    toZ-ofZ w64 (c .truncated .result) (record { sfits = c .truncated .ok })
-    ∙ c .truncated .ensures
-    ∙ beyond (start .args .x) (passes (fits binary64 (start .args .x)) (start .good .0 .1)) (sym (c .before .before .within .ensures) ∙ c .before .if1 .left)
+returns-2 c = search needs
 
 pub floor-spec : {M : Type 1} → statement M
-floor-spec = tie.close (tie.spec within-requires stepped-requires truncated-requires returns returns-2)
+floor-spec = tie.close (tie.spec within-requires floored-requires float-to-int-result beyond-requires returns returns-2)

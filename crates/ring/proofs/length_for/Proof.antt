@@ -1,15 +1,16 @@
 -- `ring::length_for` meets its contract: the digits that the leading zeros leave are those of need - 1, at most 24 of them. Assumes nothing.
 use borrow.Author.Needs.{needs}
 use borrow.Author.Tests.{le-leb, lt-leb}
-use mathlib.Core.Path.{_≡_, _∙_}
+use mathlib.Core.Path.{_≡_, ap, _∙_}
 use mathlib.Core.Bool.{cond}
-use Prim.Native.Nat.{ℕ, _-_, _^_, _*_, _%_, _≤_, _<_}
+use Prim.Native.Nat.{ℕ, zero, suc, _-_, _^_, _*_, _%_, _≤_, _<_}
 use native.Mathlib.Omega.{arith}
-use native.Mathlib.Nat.{mod-eq-of-lt, lt-of-le-of-lt, one-mul}
+use native.Mathlib.Nat.{mod-eq-of-lt, lt-of-le-of-lt, two-pow-succ}
 use lib.Dec.{lit<}
 use lib.Count.{leadingZeros, leading-le}
 use lib.Pow.{pow-mono}
-use lib.Ieee.Digits.{size-le}
+use lib.Ieee.{size}
+use lib.Ieee.Digits.{size-le, size-lt}
 use Rattle.ring.specs.Length.{need, lengthFor, settingsOk}
 use Rattle.ring.proofs.Masks.{digits-size}
 use Rattle.ring.proofs.length_for.Statement.{statement}
@@ -19,14 +20,30 @@ use Rattle.ring.proofs.length_for.Tie as tie
 abbrev digits : ℕ → ℕ → ℕ
 digits m g = 64 - leadingZeros 64 (need m g - 1)
 
+-- the number of the last of them
+abbrev last : ℕ → ℕ → ℕ
+last m g = 63 - leadingZeros 64 (need m g - 1)
+
 few : (m g : ℕ) → need m g ≤ 2 ^ 24 → digits m g ≤ 24
 few m g h = rw (digits-size 64 (need m g - 1) (omega arith)) (size-le (need m g - 1) 24 (omega arith))
 
-raised : (m g : ℕ) → need m g ≤ 2 ^ 24 → 1 * 2 ^ digits m g % 2 ^ 64 ≡ cond (settingsOk m g) (lengthFor m g) 0
+-- there is one at least, since need - 1 is not 0
+one : (m g : ℕ) → need m g ≤ 2 ^ 24 → digits m g ≡ suc (last m g)
+one m g h = omega (arith, digits-size 64 (need m g - 1) (omega arith), size-lt (need m g - 1), pow-one (need m g - 1) (omega arith))
+  where
+    pow-one : (n : ℕ) → 0 < n → 0 < size n
+    pow-one n p = go (size n) (size-lt n)
+      where
+        go : (k : ℕ) → n < 2 ^ k → 0 < k
+        go zero l = absurd (omega arith)
+        go (suc k) l = omega arith
+
+raised : (m g : ℕ) → need m g ≤ 2 ^ 24 → 2 * 2 ^ last m g % 2 ^ 64 ≡ cond (settingsOk m g) (lengthFor m g) 0
 unfolding lengthFor
 raised m g h =
-    let fits : 1 * 2 ^ digits m g < 2 ^ 64 = omega (arith, pow-mono (few m g h)) in
-    mod-eq-of-lt fits ∙ rw (le-leb (need m g) (2 ^ 24) h, one-mul, digits-size 64 (need m g - 1) (omega arith))
+    let whole : 2 * 2 ^ last m g ≡ 2 ^ digits m g = omega (arith, two-pow-succ (last m g), ap (λ (k : ℕ). 2 ^ k) (one m g h)) in
+    let fits : 2 ^ digits m g < 2 ^ 64 = omega (arith, pow-mono (few m g h)) in
+    rw whole (mod-eq-of-lt fits ∙ rw (le-leb (need m g) (2 ^ 24) h, digits-size 64 (need m g - 1) (omega arith)))
 
 too-long : (m g : ℕ) → 2 ^ 24 < need m g → 0 ≡ cond (settingsOk m g) (lengthFor m g) 0
 too-long m g h = rw (lt-leb (need m g) (2 ^ 24) h)
@@ -49,14 +66,14 @@ add-need-2 c = search needs
 returns-3 : tie.Need-returns-3
 returns-3 c = let a = c .before .before .before .args in too-long (a .maximum) (a .margin) (omega arith)
 
-sub-digits : tie.Need-sub-digits
-sub-digits c = search needs
+sub-last : tie.Need-sub-last
+sub-last c = search needs
 
-cast-digits : tie.Need-cast-digits
-cast-digits c = record { fits = lt-of-le-of-lt (leading-le 64 _) (lit< tt) }
+cast-last : tie.Need-cast-last
+cast-last c = record { fits = lt-of-le-of-lt (leading-le 64 _) (lit< tt) }
 
-sub-digits-2 : tie.Need-sub-digits-2
-sub-digits-2 c = leading-le 64 _
+sub-last-2 : tie.Need-sub-last-2
+sub-last-2 c = let a = c .before .before .before .args in omega (arith, one (a .maximum) (a .margin) (omega arith))
 
 shl-result : tie.Need-shl-result
 shl-result c = let a = c .before .before .before .args in omega (arith, few (a .maximum) (a .margin) (omega arith))
@@ -74,8 +91,8 @@ length-for-spec =
     add-need
     add-need-2
     returns-3
-    sub-digits
-    cast-digits
-    sub-digits-2
+    sub-last
+    cast-last
+    sub-last-2
     shl-result
     returns-4)

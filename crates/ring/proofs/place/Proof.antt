@@ -1,6 +1,8 @@
--- `ring::place` meets its contract: the mask of a power of two is the remainder. Assumes nothing.
+-- `ring::place` meets its contract: the mask of a power of two is the remainder, and so is an index below the length. Assumes nothing.
 use borrow.Author.Needs.{needs}
 use borrow.Author.Tests.{eq-eqb, ne-eqb}
+use mathlib.Core.Path.{sym}
+use native.Mathlib.Nat.{mod-eq-of-lt}
 use native.Mathlib.Omega.{arith}
 use Rattle.ring.proofs.Masks.{mask-mod}
 use Rattle.ring.proofs.place.Statement.{statement}
@@ -18,11 +20,14 @@ sub-result c = search needs
 returns-2 : tie.Need-returns-2
 returns-2 c = rw (ne-eqb _ _ (c .before .if1 .left)) (mask-mod _ _ (omega arith) (c .if2 .taken))
 
+returns-3 : tie.Need-returns-3
+returns-3 c = rw (ne-eqb _ _ (c .before .before .if1 .left)) (sym (mod-eq-of-lt (c .if3 .taken)))
+
 rem-result : tie.Need-rem-result
 rem-result c = search needs
 
-returns-3 : tie.Need-returns-3
-returns-3 c = rw (ne-eqb _ _ (c .before .if1 .left))
+returns-4 : tie.Need-returns-4
+returns-4 c = rw (ne-eqb _ _ (c .before .before .if1 .left))
 
 pub place-spec : {M : Type 1} → statement M
-place-spec = tie.close (tie.spec returns sub-if2 sub-result returns-2 rem-result returns-3)
+place-spec = tie.close (tie.spec returns sub-if2 sub-result returns-2 returns-3 rem-result returns-4)

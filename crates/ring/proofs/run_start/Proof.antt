@@ -25,9 +25,6 @@ returns-2 c = held.none-ahead _ _ _ _ (word (c .before .before)) (c .before .if1
 returns-3 : tie.Need-returns-3
 returns-3 c = held.none-ahead _ _ _ _ (word (c .before .before .before)) (c .before .before .if1 .left) (omega arith)
 
-sub-if4 : tie.Need-sub-if4
-sub-if4 c = search needs
-
 returns-4 : tie.Need-returns-4
 returns-4 c = held.none-gone _ _ _ _ (word (c .before .before .before .before)) (c .before .before .before .if1 .left) (omega arith) (omega arith)
 
@@ -40,4 +37,4 @@ returns-5 c =
     held.all-kept _ _ _ _ (word (t .before .before .before .before)) (t .before .before .before .if1 .left) (omega arith) (omega arith) (c .place .ensures)
 
 pub run-start-spec : {M : Type 1} → statement M
-run-start-spec = tie.close (tie.spec returns cast-k returns-2 returns-3 sub-if4 returns-4 place-requires returns-5)
+run-start-spec = tie.close (tie.spec returns cast-k returns-2 returns-3 returns-4 place-requires returns-5)

@@ -1,8 +1,15 @@
--- `variable_delay::accept` meets its contract: by its refusal, or, where every test passed, by the store at the sample's place. Assumes nothing.
+-- `variable_delay::accept` meets its contract: where every test passed, by the store at the sample's place, which the mask of a power of two gives, and else by the refusal
+-- that is due. Assumes nothing.
 use borrow.Author.Needs.{needs, scaled-fits}
-use mathlib.Core.Path.{_≡_, sym, _∙_}
-use Prim.Native.Nat.{_<_}
+use borrow.Author.Tests.{ne-eqb}
+use mathlib.Core.Path.{_≡_, sym, ap, _∙_}
+use mathlib.Core.Bool.{true, false, true≢false}
+use Prim.Native.Nat.{ℕ, _-_, _%_, _<_}
+use native.Mathlib.Nat.{mod-lt}
 use native.Mathlib.Omega.{arith}
+use denote.Floats.{passes}
+use lib.Bits.{bitAnd}
+use lib.Dec.{eqb, eqb→eq}
 use lib.IntN.{pos}
 use lib.ListN.{length}
 use lib.Ieee.{ofBits}
@@ -11,32 +18,43 @@ use mir.Val.{toZ}
 use mir.ValLaws.{toZ-ofZ}
 use denote.Ref.{now}
 use Rattle.integer_part.proofs.Step.{in-float}
-use Rattle.ring.proofs.Held.{place-mod, place-inside}
+use Rattle.ring.proofs.Lengths.{masked}
 use Rattle.variable_delay.specs.Reader.{verdict}
+use Rattle.variable_delay.proofs.Settings.{due-is}
 use Rattle.variable_delay.proofs.Taken.{Taken, taken, ring-some}
 use Rattle.variable_delay.proofs.Refused.{not-accepted, same-ring}
 use Rattle.variable_delay.proofs.accept.Statement.{statement}
 use Rattle.variable_delay.proofs.accept.Tie as tie
 
-refusal-requires : tie.Need-refusal-requires
-refusal-requires c κs = search needs
+length-for-requires : tie.Need-length-for-requires
+length-for-requires c κs = search needs
 
-returns : tie.Need-returns
-unfolding ofBits
-returns c = let e = c .before .refusal .ensures in (not-accepted _ e (c .if1 .taken) _ _, same-ring _ e (c .if1 .taken) _ _ _)
+passes-requires : tie.Need-passes-requires
+passes-requires c κs = search needs
 
-place-requires : tie.Need-place-requires
-place-requires c κs = search needs
+-- the verdict, and whether it is none, as the code has them
+abbrev Verdict : tie.After-passes → ℕ
+Verdict c = let a = c .before .before .before .args in verdict (a .own) (a .lent) (a .state) (length (now (a .ring))) (a .input) (a .delay)
 
--- the call is accepted
-none : (c : tie.Else1) → let a = c .before .before .before .args in verdict (a .own) (a .lent) (a .state) (length (now (a .ring))) (a .input) (a .delay) ≡ 0
-none c = sym (c .before .refusal .ensures) ∙ c .if1 .left
+tests : (c : tie.After-passes) → c .passes .result ≡ eqb (Verdict c) 0
+tests c =
+    let a = c .before .before .before .args in
+    c .passes .ensures ∙ ap (λ (v : ℕ). eqb v 0) (due-is (a .own) (a .lent) (a .state) (length (now (a .ring))) (a .input) (a .delay) (c .before .length-for .ensures))
 
-passed : (c : tie.Else1) → let a = c .before .before .before .args in Taken (a .own) (a .lent) (a .state) (length (now (a .ring))) (a .input) (a .delay)
+none : (c : tie.Then1) → Verdict (c .before) ≡ 0
+none c = eqb→eq (Verdict (c .before)) 0 (passes _ (sym (tests (c .before)) ∙ c .if1 .taken))
+
+passed : (c : tie.Then1) → let a = c .before .before .before .before .args in Taken (a .own) (a .lent) (a .state) (length (now (a .ring))) (a .input) (a .delay)
 passed c = taken _ _ _ _ _ _ (none c)
 
-inside : (c : tie.After-place) → c .place .result < length (now (c .before .before .before .before .args .ring))
-inside c = place-inside _ _ (ring-some (passed (c .before))) (c .place .ensures)
+place : (c : tie.Then1) → let a = c .before .before .before .before .args in bitAnd (a .state .accepted) (length (now (a .ring)) - 1) ≡ a .state .accepted % length (now (a .ring))
+place c = let a = c .before .before .before .before .args in rw (passed c .long) (masked (a .state .maximum) (a .state .margin) (a .state .accepted))
+
+inside : (c : tie.Then1) → let a = c .before .before .before .before .args in bitAnd (a .state .accepted) (length (now (a .ring)) - 1) < length (now (a .ring))
+inside c = rw (place c) (mod-lt _ (ring-some (passed c)))
+
+sub-at : tie.Need-sub-at
+sub-at c = ring-some (passed c)
 
 mul-ring : tie.Need-mul-ring
 mul-ring c = scaled-fits _ _ 8 (inside c) (c .before .before .before .before .good .1 .1 .1 .0 .1)
@@ -44,29 +62,52 @@ mul-ring c = scaled-fits _ _ 8 (inside c) (c .before .before .before .before .go
 slice-write-ring : tie.Need-slice-write-ring
 slice-write-ring c = inside c
 
-add-t14 : tie.Need-add-t14
-add-t14 c = omega (arith, passed (c .before) .room)
+add-t12 : tie.Need-add-t12
+add-t12 c = omega (arith, passed c .room)
 
 -- the count is small, so both casts are exact
-cast-t15 : tie.Need-cast-t15
-cast-t15 c = record { sfits = omega (arith, passed (c .before) .room) }
+cast-t17 : tie.Need-cast-t17
+cast-t17 c = record { sfits = omega (arith, passed c .room) }
 
-count-is : (c : tie.After-row-known) → toZ w64 (c .before .before .before .before .before .args .state .accepted) ≡ pos (c .before .before .before .before .before .args .state .accepted)
-count-is c = toZ-ofZ w64 (pos _) (cast-t15 (c .before))
+count-is : (c : tie.After-row-known) → let n = c .before .before .before .before .before .args .state .accepted in toZ w64 n ≡ pos n
+count-is c = toZ-ofZ w64 (pos _) (cast-t17 (c .before))
 
-int-to-float-t16 : tie.Need-int-to-float-t16
-int-to-float-t16 c =
+int-to-float-t18 : tie.Need-int-to-float-t18
+int-to-float-t18 c =
     let n = c .before .before .before .before .before .args .state .accepted in
-    rw (count-is c) (in-float (pos n) (omega (arith, passed (c .before .before) .room)))
+    rw (count-is c) (in-float (pos n) (omega (arith, passed (c .before) .room)))
 
 same-length : tie.Need-same-length
 same-length c = search needs
 
+returns : tie.Need-returns
+returns c = let t = c .before in (rw (none t, count-is c), rw (none t, place t))
+
+due-requires : tie.Need-due-requires
+due-requires c κs = search needs
+
 returns-2 : tie.Need-returns-2
+unfolding ofBits
 returns-2 c =
-    let e = c .before .before in
-    let p = c .before .place .ensures ∙ place-mod _ _ (ring-some (passed e)) in
-    (rw (none e, count-is c), rw (none e, p))
+    let t = c .before .before in
+    let a = t .before .before .before .args in
+    let e = c .due .ensures ∙ due-is (a .own) (a .lent) (a .state) (length (now (a .ring))) (a .input) (a .delay) (t .before .length-for .ensures) in
+    let some : c .due .result ≡ 0 → ⊥ = λ z. true≢false (sym (ap (λ (v : ℕ). eqb v 0) (sym e ∙ z)) ∙ sym (tests t) ∙ c .before .if1 .left) in
+    (not-accepted _ e some _ _, same-ring _ e some _ _ _)
 
 pub accept-spec : {M : Type 1} → statement M
-accept-spec = tie.close (tie.spec refusal-requires returns place-requires mul-ring slice-write-ring add-t14 cast-t15 int-to-float-t16 same-length returns-2)
+accept-spec =
+    tie.close
+    (tie.spec
+    length-for-requires
+    passes-requires
+    sub-at
+    mul-ring
+    slice-write-ring
+    add-t12
+    cast-t17
+    int-to-float-t18
+    same-length
+    returns
+    due-requires
+    returns-2)

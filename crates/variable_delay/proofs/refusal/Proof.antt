@@ -1,67 +1,18 @@
--- `variable_delay::refusal` meets its contract: each test is the definition's, the first two by `settled`. Assumes nothing.
+-- `variable_delay::refusal` meets its contract, by the law of `Settings` over the length that the settings need. Assumes nothing.
 use borrow.Author.Needs.{needs}
-use mathlib.Core.Path.{refl}
-use mathlib.Core.Bool.{Bool, true, false, _&&_}
-use Prim.Native.Nat.{_^_}
-use lib.Dec.{leb, ltb}
-use lib.IntN.{pos}
-use lib.Ieee.{fin, le, ofBits}
-use lib.Ieee.Scale.{finite}
-use Rattle.answer.specs.Refusals.{firstOf}
-use Rattle.variable_delay.proofs.Settings.{settled}
+use mathlib.Core.Path.{_∙_}
+use Rattle.variable_delay.proofs.Settings.{due-is}
 use Rattle.variable_delay.proofs.refusal.Statement.{statement}
 use Rattle.variable_delay.proofs.refusal.Tie as tie
 
 length-for-requires : tie.Need-length-for-requires
 length-for-requires c κs = search needs
 
-both-requires : tie.Need-both-requires
-both-requires c κs = search needs
-
-both-requires-2 : tie.Need-both-requires-2
-both-requires-2 c κs = search needs
-
-is-finite-requires : tie.Need-is-finite-requires
-is-finite-requires c κs = search needs
-
-is-finite-requires-2 : tie.Need-is-finite-requires-2
-is-finite-requires-2 c κs = search needs
-
-both-requires-3 : tie.Need-both-requires-3
-both-requires-3 c κs = search needs
-
-first-requires : tie.Need-first-requires
-first-requires c κs = search needs
+due-requires : tie.Need-due-requires
+due-requires c κs = search needs
 
 returns : tie.Need-returns
-unfolding ofBits
-returns c =
-    let f = c .before .before .before .before .before .before in
-    let a = f .before .args in
-    let s = a .state in
-    rw (
-      c .first .ensures,
-      c .before .before .before .before .before .both .ensures,
-      c .before .before .before .before .both2 .ensures,
-      c .before .before .before .is-finite .ensures,
-      c .before .both3 .ensures,
-      c .before .before .is-finite2 .ensures,
-    )
-    (settled (s .maximum) (s .margin) (a .len) (f .length-for .result)
-    (λ (t u : Bool).
-    firstOf (t && a .own) (u && a .lent) (leb (s .accepted) (2 ^ 36)) (finite (a .input)) (finite (a .delay) && le (fin false 0 (pos 0)) (a .delay)) (le (a .delay) (fin false 1 (pos 36))) true (ltb (s .accepted) (2 ^ 36)))
-    (λ t u. refl)
-    (f .length-for .ensures))
+returns c = let a = c .before .before .args in c .due .ensures ∙ due-is (a .own) (a .lent) (a .state) (a .len) (a .input) (a .delay) (c .before .length-for .ensures)
 
 pub refusal-spec : {M : Type 1} → statement M
-refusal-spec =
-    tie.close
-    (tie.spec
-    length-for-requires
-    both-requires
-    both-requires-2
-    is-finite-requires
-    is-finite-requires-2
-    both-requires-3
-    first-requires
-    returns)
+refusal-spec = tie.close (tie.spec length-for-requires due-requires returns)

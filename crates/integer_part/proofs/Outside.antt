@@ -22,7 +22,7 @@ inside x out h =
     (at-most-le (2 ^ 52) x (fin false 1 (pos 52)) (refl, refl) h))
 
 -- places below the point
-placed : (s : Bool) (m k : ℕ) → T (fits binary64 (fin s m (negsuc k))) → AtMost (2 ^ 52) (fin s m (negsuc k))
+pub placed : (s : Bool) (m k : ℕ) → T (fits binary64 (fin s m (negsuc k))) → AtMost (2 ^ 52) (fin s m (negsuc k))
 unfolding fits
 placed s zero k h = zero-le
 placed s (suc m) k h =
