@@ -2,3 +2,5 @@ pub mod Compared
 pub mod Halves
 pub mod Cut
 pub mod Steps
+pub mod Carrying
+pub mod Four

@@ -1,23 +1,26 @@
--- `fused_chain::chain` meets its contract: after k turns `held` is the chain of k turns, and an f32. Assumes nothing.
+-- `fused_chain::chain` meets its contract: each run carries the chain's sum on. Assumes nothing.
 use borrow.Author.Needs.{needs}
 use mathlib.Core.Path.{_≡_, sym, _∙_, ap, subst}
-use Prim.Native.Nat.{_-_, _≤_}
+use mathlib.Core.Logic.{inl, inr}
+use Prim.Native.Nat.{ℕ, _-_, _≤_, _<_}
 use native.Mathlib.Omega.{arith}
 use lib.Dec.{T}
 use lib.Ieee.{Float, binary32, fits}
 use denote.Ref.{now}
-use Rattle.loops.proofs.Folds.{none, turn}
+use Rattle.loops.proofs.Folds.{none}
+use Rattle.rounding.proofs.Orders.{lt-or-ge}
 use Rattle.rounding.proofs.Own.{narrowed-own}
-use Rattle.rounding.proofs.Fusing.{fused-fits}
 use Rattle.fused_chain.specs.Chain.{turnOf, chainOf}
+use Rattle.fused_chain.specs.Blocks.{Carries}
+use Rattle.fused_chain.proofs.Carrying.{on}
 use Rattle.fused_chain.proofs.chain.Statement.{statement}
 use Rattle.fused_chain.proofs.chain.Tie as tie
 
 abbrev Inv-loop : tie.InvT-loop
-Inv-loop xs row0 row1 blend sum n held₀ k₀ held k = (k ≤ n) × (held ≡ chainOf xs row0 row1 blend sum k) × (T (fits binary32 held))
+Inv-loop xs row0 row1 blend sum n middle held₀ k₀ held k = (k ≤ n) × (Carries xs row0 row1 blend 0 k sum held)
 
 abbrev μ-loop : tie.MeasureT-loop
-μ-loop xs row0 row1 blend sum n held₀ k₀ held k = n - k
+μ-loop xs row0 row1 blend sum n middle held₀ k₀ held k = n - k
 
 held : (c : tie.Start Inv-loop μ-loop) → T (fits binary32 (c .args .sum))
 held c = subst T (sym (c .good .1 .1 .1 .1 .0 .1)) tt
@@ -28,52 +31,64 @@ least-requires c κs = search needs
 least-requires-2 : tie.Need-least-requires-2 Inv-loop μ-loop
 least-requires-2 c κs = search needs
 
+ahead-requires : tie.Need-ahead-requires Inv-loop μ-loop
+ahead-requires c κs = omega arith
+
 f32-to-f64-with-nan-requires : tie.Need-f32-to-f64-with-nan-requires Inv-loop μ-loop
 f32-to-f64-with-nan-requires c κs = search needs
 
+one-by-one-requires : tie.Need-one-by-one-requires Inv-loop μ-loop
+one-by-one-requires c κs =
+    let b = c .before .before .before .before .before .before .before in
+    record {
+      order = omega arith;
+      samples = omega arith;
+      row = omega arith;
+      next = omega arith;
+      held = subst (λ (z : Float). T (fits binary32 z)) (sym (c .f32-to-f64-with-nan .ensures)) (held b);
+    }
+
 loop-holds : tie.Need-loop-holds Inv-loop μ-loop
 loop-holds c =
-    let b = c .before .before .before .before .before .before in
-    let a = b .args in
-    let e = c .f32-to-f64-with-nan .ensures in
-    (omega arith, e ∙ none (turnOf (now (a .xs)) (now (a .row0)) (now (a .row1)) (a .blend)) (a .sum), subst (λ (z : Float). T (fits binary32 z)) (sym e) (held b))
+    let w = c .before in
+    let a = w .before .before .before .before .before .before .before .args in
+    (omega arith, subst (λ (z : Float). Carries (now (a .xs)) (now (a .row0)) (now (a .row1)) (a .blend) 0 (w .before .ahead .result) z (c .one-by-one .result)) (w .f32-to-f64-with-nan .ensures) (c .one-by-one .ensures))
 
-mul-a : tie.Need-mul-a Inv-loop μ-loop
-mul-a c = search needs
+biased-run-requires : tie.Need-biased-run-requires Inv-loop μ-loop
+biased-run-requires c κs =
+    let l = c .before in
+    record { order = l .loop .inv .0; samples = omega arith; row = omega arith; next = omega arith; held = l .loop .inv .1 .held }
 
-shared-slice-read-a : tie.Need-shared-slice-read-a Inv-loop μ-loop
-shared-slice-read-a c = omega arith
+stretch-requires : tie.Need-stretch-requires Inv-loop μ-loop
+stretch-requires c κs = c .biased-run .ensures .last
 
-mul-step : tie.Need-mul-step Inv-loop μ-loop
-mul-step c = search needs
-
-shared-slice-read-step : tie.Need-shared-slice-read-step Inv-loop μ-loop
-shared-slice-read-step c = omega arith
-
-mul-step-2 : tie.Need-mul-step-2 Inv-loop μ-loop
-mul-step-2 c = search needs
-
-shared-slice-read-step-2 : tie.Need-shared-slice-read-step-2 Inv-loop μ-loop
-shared-slice-read-step-2 c = omega arith
-
-step-requires : tie.Need-step-requires Inv-loop μ-loop
-step-requires c κs = c .before .before .before .before .loop .inv .2
-
-add-k : tie.Need-add-k Inv-loop μ-loop
-add-k c = omega arith
+one-by-one-requires-2 : tie.Need-one-by-one-requires-2 Inv-loop μ-loop
+one-by-one-requires-2 c κs =
+    let r = c .before .biased-run .ensures in
+    record { order = c .stretch .ensures .0; samples = omega arith; row = omega arith; next = omega arith; held = r .carried .held }
 
 loop-less : tie.Need-loop-less Inv-loop μ-loop
-loop-less c = omega arith
+loop-less c =
+    let e = c .before in
+    let r = e .before .biased-run in
+    let k = e .before .before .before .loop .k in
+    let n = e .before .before .before .before .before .before .before .least2 .result in
+    less k (r .result .k) (e .stretch .result) n (e .before .before .loop-test .taken) (r .ensures .first) (r .ensures .last) (e .stretch .ensures .0) (e .stretch .ensures .1) (e .stretch .ensures .2)
+  where
+    -- either run goes on
+    less : (k r e n : ℕ) → k < n → k ≤ r → r ≤ n → r ≤ e → e ≤ n → (r < n → r < e) → n - e < n - k
+    less k r e n a b c d f g = elim (lt-or-ge r n) [
+      | inl l ↦ let x : r < e = g l in omega arith
+      | inr l ↦ omega arith
+    ]
 
 loop-again : tie.Need-loop-again Inv-loop μ-loop
 loop-again c =
-    let l = c .before .before .before .before .before in
-    let a = l .before .before .before .before .before .before .before .args in
-    let e = c .step .ensures in (
-      omega arith,
-      turn (turnOf (now (a .xs)) (now (a .row0)) (now (a .row1)) (a .blend)) (a .sum) (l .loop .k) (l .loop .held) (c .step .result) (l .loop .inv .1) e,
-      subst (λ (z : Float). T (fits binary32 z)) (sym e) (fused-fits binary32 _ _ _),
-    )
+    let e = c .before in
+    let r = e .before in
+    let l = r .before .before in
+    let a = l .before .before .before .before .before .before .before .before .before .args in
+    (e .stretch .ensures .1, on (now (a .xs)) (now (a .row0)) (now (a .row1)) (a .blend) (on (now (a .xs)) (now (a .row0)) (now (a .row1)) (a .blend) (l .loop .inv .1) (r .biased-run .ensures .carried)) (c .one-by-one2 .ensures))
 
 narrow-requires : tie.Need-narrow-requires Inv-loop μ-loop
 narrow-requires c κs = search needs
@@ -81,10 +96,11 @@ narrow-requires c κs = search needs
 returns : tie.Need-returns Inv-loop μ-loop
 returns c =
     let l = c .before .before in
-    let a = l .before .before .before .before .before .before .before .args in
+    let a = l .before .before .before .before .before .before .before .before .before .args in
+    let k = l .loop .inv .1 in
     c .narrow .ensures
-    ∙ narrowed-own (l .loop .held) (l .loop .inv .2)
-    ∙ l .loop .inv .1
+    ∙ narrowed-own (l .loop .held) (k .held)
+    ∙ k .is (a .sum) (none (turnOf (now (a .xs)) (now (a .row0)) (now (a .row1)) (a .blend)) (a .sum))
     ∙ ap (chainOf (now (a .xs)) (now (a .row0)) (now (a .row1)) (a .blend) (a .sum)) (omega arith)
 
 pub chain-spec : {M : Type 1} → statement M
@@ -95,16 +111,13 @@ chain-spec =
     μ-loop
     least-requires
     least-requires-2
+    ahead-requires
     f32-to-f64-with-nan-requires
+    one-by-one-requires
     loop-holds
-    mul-a
-    shared-slice-read-a
-    mul-step
-    shared-slice-read-step
-    mul-step-2
-    shared-slice-read-step-2
-    step-requires
-    add-k
+    biased-run-requires
+    stretch-requires
+    one-by-one-requires-2
     loop-less
     loop-again
     narrow-requires

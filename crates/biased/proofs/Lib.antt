@@ -1,0 +1,5 @@
+pub mod Grid
+pub mod Signs
+pub mod Inside
+pub mod Steps
+pub mod Frames

@@ -1,0 +1,100 @@
+-- Four turns of a biased sum, and what tests made together say. Assumes nothing.
+use mathlib.Core.Path.{_≡_, refl, sym, _∙_, subst}
+use mathlib.Core.Bool.{Bool, true, false, _&&_, false≢true}
+use mathlib.Core.List.{List}
+use Prim.Native.Nat.{ℕ, _+_, _≤_}
+use native.Mathlib.Omega.{arith}
+use lib.ListN.{getD}
+use lib.Ieee.{Float, nan, binary64, add, sub, lt}
+use Rattle.biased.specs.Biased.{Biased}
+use Rattle.biased.proofs.Steps.{step, back}
+use Rattle.fused_chain.specs.Chain.{coefficientOf, turnOf}
+use Rattle.fused_chain.specs.Blocks.{Carries, Runs, Product, TapProduct, Multiplied, Between, Advanced}
+use Rattle.fused_chain.proofs.Carrying.{on, once}
+
+-- ---- both of two tests
+pub first-of : (z a b : Bool) → z ≡ (a && b) → z ≡ true → a ≡ true
+first-of z true b e t = refl
+first-of z false b e t = sym e ∙ t
+
+pub second-of : (z a b : Bool) → z ≡ (a && b) → z ≡ true → b ≡ true
+second-of z true b e t = sym e ∙ t
+second-of z false b e t = absurd (false≢true (sym e ∙ t))
+
+pub between : (low high x sum : Float) (z : Bool) → z ≡ (lt low (add binary64 x sum) && lt (add binary64 x sum) high) → z ≡ true → Between low high x sum
+between low high x sum z e t = record { lower = first-of z (lt low (add binary64 x sum)) (lt (add binary64 x sum) high) e t; upper = second-of z (lt low (add binary64 x sum)) (lt (add binary64 x sum) high) e t }
+
+-- four sums, tested in pairs
+module _ (low high sum a b c d : Float) where
+  abbrev s1 : Float
+  s1 = add binary64 a sum
+
+  abbrev s2 : Float
+  s2 = add binary64 b s1
+
+  abbrev s3 : Float
+  s3 = add binary64 c s2
+
+  abbrev s4 : Float
+  s4 = add binary64 d s3
+
+  pub advanced : (fine z1 z2 z3 z4 z5 z6 z7 z8 : Bool) → z1 ≡ (lt low s1 && lt s1 high) → z2 ≡ (lt low s2 && lt s2 high) → z3 ≡ (z1 && z2) → z4 ≡ (lt low s3 && lt s3 high) → z5 ≡ (lt low s4 && lt s4 high)
+      → z6 ≡ (z4 && z5) → z7 ≡ (z3 && z6) → z8 ≡ (fine && z7) → z8 ≡ true → (fine ≡ true) × (Advanced low high sum a b c d s4)
+  advanced fine z1 z2 z3 z4 z5 z6 z7 z8 e1 e2 e3 e4 e5 e6 e7 e8 t =
+      let t7 = second-of z8 fine z7 e8 t in
+      let t3 = first-of z7 z3 z6 e7 t7 in
+      let t6 = second-of z7 z3 z6 e7 t7 in (
+        first-of z8 fine z7 e8 t,
+        record {
+          first = between low high a sum z1 e1 (first-of z3 z1 z2 e3 t3);
+          second = between low high b s1 z2 e2 (second-of z3 z1 z2 e3 t3);
+          third = between low high c s2 z4 e4 (first-of z6 z4 z5 e6 t6);
+          fourth = between low high d s3 z5 e5 (second-of z6 z4 z5 e6 t6);
+          is = refl;
+        },
+      )
+
+-- the product's factors under other names
+pub renamed : {x y c d p : Float} → x ≡ y → c ≡ d → Product x c p → Product y d p
+renamed {x} {y} {c} {d} {p} e f h = subst (λ (z : Float). Product y z p) f (subst (λ (z : Float). Product z c p) e h)
+
+module _ (xs row0 row1 : List Float) (blend bias low high : Float) where
+  -- ---- one turn
+  one : (k : ℕ) (p s q : Float) → TapProduct xs row0 row1 blend k p → Between low high p s → Biased bias low high s q → Biased bias low high (add binary64 p s) (turnOf xs row0 row1 blend k q)
+  one k p s q h b B =
+      let x = getD xs k nan in
+      let c = coefficientOf blend (getD row0 k nan) (getD row1 k nan) in
+      subst (λ (z : Float). Biased bias low high (add binary64 z s) (turnOf xs row0 row1 blend k q)) (sym (h .is))
+      (step bias low high s q B x c (h .sample) (h .coefficient)
+      (subst (λ (z : Float). lt low (add binary64 z s) ≡ true) (h .is) (b .lower))
+      (subst (λ (z : Float). lt (add binary64 z s) high ≡ true) (h .is) (b .upper)))
+
+  -- the sum q that a biased sum s stands for, from a chain's start on
+  abbrev pub Stands : ℕ → Float → ℕ → Float → Type 0
+  Stands from sum k s = (q : Float) × (Biased bias low high s q) × (Carries xs row0 row1 blend from k sum q)
+
+  pub four : (from : ℕ) (sum : Float) (k : ℕ) (s a b c d r : Float) → Multiplied xs row0 row1 blend k a b c d → Advanced low high s a b c d r → Stands from sum k s → Stands from sum (k + 4) r
+  four from sum k s a b c d r M A (q, B, C) =
+      let q1 = turnOf xs row0 row1 blend k q in
+      let q2 = turnOf xs row0 row1 blend (k + 1) q1 in
+      let q3 = turnOf xs row0 row1 blend (k + 2) q2 in
+      let q4 = turnOf xs row0 row1 blend (k + 3) q3 in
+      let s1 = add binary64 a s in
+      let s2 = add binary64 b s1 in
+      let s3 = add binary64 c s2 in
+      let B1 = one k a s q (M .first) (A .first) B in
+      let B2 = one (k + 1) b s1 q1 (M .second) (A .second) B1 in
+      let B3 = one (k + 2) c s2 q2 (M .third) (A .third) B2 in
+      let B4 = one (k + 3) d s3 q3 (M .fourth) (A .fourth) B3 in
+      let C1 = once xs row0 row1 blend k (k + 1) q q1 refl refl in
+      let C2 = once xs row0 row1 blend (k + 1) (k + 2) q1 q2 (omega arith) refl in
+      let C3 = once xs row0 row1 blend (k + 2) (k + 3) q2 q3 (omega arith) refl in
+      let C4 = once xs row0 row1 blend (k + 3) (k + 4) q3 q4 (omega arith) refl in (
+        q4,
+        subst (λ (z : Float). Biased bias low high z q4) (sym (A .is)) B4,
+        on xs row0 row1 blend (on xs row0 row1 blend (on xs row0 row1 blend (on xs row0 row1 blend C C1) C2) C3) C4,
+      )
+
+  -- ---- what it stands for comes back
+  pub ended : (from to : ℕ) (sum : Float) (k : ℕ) (s : Float) → from ≤ k → k ≤ to → Stands from sum k s → Runs xs row0 row1 blend from to sum k (sub binary64 s bias)
+  ended from to sum k s a b (q, B, C) = record { first = a; last = b; carried = subst (λ (z : Float). Carries xs row0 row1 blend from k sum z) (sym (back bias low high s q B)) C }

@@ -1,0 +1,100 @@
+-- `fused_chain::behind::biased_run` meets its contract: the biased sum stands for the chain's sum. Assumes nothing.
+use borrow.Author.Needs.{needs}
+use borrow.Author.Tests.{not-false}
+use mathlib.Core.Path.{_≡_}
+use Prim.Native.Nat.{_-_, _≤_}
+use native.Mathlib.Nat.{le-refl}
+use native.Mathlib.Omega.{arith}
+use denote.Ref.{now}
+use Rattle.fused_chain.proofs.Carrying.{stay}
+use Rattle.fused_chain.proofs.Four.{Stands, four, ended}
+use Rattle.fused_chain.proofs.behind.biased_run.Statement.{statement}
+use Rattle.fused_chain.proofs.behind.biased_run.Tie as tie
+
+abbrev Inv-loop : tie.InvT-loop
+Inv-loop xs row0 row1 blend from to sum bias low high held₀ k₀ held k = (from ≤ k) × (k ≤ to) × (Stands xs row0 row1 blend bias low high from sum k held)
+
+abbrev μ-loop : tie.MeasureT-loop
+μ-loop xs row0 row1 blend from to sum bias low high held₀ k₀ held k = to - k
+
+biased-requires : tie.Need-biased-requires Inv-loop μ-loop
+biased-requires c κs = c .before .before .before .pre .held
+
+returns : tie.Need-returns Inv-loop μ-loop
+returns c =
+    let b = c .before .before .before .before .before .before in
+    let a = b .args in
+    record { first = le-refl (a .from); last = b .pre .order; carried = stay (now (a .xs)) (now (a .row0)) (now (a .row1)) (a .blend) (a .from) (a .sum) (b .pre .held) }
+
+loop-holds : tie.Need-loop-holds Inv-loop μ-loop
+loop-holds c =
+    let r = c .before .before in
+    let b = r .before .before .before .before in
+    let a = b .args in
+    (le-refl (a .from), b .pre .order, (a .sum, r .biased .ensures (not-false (r .biased .result .fine) (c .if1 .left)), stay (now (a .xs)) (now (a .row0)) (now (a .row1)) (a .blend) (a .from) (a .sum) (b .pre .held)))
+
+sub-loop : tie.Need-sub-loop Inv-loop μ-loop
+sub-loop c = omega arith
+
+multiplied-requires : tie.Need-multiplied-requires Inv-loop μ-loop
+multiplied-requires c κs =
+    let p = c .before .before .before .before .before .before .before .before .pre in
+    (omega (arith, p .samples), omega (arith, p .row), omega (arith, p .next))
+
+advance-requires : tie.Need-advance-requires Inv-loop μ-loop
+advance-requires c κs = search needs
+
+returns-2 : tie.Need-returns-2 Inv-loop μ-loop
+returns-2 c =
+    let l = c .before .before .before .before .before in
+    let r = l .before .before .before in
+    let a = r .before .before .before .before .args in
+    let t = r .biased .result in
+    ended (now (a .xs)) (now (a .row0)) (now (a .row1)) (a .blend) (t .bias) (t .low) (t .high) (a .from) (a .to) (a .sum) (l .loop .k) (l .loop .held) (l .loop .inv .0) (l .loop .inv .1) (l .loop .inv .2)
+
+add-k : tie.Need-add-k Inv-loop μ-loop
+add-k c = omega arith
+
+loop-less : tie.Need-loop-less Inv-loop μ-loop
+loop-less c = omega arith
+
+loop-again : tie.Need-loop-again Inv-loop μ-loop
+loop-again c =
+    let v = c .before .before in
+    let m = v .before in
+    let l = m .before .before in
+    let r = l .before .before .before in
+    let a = r .before .before .before .before .args in
+    let t = r .biased .result in
+    let p = m .multiplied .result in
+    let (fine, moved) = v .advance .ensures (not-false (v .advance .result .fine) (c .if2 .left)) in (
+      omega arith,
+      omega arith,
+      four (now (a .xs)) (now (a .row0)) (now (a .row1)) (a .blend) (t .bias) (t .low) (t .high) (a .from) (a .sum) (l .loop .k) (l .loop .held) (p .a) (p .b) (p .c) (p .d) (v .advance .result .sum) (m .multiplied .ensures fine) moved (l .loop .inv .2),
+    )
+
+returns-3 : tie.Need-returns-3 Inv-loop μ-loop
+returns-3 c =
+    let l = c .before in
+    let r = l .before .before .before in
+    let a = r .before .before .before .before .args in
+    let t = r .biased .result in
+    ended (now (a .xs)) (now (a .row0)) (now (a .row1)) (a .blend) (t .bias) (t .low) (t .high) (a .from) (a .to) (a .sum) (l .loop .k) (l .loop .held) (l .loop .inv .0) (l .loop .inv .1) (l .loop .inv .2)
+
+pub biased-run-spec : {M : Type 1} → statement M
+biased-run-spec =
+    tie.close
+    (tie.spec
+    Inv-loop
+    μ-loop
+    biased-requires
+    returns
+    loop-holds
+    sub-loop
+    multiplied-requires
+    advance-requires
+    returns-2
+    add-k
+    loop-less
+    loop-again
+    returns-3)

@@ -1,0 +1,56 @@
+-- What the parts of a run of taps ask of each other: a run from one turn to another, and four turns at once. Definitions only.
+use mathlib.Core.Path.{_≡_}
+use mathlib.Core.Bool.{true}
+use mathlib.Core.List.{List}
+use Prim.Native.Nat.{ℕ, _+_, _≤_}
+use lib.Dec.{T}
+use lib.ListN.{length, getD}
+use lib.Ieee.{Float, nan, binary32, binary64, add, mul, fits, lt}
+use Rattle.fused_chain.specs.Chain.{coefficientOf, chainOf}
+
+-- The lists reach as far as the turn `to`, and the sum is an f32.
+pub record Ready (xs row0 row1 : List Float) (from to : ℕ) (sum : Float) : Type 0 where
+  pub order : from ≤ to
+  pub samples : to ≤ length xs
+  pub row : to ≤ length row0
+  pub next : to ≤ length row1
+  pub held : T (fits binary32 sum)
+
+-- From a chain's sum before the turn `from`, r is its sum before the turn `to`.
+pub record Carries (xs row0 row1 : List Float) (blend : Float) (from to : ℕ) (sum r : Float) : Type 0 where
+  pub held : T (fits binary32 r)
+  pub is : (a : Float) → sum ≡ chainOf xs row0 row1 blend a from → r ≡ chainOf xs row0 row1 blend a to
+
+-- A run that may stop early, at k.
+pub record Runs (xs row0 row1 : List Float) (blend : Float) (from to : ℕ) (sum : Float) (k : ℕ) (r : Float) : Type 0 where
+  pub first : from ≤ k
+  pub last : k ≤ to
+  pub carried : Carries xs row0 row1 blend from k sum r
+
+-- p is the product of two f32, exactly.
+pub record Product (x c p : Float) : Type 0 where
+  pub sample : T (fits binary32 x)
+  pub coefficient : T (fits binary32 c)
+  pub is : p ≡ mul binary64 x c
+
+abbrev pub TapProduct : List Float → List Float → List Float → Float → ℕ → Float → Type 0
+TapProduct xs row0 row1 blend k p = Product (getD xs k nan) (coefficientOf blend (getD row0 k nan) (getD row1 k nan)) p
+
+pub record Multiplied (xs row0 row1 : List Float) (blend : Float) (k : ℕ) (a b c d : Float) : Type 0 where
+  pub first : TapProduct xs row0 row1 blend k a
+  pub second : TapProduct xs row0 row1 blend (k + 1) b
+  pub third : TapProduct xs row0 row1 blend (k + 2) c
+  pub fourth : TapProduct xs row0 row1 blend (k + 3) d
+
+-- x + sum lies between low and high.
+pub record Between (low high x sum : Float) : Type 0 where
+  pub lower : lt low (add binary64 x sum) ≡ true
+  pub upper : lt (add binary64 x sum) high ≡ true
+
+-- Four sums, one behind the other, that all lie between low and high; r is the last.
+pub record Advanced (low high sum a b c d r : Float) : Type 0 where
+  pub first : Between low high a sum
+  pub second : Between low high b (add binary64 a sum)
+  pub third : Between low high c (add binary64 b (add binary64 a sum))
+  pub fourth : Between low high d (add binary64 c (add binary64 b (add binary64 a sum)))
+  pub is : r ≡ add binary64 d (add binary64 c (add binary64 b (add binary64 a sum)))
