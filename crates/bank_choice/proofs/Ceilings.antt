@@ -1,19 +1,19 @@
--- The ceiling of a number above 1 by a cut towards zero and a test: where the cut lies below the number, the ceiling is one more. Assumes nothing.
+-- The ceiling of a number above 1 by its floor, which is the cut towards zero, and a test: where the cut lies below the number, the ceiling is one more. Assumes nothing.
 use mathlib.Core.Path.{_≡_, refl, sym, _∙_, ap, subst}
 use mathlib.Core.Bool.{Bool, true, false, true≢false}
 use Prim.Native.Nat.{ℕ, suc, _+_, _-_, _*_, _/_, _^_, _<_, _≤_, max}
 use native.Mathlib.Nat.{mul-one, mul-right-comm, add-mul, suc-mul, le-of-mul-le-mul-right, lt-of-mul-lt-mul-right, le-trans, min-eq-left, max-eq-right, max-eq-left, div-eq-of-lt-le, div-mul-le-self, le-div-iff-mul-le}
 use native.Mathlib.Numerals.{add-one}
 use native.Mathlib.Omega.{arith}
-use borrow.Author.Tests.{ltb-true, ltb-false, lt-ltb}
-use lib.Dec.{T, lit≤}
+use borrow.Author.Tests.{ltb-true, ltb-false}
+use lib.Dec.{lit≤}
 use lib.IntN.{ℤ, pos}
 use lib.Ieee.{Float, nan, inf, fin, binary64, up, down, lt, toUnsigned}
 use lib.Ieee.Fits.{down-pos}
 use lib.Ieee.Exact.{HasValue}
-use denote.Floats.{passes}
 use Rattle.magnitude.specs.Bounds.{AtMost}
 use Rattle.magnitude.proofs.Whole.{whole-value}
+use Rattle.integer_part.specs.Parts.{floorOf}
 use Rattle.integer_part.proofs.Floors.{quotient-at-most, ceiling-at-most, quotient-around}
 use Rattle.sinc_settings.specs.Ranges.{one-f}
 use Rattle.bank_choice.specs.Rates.{num, ceilingOf}
@@ -40,16 +40,6 @@ low (fin true m e) a h = refl
 low (fin false m e) a h = let l = ltb-false (1 * 1 * down e) (m * up e * 1) h in sym (max-eq-left (ceiling-at-most (m * up e) (down e) 1 (down-pos e) (omega arith)))
 
 -- ---- the cut
-pub cuts : (x : Float) → Inside x → T (lt (fin true 1 (pos 0)) x) × T (lt x (fin false 1 (pos 64)))
-unfolding lt
-cuts nan u = absurd u
-cuts (inf s) u = absurd u
-cuts (fin true m e) u = absurd u
-cuts (fin false m e) u = (
-  passes _ (lt-ltb 0 (1 * 1 * down e + m * up e * 1) (omega (arith, down-pos e))),
-  passes _ (lt-ltb (m * up e * 1) (1 * 2 ^ 64 * down e) (omega (arith, down-pos e))),
-)
-
 cut-is : (m : ℕ) (e : ℤ) → m * up e ≤ 50 * down e → toUnsigned 64 (fin false m e) ≡ m * up e / down e
 unfolding toUnsigned
 cut-is m e h = min-eq-left (le-trans (quotient-at-most _ _ 50 (down-pos e) h) (lit≤ tt))
@@ -59,6 +49,14 @@ cut-small nan u = absurd u
 cut-small (inf s) u = absurd u
 cut-small (fin true m e) u = absurd u
 cut-small (fin false m e) u = rw (cut-is m e (u .1)) (quotient-at-most _ _ 50 (down-pos e) (u .1))
+
+-- is the floor
+pub floor-is : (x : Float) → Inside x → floorOf x ≡ pos (toUnsigned 64 x)
+unfolding floorOf
+floor-is nan u = absurd u
+floor-is (inf s) u = absurd u
+floor-is (fin true m e) u = absurd u
+floor-is (fin false m e) u = ap pos (min-eq-left (le-trans (quotient-at-most _ _ 50 (down-pos e) (u .1)) (lit≤ tt)) ∙ sym (cut-is m e (u .1)))
 
 -- ---- the ceiling of a / d
 more : (a d : ℕ) → 0 < d → a / d * d < a → (a + (d - 1)) / d ≡ suc (a / d)

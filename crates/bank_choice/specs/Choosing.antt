@@ -22,10 +22,6 @@ firstFrom slower k (suc n) = cond (slower k) (firstFrom slower (suc k) n) k
 abbrev pub partitionOf : Float → ℕ → Float → ℕ
 partitionOf top steps r = firstFrom (slowerOf top steps r) 0 steps
 
--- in a bank of the rate `top`; 0 where that is out of its range
-abbrev pub firstOf : Float → Float → ℕ
-firstOf top r = cond (bankOk top) (partitionOf top (stepsOf top) r) 0
-
 -- the rate of the set below: 1.0 below the first
 abbrev pub lowerOf : Float → ℕ → ℕ → Float
 lowerOf top steps k = cond (eqb k 0) one-f (rateOf top steps k)

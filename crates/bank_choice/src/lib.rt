@@ -52,7 +52,7 @@ fn chosen(max_rate: f64, rate: f64) -> Choice
 {
     let n = steps(max_rate);
     let r = order::clamp(rate, 1.0, max_rate);
-    let safe = at_most(search::first(max_rate, r), n - 1);
+    let safe = at_most(search::among(max_rate, n, r), n - 1);
     let tighter = at_most(safe + 1, n - 1);
     let own = rates::rate(max_rate, n, safe + 1);
     let below = lower(max_rate, n, safe);

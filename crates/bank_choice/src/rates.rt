@@ -5,14 +5,14 @@ ghost use Prim.Native.Nat.{max};
 ghost use Rattle.magnitude.specs.Bounds.{AtMost};
 ghost use Rattle.bank_choice.specs.Rates.{bankOk, ceilingOf, stepsOf, rateOf, setsOf, setRateOf};
 
-// The least whole number not below x, at least 1: what is cut towards zero, and one more where that lies below x.
+// The least whole number not below x, at least 1: the floor, and one more where that lies below x.
 fn ceiling(x: f64) -> u64
     requires { ⌜ AtMost 50 x ⌝ }
     ensures { λ r. ⌜ r ≡ max 1 (ceilingOf x) ⌝ }
 {
     if x > 1.0 {
-        let t = std::num::truncating_f64_to_u64(x);
-        if std::num::nearest_u64_to_f64(t) < x {
+        let t = integer_part::floor(x) as u64;
+        if ((t as i64) as f64) < x {
             return t + 1;
         }
         return t;

@@ -3,7 +3,7 @@ ghost use mathlib.Core.Path.{_≡_};
 ghost use mathlib.Core.Bool.{true};
 ghost use Prim.Native.Nat.{ℕ, _≤_, _<_};
 ghost use Rattle.bank_choice.specs.Rates.{bankOk, stepsOf};
-ghost use Rattle.bank_choice.specs.Choosing.{slowerOf, partitionOf, firstOf};
+ghost use Rattle.bank_choice.specs.Choosing.{slowerOf, partitionOf};
 use crate::rates;
 
 // Whether set k, counted from 0, is slower than r.
@@ -64,7 +64,8 @@ fn up(max_rate: f64, steps: usize, r: f64, k: usize) -> usize
     }
 }
 
-fn among(max_rate: f64, steps: usize, r: f64) -> usize
+// How many sets, counted from the first, are slower than r: a rate near 1 is told by the first set's alone.
+pub(crate) fn among(max_rate: f64, steps: usize, r: f64) -> usize
     requires { ⌜ (bankOk «max_rate» ≡ true) × (steps ≡ stepsOf «max_rate») ⌝ }
     ensures { λ e. ⌜ e ≡ partitionOf «max_rate» steps r ⌝ }
 {
@@ -75,17 +76,6 @@ fn among(max_rate: f64, steps: usize, r: f64) -> usize
             r,
             down(max_rate, steps, r, guess(max_rate, steps, r)),
         )
-    } else {
-        0
-    }
-}
-
-// How many sets, counted from the first, are slower than r: a rate near 1 is told by the first set's alone. Out of the bank's range there is none.
-pub fn first(max_rate: f64, r: f64) -> usize
-    ensures { λ e. ⌜ e ≡ firstOf «max_rate» r ⌝ }
-{
-    if magnitude::within(max_rate, 1.0, 2.0) {
-        among(max_rate, rates::steps(max_rate), r)
     } else {
         0
     }

@@ -60,17 +60,12 @@ pub extern "C" fn fugnadri_windowed_sinc_process_bits<'a>(
     ensures { λ r. ⌜ now (accepted .exit) ≡ (called (stateOf maximum margin (now (accepted .entry))) (now (ring .entry)) input delay (now (table .entry)) taps phases) .state .accepted ⌝ }
     ensures { λ r. ⌜ now (ring .exit) ≡ ringLeft (stateOf maximum margin (now (accepted .entry))) (now (ring .entry)) input delay (now (table .entry)) taps phases ⌝ }
 {
-    let state = VariableDelay {
-        maximum: maximum,
-        margin: margin,
-        accepted: *accepted,
-    };
-    let p = sinc_delay::process_sample(state, &mut ring[..], input, delay, table, taps, phases);
-    let after = p.state;
-    let a = p.answer;
-    *accepted = after.accepted;
-    *sample = patterns::bits_of(value(a));
-    number(a)
+    let mut y: f64 = 0.0;
+    let no = fugnadri_windowed_sinc_process(
+        maximum, margin, accepted, ring, input, delay, table, taps, phases, &mut y,
+    );
+    *sample = patterns::bits_of(y);
+    no
 }
 
 #[no_mangle]
@@ -122,15 +117,10 @@ pub extern "C" fn fugnadri_windowed_sinc_f32_process_bits<'a>(
     ensures { λ r. ⌜ now (accepted .exit) ≡ (calledF32 (stateOf maximum margin (now (accepted .entry))) (now (ring .entry)) input delay (now (table .entry)) taps phases) .state .accepted ⌝ }
     ensures { λ r. ⌜ now (ring .exit) ≡ ringLeft (stateOf maximum margin (now (accepted .entry))) (now (ring .entry)) input delay (now (table .entry)) taps phases ⌝ }
 {
-    let state = VariableDelay {
-        maximum: maximum,
-        margin: margin,
-        accepted: *accepted,
-    };
-    let p = sinc_delay_f32::process_sample(state, &mut ring[..], input, delay, table, taps, phases);
-    let after = p.state;
-    let a = p.answer;
-    *accepted = after.accepted;
-    *sample = patterns::bits_of_f32(value_f32(a));
-    number_f32(a)
+    let mut y: f32 = 0.0;
+    let no = fugnadri_windowed_sinc_f32_process(
+        maximum, margin, accepted, ring, input, delay, table, taps, phases, &mut y,
+    );
+    *sample = patterns::bits_of_f32(y);
+    no
 }

@@ -27,18 +27,15 @@ joined top rate n p s t w r o l b g k hn hr hp hs ht ho hl hb hk hw hg = rw (hg,
 steps-requires : tie.Need-steps-requires
 steps-requires c κs = search needs
 
--- in range, both answers are the definition's
+-- in range, the number of sets is the definition's
 count : (c : tie.After-steps) → c .steps .result ≡ stepsOf (c .before .args .max-rate)
 count c = rw (c .before .pre) at (c .steps .ensures)
-
-slower : (c : tie.After-first) → let a = c .before .before .before .args in c .first .result ≡ partitionOf (a .max-rate) (c .before .before .steps .result) (c .before .clamp .result)
-slower c = rw (count (c .before .before)) (rw (c .before .before .before .pre) at (c .first .ensures))
 
 clamp-requires : tie.Need-clamp-requires
 clamp-requires c κs = search needs
 
-first-requires : tie.Need-first-requires
-first-requires c κs = search needs
+among-requires : tie.Need-among-requires
+among-requires c κs = (c .before .before .pre, count (c .before))
 
 sub-at-most : tie.Need-sub-at-most
 sub-at-most c = let s = c .before .before in omega (arith, count s, least (s .before .args .max-rate))
@@ -90,8 +87,8 @@ returns c =
     let r = p .before in
     let n = r .before in
     let a = n .before .args in
-    joined (a .max-rate) (a .rate) (n .steps .result) (p .first .result) (s .at-most .result) (t .at-most2 .result) (w .which .result) (r .clamp .result) (o .rate .result) (l .lower .result) (b .narrow .result) (c .clamp-f32 .result) (k .within .result)
-    (count n) (r .clamp .ensures) (slower p) (s .at-most .ensures) (t .at-most2 .ensures) (o .rate .ensures) (l .lower .ensures) (b .narrow .ensures) (k .within .ensures) (w .which .ensures) (c .clamp-f32 .ensures)
+    joined (a .max-rate) (a .rate) (n .steps .result) (p .among .result) (s .at-most .result) (t .at-most2 .result) (w .which .result) (r .clamp .result) (o .rate .result) (l .lower .result) (b .narrow .result) (c .clamp-f32 .result) (k .within .result)
+    (count n) (r .clamp .ensures) (p .among .ensures) (s .at-most .ensures) (t .at-most2 .ensures) (o .rate .ensures) (l .lower .ensures) (b .narrow .ensures) (k .within .ensures) (w .which .ensures) (c .clamp-f32 .ensures)
 
 pub chosen-spec : {M : Type 1} → statement M
 chosen-spec =
@@ -99,7 +96,7 @@ chosen-spec =
     (tie.spec
     steps-requires
     clamp-requires
-    first-requires
+    among-requires
     sub-at-most
     at-most-requires
     add-at-most

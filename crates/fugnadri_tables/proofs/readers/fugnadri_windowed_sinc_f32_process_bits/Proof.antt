@@ -1,14 +1,12 @@
--- `fugnadri_tables::readers::fugnadri_windowed_sinc_f32_process_bits` meets its contract: what the calls ensure, one put into the other; none of them asks anything. Assumes nothing.
+-- `fugnadri_tables::readers::fugnadri_windowed_sinc_f32_process_bits` meets its contract: what the call without `_bits` ensures, its sample as a pattern. Assumes nothing.
 use borrow.Author.Needs.{needs}
 use mathlib.Core.Path.{_∙_, ap}
 use lib.Ieee.{binary32, toBits}
-use Rattle.answer.specs.Answers.{numberF32Of, valueF32Of}
 use Rattle.fugnadri_tables.proofs.readers.fugnadri_windowed_sinc_f32_process_bits.Statement.{statement}
 use Rattle.fugnadri_tables.proofs.readers.fugnadri_windowed_sinc_f32_process_bits.Tie as tie
 
 returns : tie.Need-returns
-returns c = let e = c .before .before .before .before .before .before .process-sample .ensures in
-    (c .number-f32 .ensures ∙ ap (λ p. numberF32Of (p .answer)) (e .0), (c .before .bits-of-f32 .ensures ∙ ap (toBits binary32) (c .before .before .value-f32 .ensures ∙ ap (λ p. valueF32Of (p .answer)) (e .0)), (ap (λ p. p .state .accepted) (e .0), e .1)))
+returns c = let e = c .before .before .before .fugnadri-windowed-sinc-f32-process .ensures in (e .0, (c .bits-of-f32 .ensures ∙ ap (toBits binary32) (e .1 .0), (e .1 .1 .0, e .1 .1 .1)))
 
 pub fugnadri-windowed-sinc-f32-process-bits-spec : {M : Type 1} → statement M
-fugnadri-windowed-sinc-f32-process-bits-spec = tie.close (tie.spec (λ c κs. tt) (λ c κs. tt) (λ c κs. tt) (λ c κs. tt) (λ c. search needs) returns)
+fugnadri-windowed-sinc-f32-process-bits-spec = tie.close (tie.spec (λ c κs. search needs) (λ c κs. search needs) (λ c. search needs) returns)
