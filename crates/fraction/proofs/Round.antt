@@ -105,11 +105,12 @@ grid-under f a c C h =
     let N : a * 2 ^ l ≤ c * 2 ^ (p + j) = le-trans (mul-le-mul-right (2 ^ l) h) (le-of-eq (mul-assoc c (2 ^ emax f) (2 ^ l) ∙ ap (λ (x : ℕ). c * x) (sym (pow-add 2 (emax f) l) ∙ ap (λ (x : ℕ). 2 ^ x) (add-comm (emax f) l ∙ sym e)))) in
     under p l (emax f) j c (a * 2 ^ l) (grid f a c) C N (near p (a * 2 ^ l) c j (prec-pos f) C N .above) (le-of-eq e)
 
-pub round-relative : (f : Format) (s : Bool) (a c K B : ℕ) → 0 < c → 0 < K → a * K ≤ c * B → K * 2 ^ prec f ≤ B * (2 ^ low f * 2) → B ≤ K * 2 ^ emax f → Rounds (K * 2 ^ prec f) B (round f s a c) (signed s a c)
-round-relative f s a c K B C P h m o =
+-- where the result is finite
+pub round-part : (f : Format) (s : Bool) (a c K B : ℕ) → 0 < c → 0 < K → a * K ≤ c * B → K * 2 ^ prec f ≤ B * (2 ^ low f * 2) → grid f a c < overflow f → Rounds (K * 2 ^ prec f) B (round f s a c) (signed s a c)
+round-part f s a c K B C P h m o =
     let l = low f in
     let v = 2 ^ prec f in
-    by-units f s a c (grid-under f a c C (le-of-mul-le-mul-right {k = K} (le-trans h (le-trans (mul-le-mul-left c o) (le-of-eq (simp (mul-assoc, mul-comm))))) P))
+    by-units f s a c o
     (elim (near-part (prec f) (a * 2 ^ l) c (prec-pos f) C) [
       | inl r ↦ rescale (mul-pos C (pow-pos (prec f))) (grow v) (signed-part s (grid f a c) (2 ^ l) a c v (pow-pos l) C r)
       | inr r ↦ rescale (mul-pos (pow-pos l) (lit< tt)) (le-trans (le-of-eq (one-mul (K * v))) m) (signed-near s (grid f a c) (2 ^ l) a c (2 ^ l) 1 (2 ^ 0) (pow-pos l) C (r .above) (r .below) (mul-comm (2 ^ l) 1))
@@ -117,3 +118,7 @@ round-relative f s a c K B C P h m o =
   where
     grow : (v : ℕ) → a * (K * v) ≤ B * (c * v)
     grow v = simp ring (simp ring at (mul-le-mul-right v h))
+
+pub round-relative : (f : Format) (s : Bool) (a c K B : ℕ) → 0 < c → 0 < K → a * K ≤ c * B → K * 2 ^ prec f ≤ B * (2 ^ low f * 2) → B ≤ K * 2 ^ emax f → Rounds (K * 2 ^ prec f) B (round f s a c) (signed s a c)
+round-relative f s a c K B C P h m o =
+    round-part f s a c K B C P h m (grid-under f a c C (le-of-mul-le-mul-right {k = K} (le-trans h (le-trans (mul-le-mul-left c o) (le-of-eq (simp (mul-assoc, mul-comm))))) P))

@@ -1,0 +1,197 @@
+-- A sum of two floats, rounded, less the larger of them has few digits. So s - (s - p) is exact, for s = p + c rounded: either p is no larger than s; or c is no larger than p; or
+-- s is smaller than both and was not rounded. Assumes nothing.
+use mathlib.Core.Path.{_≡_, refl, sym, ap, _∙_, subst}
+use mathlib.Core.Logic.{_⊎_, inl, inr}
+use mathlib.Core.Bool.{Bool, true, false, not, Bool·beq, cond, _&&_, true≢false, false≢true}
+use Prim.Native.Nat.{ℕ, _+_, _-_, _*_, _^_, _≤_, _<_}
+use native.Mathlib.Nat.{le-of-lt, le-add-right, sub-le, add-sub-cancel-left, lt-of-le-of-lt, lt-of-lt-of-le, mul-pos}
+use native.Mathlib.Omega.{arith}
+use borrow.Author.Tests.{le-ltb, lt-ltb, ltb-false}
+use lib.Dec.{T, ltb}
+use lib.Pow.{pow-pos}
+use lib.Ieee.{Float, binary64, round, add, sub, neg}
+use lib.Ieee.Scale.{finite, overflow}
+use Rattle.rounding.proofs.Adding.{add-units}
+use Rattle.rounding.proofs.Orders.{lt-or-ge, and-true, clash}
+use Rattle.rounding.proofs.Sums.{sum-is, sum-sign, sum-size}
+use Rattle.rounding.proofs.Units.{units-over}
+use Rattle.rounding.proofs.Values.{neg-value, value-finite}
+use Rattle.rounding.proofs.Whole.{near, places, round-units, rounded-value}
+use Rattle.fraction.specs.Fraction.{Frac, plus, opp, Same}
+use Rattle.fraction.specs.Value.{signed, val, Is}
+use Rattle.fraction.proofs.Same.{ring, same-refl, same-sym, same-trans, plus-same, opp-same}
+use Rattle.fraction.proofs.Value.{value-is, val-pos, neg-val, neg-finite}
+use Rattle.fraction.proofs.Operations.{Rounded, add-rounded}
+use Rattle.near_fused.proofs.Left.{Few, rounded, few-rounded, few-stays, few-below, few-difference, left-of-sum, left-of-difference}
+use Rattle.near_fused.proofs.Short.{L, Units, Short, units-same, short-of, short-same, short-opp, short-exact}
+
+-- ---- a sum less the larger one
+pub up : (s : Bool) (D A l : ℕ) → 0 < l → Same (signed s D l) (plus (signed s (A + D) l) (opp (signed s A l)))
+up true D A l h = record { left = h; right = mul-pos h h; cross = simp ring (omega arith) }
+up false D A l h = record { left = h; right = mul-pos h h; cross = simp ring (omega arith) }
+
+down : (s S : Bool) (D G l : ℕ) → 0 < l → (S ≡ s) ⊎ (G ≡ 0) → Same (signed (not s) D l) (plus (signed S G l) (opp (signed s (G + D) l)))
+down true true D G l h k = record { left = h; right = mul-pos h h; cross = simp ring (omega arith) }
+down false false D G l h k = record { left = h; right = mul-pos h h; cross = simp ring (omega arith) }
+down true false D G l h (inl e) = absurd (false≢true e)
+down false true D G l h (inl e) = absurd (true≢false e)
+down true false D G l h (inr e) = rw e (record { left = h; right = mul-pos h h; cross = simp ring (omega arith) })
+down false true D G l h (inr e) = rw e (record { left = h; right = mul-pos h h; cross = simp ring (omega arith) })
+
+module _ (s t : Bool) (m a n b : ℕ) (M : m < 2 ^ 53) (N : n < 2 ^ 53) (o : m * 2 ^ a < overflow binary64) (l : n * 2 ^ b ≤ m * 2 ^ a) where
+  abbrev A : ℕ
+  A = m * 2 ^ a
+
+  abbrev B : ℕ
+  B = n * 2 ^ b
+
+  grown : (D G : ℕ) → G ≡ A + D → Few D → G < overflow binary64 → Short (plus (signed s G L) (opp (signed s A L)))
+  grown D G e f u = record { sign = s; amount = D; few = f; under = lt-of-le-of-lt (below D G A e) u; same = rw e (up s D A L (pow-pos 1074)) }
+    where
+      below : (D G A : ℕ) → G ≡ A + D → D ≤ G
+      below D G A e = omega arith
+
+  shrunk : (D G : ℕ) (S : Bool) → A ≡ G + D → Few D → (S ≡ s) ⊎ (G ≡ 0) → Short (plus (signed S G L) (opp (signed s A L)))
+  shrunk D G S e f k = record { sign = not s; amount = D; few = f; under = lt-of-le-of-lt (below D G A e) o; same = rw e (down s S D G L (pow-pos 1074) k) }
+    where
+      below : (D G A : ℕ) → A ≡ G + D → D ≤ A
+      below D G A e = omega arith
+
+  less-larger : rounded (sum-size s A t B) < overflow binary64 → Short (plus (signed (sum-sign s A t B) (rounded (sum-size s A t B)) L) (opp (signed s A L)))
+  less-larger u = go (Bool·beq s t) (ltb A B) (ltb B A) (le-ltb A B l) (ltb-false B A) u
+    where
+      none : (A B : ℕ) → A ≤ B → A - B ≡ 0
+      none A B h = omega arith
+
+      go : (x y z : Bool) → y ≡ false → (z ≡ false → A ≤ B) → rounded (cond x (A + B) (cond y (B - A) (A - B))) < overflow binary64
+          → Short (plus (signed (cond x s (cond y t (s && z))) (rounded (cond x (A + B) (cond y (B - A) (A - B)))) L) (opp (signed s A L)))
+      go true y z e f u = let (D, g, d) = left-of-sum m a n b M N l (A + B) refl in grown D (rounded (A + B)) g d u
+      go false true z e f u = absurd (true≢false e)
+      go false false true e f u = let (D, g, d) = left-of-difference m a n b M N l (A - B) refl in shrunk D (rounded (A - B)) (s && true) g d (inl (and-true s))
+      go false false false e f u =
+          let (D, g, d) = left-of-difference m a n b M N l (A - B) refl in
+          shrunk D (rounded (A - B)) (s && false) g d (inr (ap rounded (none A B (f refl)) ∙ few-stays 0 0 (pow-pos 53)))
+
+-- ---- a sum, in units
+pub unders : (s : Bool) (v : ℕ) → T (finite (round binary64 s v (2 ^ 1074))) → rounded v < overflow binary64
+unders s v t = elim (lt-or-ge (rounded v) (overflow binary64)) [
+  | inl l ↦ l
+  | inr g ↦ absurd (subst (λ (z : Float). T (finite z)) (round-units binary64 v s ∙ units-over binary64 s (near binary64 v) (places binary64 v) g) t)
+]
+
+module _ (x y : Float) (X : Units x) (Y : Units y) (real : T (finite (add binary64 x y))) where
+  abbrev S : Bool
+  S = sum-sign (X .sign) (X .amount) (Y .sign) (Y .amount)
+
+  abbrev W : ℕ
+  W = sum-size (X .sign) (X .amount) (Y .sign) (Y .amount)
+
+  sum-rounds : add binary64 x y ≡ round binary64 S W (2 ^ 1074)
+  sum-rounds = add-units binary64 x y (X .sign) (Y .sign) (X .amount) (Y .amount) (2 ^ 1074) (pow-pos 1074) (X .value) (Y .value) ∙ sum-is binary64 (X .sign) (X .amount) (Y .sign) (Y .amount) (2 ^ 1074)
+
+  sum-under : rounded W < overflow binary64
+  sum-under = unders S W (rw sum-rounds at real)
+
+  abbrev sum-units : Units (add binary64 x y)
+  sum-units = record { sign = S; amount = rounded W; few = few-rounded W; under = sum-under; value = rw sum-rounds (rounded-value binary64 W S sum-under) }
+
+  sum-val : Same (val (add binary64 x y)) (signed S (rounded W) L)
+  sum-val = value-is (add binary64 x y) S (rounded W) L (pow-pos 1074) (sum-units .value) .same
+
+  pub less-first : Y .amount ≤ X .amount → Short (plus (val (add binary64 x y)) (opp (val x)))
+  less-first l =
+      let (m, a, ea, M) = X .few in
+      let (n, b, eb, N) = Y .few in
+      short-same (plus-same (same-sym sum-val) (opp-same (units-same X)))
+      (go m a n b ea eb M N (X .under) l sum-under)
+    where
+      go : (m a n b : ℕ) → X .amount ≡ m * 2 ^ a → Y .amount ≡ n * 2 ^ b → m < 2 ^ 53 → n < 2 ^ 53 → X .amount < overflow binary64 → Y .amount ≤ X .amount → rounded W < overflow binary64 → Short (plus (signed S (rounded W) L) (opp (signed (X .sign) (X .amount) L)))
+      go m a n b ea eb M N o l u = rw (ea, eb) (less-larger (X .sign) (Y .sign) m a n b M N (rw ea at o) (rw (ea, eb) at l) (rw (ea, eb) at u))
+
+-- ---- s - (s - p)
+abbrev neg-units : {x : Float} → Units x → Units (neg x)
+neg-units {x} u = record { sign = not (u .sign); amount = u .amount; few = u .few; under = u .under; value = neg-value x (u .sign) (u .amount) (2 ^ 1074) (u .value) }
+
+pub sub-rounded : (x y : Float) → T (finite x) → T (finite y) → Rounded binary64 (sub binary64 x y) (plus (val x) (opp (val y)))
+unfolding sub
+sub-rounded x y h k = subst (λ (q : Frac). Rounded binary64 (add binary64 x (neg y)) (plus (val x) q)) (neg-val y) (add-rounded binary64 x (neg y) h (neg-finite y k))
+
+-- y less x less y is the opposite of x, and so on
+back : (x y : Frac) → 0 < x .d → 0 < y .d → Same (opp (plus (plus x (opp y)) (opp x))) y
+back x y X Y = record { left = mul-pos (mul-pos X Y) X; right = Y; cross = simp ring (omega arith) }
+
+turned : (x y : Frac) → 0 < x .d → 0 < y .d → Same (opp (plus x (opp y))) (plus y (opp x))
+turned x y X Y = record { left = mul-pos X Y; right = mul-pos Y X; cross = simp ring (omega arith) }
+
+other : (x y : Frac) → 0 < x .d → 0 < y .d → Same y (plus (plus x y) (opp x))
+other x y X Y = record { left = Y; right = mul-pos (mul-pos X Y) X; cross = simp ring (omega arith) }
+
+-- two sizes whose sum, rounded, is smaller than both
+module _ (m a n b : ℕ) (M : m < 2 ^ 53) (N : n < 2 ^ 53) (o : m * 2 ^ a < n * 2 ^ b) (u : n * 2 ^ b < overflow binary64) where
+  apart : (g h : Bool) (A B : ℕ) → Bool·beq g h ≡ false → A ≤ B → Same (signed h (B - A) L) (plus (signed g A L) (signed h B L))
+  apart true true A B e l = absurd (true≢false e)
+  apart false false A B e l = absurd (true≢false e)
+  apart true false A B e l = gap A B L (pow-pos 1074) l
+    where
+      gap : (A B l : ℕ) → 0 < l → A ≤ B → Same (signed false (B - A) l) (plus (signed true A l) (signed false B l))
+      gap A B l h k = let d = B - A in let e : B ≡ A + d = omega arith in rw e (step A d l h)
+        where
+          step : (A d l : ℕ) → 0 < l → Same (signed false (A + d - A) l) (plus (signed true A l) (signed false (A + d) l))
+          step A d l h = record { left = h; right = mul-pos h h; cross = rw (add-sub-cancel-left A d) (simp ring (omega arith)) }
+  apart false true A B e l = gap A B L (pow-pos 1074) l
+    where
+      gap : (A B l : ℕ) → 0 < l → A ≤ B → Same (signed true (B - A) l) (plus (signed false A l) (signed true B l))
+      gap A B l h k = let d = B - A in let e : B ≡ A + d = omega arith in rw e (step A d l h)
+        where
+          step : (A d l : ℕ) → 0 < l → Same (signed true (A + d - A) l) (plus (signed false A l) (signed true (A + d) l))
+          step A d l h = record { left = h; right = mul-pos h h; cross = rw (add-sub-cancel-left A d) (simp ring (omega arith)) }
+
+  exact-small : (g h : Bool) → rounded (sum-size g (m * 2 ^ a) h (n * 2 ^ b)) < m * 2 ^ a → Short (plus (signed g (m * 2 ^ a) L) (signed h (n * 2 ^ b) L))
+  exact-small g h k = go (Bool·beq g h) refl (ltb (m * 2 ^ a) (n * 2 ^ b)) (lt-ltb (m * 2 ^ a) (n * 2 ^ b) o) k
+    where
+      go : (x : Bool) → Bool·beq g h ≡ x → (y : Bool) → y ≡ true → rounded (cond x (m * 2 ^ a + n * 2 ^ b) (cond y (n * 2 ^ b - m * 2 ^ a) (m * 2 ^ a - n * 2 ^ b))) < m * 2 ^ a → Short (plus (signed g (m * 2 ^ a) L) (signed h (n * 2 ^ b) L))
+      go true e y t k = absurd (clash (rounded (m * 2 ^ a + n * 2 ^ b)) (m * 2 ^ a) k (few-below m a (m * 2 ^ a + n * 2 ^ b) M (le-add-right (m * 2 ^ a) (n * 2 ^ b))))
+      go false e false t k = absurd (false≢true t)
+      go false e true t k = elim (lt-or-ge (n * 2 ^ b - m * 2 ^ a) (m * 2 ^ a)) [
+        | inl l ↦ record { sign = h; amount = n * 2 ^ b - m * 2 ^ a; few = few-difference m a n b M N l (le-of-lt o); under = lt-of-le-of-lt (sub-le (n * 2 ^ b) (m * 2 ^ a)) u; same = apart g h (m * 2 ^ a) (n * 2 ^ b) e (le-of-lt o) }
+        | inr q ↦ absurd (clash (rounded (n * 2 ^ b - m * 2 ^ a)) (m * 2 ^ a) k (few-below m a (n * 2 ^ b - m * 2 ^ a) M q))
+      ]
+
+module _ (p c : Float) (P : Units p) (C : Units c) (real : T (finite (add binary64 p c))) where
+  abbrev s : Float
+  s = add binary64 p c
+
+  abbrev U : Units s
+  U = sum-units p c P C real
+
+  small-sum : U .amount < P .amount → P .amount < C .amount → Short (plus (val p) (val c))
+  small-sum h o =
+      let (m, a, ea, M) = P .few in
+      let (n, b, eb, N) = C .few in
+      short-same (plus-same (units-same P) (units-same C)) (go m a n b ea eb M N h o (C .under))
+    where
+      go : (m a n b : ℕ) → P .amount ≡ m * 2 ^ a → C .amount ≡ n * 2 ^ b → m < 2 ^ 53 → n < 2 ^ 53 → rounded (sum-size (P .sign) (P .amount) (C .sign) (C .amount)) < P .amount → P .amount < C .amount → C .amount < overflow binary64
+          → Short (plus (signed (P .sign) (P .amount) L) (signed (C .sign) (C .amount) L))
+      go m a n b ea eb M N h o u = rw (ea, eb) (exact-small m a n b M N (rw (ea, eb) at o) (rw eb at u) (P .sign) (C .sign) (rw (ea, eb) at h))
+
+  -- s smaller than p: s - p is short
+  small-rest : U .amount < P .amount → Short (plus (val s) (opp (val p)))
+  small-rest h = elim (lt-or-ge (P .amount) (C .amount)) [
+    | inl o ↦
+        let e = short-exact (small-sum h o) (add-rounded binary64 p c (value-finite p (P .sign) (P .amount) L (P .value)) (value-finite c (C .sign) (C .amount) L (C .value))) in
+        short-same (same-trans (other (val p) (val c) (val-pos p) (val-pos c)) (plus-same (same-sym (e .same)) (same-refl (mirror p)))) (short-of C)
+    | inr g ↦ less-first p c P C real g
+  ]
+    where
+      mirror : (x : Float) → 0 < opp (val x) .d
+      mirror x = val-pos x
+
+  pub two-sum : T (finite (sub binary64 s p)) → Short (plus (val s) (opp (val (sub binary64 s p))))
+  unfolding sub
+  two-sum f = elim (lt-or-ge (U .amount) (P .amount)) [
+    | inl h ↦
+        let z = sub binary64 s p in
+        let e = short-exact (small-rest h) (sub-rounded s p real (value-finite p (P .sign) (P .amount) L (P .value))) in
+        short-same (same-trans (same-sym (back (val s) (val p) (val-pos s) (val-pos p))) (same-trans (turned (plus (val s) (opp (val p))) (val s) (mul-pos (val-pos s) (val-pos p)) (val-pos s)) (plus-same (same-refl (val-pos s)) (opp-same (same-sym (e .same)))))) (short-of P)
+    | inr g ↦ short-same (turned (val (sub binary64 s p)) (val s) (val-pos (sub binary64 s p)) (val-pos s)) (short-opp (less-first s (neg p) U (neg-units P) f g))
+  ]

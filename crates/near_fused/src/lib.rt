@@ -1,0 +1,64 @@
+// K4. The fused multiply and add of f64 by floats, for a factor from 0 to 1: two ends, the exact sum between them, rounded. Where they round alike, that is the answer; else there is none.
+ghost use mathlib.Core.Path.{_≡_};
+ghost use mathlib.Core.Bool.{true, not};
+ghost use lib.Dec.{T};
+ghost use lib.Ieee.{isNan};
+ghost use Rattle.near_fused.specs.Parts.{high as highOf, sized, Ordered, Inside, Sure};
+
+// The upper 26 digits: the product of two such numbers is exact.
+fn high(x: f64) -> f64
+    requires { ⌜ T (not (isNan x)) ⌝ }
+    ensures { λ r. ⌜ r ≡ highOf x ⌝ }
+{
+    f64::from_bits((f64::to_bits(x) >> 27) << 27)
+}
+
+fn size(x: f64) -> f64
+    requires { ⌜ T (not (isNan x)) ⌝ }
+    ensures { λ r. ⌜ r ≡ sized x ⌝ }
+{
+    f64::from_bits(f64::to_bits(x) & 0x7fff_ffff_ffff_ffff)
+}
+
+// Neither is a NaN, which has no pattern.
+fn ordered(x: f64, y: f64) -> bool
+    ensures { λ r. ⌜ (r ≡ true → Ordered x y) ⌝ }
+{
+    if x <= y {
+        return true;
+    }
+    y < x
+}
+
+fn inside(mu: f64) -> bool
+    ensures { λ r. ⌜ (r ≡ true → Inside mu) ⌝ }
+{
+    if mu <= 1.0 {
+        return 0.0 <= mu;
+    }
+    false
+}
+
+// v * mu + c, rounded once, or a NaN. p and s are the greater parts of the product and of the sum; what s lost of p + c is told exactly (a two-sum), the rest of the product nearly;
+// and a 2^68th part of the terms is more than all errors together.
+pub fn near_fused(v: f64, mu: f64, c: f64) -> f64
+    ensures { λ r. ⌜ Sure v mu c r ⌝ }
+{
+    if inside(mu) {
+        if ordered(v, c) {
+            let mh = high(mu);
+            let vh = high(v);
+            let p = vh * mh;
+            let rest = vh * (mu - mh) + (v - vh) * mu;
+            let s = p + c;
+            let z = s - p;
+            let u = (p - (s - z)) + (c - z) + rest;
+            let e = (size(v) + size(c)) * 3.3881317890172014e-21 + 1.0261342003245941e-289;
+            let r = s + (u + e);
+            if r <= s + (u - e) {
+                return r;
+            }
+        }
+    }
+    0.0 / 0.0
+}
