@@ -62,7 +62,16 @@ pub extern "C" fn fugnadri_windowed_sinc_process_bits<'a>(
 {
     let mut y: f64 = 0.0;
     let no = fugnadri_windowed_sinc_process(
-        maximum, margin, accepted, ring, input, delay, table, taps, phases, &mut y,
+        maximum,
+        margin,
+        accepted,
+        ring,
+        input,
+        delay,
+        table,
+        taps,
+        phases,
+        &mut y,
     );
     *sample = patterns::bits_of(y);
     no
@@ -119,7 +128,16 @@ pub extern "C" fn fugnadri_windowed_sinc_f32_process_bits<'a>(
 {
     let mut y: f32 = 0.0;
     let no = fugnadri_windowed_sinc_f32_process(
-        maximum, margin, accepted, ring, input, delay, table, taps, phases, &mut y,
+        maximum,
+        margin,
+        accepted,
+        ring,
+        input,
+        delay,
+        table,
+        taps,
+        phases,
+        &mut y,
     );
     *sample = patterns::bits_of_f32(y);
     no

@@ -75,8 +75,5 @@ pub fn sample<'a>(
     ensures { λ r. ⌜ r ≡ answerOf (sampleVerdict taps phases (length (now (table .entry))) position) (readOf (now (table .entry)) taps phases (now (source .entry)) count position) ⌝ }
 {
     let no = refusal(taps, phases, table.len(), position);
-    answer::answered(
-        no,
-        read(table, taps, phases, source, count, position),
-    )
+    answer::answered(no, read(table, taps, phases, source, count, position))
 }

@@ -63,8 +63,5 @@ pub fn sample<'a>(
     ensures { λ r. ⌜ r ≡ answerF32Of (sampleVerdict taps phases (length (now (table .entry))) position) (readOf (now (table .entry)) taps phases (now (source .entry)) count position) ⌝ }
 {
     let no = sinc_read::refusal(taps, phases, table.len(), position);
-    answer::answered_f32(
-        no,
-        read(table, taps, phases, source, count, position),
-    )
+    answer::answered_f32(no, read(table, taps, phases, source, count, position))
 }
