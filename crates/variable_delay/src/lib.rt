@@ -117,7 +117,10 @@ fn passes(
 {
     let t1 = both(length != 0, own);
     let t2 = both(len == length, lent);
-    let t4 = both(magnitude::is_finite(input), magnitude::within(delay, 0.0, 68719476736.0));
+    let t4 = both(
+        magnitude::is_finite(input),
+        magnitude::within(delay, 0.0, 68719476736.0),
+    );
     both(both(t1, t2), both(accepted < 68719476736, t4))
 }
 
