@@ -244,12 +244,10 @@ fn refused(context: &mut Context, kind: &'static str) {
     if refusal != number || found != [0; 2] || after != state {
         stop(kind, &call, &state, ([0; 2], &state), (found, &after), refusal);
     }
-    // by host/, whose seed and reset tell no number, and whose lenient way leaves aside a sample rate that the original leaves aside
     let mut host = engines::open(r, rate, seed);
     *host.words() = state;
     let (found, refusal) = host.call(&call);
-    let silent = refusal == 0 && !matches!(call, Call::Step(_));
-    if refusal != number && !silent || found != [0; 2] || *host.words() != state {
+    if refusal != host.tells(&call, number) || found != [0; 2] || *host.words() != state {
         stop("refused calls by host/", &call, &state, ([0; 2], &state), (found, host.words()), refusal);
     }
     context.count("modulation", kind, 2, None);
