@@ -1,5 +1,5 @@
 -- 001's engine as what another language can hand in: 15 words in the order of its fields, a float as its pattern, and the settings as eight floats. Definitions only.
-use Prim.Native.Nat.{ℕ}
+use Prim.Native.Nat.{ℕ, zero, suc}
 use mathlib.Core.List.{List, [], _∷_}
 use lib.ListN.{getD}
 use lib.Ieee.{Float, binary64, ofBits, toBits}
@@ -38,6 +38,11 @@ abbrev pub wordsOf : ModulationEngine → List ℕ
 wordsOf e =
     toBits binary64 (e .«sample_rate») ∷ toBits binary64 (e .«wow_phase») ∷ toBits binary64 (e .«flutter_phase»)
     ∷ randomWords (e .«wow_drift») (randomWords (e .«flutter_drift») [])
+
+-- D1c. What a call leaves of the words: those of the engine after it, and where it is refused the very words, a NaN's own pattern too.
+abbrev pub wordsLeft : ℕ → ModulationEngine → List ℕ → List ℕ
+wordsLeft zero after words = wordsOf after
+wordsLeft (suc k) after words = words
 
 -- F9. The eight settings, in 001's order.
 abbrev pub paramsOf : Float → Float → Float → Float → Float → Float → Float → Float → ModulationParams

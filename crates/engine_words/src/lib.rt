@@ -1,6 +1,6 @@
 // 001's engine as 15 words in the order of its fields, a float as its pattern: what another language, or a line of text, can hold. `engine_calls` has the engine's own.
 ghost use mathlib.Core.Path.{_≡_};
-ghost use Rattle.engine_words.specs.Words.{randomOf, engineOf, wordsOf, paramsOf};
+ghost use Rattle.engine_words.specs.Words.{randomOf, engineOf, wordsOf, wordsLeft, paramsOf};
 use modulation_engine::ModulationEngine;
 use modulation_params::ModulationParams;
 use patterns::bits_of;
@@ -63,6 +63,17 @@ pub fn words_of(e: ModulationEngine) -> [u64; 15]
         bits_of(flutter.position),
         bits_of(flutter.segment_rate_scale),
     ]
+}
+
+// D1c. The words that a call leaves, by the refusal's number, 0 for none.
+pub fn words_left(number: u8, after: ModulationEngine, words: [u64; 15]) -> [u64; 15]
+    ensures { λ r. ⌜ r ≡ wordsLeft number after words ⌝ }
+{
+    if number == 0 {
+        words_of(after)
+    } else {
+        words
+    }
 }
 
 // F9. The settings from eight floats, in 001's order.

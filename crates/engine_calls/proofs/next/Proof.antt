@@ -4,9 +4,10 @@ use Rattle.engine_calls.proofs.next.Tie as tie
 
 returns : tie.Need-returns
 returns c =
-    let engine = c .before .before .before .before .before .before .engine-of .ensures in
-    let step = c .before .before .before .before .before .next .ensures in
-    (rw (c .refusal .ensures, step, engine), (rw (c .before .before .before .words-of .ensures, step, engine), (rw (c .before .before .left-of .ensures, step, engine), rw (c .before .right-of .ensures, step, engine))))
+    let engine = c .before .before .before .before .before .before .before .engine-of .ensures in
+    let step = c .before .before .before .before .before .before .next .ensures in
+    let number = c .before .before .before .before .refusal .ensures in
+    (rw (number, step, engine), (rw (c .before .before .words-left .ensures, number, step, engine), (rw (c .before .left-of .ensures, step, engine), rw (c .right-of .ensures, step, engine))))
 
 pub next-spec : {M : Type 1} → statement M
 next-spec = tie.close (tie.spec (λ c κs. tt) (λ c κs. tt) (λ c κs. tt) (λ c κs. tt) (λ c κs. tt) (λ c κs. tt) returns)

@@ -3,7 +3,11 @@ use Rattle.engine_calls.proofs.set_sample_rate.Statement.{statement}
 use Rattle.engine_calls.proofs.set_sample_rate.Tie as tie
 
 returns : tie.Need-returns
-returns c = (rw (c .number .ensures, c .before .before .before .set-sample-rate .ensures, c .before .before .before .before .engine-of .ensures), rw (c .before .words-of .ensures, c .before .before .left-by .ensures, c .before .before .before .set-sample-rate .ensures, c .before .before .before .before .engine-of .ensures))
+returns c =
+    let engine = c .before .before .before .before .before .engine-of .ensures in
+    let called = c .before .before .before .before .set-sample-rate .ensures in
+    let number = c .before .before .before .number .ensures in
+    (rw (number, called, engine), rw (c .words-left .ensures, number, c .before .before .left-by .ensures, called, engine))
 
 pub set-sample-rate-spec : {M : Type 1} → statement M
 set-sample-rate-spec = tie.close (tie.spec (λ c κs. tt) (λ c κs. tt) (λ c κs. tt) (λ c κs. tt) (λ c κs. tt) returns)
