@@ -1,4 +1,5 @@
 pub mod Nodes
+pub mod Sixths
 pub mod Weights
 pub mod Sums
 pub mod Places

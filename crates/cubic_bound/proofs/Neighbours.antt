@@ -17,7 +17,7 @@ use Rattle.variable_delay.specs.Reader.{stored}
 use Rattle.runs.specs.Filled.{storedFrom, filled, numbered}
 use Rattle.runs.proofs.Filled.{tap-numbered}
 use Rattle.cubic_bound.specs.Desk.{WholeSample, WholeSamples, none, also, neighbour}
-use Rattle.cubic_bound.proofs.Weights.{Part}
+use Rattle.cubic_bound.proofs.Sixths.{Part}
 
 -- ---- one sample more
 stored-last : (i : ℕ) (xs ss : List Float) (s : Float) → storedFrom i xs (ss ++ s ∷ []) ≡ stored (i + length ss) (storedFrom i xs ss) s

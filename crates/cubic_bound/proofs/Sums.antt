@@ -13,7 +13,8 @@ use Rattle.fraction.proofs.Near.{step, add-approx, mul-approx}
 use Rattle.fraction.proofs.Integers.{Steps, size-plus, size-times, whole-plus, whole-times, whole-mag}
 use Rattle.cubic_farrow.specs.Cubic.{weighed}
 use Rattle.cubic_bound.specs.Exact.{exactCubic}
-use Rattle.cubic_bound.proofs.Weights.{Part, Weight, first, second, third, fourth}
+use Rattle.cubic_bound.proofs.Sixths.{Part, Weight}
+use Rattle.cubic_bound.proofs.Weights.{first, second, third, fourth}
 
 -- x is z / (6M^3 * 2^23) with an error of e units, and |z| is at most b / 6 of that
 record Sum (e b : ℕ) (x : Float) (z : ℤ) : Type 0 where

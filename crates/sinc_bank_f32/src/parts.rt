@@ -1,6 +1,6 @@
 // T5. The part of one of two lent sets that a quality reads.
 ghost use mathlib.Core.Path.{_≡_};
-ghost use Rattle.sinc_bank_f32.specs.Parts.{startOf, endOf, chosenOf};
+ghost use Rattle.sinc_bank_f32.specs.Parts.{startOf, endOf, lentOf, chosenOf};
 use quality_mode::QualityMode;
 
 fn start(quality: QualityMode) -> usize
@@ -25,7 +25,19 @@ fn end(quality: QualityMode) -> usize
     }
 }
 
-// The table of a quality in the tighter set, or in the safe one; empty for Draft, and where that set has not a set's length.
+// The table of a quality in a lent set; empty for Draft, and where that has not a set's length.
+fn part<'a>(set: &'a [f32], quality: QualityMode) -> &'a [f32]
+    ensures { λ r. ⌜ now r ≡ lentOf quality (now (set .entry)) ⌝ }
+{
+    let a = start(quality);
+    let e = end(quality);
+    if set.len() == 1081648 {
+        return &set[a..e];
+    }
+    &set[0..0]
+}
+
+// The same of the tighter set, or of the safe one.
 pub fn chosen<'a>(
     safe: &'a [f32],
     tighter: &'a [f32],
@@ -34,16 +46,8 @@ pub fn chosen<'a>(
 ) -> &'a [f32]
     ensures { λ r. ⌜ now r ≡ chosenOf (now (safe .entry)) (now (tighter .entry)) tight quality ⌝ }
 {
-    let a = start(quality);
-    let e = end(quality);
     if tight {
-        if tighter.len() == 1081648 {
-            return &tighter[a..e];
-        }
-        return &tighter[0..0];
+        return part(tighter, quality);
     }
-    if safe.len() == 1081648 {
-        return &safe[a..e];
-    }
-    &safe[0..0]
+    part(safe, quality)
 }

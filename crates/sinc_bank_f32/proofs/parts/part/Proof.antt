@@ -1,4 +1,4 @@
--- `sinc_bank_f32::parts::chosen` meets its contract: a quality's part lies within a set, and is the definition's. Assumes nothing.
+-- `sinc_bank_f32::parts::part` meets its contract: a quality's part lies within a set, and is the definition's. Assumes nothing.
 use borrow.Author.Needs.{needs}
 use borrow.Author.Tests.{eq-eqb, ne-eqb}
 use mathlib.Core.Path.{_≡_, refl}
@@ -12,8 +12,8 @@ use Rattle.quality_mode.specs.declared.QualityMode.{QualityMode}
 use Rattle.quality_mode.specs.declared.QualityMode.the-variants.{Draft, Normal, Hq, Ultra}
 use Rattle.sinc_bank_f32.specs.Sets.{setLength}
 use Rattle.sinc_bank_f32.specs.Parts.{startOf, endOf, partOf}
-use Rattle.sinc_bank_f32.proofs.parts.chosen.Statement.{statement}
-use Rattle.sinc_bank_f32.proofs.parts.chosen.Tie as tie
+use Rattle.sinc_bank_f32.proofs.parts.part.Statement.{statement}
+use Rattle.sinc_bank_f32.proofs.parts.part.Tie as tie
 
 within : (q : QualityMode) → (startOf q ≤ endOf q) × (endOf q ≤ setLength)
 within Draft = (omega arith, omega arith)
@@ -34,9 +34,9 @@ record Ends (q : QualityMode) (a e : ℕ) : Type 0 where
   order : a ≤ e
   small : e ≤ setLength
 
-ends : (c : tie.After-end) → Ends (c .before .before .before .before .args .quality) (c .before .start .result) (c .end .result)
+ends : (c : tie.After-end) → Ends (c .before .before .before .args .quality) (c .before .start .result) (c .end .result)
 ends c =
-    let w = within (c .before .before .before .before .args .quality) in
+    let w = within (c .before .before .before .args .quality) in
     record {
       start-is = c .before .start .ensures;
       end-is = c .end .ensures;
@@ -51,23 +51,23 @@ end-requires : tie.Need-end-requires
 end-requires c κs = search needs
 
 mul-result : tie.Need-mul-result
-mul-result c = let x = ends (c .before .before) in omega (arith, x .order, x .small)
+mul-result c = let x = ends (c .before) in omega (arith, x .order, x .small)
 
 sub-result : tie.Need-sub-result
-sub-result c = ends (c .before .before) .order
+sub-result c = ends (c .before) .order
 
 part-result-start : tie.Need-part-result-start
-part-result-start c = ends (c .before .before) .order
+part-result-start c = ends (c .before) .order
 
 part-result-end : tie.Need-part-result-end
-part-result-end c = omega (arith, ends (c .before .before) .small, c .if2 .taken)
+part-result-end c = omega (arith, ends (c .before) .small, c .if1 .taken)
 
 returns : tie.Need-returns
 returns c =
     let t = c .before .before in
-    let x = ends (t .before) in
-    let a = t .before .before .before .before .before .args in
-    rw (t .if1 .taken, eq-eqb (length (now (a .tighter))) setLength (c .before .if2 .taken), x .start-is, x .end-is) (part-is (a .quality) (now (a .tighter)))
+    let x = ends t in
+    let a = t .before .before .before .args in
+    rw (eq-eqb (length (now (a .set))) setLength (c .before .if1 .taken), x .start-is, x .end-is) (part-is (a .quality) (now (a .set)))
 
 sub-result-2 : tie.Need-sub-result-2
 sub-result-2 c = search needs
@@ -79,47 +79,10 @@ part-result-end-2 : tie.Need-part-result-end-2
 part-result-end-2 c = search needs
 
 returns-2 : tie.Need-returns-2
-returns-2 c =
-    let t = c .before .before in
-    let a = t .before .before .before .before .before .args in
-    rw (t .if1 .taken, ne-eqb (length (now (a .tighter))) setLength (λ z. omega (arith, z, c .before .if2 .left)))
+returns-2 c = let a = c .before .before .before .before .before .args in rw (ne-eqb (length (now (a .set))) setLength (λ z. omega (arith, z, c .before .if1 .left)))
 
-mul-result-2 : tie.Need-mul-result-2
-mul-result-2 c = let x = ends (c .before .before) in omega (arith, x .order, x .small)
-
-sub-result-3 : tie.Need-sub-result-3
-sub-result-3 c = ends (c .before .before) .order
-
-part-result-start-3 : tie.Need-part-result-start-3
-part-result-start-3 c = ends (c .before .before) .order
-
-part-result-end-3 : tie.Need-part-result-end-3
-part-result-end-3 c = omega (arith, ends (c .before .before) .small, c .if3 .taken)
-
-returns-3 : tie.Need-returns-3
-returns-3 c =
-    let t = c .before .before in
-    let x = ends (t .before) in
-    let a = t .before .before .before .before .before .args in
-    rw (t .if1 .left, eq-eqb (length (now (a .safe))) setLength (c .before .if3 .taken), x .start-is, x .end-is) (part-is (a .quality) (now (a .safe)))
-
-sub-result-4 : tie.Need-sub-result-4
-sub-result-4 c = search needs
-
-part-result-start-4 : tie.Need-part-result-start-4
-part-result-start-4 c = search needs
-
-part-result-end-4 : tie.Need-part-result-end-4
-part-result-end-4 c = search needs
-
-returns-4 : tie.Need-returns-4
-returns-4 c =
-    let t = c .before .before in
-    let a = t .before .before .before .before .before .args in
-    rw (t .if1 .left, ne-eqb (length (now (a .safe))) setLength (λ z. omega (arith, z, c .before .if3 .left)))
-
-pub chosen-spec : {M : Type 1} → statement M
-chosen-spec =
+pub part-spec : {M : Type 1} → statement M
+part-spec =
     tie.close
     (tie.spec
     start-requires
@@ -132,13 +95,4 @@ chosen-spec =
     sub-result-2
     part-result-start-2
     part-result-end-2
-    returns-2
-    mul-result-2
-    sub-result-3
-    part-result-start-3
-    part-result-end-3
-    returns-3
-    sub-result-4
-    part-result-start-4
-    part-result-end-4
-    returns-4)
+    returns-2)
