@@ -35,5 +35,6 @@ module _ (xs : List Float) (count : ℕ) (p : Float) (z : ℤ) (whole : z ≡ fl
   unfolding cubicAt fractionOf
   one-by-one e = e ∙ rw whole
 
-  pub side-by-side : (s : Start) → s ≡ startOf (length xs) count (z -ℤ pos 1) 4 → s .held ≡ true → s .place + 4 ≤ length xs → {r : Float} → r ≡ weighed binary64 (sub binary64 p (ofInt binary64 z)) (getD xs (s .place) nan) (getD xs (s .place + 1) nan) (getD xs (s .place + 2) nan) (getD xs (s .place + 3) nan) → r ≡ cubicAt xs count p
-  side-by-side s start all fits e = one-by-one (e ∙ four-held binary64 (sub binary64 p (ofInt binary64 z)) xs count z s start all fits)
+  pub side-by-side : (s : Start) → s ≡ startOf (length xs) count (z -ℤ pos 1) 4 → s .held ≡ true → s .place + 4 ≤ length xs → {mu r : Float} → mu ≡ fractionOf p → r ≡ weighed binary64 mu (getD xs (s .place) nan) (getD xs (s .place + 1) nan) (getD xs (s .place + 2) nan) (getD xs (s .place + 3) nan) → r ≡ cubicAt xs count p
+  unfolding fractionOf
+  side-by-side s start all fits {mu} m e = one-by-one (e ∙ four-held binary64 mu xs count z s start all fits ∙ rw (m, whole))

@@ -12,15 +12,16 @@ ghost use Rattle.ring.specs.Places.{positionOk};
 ghost use Rattle.cubic_farrow.specs.Cubic.{weighed, cubicAt, readOf};
 use answer::Answer;
 
-// Lagrange basis for nodes -1, 0, 1, 2.
+// Lagrange basis for nodes -1, 0, 1, 2. The signs of c0 and c2 stand outside, where they are exact, so that (mu + 1) * mu serves twice and nothing is negated.
 pub fn weigh(mu: f64, xm1: f64, x0: f64, x1: f64, x2: f64) -> f64
     ensures { λ r. ⌜ r ≡ weighed binary64 mu xm1 x0 x1 x2 ⌝ }
 {
-    let c0 = -mu * (mu - 1.0) * (mu - 2.0) / 6.0;
+    let middle = (mu + 1.0) * mu;
+    let c0 = mu * (mu - 1.0) * (mu - 2.0) / 6.0;
     let c1 = (mu + 1.0) * (mu - 1.0) * (mu - 2.0) / 2.0;
-    let c2 = -(mu + 1.0) * mu * (mu - 2.0) / 2.0;
-    let c3 = (mu + 1.0) * mu * (mu - 1.0) / 6.0;
-    xm1 * c0 + x0 * c1 + x1 * c2 + x2 * c3
+    let c2 = middle * (mu - 2.0) / 2.0;
+    let c3 = middle * (mu - 1.0) / 6.0;
+    -(xm1 * c0) + x0 * c1 - x1 * c2 + x2 * c3
 }
 
 // The four taps from a place on, side by side.
@@ -43,32 +44,32 @@ fn one_by_one(source: &[f64], count: u64, i: i64, mu: f64) -> f64
     weigh(mu, xm1, x0, x1, x2)
 }
 
-// The reading at a position in range. Where the four taps are held side by side they are read without a test each.
+// The reading at a position in range.
 fn at(source: &[f64], count: u64, position: f64) -> f64
     requires { ⌜ positionOk position ≡ true ⌝ }
     ensures { λ r. ⌜ r ≡ cubicAt (now (source .entry)) count position ⌝ }
 {
     let i = integer_part::floor(position);
     let mu = position - (i as f64);
-    let s = ring::run_start(source.len(), count, i - 1, 4);
-    let p = s.place;
-    if s.held {
-        if p + 4 <= source.len() {
-            return side_by_side(source, p, mu);
-        }
-    }
     one_by_one(source, count, i, mu)
 }
 
-// The reading at a position; zero outside the positions' range.
+// The reading at a position; zero outside the positions' range. The quick way is a reader's: where the four taps are held side by side they are read without a test each.
 pub fn read(source: &[f64], count: u64, position: f64) -> f64
     ensures { λ r. ⌜ r ≡ readOf (now (source .entry)) count position ⌝ }
 {
     if ring::position_ok(position) {
-        at(source, count, position)
-    } else {
-        0.0
+        let first = integer_part::floor(position) - 1;
+        let s = ring::run_start(source.len(), count, first, 4);
+        let p = s.place;
+        if s.held {
+            if p + 4 <= source.len() {
+                return side_by_side(source, p, integer_part::fraction(position));
+            }
+        }
+        return at(source, count, position);
     }
+    0.0
 }
 
 // The reading of a lent slice: refusal 1 outside the positions' range.

@@ -1,4 +1,5 @@
 -- K3, K4, K6. 000's Farrow8: a sum by each column, then fused steps in the fraction, in 000's order. Definitions only.
+use mathlib.Core.Path.{_≡_}
 use Prim.Native.Nat.{ℕ}
 use mathlib.Core.Bool.{true, false, cond}
 use mathlib.Core.List.{List, [], _∷_}
@@ -10,6 +11,7 @@ use Rattle.ring.specs.Taps.{tapOf}
 use Rattle.ring.specs.Places.{positionOk}
 use Rattle.integer_part.specs.Parts.{floorOf, fractionOf}
 use Rattle.farrow8.specs.Table.{quotients, columnIn}
+use Rattle.farrow8.specs.declared.Powers.{Powers}
 
 -- one product of 000's `dot!`
 abbrev pub term : List Float → List Float → ℕ → Float
@@ -27,6 +29,21 @@ power x n = dotOf x (columnIn quotients n)
 -- value = value * mu + the next power's sum, rounded once
 abbrev pub step : Float → Float → Float → Float
 step mu value next = fused binary64 value mu next
+
+-- the sums of the powers 1 to 7, and the sample itself
+pub record Summed (x : List Float) (s : Powers) : Type 0 where
+  pub p7 : s .s7 ≡ power x 7
+  pub p6 : s .s6 ≡ power x 6
+  pub p5 : s .s5 ≡ power x 5
+  pub p4 : s .s4 ≡ power x 4
+  pub p3 : s .s3 ≡ power x 3
+  pub p2 : s .s2 ≡ power x 2
+  pub p1 : s .s1 ≡ power x 1
+  pub p0 : s .s0 ≡ getD x 3 nan
+
+-- Horner's rule over such sums
+abbrev pub horner : Powers → Float → Float
+horner s mu = step mu (step mu (step mu (step mu (step mu (step mu (step mu (s .s7) (s .s6)) (s .s5)) (s .s4)) (s .s3)) (s .s2)) (s .s1)) (s .s0)
 
 -- from the seventh power down to the sample itself
 unfoldable pub polynomialOf : List Float → Float → Float

@@ -4,11 +4,13 @@ ghost use mathlib.Core.Bool.{true, cond};
 ghost use Prim.Native.Nat.{_+_, _^_, _≤_, _<_};
 ghost use mathlib.Core.List.{[], _∷_};
 ghost use lib.ListN.{length, getD};
+ghost use lib.Dec.{T};
 ghost use lib.Ieee.{nan};
+ghost use lib.Ieee.Scale.{finite};
 ghost use lib.Signed.{mag};
 ghost use Rattle.answer.specs.Answers.{answerOf};
 ghost use Rattle.ring.specs.Places.{positionOk};
-ghost use Rattle.farrow8.specs.Kernel.{dotOf, step, polynomialOf, tapsAt, farrowAt, readOf};
+ghost use Rattle.farrow8.specs.Kernel.{dotOf, Summed, horner, polynomialOf, tapsAt, farrowAt, readOf};
 ghost use Rattle.farrow8.specs.Table.{columnIn};
 use answer::Answer;
 
@@ -127,26 +129,75 @@ fn column(c: [[f64; 8]; 8], n: usize) -> [f64; 8]
     ]
 }
 
-// One power less: value * mu + the power's sum, rounded once.
-fn next(value: f64, mu: f64, x: [f64; 8], c: [f64; 8]) -> f64
-    ensures { λ r. ⌜ r ≡ step mu value (dotOf x c) ⌝ }
+// The sums of the powers, and the sample itself. Neighbours in memory have quotients of the same signs, so that the compiler works out two sums at once.
+struct Powers {
+    s2: f64,
+    s6: f64,
+    s4: f64,
+    s7: f64,
+    s1: f64,
+    s3: f64,
+    s5: f64,
+    s0: f64,
+}
+
+fn sums(x: [f64; 8]) -> Powers
+    ensures { λ r. ⌜ Summed x r ⌝ }
 {
-    fused64::fused64(value, mu, dot(x, c))
+    let c = C;
+    Powers {
+        s2: dot(x, column(c, 2)),
+        s6: dot(x, column(c, 6)),
+        s4: dot(x, column(c, 4)),
+        s7: dot(x, column(c, 7)),
+        s1: dot(x, column(c, 1)),
+        s3: dot(x, column(c, 3)),
+        s5: dot(x, column(c, 5)),
+        s0: x[3],
+    }
+}
+
+// Horner's rule by floats: where a step is in doubt nothing after it is finite.
+fn quick(s: Powers, mu: f64) -> f64
+    ensures { λ r. ⌜ (T (finite r) → r ≡ horner s mu) ⌝ }
+{
+    let p6 = near_fused::near_fused(s.s7, mu, s.s6);
+    let p5 = near_fused::near_fused(p6, mu, s.s5);
+    let p4 = near_fused::near_fused(p5, mu, s.s4);
+    let p3 = near_fused::near_fused(p4, mu, s.s3);
+    let p2 = near_fused::near_fused(p3, mu, s.s2);
+    let p1 = near_fused::near_fused(p2, mu, s.s1);
+    near_fused::near_fused(p1, mu, s.s0)
+}
+
+fn slow(s: Powers, mu: f64) -> f64
+    ensures { λ r. ⌜ r ≡ horner s mu ⌝ }
+{
+    let p6 = fused64::fused64(s.s7, mu, s.s6);
+    let p5 = fused64::fused64(p6, mu, s.s5);
+    let p4 = fused64::fused64(p5, mu, s.s4);
+    let p3 = fused64::fused64(p4, mu, s.s3);
+    let p2 = fused64::fused64(p3, mu, s.s2);
+    let p1 = fused64::fused64(p2, mu, s.s1);
+    fused64::fused64(p1, mu, s.s0)
+}
+
+// Horner's rule over the sums: a finite number less itself is zero.
+fn over(s: Powers, mu: f64) -> f64
+    ensures { λ r. ⌜ r ≡ horner s mu ⌝ }
+{
+    let r = quick(s, mu);
+    if r - r == 0.0 {
+        return r;
+    }
+    slow(s, mu)
 }
 
 // The polynomial in the fraction, from the seventh power down.
 fn polynomial(x: [f64; 8], mu: f64) -> f64
     ensures { λ r. ⌜ r ≡ polynomialOf x mu ⌝ }
 {
-    let c = C;
-    let p7 = dot(x, column(c, 7));
-    let p6 = next(p7, mu, x, column(c, 6));
-    let p5 = next(p6, mu, x, column(c, 5));
-    let p4 = next(p5, mu, x, column(c, 4));
-    let p3 = next(p4, mu, x, column(c, 3));
-    let p2 = next(p3, mu, x, column(c, 2));
-    let p1 = next(p2, mu, x, column(c, 1));
-    fused64::fused64(p1, mu, x[3])
+    over(sums(x), mu)
 }
 
 // The eight taps from a place on, side by side.

@@ -1,4 +1,4 @@
-// O3. The calls of `readers`, with the sample handed out as a pattern.
+// O3. The calls of `readers`, with the sample handed out as a pattern. They go through `readers`, so that each reader is called at one place and is compiled into it.
 ghost use mathlib.Core.Path.{_≡_};
 ghost use mathlib.Core.Bool.{true};
 ghost use lib.ListN.{length};
@@ -9,9 +9,9 @@ ghost use Rattle.cubic_farrow.specs.Cubic.{cubicAt};
 ghost use Rattle.lagrange.specs.Kernel.{tapsOk, lagrangeAt};
 ghost use Rattle.farrow8.specs.Kernel.{farrowAt};
 ghost use Rattle.doors.specs.Doors.{stateOf};
-use doors::number;
-use doors::value;
-use variable_delay::VariableDelay;
+use crate::readers::fugnadri_cubic_process;
+use crate::readers::fugnadri_farrow8_process;
+use crate::readers::fugnadri_lagrange_process;
 
 #[no_mangle]
 pub extern "C" fn fugnadri_cubic_process_bits(
@@ -28,17 +28,18 @@ pub extern "C" fn fugnadri_cubic_process_bits(
     ensures { λ r. ⌜ now (accepted .exit) ≡ (processed cubicAt (stateOf maximum margin (now (accepted .entry))) (now (ring .entry)) input delay) .state .accepted ⌝ }
     ensures { λ r. ⌜ now (ring .exit) ≡ ringAfter (verdict true true (stateOf maximum margin (now (accepted .entry))) (length (now (ring .entry))) input delay) (stateOf maximum margin (now (accepted .entry))) (now (ring .entry)) input ⌝ }
 {
-    let state = VariableDelay {
-        maximum: maximum,
-        margin: margin,
-        accepted: *accepted,
-    };
-    let p = cubic_delay::process_sample(state, &mut ring[..], input, delay);
-    let after = p.state;
-    let a = p.answer;
-    *accepted = after.accepted;
-    *sample = patterns::bits_of(value(a));
-    number(a)
+    let mut value = 0.0;
+    let no = fugnadri_cubic_process(
+        maximum,
+        margin,
+        &mut *accepted,
+        &mut ring[..],
+        input,
+        delay,
+        &mut value,
+    );
+    *sample = patterns::bits_of(value);
+    no
 }
 
 #[no_mangle]
@@ -57,17 +58,19 @@ pub extern "C" fn fugnadri_lagrange_process_bits(
     ensures { λ r. ⌜ now (accepted .exit) ≡ (processedBy (lagrangeAt taps) (verdict (tapsOk taps) true (stateOf maximum margin (now (accepted .entry))) (length (now (ring .entry))) input delay) (stateOf maximum margin (now (accepted .entry))) (now (ring .entry)) input delay) .state .accepted ⌝ }
     ensures { λ r. ⌜ now (ring .exit) ≡ ringAfter (verdict (tapsOk taps) true (stateOf maximum margin (now (accepted .entry))) (length (now (ring .entry))) input delay) (stateOf maximum margin (now (accepted .entry))) (now (ring .entry)) input ⌝ }
 {
-    let state = VariableDelay {
-        maximum: maximum,
-        margin: margin,
-        accepted: *accepted,
-    };
-    let p = lagrange_delay::process_sample(state, &mut ring[..], input, delay, taps);
-    let after = p.state;
-    let a = p.answer;
-    *accepted = after.accepted;
-    *sample = patterns::bits_of(value(a));
-    number(a)
+    let mut value = 0.0;
+    let no = fugnadri_lagrange_process(
+        maximum,
+        margin,
+        &mut *accepted,
+        &mut ring[..],
+        input,
+        delay,
+        taps,
+        &mut value,
+    );
+    *sample = patterns::bits_of(value);
+    no
 }
 
 #[no_mangle]
@@ -85,15 +88,16 @@ pub extern "C" fn fugnadri_farrow8_process_bits(
     ensures { λ r. ⌜ now (accepted .exit) ≡ (processed farrowAt (stateOf maximum margin (now (accepted .entry))) (now (ring .entry)) input delay) .state .accepted ⌝ }
     ensures { λ r. ⌜ now (ring .exit) ≡ ringAfter (verdict true true (stateOf maximum margin (now (accepted .entry))) (length (now (ring .entry))) input delay) (stateOf maximum margin (now (accepted .entry))) (now (ring .entry)) input ⌝ }
 {
-    let state = VariableDelay {
-        maximum: maximum,
-        margin: margin,
-        accepted: *accepted,
-    };
-    let p = farrow8_delay::process_sample(state, &mut ring[..], input, delay);
-    let after = p.state;
-    let a = p.answer;
-    *accepted = after.accepted;
-    *sample = patterns::bits_of(value(a));
-    number(a)
+    let mut value = 0.0;
+    let no = fugnadri_farrow8_process(
+        maximum,
+        margin,
+        &mut *accepted,
+        &mut ring[..],
+        input,
+        delay,
+        &mut value,
+    );
+    *sample = patterns::bits_of(value);
+    no
 }

@@ -25,17 +25,19 @@ pub fn taps_ok(taps: u64) -> bool
 
 // One turn of the inner loop: node j's factor of node k's weight.
 fn with_factor(weight: f64, local: f64, k: u64, j: u64) -> f64
+    requires { ⌜ (k ≤ 16) × (j ≤ 16) ⌝ }
     ensures { λ r. ⌜ r ≡ factor local k j weight ⌝ }
 {
     if j == k {
         return weight;
     }
-    let own = std::num::nearest_u64_to_f64(k);
-    let other = std::num::nearest_u64_to_f64(j);
+    let own = (k as i64) as f64;
+    let other = (j as i64) as f64;
     weight * ((local - other) / (own - other))
 }
 
 fn weight(taps: u64, local: f64, k: u64) -> f64
+    requires { ⌜ (taps ≤ 16) × (k ≤ 16) ⌝ }
     ensures { λ r. ⌜ r ≡ weightOf taps local k ⌝ }
 {
     let mut weight = 1.0;

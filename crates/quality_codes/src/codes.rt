@@ -1,23 +1,20 @@
 // A quality as its number, and a quality reader's state as plain numbers.
 ghost use mathlib.Core.Path.{_≡_};
 ghost use mathlib.Core.Bool.{_&&_};
-ghost use Rattle.quality_codes.specs.Codes.{pickMode, modeOf, decoded, coded, fieldsOk};
+ghost use Rattle.quality_codes.specs.Codes.{modeOf, decoded, coded, fieldsOk};
 use super::Coded;
 use quality_mode::QualityMode;
 use quality_variable_delay::QualityVariableDelayF32;
 
-fn picked(test: bool, a: QualityMode, b: QualityMode) -> QualityMode
-    ensures { λ r. ⌜ r ≡ pickMode test a b ⌝ }
-{
-    if test { a } else { b }
-}
-
 pub fn mode(code: u8) -> QualityMode
     ensures { λ r. ⌜ r ≡ modeOf code ⌝ }
 {
-    let upper = picked(code <= 2, QualityMode::Hq, QualityMode::Ultra);
-    let upper = picked(code <= 1, QualityMode::Normal, upper);
-    picked(code <= 0, QualityMode::Draft, upper)
+    match code {
+        0 => QualityMode::Draft,
+        1 => QualityMode::Normal,
+        2 => QualityMode::Hq,
+        _ => QualityMode::Ultra,
+    }
 }
 
 pub fn decode(s: Coded) -> QualityVariableDelayF32

@@ -3,6 +3,7 @@ ghost use mathlib.Core.Path.{_≡_};
 ghost use Rattle.quality_variable_delay.specs.Bank.{dueOf, processed, ringLeft};
 use super::ProcessedQ;
 use super::QualityVariableDelayF32;
+use super::served;
 use super::storing;
 use quality_mode::QualityMode;
 
@@ -30,6 +31,24 @@ pub fn due(
     )
 }
 
+// The same. A common call is told by fewer tests than the order has.
+fn tested(
+    state: QualityVariableDelayF32,
+    lent: usize,
+    max_rate: f64,
+    len: usize,
+    input: f32,
+    delay: f64,
+    playback_rate: f64,
+) -> u8
+    ensures { λ r. ⌜ r ≡ dueOf lent «max_rate» state len input delay «playback_rate» ⌝ }
+{
+    if served::served(state, lent, max_rate, len, input, delay, playback_rate) {
+        return 0;
+    }
+    due(state, lent, max_rate, len, input, delay, playback_rate)
+}
+
 // 000's process_sample_rate_aware: refuses by number, or stores the sample and reads behind it. A refused call forgets the quality that it asked for.
 pub fn process_sample_rate_aware<'a>(
     state: QualityVariableDelayF32,
@@ -44,7 +63,7 @@ pub fn process_sample_rate_aware<'a>(
     ensures { λ r. ⌜ r ≡ processed (now (sets .entry)) «max_rate» state (now (ring .entry)) input delay quality «playback_rate» ⌝ }
     ensures { λ r. ⌜ now (ring .exit) ≡ ringLeft (now (sets .entry)) «max_rate» state (now (ring .entry)) input delay «playback_rate» ⌝ }
 {
-    let no = due(
+    let no = tested(
         state,
         sets.len(),
         max_rate,

@@ -1,6 +1,7 @@
 // 000's QualityVariableDelayF32: a delay reader over a lent ring of f32 whose quality may change from call to call, with a fade from the old to the new.
 mod calls; // process_sample and process_sample_rate_aware
 mod opening; // new and reset
+mod served; // a call of which nothing is to be refused
 mod storing; // an accepted call
 mod turns; // what a turn reads
 

@@ -15,14 +15,10 @@ use Rattle.ring.specs.Length.{settingsOk, lengthFor}
 use Rattle.variable_delay.specs.Reader.{verdict}
 use Rattle.variable_delay.specs.declared.VariableDelay.{VariableDelay}
 
--- a ring that is not empty and has the length that `length_for` gives
-pub fitting : (maximum margin len n : ℕ) → n ≡ cond (settingsOk maximum margin) (lengthFor maximum margin) 0 → (len ≡ 0 → ⊥) → eqb len n ≡ true
-    → (settingsOk maximum margin ≡ true) × (eqb len (lengthFor maximum margin) ≡ true)
-fitting maximum margin len n e some h = go (settingsOk maximum margin) refl
-  where
-    go : (b : Bool) → settingsOk maximum margin ≡ b → (settingsOk maximum margin ≡ true) × (eqb len (lengthFor maximum margin) ≡ true)
-    go true s = (s, ap (eqb len) (sym (e ∙ ap (λ (b : Bool). cond b (lengthFor maximum margin) 0) s)) ∙ h)
-    go false s = absurd (some (eqb-true len n h ∙ e ∙ ap (λ (b : Bool). cond b (lengthFor maximum margin) 0) s))
+-- something lent that is not empty, and has the length that is m where b holds and else 0
+pub filled : (b : Bool) (m len n : ℕ) → n ≡ cond b m 0 → (len ≡ 0 → ⊥) → eqb len n ≡ true → (b ≡ true) × (eqb len m ≡ true)
+filled true m len n e some h = (refl, ap (eqb len) (sym e) ∙ h)
+filled false m len n e some h = absurd (some (eqb-true len n h ∙ e))
 
 -- a delay from 0 to 2^36 is finite
 pub delay-finite : (y : Float) → le (fin false 0 (pos 0)) y ≡ true → le y (fin false 1 (pos 36)) ≡ true → finite y ≡ true
@@ -32,5 +28,5 @@ pub none-due : (own lent : Bool) (d : VariableDelay) (len : ℕ) (x y : Float) (
     → le (fin false 0 (pos 0)) y ≡ true → le y (fin false 1 (pos 36)) ≡ true → finite x ≡ true → (len ≡ 0 → ⊥)
     → n ≡ cond (settingsOk (d .maximum) (d .margin)) (lengthFor (d .maximum) (d .margin)) 0 → eqb len n ≡ true → verdict own lent d len x y ≡ 0
 none-due own lent d len x y n o l room a b f some e h =
-    let s = fitting (d .maximum) (d .margin) len n e some h in
+    let s = filled (settingsOk (d .maximum) (d .margin)) (lengthFor (d .maximum) (d .margin)) len n e some h in
     rw (s .0, o, s .1, l, le-leb (d .accepted) (2 ^ 36) (omega arith), f, delay-finite y a b, a, b, lt-ltb (d .accepted) (2 ^ 36) room)

@@ -1,22 +1,100 @@
--- `cubic_farrow::read` meets its contract: by the test of the position. Assumes nothing.
+-- `cubic_farrow::read` meets its contract: each way is the definition's, by `Ways` and by `at`, and the indices fit since a position in range has a small integer part.
+-- Assumes nothing.
 use borrow.Author.Needs.{needs}
-use mathlib.Core.Path.{sym, _∙_}
+use mathlib.Core.Path.{_≡_, sym, _∙_}
+use mathlib.Core.Bool.{true}
+use Prim.Native.Nat.{_^_, _≤_}
+use native.Mathlib.Omega.{arith}
+use lib.Dec.{lit<}
+use lib.IntN.{ℤ, pos, negsuc, _-ℤ_}
+use lib.ListN.{length}
+use lib.Signed.{mag}
 use lib.Ieee.{ofBits}
+use mir.Syntax.{w64}
+use mir.Val.{toZ, ofZ}
+use mir.ValLaws.{toZ-ofZ}
+use denote.Ref.{now}
+use Rattle.integer_part.specs.Parts.{floorOf}
+use Rattle.integer_part.proofs.Floors.{floor-mag}
+use Rattle.integer_part.proofs.Signed.{sum-fits}
+use Rattle.ring.specs.Places.{positionOk, startOf}
+use Rattle.ring.proofs.Positions.{position-at-most}
+use Rattle.ring.proofs.Run.{inside}
+use Rattle.cubic_farrow.proofs.Ways as ways
 use Rattle.cubic_farrow.proofs.read.Statement.{statement}
 use Rattle.cubic_farrow.proofs.read.Tie as tie
 
 position-ok-requires : tie.Need-position-ok-requires
 position-ok-requires c κs = search needs
 
-at-requires : tie.Need-at-requires
-at-requires c κs = sym (c .before .position-ok .ensures) ∙ c .if1 .taken
+floor-requires : tie.Need-floor-requires
+floor-requires c κs = search needs
+
+in-range : (c : tie.Then1) → positionOk (c .before .before .before .args .position) ≡ true
+in-range c = sym (c .before .position-ok .ensures) ∙ c .if1 .taken
+
+-- the integer part, as the code holds it
+abbrev Z : tie.After-floor → ℤ
+Z c = toZ w64 (ofZ w64 (c .floor .result))
+
+whole : (c : tie.After-floor) → Z c ≡ floorOf (c .before .before .before .before .args .position)
+whole c = toZ-ofZ w64 (c .floor .result) (record { sfits = c .floor .ok }) ∙ c .floor .ensures
+
+small : (c : tie.After-floor) → mag (Z c) ≤ 2 ^ 36
+small c = rw (whole c) (floor-mag (2 ^ 36) _ (lit< tt) (position-at-most _ (in-range (c .before))))
+
+sub-first : tie.Need-sub-first
+sub-first c = sum-fits (Z c) (negsuc 0) (omega (arith, small c))
+
+run-start-requires : tie.Need-run-start-requires
+run-start-requires c κs = search needs
+
+-- where the run starts
+start : (c : tie.After-run-start) → let a = c .before .before .before .before .before .args in c .run-start .result ≡ startOf (length (now (a .source))) (a .count) (Z (c .before) -ℤ pos 1) 4
+start c = rw (toZ-ofZ w64 _ (sub-first (c .before))) at (c .run-start .ensures)
+
+add-if3 : tie.Need-add-if3
+add-if3 c =
+    let r = c .before in
+    let a = r .before .before .before .before .before .args in
+    omega (arith, inside (now (a .source)) (a .count) 4 (Z (r .before) -ℤ pos 1) (r .run-start .result) (start r) (c .if2 .taken) (lit< tt))
+
+fraction-requires : tie.Need-fraction-requires
+fraction-requires c κs = search needs
+
+side-by-side-requires : tie.Need-side-by-side-requires
+side-by-side-requires c κs = search needs
 
 returns : tie.Need-returns
-returns c = rw (c .at .ensures, ← c .before .before .position-ok .ensures, c .before .if1 .taken)
+returns c =
+    let t = c .before .before in
+    let r = t .before .before in
+    let n = r .before in
+    rw (in-range (n .before))
+    (ways.side-by-side _ _ _ (Z n) (whole n) (r .run-start .result) (start r) (t .before .if2 .taken) (t .if3 .taken) (c .before .fraction .ensures) (c .side-by-side .ensures))
+
+at-requires : tie.Need-at-requires
+at-requires c κs = in-range (c .before .before .before)
 
 returns-2 : tie.Need-returns-2
+returns-2 c = rw (in-range (c .before .before .before .before)) (c .at .ensures)
+
+returns-3 : tie.Need-returns-3
 unfolding ofBits
-returns-2 c = rw (← c .before .position-ok .ensures, c .if1 .left)
+returns-3 c = rw (← c .before .position-ok .ensures, c .if1 .left)
 
 pub read-spec : {M : Type 1} → statement M
-read-spec = tie.close (tie.spec position-ok-requires at-requires returns returns-2)
+read-spec =
+    tie.close
+    (tie.spec
+    position-ok-requires
+    floor-requires
+    sub-first
+    run-start-requires
+    add-if3
+    fraction-requires
+    side-by-side-requires
+    returns
+    at-requires
+    returns-2
+    returns-3)

@@ -1,19 +1,26 @@
 -- `replay_numbers::main` ends: the turns that are left fall. Assumes nothing.
 use borrow.Author.Needs.{needs}
+use mathlib.Core.Path.{_≡_}
 use Rattle.replay_numbers.proofs.main.Statement.{statement}
 use Rattle.replay_numbers.proofs.main.Tie as tie
 
 abbrev Inv-loop : tie.InvT-loop
-Inv-loop more₀ turns₀ more turns = Unit {0}
+Inv-loop heard₀ more₀ turns₀ heard more turns = turns ≡ turns
 
 abbrev μ-loop : tie.MeasureT-loop
-μ-loop more₀ turns₀ more turns = turns
+μ-loop heard₀ more₀ turns₀ heard more turns = turns
+
+hear-requires : tie.Need-hear-requires Inv-loop μ-loop
+hear-requires c κs = search needs
 
 loop-holds : tie.Need-loop-holds Inv-loop μ-loop
 loop-holds c = search needs
 
-some-requires : tie.Need-some-requires Inv-loop μ-loop
-some-requires c κs = search needs
+replay-requires : tie.Need-replay-requires Inv-loop μ-loop
+replay-requires c κs = search needs
+
+hear-requires-2 : tie.Need-hear-requires-2 Inv-loop μ-loop
+hear-requires-2 c κs = search needs
 
 sub-turns : tie.Need-sub-turns Inv-loop μ-loop
 sub-turns c = search needs
@@ -36,8 +43,10 @@ main-spec =
     (tie.spec
     Inv-loop
     μ-loop
+    hear-requires
     loop-holds
-    some-requires
+    replay-requires
+    hear-requires-2
     sub-turns
     loop-less
     loop-again

@@ -7,8 +7,8 @@ use Rattle.quality_variable_delay.proofs.Refused.{not-processed, same-r
 use Rattle.quality_variable_delay.proofs.calls.process_sample_rate_aware.Statement.{statement}
 use Rattle.quality_variable_delay.proofs.calls.process_sample_rate_aware.Tie as tie
 
-due-requires : tie.Need-due-requires
-due-requires c κs = search needs
+tested-requires : tie.Need-tested-requires
+tested-requires c κs = search needs
 
 answered-f32-requires : tie.Need-answered-f32-requires
 answered-f32-requires c κs = search needs
@@ -17,12 +17,12 @@ returns : tie.Need-returns
 returns c =
     let d = c .before .before in
     let a = d .before .before .before .args in
-    let no = d .due .result in
-    let e = d .due .ensures in
+    let no = d .tested .result in
+    let e = d .tested .ensures in
     (rw (c .answered-f32 .ensures) (not-processed (bankAt (now (a .sets)) (a .max-rate) (a .playback-rate)) no e (c .before .if1 .taken) (a .state) (now (a .ring)) (a .input) (a .delay) _ (a .quality)), same-ring no e (c .before .if1 .taken) (a .state) (now (a .ring)) (a .input))
 
 accepted-requires : tie.Need-accepted-requires
-accepted-requires c κs = let e = c .before in sym (e .before .due .ensures) ∙ e .if1 .left
+accepted-requires c κs = let e = c .before in sym (e .before .tested .ensures) ∙ e .if1 .left
 
 same-length : tie.Need-same-length
 same-length c = search needs
@@ -31,14 +31,14 @@ returns-2 : tie.Need-returns-2
 returns-2 c =
     let k = c .before .before in
     let e = k .before .before in
-    let none = sym (e .before .due .ensures) ∙ e .if1 .left in
+    let none = sym (e .before .tested .ensures) ∙ e .if1 .left in
     (rw none (k .accepted .ensures .0), rw none (k .accepted .ensures .1))
 
 pub process-sample-rate-aware-spec : {M : Type 1} → statement M
 process-sample-rate-aware-spec =
     tie.close
     (tie.spec
-    due-requires
+    tested-requires
     answered-f32-requires
     returns
     accepted-requires

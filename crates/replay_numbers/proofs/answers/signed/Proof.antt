@@ -1,4 +1,4 @@
--- `replay_numbers::signed` is safe: -1 - n is a number of as many digits as n, and not negative where n is. Assumes nothing.
+-- `replay_numbers::answers::signed` is safe: -1 - n is a number of as many digits as n, and not negative where n is. Assumes nothing.
 use borrow.Author.Needs.{needs}
 use borrow.Author.Tests.{ltb-true, le-ltb}
 use mathlib.Core.Path.{_≡_, ap}
@@ -11,8 +11,8 @@ use lib.Signed.{ltZ, nonNeg}
 use mir.Syntax.{w64}
 use mir.Val.{Fits, SFits, toZ, ofZ}
 use mir.ValLaws.{toZ-ofZ}
-use Rattle.replay_numbers.proofs.signed.Statement.{statement}
-use Rattle.replay_numbers.proofs.signed.Tie as tie
+use Rattle.replay_numbers.proofs.answers.signed.Statement.{statement}
+use Rattle.replay_numbers.proofs.answers.signed.Tie as tie
 
 -- -1 - n, of n below zero, is not negative and fits; read back from its bits it is the same
 below : (z : ℤ) → SFits w64 z → ltZ (toZ w64 (ofZ w64 z)) (pos 0) ≡ true

@@ -1,0 +1,42 @@
+-- `farrow8::slow` meets its contract: seven fused steps. Assumes nothing.
+use borrow.Author.Needs.{needs}
+use mathlib.Core.Path.{_≡_, _∙_, ap}
+use lib.Ieee.{Float}
+use Rattle.farrow8.specs.Kernel.{step}
+use Rattle.farrow8.proofs.slow.Statement.{statement}
+use Rattle.farrow8.proofs.slow.Tie as tie
+
+fused64-requires : tie.Need-fused64-requires
+fused64-requires c κs = search needs
+
+fused64-requires-2 : tie.Need-fused64-requires-2
+fused64-requires-2 c κs = search needs
+
+fused64-requires-3 : tie.Need-fused64-requires-3
+fused64-requires-3 c κs = search needs
+
+fused64-requires-4 : tie.Need-fused64-requires-4
+fused64-requires-4 c κs = search needs
+
+fused64-requires-5 : tie.Need-fused64-requires-5
+fused64-requires-5 c κs = search needs
+
+fused64-requires-6 : tie.Need-fused64-requires-6
+fused64-requires-6 c κs = search needs
+
+fused64-requires-7 : tie.Need-fused64-requires-7
+fused64-requires-7 c κs = search needs
+
+returns : tie.Need-returns
+returns c =
+    let a = c .before .before .before .before .before .before .before .args in
+    let e1 = c .before .before .before .before .before .before .fused64 .ensures in
+    let e2 = c .before .before .before .before .before .fused642 .ensures ∙ ap (λ (z : Float). step (a .mu) z (a .s .s5)) e1 in
+    let e3 = c .before .before .before .before .fused643 .ensures ∙ ap (λ (z : Float). step (a .mu) z (a .s .s4)) e2 in
+    let e4 = c .before .before .before .fused644 .ensures ∙ ap (λ (z : Float). step (a .mu) z (a .s .s3)) e3 in
+    let e5 = c .before .before .fused645 .ensures ∙ ap (λ (z : Float). step (a .mu) z (a .s .s2)) e4 in
+    let e6 = c .before .fused646 .ensures ∙ ap (λ (z : Float). step (a .mu) z (a .s .s1)) e5 in
+    c .fused647 .ensures ∙ ap (λ (z : Float). step (a .mu) z (a .s .s0)) e6
+
+pub slow-spec : {M : Type 1} → statement M
+slow-spec = tie.close (tie.spec fused64-requires fused64-requires-2 fused64-requires-3 fused64-requires-4 fused64-requires-5 fused64-requires-6 fused64-requires-7 returns)

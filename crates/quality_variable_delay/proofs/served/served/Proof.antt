@@ -1,0 +1,93 @@
+-- `quality_variable_delay::served::served` meets its contract: the tests that it makes leave no refusal, by `Passing`. Assumes nothing.
+use borrow.Author.Needs.{needs}
+use mathlib.Core.Path.{sym, _∙_, ap}
+use mathlib.Core.Bool.{false≢true}
+use lib.Ieee.{ofBits}
+use Rattle.quality_fade.specs.Fade.{placeOk}
+use Rattle.quality_variable_delay.proofs.Passing.{none-due}
+use Rattle.quality_variable_delay.proofs.served.served.Statement.{statement}
+use Rattle.quality_variable_delay.proofs.served.served.Tie as tie
+
+length-ok-requires : tie.Need-length-ok-requires
+length-ok-requires c κs = search needs
+
+fading-requires : tie.Need-fading-requires
+fading-requires c κs = search needs
+
+place-ok-requires : tie.Need-place-ok-requires
+place-ok-requires c κs = search needs
+
+is-finite-f32-requires : tie.Need-is-finite-f32-requires
+is-finite-f32-requires c κs = search needs
+
+is-number-requires : tie.Need-is-number-requires
+is-number-requires c κs = search needs
+
+filled-requires : tie.Need-filled-requires
+filled-requires c κs = search needs
+
+returns : tie.Need-returns
+unfolding ofBits
+returns c =
+    let number = c .before in
+    let input = number .before .before in
+    let below = input .before .before in
+    let above = below .before in
+    let placed = above .before in
+    let faded = placed .before .before in
+    let long = faded .before in
+    let room = long .before .before in
+    let a = room .before .before .args in
+    λ h.
+    let l = c .filled .ensures h in
+    none-due (a .lent) (a .max-rate) (a .state) (a .len) (a .input) (a .delay) (a .playback-rate) (room .if1 .taken)
+    (sym (long .before .length-ok .ensures) ∙ long .if2 .taken)
+    (ap placeOk (sym (faded .fading .ensures)) ∙ sym (placed .before .place-ok .ensures) ∙ placed .if3 .taken)
+    (above .if4 .taken)
+    (below .if5 .taken)
+    (sym (input .before .is-finite-f32 .ensures) ∙ input .if6 .taken)
+    (sym (number .before .is-number .ensures) ∙ number .if7 .taken)
+    (l .0)
+    (l .1)
+    (l .2)
+    (l .3)
+
+returns-2 : tie.Need-returns-2
+returns-2 c = λ h. absurd (false≢true h)
+
+returns-3 : tie.Need-returns-3
+returns-3 c = λ h. absurd (false≢true h)
+
+returns-4 : tie.Need-returns-4
+returns-4 c = λ h. absurd (false≢true h)
+
+returns-5 : tie.Need-returns-5
+returns-5 c = λ h. absurd (false≢true h)
+
+returns-6 : tie.Need-returns-6
+returns-6 c = λ h. absurd (false≢true h)
+
+returns-7 : tie.Need-returns-7
+returns-7 c = λ h. absurd (false≢true h)
+
+returns-8 : tie.Need-returns-8
+returns-8 c = λ h. absurd (false≢true h)
+
+pub served-spec : {M : Type 1} → statement M
+served-spec =
+    tie.close
+    (tie.spec
+    length-ok-requires
+    fading-requires
+    place-ok-requires
+    is-finite-f32-requires
+    is-number-requires
+    filled-requires
+    returns
+    returns-2
+    returns-3
+    returns-4
+    returns-5
+    returns-6
+    returns-7
+    returns-8)

@@ -1,0 +1,54 @@
+// The tests of a common call, which passes them all: each leads away at once, and none of them picks a number.
+ghost use mathlib.Core.Path.{_≡_};
+ghost use mathlib.Core.Bool.{true};
+ghost use Prim.Native.Nat.{_*_};
+ghost use lib.Dec.{eqb};
+ghost use Rattle.ring.specs.Length.{settingsOk, lengthFor};
+ghost use Rattle.bank_choice.specs.Rates.{bankOk, stepsOf};
+ghost use Rattle.sinc_bank_f32.specs.Sets.{setLength};
+ghost use Rattle.quality_variable_delay.specs.Bank.{dueOf};
+use super::QualityVariableDelayF32;
+
+// Whether a ring of `len` and a bank of `lent` f32 have the lengths that their settings need. What is empty has no settings.
+fn filled(maximum: usize, margin: usize, len: usize, max_rate: f64, lent: usize) -> bool
+    ensures { λ r. ⌜ (r ≡ true → (settingsOk maximum margin ≡ true) × (eqb len (lengthFor maximum margin) ≡ true) × (bankOk «max_rate» ≡ true) × (eqb lent (stepsOf «max_rate» * setLength) ≡ true)) ⌝ }
+{
+    if len != 0 {
+        if lent != 0 {
+            if len == ring::length_for(maximum, margin) {
+                return lent == sinc_bank_f32::bank_length(max_rate);
+            }
+        }
+    }
+    false
+}
+
+// Whether nothing is to be refused. A delay between two finite numbers is finite.
+pub(crate) fn served(
+    state: QualityVariableDelayF32,
+    lent: usize,
+    max_rate: f64,
+    len: usize,
+    input: f32,
+    delay: f64,
+    playback_rate: f64,
+) -> bool
+    ensures { λ r. ⌜ (r ≡ true → dueOf lent «max_rate» state len input delay «playback_rate» ≡ 0) ⌝ }
+{
+    if state.accepted < 68719476736 {
+        if quality_fade::length_ok(state.crossfade_samples) {
+            if quality_fade::place_ok(super::fading(state)) {
+                if delay >= 0.0 {
+                    if delay <= 68719476736.0 {
+                        if magnitude::is_finite_f32(input) {
+                            if super::is_number(playback_rate) {
+                                return filled(state.maximum, state.margin, len, max_rate, lent);
+                            }
+                        }
+                    }
+                }
+            }
+        }
+    }
+    false
+}
