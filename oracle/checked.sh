@@ -32,7 +32,11 @@ try_module() {
     for f in "$root"/crates/*; do ln -sfn "$f" "$repository/crates/$(basename "$f")"; done
     { cat "$root/crates.txt" && echo "tried: $(doors | tr '\n' ' ')"; } >"$repository/crates.txt"
     echo 'fn main() {}' >"$repository/crates/tried/src/main.rt"
-    (cd "$repository" && RATTLE_HOME=$out/kit rt try tried) >"$out/try.log" 2>&1 || failed "rt try fails: see target/hostile/try.log"
+    (cd "$repository" && RATTLE_HOME=$out/kit rt try tried) >"$out/try.log" 2>&1 || {
+        # rt try hands the compiler every library at once, and it does not tell a module from a crate of its name
+        for name in $(sed -n 's/^\([a-z0-9_]*\):.*/\1/p' "$root/crates.txt"); do ls "$root"/crates/*/src/"$name".rt 2>/dev/null; done >>"$out/try.log" || true
+        failed "rt try fails: see target/hostile/try.log, which ends with the modules that bear a crate's name, if there are any: give them another"
+    }
     [ -f "$out/module.bc" ] || missing "this kit's rt try hands clang no module: see target/hostile/try.log; --checked cannot be had"
 }
 

@@ -22,6 +22,8 @@ pub type Answer = ([u64; 2], u8);
 pub trait Engine {
     fn call(&mut self, call: &Call) -> Answer;
     fn words(&mut self) -> &mut Words;
+    /// The number that it tells where this one is due.
+    fn tells(&self, call: &Call, number: u8) -> u8;
 }
 
 /// The words themselves, by the exports.
@@ -52,6 +54,10 @@ impl Engine for Words {
     fn words(&mut self) -> &mut Words {
         self
     }
+
+    fn tells(&self, _: &Call, number: u8) -> u8 {
+        number
+    }
 }
 
 fn answer((refusal, offset): (u8, StereoDelayOffset)) -> Answer {
@@ -72,6 +78,14 @@ impl Engine for strict::modulation::ModulationEngine {
     fn words(&mut self) -> &mut Words {
         strict::modulation::ModulationEngine::words(self)
     }
+
+    // a seed and a reset tell none
+    fn tells(&self, call: &Call, number: u8) -> u8 {
+        match call {
+            Call::SetSeed(_) | Call::Reset => 0,
+            _ => number,
+        }
+    }
 }
 
 /// A sample rate that the original leaves aside is left aside here, and no panic.
@@ -88,6 +102,14 @@ impl Engine for lenient::modulation::ModulationEngine {
 
     fn words(&mut self) -> &mut Words {
         lenient::modulation::ModulationEngine::words(self)
+    }
+
+    fn tells(&self, call: &Call, number: u8) -> u8 {
+        match call {
+            Call::SetSeed(_) | Call::Reset => 0,
+            Call::SetSampleRate(rate) if !rate.is_finite() || *rate <= 0.0 => 0,
+            _ => number,
+        }
     }
 }
 

@@ -1,13 +1,23 @@
--- Parts of a chain, one behind the other. Assumes nothing.
+-- Parts of a chain, one behind the other, and that a loop over them ends. Assumes nothing.
 use mathlib.Core.Path.{_≡_, sym, subst}
 use mathlib.Core.List.{List}
-use Prim.Native.Nat.{ℕ, _+_}
+use mathlib.Core.Logic.{inl, inr}
+use Prim.Native.Nat.{ℕ, _+_, _-_, _≤_, _<_}
+use native.Mathlib.Omega.{arith}
 use lib.Dec.{T}
 use lib.Ieee.{Float, binary32, fits}
 use Rattle.loops.proofs.Folds.{turn}
+use Rattle.rounding.proofs.Orders.{lt-or-ge}
 use Rattle.rounding.proofs.Fusing.{fused-fits}
 use Rattle.fused_chain.specs.Chain.{turnOf, chainOf}
 use Rattle.fused_chain.specs.Blocks.{Carries}
+
+-- a run up to r, and then some turns up to e, leave fewer
+pub less : (k r e n : ℕ) → k < n → k ≤ r → r ≤ n → r ≤ e → e ≤ n → (r < n → r < e) → n - e < n - k
+less k r e n a b c d f g = elim (lt-or-ge r n) [
+  | inl l ↦ let x : r < e = g l in omega arith
+  | inr l ↦ omega arith
+]
 
 module _ (xs row0 row1 : List Float) (blend : Float) where
   pub stay : (k : ℕ) (s : Float) → T (fits binary32 s) → Carries xs row0 row1 blend k k s s

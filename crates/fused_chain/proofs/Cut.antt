@@ -1,5 +1,5 @@
 -- The quick way over a whole pattern: the sign stays out of it, and no carry reaches it. Assumes nothing.
-use mathlib.Core.Path.{_≡_, sym, ap, _∙_}
+use mathlib.Core.Path.{_≡_, sym, ap, _∙_, subst}
 use mathlib.Core.Bool.{Bool, true, false, not, cond}
 use Prim.Native.Nat.{ℕ, _+_, _-_, _*_, _/_, _%_, _^_, _≤_, _<_}
 use native.Mathlib.Omega.{arith}
@@ -7,8 +7,11 @@ use lib.Dec.{T, leb}
 use lib.Bits.{bitAnd, and-high}
 use lib.Ieee.{Float, binary64, fits, toBits, ofBits, nanBits, isNan}
 use lib.Ieee.Bits.{ofBits-toBits, toBits-lt}
+use lib.Ieee.Scale.{finite}
 use Rattle.rounding.specs.Operations.{narrowed}
 use Rattle.rounding.proofs.Patterns.{no-nan-rest, rest-no-nan, sign-rest, value-bits}
+use Rattle.rounding.proofs.Values.{value-finite}
+use Rattle.narrowing.proofs.Patterns.{value}
 use Rattle.fused_chain.specs.Steps.{Plain}
 use Rattle.fused_chain.proofs.Halves.{d, cut}
 
@@ -46,6 +49,15 @@ module _ (x : Float) (held : T (fits binary64 x)) (number : T (not (isNan x))) w
 
     pub plain-no-nan : T (not (nanBits binary64 (bitAnd (n + 0x1000_0000) 0xffff_ffff_e000_0000)))
     plain-no-nan = rest-no-nan binary64 (bitAnd (n + 0x1000_0000) 0xffff_ffff_e000_0000) (omega (arith, masked, N, small))
+
+    pub plain-finite : T (finite (ofBits binary64 (bitAnd (n + 0x1000_0000) 0xffff_ffff_e000_0000)))
+    plain-finite =
+        let b = bitAnd (n + 0x1000_0000) 0xffff_ffff_e000_0000 in
+        let r = b % 2 ^ 63 in
+        let s = leb (2 ^ 63) b in
+        let B : b < 2 ^ 64 = omega (arith, masked, half-fits) in
+        let R : r < 0x7ff0_0000_0000_0000 = omega (arith, masked, N, small) in
+        subst (λ (z : ℕ). T (finite (ofBits binary64 z))) (sym (sign-rest binary64 b B)) (value-finite (ofBits binary64 (cond s (2 ^ 63) 0 + r)) s _ _ (value r R s))
 
     pub plain-cut : ofBits binary64 (bitAnd (n + 0x1000_0000) 0xffff_ffff_e000_0000) ≡ narrowed x
     plain-cut =

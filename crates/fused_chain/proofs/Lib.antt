@@ -4,3 +4,5 @@ pub mod Cut
 pub mod Steps
 pub mod Carrying
 pub mod Four
+pub mod Finite
+pub mod Nearby

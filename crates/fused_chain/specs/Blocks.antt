@@ -6,6 +6,7 @@ use Prim.Native.Nat.{ℕ, _+_, _≤_}
 use lib.Dec.{T}
 use lib.ListN.{length, getD}
 use lib.Ieee.{Float, nan, binary32, binary64, add, mul, fits, lt}
+use lib.Ieee.Scale.{finite}
 use Rattle.fused_chain.specs.Chain.{coefficientOf, chainOf}
 
 -- The lists reach as far as the turn `to`, and the sum is an f32.
@@ -36,11 +37,18 @@ pub record Product (x c p : Float) : Type 0 where
 abbrev pub TapProduct : List Float → List Float → List Float → Float → ℕ → Float → Type 0
 TapProduct xs row0 row1 blend k p = Product (getD xs k nan) (coefficientOf blend (getD row0 k nan) (getD row1 k nan)) p
 
+pub record FiniteFour (a b c d : Float) : Type 0 where
+  pub first : T (finite a)
+  pub second : T (finite b)
+  pub third : T (finite c)
+  pub fourth : T (finite d)
+
 pub record Multiplied (xs row0 row1 : List Float) (blend : Float) (k : ℕ) (a b c d : Float) : Type 0 where
   pub first : TapProduct xs row0 row1 blend k a
   pub second : TapProduct xs row0 row1 blend (k + 1) b
   pub third : TapProduct xs row0 row1 blend (k + 2) c
   pub fourth : TapProduct xs row0 row1 blend (k + 3) d
+  pub bounded : FiniteFour a b c d
 
 -- x + sum lies between low and high.
 pub record Between (low high x sum : Float) : Type 0 where

@@ -1,3 +1,4 @@
 pub mod Chain
 pub mod Steps
 pub mod Blocks
+pub mod Rounding

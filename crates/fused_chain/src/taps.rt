@@ -7,7 +7,7 @@ ghost use lib.Ieee.{nan};
 ghost use Rattle.fused_chain.specs.Chain.{coefficientOf};
 ghost use Rattle.fused_chain.specs.Steps.{Numbers};
 ghost use Rattle.fused_chain.specs.Blocks.{Product, Multiplied};
-use crate::are_numbers;
+use crate::single::are_numbers;
 
 // A sample and its coefficient.
 pub(crate) struct Tap {
@@ -22,6 +22,12 @@ pub(crate) struct Products {
     pub(crate) b: f64,
     pub(crate) c: f64,
     pub(crate) d: f64,
+}
+
+// A sum that went on, where it is fine.
+pub(crate) struct Moved {
+    pub(crate) fine: bool,
+    pub(crate) sum: f64,
 }
 
 // Both tests are made, so that tests that follow each other are made at once.

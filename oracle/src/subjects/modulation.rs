@@ -244,12 +244,10 @@ fn refused(context: &mut Context, kind: &'static str) {
     if refusal != number || found != [0; 2] || after != state {
         stop(kind, &call, &state, ([0; 2], &state), (found, &after), refusal);
     }
-    // by host/, whose seed and reset tell no number, and whose lenient way leaves aside a sample rate that the original leaves aside
     let mut host = engines::open(r, rate, seed);
     *host.words() = state;
     let (found, refusal) = host.call(&call);
-    let silent = refusal == 0 && !matches!(call, Call::Step(_));
-    if refusal != number && !silent || found != [0; 2] || *host.words() != state {
+    if refusal != host.tells(&call, number) || found != [0; 2] || *host.words() != state {
         stop("refused calls by host/", &call, &state, ([0; 2], &state), (found, host.words()), refusal);
     }
     context.count("modulation", kind, 2, None);
@@ -260,8 +258,8 @@ const FLOATS: [usize; 11] = [0, 1, 2, 5, 6, 7, 8, 11, 12, 13, 14];
 const NANS: [u64; 6] =
     [0x7FF8_0000_0000_0000, 0xFFF8_0000_0000_0000, 0x7FF0_0000_0000_0001, 0xFFF0_0000_0000_0001, u64::MAX, 0x7FF4_0000_0000_BEEF];
 
-/// A NaN of any pattern in the state: refused by 3, in the sample rate by 1, and every word stays, bit by bit. fugnadri.h leaves it open whether a NaN keeps its
-/// pattern or becomes the one that is handed out: which of the two is counted.
+/// A NaN of any pattern in the state: refused by 3, in the sample rate by 1, and every word stays, bit by bit. A NaN may keep its pattern or
+/// become the one that is handed out, as fugnadri.h says: which of the two is counted.
 fn refused_with_nan(context: &mut Context) {
     let r = &mut context.random;
     let mut state = [0; 15];

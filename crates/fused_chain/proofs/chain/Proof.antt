@@ -1,18 +1,16 @@
 -- `fused_chain::chain` meets its contract: each run carries the chain's sum on. Assumes nothing.
 use borrow.Author.Needs.{needs}
 use mathlib.Core.Path.{_≡_, sym, _∙_, ap, subst}
-use mathlib.Core.Logic.{inl, inr}
-use Prim.Native.Nat.{ℕ, _-_, _≤_, _<_}
+use Prim.Native.Nat.{_-_, _≤_}
 use native.Mathlib.Omega.{arith}
 use lib.Dec.{T}
 use lib.Ieee.{Float, binary32, fits}
 use denote.Ref.{now}
 use Rattle.loops.proofs.Folds.{none}
-use Rattle.rounding.proofs.Orders.{lt-or-ge}
 use Rattle.rounding.proofs.Own.{narrowed-own}
 use Rattle.fused_chain.specs.Chain.{turnOf, chainOf}
 use Rattle.fused_chain.specs.Blocks.{Carries}
-use Rattle.fused_chain.proofs.Carrying.{on}
+use Rattle.fused_chain.proofs.Carrying.{less, on}
 use Rattle.fused_chain.proofs.chain.Statement.{statement}
 use Rattle.fused_chain.proofs.chain.Tie as tie
 
@@ -37,8 +35,8 @@ ahead-requires c κs = omega arith
 f32-to-f64-with-nan-requires : tie.Need-f32-to-f64-with-nan-requires Inv-loop μ-loop
 f32-to-f64-with-nan-requires c κs = search needs
 
-one-by-one-requires : tie.Need-one-by-one-requires Inv-loop μ-loop
-one-by-one-requires c κs =
+plainly-requires : tie.Need-plainly-requires Inv-loop μ-loop
+plainly-requires c κs =
     let b = c .before .before .before .before .before .before .before in
     record {
       order = omega arith;
@@ -52,7 +50,7 @@ loop-holds : tie.Need-loop-holds Inv-loop μ-loop
 loop-holds c =
     let w = c .before in
     let a = w .before .before .before .before .before .before .before .args in
-    (omega arith, subst (λ (z : Float). Carries (now (a .xs)) (now (a .row0)) (now (a .row1)) (a .blend) 0 (w .before .ahead .result) z (c .one-by-one .result)) (w .f32-to-f64-with-nan .ensures) (c .one-by-one .ensures))
+    (omega arith, subst (λ (z : Float). Carries (now (a .xs)) (now (a .row0)) (now (a .row1)) (a .blend) 0 (w .before .ahead .result) z (c .plainly .result)) (w .f32-to-f64-with-nan .ensures) (c .plainly .ensures))
 
 biased-run-requires : tie.Need-biased-run-requires Inv-loop μ-loop
 biased-run-requires c κs =
@@ -62,8 +60,8 @@ biased-run-requires c κs =
 stretch-requires : tie.Need-stretch-requires Inv-loop μ-loop
 stretch-requires c κs = c .biased-run .ensures .last
 
-one-by-one-requires-2 : tie.Need-one-by-one-requires-2 Inv-loop μ-loop
-one-by-one-requires-2 c κs =
+one-by-one-requires : tie.Need-one-by-one-requires Inv-loop μ-loop
+one-by-one-requires c κs =
     let r = c .before .biased-run .ensures in
     record { order = c .stretch .ensures .0; samples = omega arith; row = omega arith; next = omega arith; held = r .carried .held }
 
@@ -74,13 +72,6 @@ loop-less c =
     let k = e .before .before .before .loop .k in
     let n = e .before .before .before .before .before .before .before .least2 .result in
     less k (r .result .k) (e .stretch .result) n (e .before .before .loop-test .taken) (r .ensures .first) (r .ensures .last) (e .stretch .ensures .0) (e .stretch .ensures .1) (e .stretch .ensures .2)
-  where
-    -- either run goes on
-    less : (k r e n : ℕ) → k < n → k ≤ r → r ≤ n → r ≤ e → e ≤ n → (r < n → r < e) → n - e < n - k
-    less k r e n a b c d f g = elim (lt-or-ge r n) [
-      | inl l ↦ let x : r < e = g l in omega arith
-      | inr l ↦ omega arith
-    ]
 
 loop-again : tie.Need-loop-again Inv-loop μ-loop
 loop-again c =
@@ -88,7 +79,7 @@ loop-again c =
     let r = e .before in
     let l = r .before .before in
     let a = l .before .before .before .before .before .before .before .before .before .args in
-    (e .stretch .ensures .1, on (now (a .xs)) (now (a .row0)) (now (a .row1)) (a .blend) (on (now (a .xs)) (now (a .row0)) (now (a .row1)) (a .blend) (l .loop .inv .1) (r .biased-run .ensures .carried)) (c .one-by-one2 .ensures))
+    (e .stretch .ensures .1, on (now (a .xs)) (now (a .row0)) (now (a .row1)) (a .blend) (on (now (a .xs)) (now (a .row0)) (now (a .row1)) (a .blend) (l .loop .inv .1) (r .biased-run .ensures .carried)) (c .one-by-one .ensures))
 
 narrow-requires : tie.Need-narrow-requires Inv-loop μ-loop
 narrow-requires c κs = search needs
@@ -113,11 +104,11 @@ chain-spec =
     least-requires-2
     ahead-requires
     f32-to-f64-with-nan-requires
-    one-by-one-requires
+    plainly-requires
     loop-holds
     biased-run-requires
     stretch-requires
-    one-by-one-requires-2
+    one-by-one-requires
     loop-less
     loop-again
     narrow-requires

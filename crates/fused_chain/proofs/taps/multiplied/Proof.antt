@@ -3,6 +3,7 @@ use borrow.Author.Needs.{needs}
 use borrow.Author.Tests.{not-false}
 use mathlib.Core.Path.{_≡_}
 use mathlib.Core.Bool.{Bool, true, false≢true}
+use Rattle.fused_chain.proofs.Finite.{self-finite, four-finite}
 use Rattle.fused_chain.proofs.Four.{first-of, second-of, renamed}
 use Rattle.fused_chain.proofs.taps.multiplied.Statement.{statement}
 use Rattle.fused_chain.proofs.taps.multiplied.Tie as tie
@@ -111,6 +112,7 @@ returns-2 c =
       second = renamed (t2 .tap-at2 .ensures .0) (t2 .tap-at2 .ensures .1) (m2 .multiply2 .ensures);
       third = renamed (t3 .tap-at3 .ensures .0) (t3 .tap-at3 .ensures .1) (m3 .multiply3 .ensures);
       fourth = renamed (t4 .tap-at4 .ensures .0) (t4 .tap-at4 .ensures .1) (c .multiply4 .ensures);
+      bounded = four-finite (m1 .multiply .result) (m2 .multiply2 .result) (m3 .multiply3 .result) (c .multiply4 .result) (self-finite _ h);
     }
 
 pub multiplied-spec : {M : Type 1} → statement M

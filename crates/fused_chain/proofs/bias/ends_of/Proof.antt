@@ -1,8 +1,8 @@
--- `fused_chain::behind::ends_of` meets its contract: `biased`'s law of the frame. Assumes nothing.
+-- `fused_chain::bias::ends_of` meets its contract: `biased`'s law of the frame. Assumes nothing.
 use borrow.Author.Needs.{needs}
 use Rattle.biased.proofs.Frames.{bias-number, near-number, far-number, frame-plus, frame-minus}
-use Rattle.fused_chain.proofs.behind.ends_of.Statement.{statement}
-use Rattle.fused_chain.proofs.behind.ends_of.Tie as tie
+use Rattle.fused_chain.proofs.bias.ends_of.Statement.{statement}
+use Rattle.fused_chain.proofs.bias.ends_of.Tie as tie
 
 add-big : tie.Need-add-big
 add-big c = search needs

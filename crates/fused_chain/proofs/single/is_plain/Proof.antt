@@ -1,12 +1,12 @@
--- `fused_chain::is_plain` meets its contract: each test is one of a plain pattern's three parts. Assumes nothing.
+-- `fused_chain::single::is_plain` meets its contract: each test is one of a plain pattern's three parts. Assumes nothing.
 use mathlib.Core.Path.{_∙_}
 use mathlib.Core.Bool.{false≢true}
 use Prim.Native.Nat.{_-_, _^_}
 use native.Mathlib.Omega.{arith}
 use lib.Bits.{bitAnd, and-mask}
 use borrow.Author.Tests.{ltb-true}
-use Rattle.fused_chain.proofs.is_plain.Statement.{statement}
-use Rattle.fused_chain.proofs.is_plain.Tie as tie
+use Rattle.fused_chain.proofs.single.is_plain.Statement.{statement}
+use Rattle.fused_chain.proofs.single.is_plain.Tie as tie
 
 returns : tie.Need-returns
 returns c = λ h. absurd (false≢true h)

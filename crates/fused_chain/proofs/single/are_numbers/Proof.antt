@@ -1,7 +1,7 @@
--- `fused_chain::are_numbers` meets its contract: one of the two comparisons holds. Assumes nothing.
+-- `fused_chain::single::are_numbers` meets its contract: one of the two comparisons holds. Assumes nothing.
 use Rattle.fused_chain.proofs.Compared.{less-numbers, at-most-numbers}
-use Rattle.fused_chain.proofs.are_numbers.Statement.{statement}
-use Rattle.fused_chain.proofs.are_numbers.Tie as tie
+use Rattle.fused_chain.proofs.single.are_numbers.Statement.{statement}
+use Rattle.fused_chain.proofs.single.are_numbers.Tie as tie
 
 returns : tie.Need-returns
 returns c = λ _. less-numbers (c .before .args .x) (c .before .args .c) (c .if1 .taken)

@@ -1,11 +1,11 @@
--- `fused_chain::rare_step` meets its contract: a zero is exact. Assumes nothing.
+-- `fused_chain::single::rare_step` meets its contract: a zero is exact. Assumes nothing.
 use borrow.Author.Needs.{needs}
 use mathlib.Core.Path.{sym, subst}
 use lib.Dec.{T}
 use lib.Ieee.{binary32, fits}
 use Rattle.fused_chain.proofs.Steps.{zero-step}
-use Rattle.fused_chain.proofs.rare_step.Statement.{statement}
-use Rattle.fused_chain.proofs.rare_step.Tie as tie
+use Rattle.fused_chain.proofs.single.rare_step.Statement.{statement}
+use Rattle.fused_chain.proofs.single.rare_step.Tie as tie
 
 held-x : (c : tie.Start) → T (fits binary32 (c .args .x))
 held-x c = subst T (sym (c .good .0 .1)) tt

@@ -1,11 +1,11 @@
--- `fused_chain::any_step` meets its contract: an f32 narrowed is itself. Assumes nothing.
+-- `fused_chain::single::any_step` meets its contract: an f32 narrowed is itself. Assumes nothing.
 use borrow.Author.Needs.{needs}
 use mathlib.Core.Path.{ap, _∙_}
 use lib.Ieee.{binary32}
 use Rattle.rounding.specs.Operations.{fused}
 use Rattle.rounding.proofs.Own.{narrowed-own}
-use Rattle.fused_chain.proofs.any_step.Statement.{statement}
-use Rattle.fused_chain.proofs.any_step.Tie as tie
+use Rattle.fused_chain.proofs.single.any_step.Statement.{statement}
+use Rattle.fused_chain.proofs.single.any_step.Tie as tie
 
 narrow-requires : tie.Need-narrow-requires
 narrow-requires c κs = search needs

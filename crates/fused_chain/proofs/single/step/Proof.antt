@@ -1,4 +1,4 @@
--- `fused_chain::step` meets its contract: `proofs/Steps.antt` says what the quick way gives. Assumes nothing.
+-- `fused_chain::single::step` meets its contract: `proofs/Steps.antt` says what the quick way gives. Assumes nothing.
 use borrow.Author.Needs.{needs}
 use borrow.Author.Tests.{not-false}
 use mathlib.Core.Path.{refl, sym, subst}
@@ -12,8 +12,8 @@ use Rattle.fused_chain.specs.Steps.{Numbers}
 use Rattle.fused_chain.proofs.Compared.{widens}
 use Rattle.fused_chain.proofs.Cut.{half-fits, plain-no-nan}
 use Rattle.fused_chain.proofs.Steps.{plain-step}
-use Rattle.fused_chain.proofs.step.Statement.{statement}
-use Rattle.fused_chain.proofs.step.Tie as tie
+use Rattle.fused_chain.proofs.single.step.Statement.{statement}
+use Rattle.fused_chain.proofs.single.step.Tie as tie
 
 held-x : (c : tie.Start) → T (fits binary32 (c .args .x))
 held-x c = subst T (sym (c .good .0 .1)) tt

@@ -1,4 +1,4 @@
--- `fused_chain::behind::biased` meets its contract: the first biased sum. Assumes nothing.
+-- `fused_chain::bias::biased` meets its contract: the first biased sum. Assumes nothing.
 use borrow.Author.Needs.{needs}
 use mathlib.Core.Path.{sym, subst}
 use mathlib.Core.Bool.{not}
@@ -12,8 +12,8 @@ use Rattle.rounding.proofs.Comparing.{differs-no-nan}
 use Rattle.rounding.proofs.Patterns.{no-nan-rest, value-bits}
 use Rattle.biased.proofs.Steps.{start}
 use Rattle.fused_chain.proofs.Four.{first-of, second-of}
-use Rattle.fused_chain.proofs.behind.biased.Statement.{statement}
-use Rattle.fused_chain.proofs.behind.biased.Tie as tie
+use Rattle.fused_chain.proofs.bias.biased.Statement.{statement}
+use Rattle.fused_chain.proofs.bias.biased.Tie as tie
 
 number : (c : tie.Else1) → T (not (isNan (c .before .args .sum)))
 number c = differs-no-nan (c .before .args .sum) (c .if1 .left)
