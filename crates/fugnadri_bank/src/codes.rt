@@ -2,7 +2,7 @@
 ghost use mathlib.Core.Path.{_≡_};
 ghost use mathlib.Core.Bool.{_&&_, cond};
 ghost use lib.ListN.{length};
-ghost use Rattle.fugnadri_bank.specs.Codes.{pickMode, modeOf, codeOk, decoded, coded, fieldsOk, oddNumber};
+ghost use Rattle.fugnadri_bank.specs.Codes.{modeOf, codeOk, decoded, coded, fieldsOk, oddNumber};
 ghost use Rattle.fugnadri_bank.specs.Calls.{takenApart, calledOf, ringCalled, openedApart, renewedOf, ringRenewed};
 use super::Called;
 use super::Coded;
@@ -11,18 +11,15 @@ use quality_variable_delay::Opened;
 use quality_variable_delay::ProcessedQ;
 use quality_variable_delay::QualityVariableDelayF32;
 
-fn picked(test: bool, a: QualityMode, b: QualityMode) -> QualityMode
-    ensures { λ r. ⌜ r ≡ pickMode test a b ⌝ }
-{
-    if test { a } else { b }
-}
-
 fn mode(code: u8) -> QualityMode
     ensures { λ r. ⌜ r ≡ modeOf code ⌝ }
 {
-    let upper = picked(code <= 2, QualityMode::Hq, QualityMode::Ultra);
-    let upper = picked(code <= 1, QualityMode::Normal, upper);
-    picked(code <= 0, QualityMode::Draft, upper)
+    match code {
+        0 => QualityMode::Draft,
+        1 => QualityMode::Normal,
+        2 => QualityMode::Hq,
+        _ => QualityMode::Ultra,
+    }
 }
 
 fn decode(s: Coded) -> QualityVariableDelayF32
