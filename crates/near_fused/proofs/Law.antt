@@ -1,6 +1,6 @@
 -- The law of the step: where the upper end does not round above the lower one, both are v * mu + c rounded once. Assumes nothing.
 use mathlib.Core.Path.{_≡_, sym}
-use Prim.Native.Nat.{ℕ, _+_, _*_, _^_, _<_}
+use Prim.Native.Nat.{_+_, _^_, _<_}
 use native.Mathlib.Nat.{mul-pos}
 use lib.Dec.{T, lit≤, lit<}
 use lib.Ieee.{Float, binary64, add, le}
@@ -11,15 +11,16 @@ use Rattle.fraction.specs.Value.{val}
 use Rattle.fraction.proofs.Same.{same-refl}
 use Rattle.fraction.proofs.Within.{flip, to, within-opp}
 use Rattle.fraction.proofs.Value.{val-pos}
-use Rattle.fraction.proofs.Operations.{Rounded, add-rounded}
+use Rattle.fraction.proofs.Operations.{add-rounded}
 use Rattle.near_fused.proofs.TwoSum.{sub-rounded}
 use Rattle.near_fused.proofs.Near.{Unit, Near, near-same, near-chain, near-rounds}
-use Rattle.near_fused.proofs.Ends.{AtMost, at-most-trans, ziv}
+use Rattle.near_fused.proofs.Ends.{ziv}
+use Rattle.near_fused.proofs.Mono.{AtMost, at-most-trans}
 use Rattle.near_fused.proofs.Sides.{over, under, not-both}
 use Rattle.near_fused.proofs.Finite.{add-finite}
 use Rattle.near_fused.proofs.Error.{total}
 use Rattle.near_fused.proofs.Low.{fused-rounded, finite-low, zero-same, zero-too}
-use Rattle.near_fused.proofs.Sure.{Step, p, u, hi, lo, exact, end-near, upper-near, lower-end-near, end-size, margin-size}
+use Rattle.near_fused.proofs.Sure.{Step, p, u, hi, lo, end-near, upper-near, lower-end-near, end-size, margin-size}
 
 module _ (U : Unit) (v mu c vh mh e : Float) (K : Step U v mu c vh mh e) (fv : T (finite v)) (fm : T (finite mu)) (fc : T (finite c)) where
   abbrev s : Float

@@ -1,25 +1,24 @@
 -- What the step knows, from its tests: the unit is a part of the margin, and every bound is one on units of 2 ^ -1074. Assumes nothing.
 use mathlib.Core.Path.{_≡_, sym, _∙_}
 use mathlib.Core.Bool.{Bool, true, false}
-use Prim.Native.Nat.{ℕ, _+_, _*_, _/_, _%_, _^_, _≤_, _<_}
+use Prim.Native.Nat.{ℕ, _+_, _*_, _/_, _^_, _≤_, _<_}
 use native.Mathlib.Nat.{le-trans, le-of-eq, lt-of-lt-of-le, mul-pos, mul-assoc, mul-comm, one-mul, mul-le-mul-right, mul-le-mul-left, le-of-mul-le-mul-right}
 use native.Mathlib.Omega.{arith}
 use lib.Dec.{T, lit≤, lit<}
 use lib.Pow.{pow-pos}
-use lib.Ieee.{Float, binary64, add, mul, le, fits}
+use lib.Ieee.{Float, binary64, mul, fits}
 use lib.Ieee.Exact.{HasValue}
 use lib.Ieee.Scale.{finite}
-use Rattle.rounding.specs.Operations.{fused}
 use Rattle.fraction.specs.Fraction.{Frac, frac, nil, Same, Within}
 use Rattle.fraction.specs.Value.{signed, val}
 use Rattle.fraction.proofs.Same.{ring, same-sym, same-trans}
 use Rattle.fraction.proofs.Within.{from, rescale}
 use Rattle.fraction.proofs.Value.{value-is}
 use Rattle.fraction.proofs.Product.{mag-signed}
-use Rattle.near_fused.specs.Parts.{high, sized}
+use Rattle.near_fused.specs.Parts.{high}
 use Rattle.near_fused.proofs.Near.{Unit, Near}
 use Rattle.near_fused.proofs.Split.{Split}
-use Rattle.near_fused.proofs.Product.{Factors, rest}
+use Rattle.near_fused.proofs.Product.{Factors}
 use Rattle.near_fused.proofs.Upper.{cut, rests, cut-le, rest-same, rests-le, product-near}
 use Rattle.near_fused.proofs.Sure.{Step}
 

@@ -1,5 +1,5 @@
 -- The margin (|v| + |c|) * 2 ^ -70 + 2 ^ -960, in floats: not below 2 ^ -960, and |v| and |c| are at most 2 ^ 72 of it. Units are 2 ^ -1074. Assumes nothing.
-use mathlib.Core.Path.{_≡_, refl, sym, ap, _∙_, subst}
+use mathlib.Core.Path.{_≡_, refl, sym, ap}
 use mathlib.Core.Logic.{_⊎_, inl, inr}
 use mathlib.Core.Bool.{false}
 use Prim.Native.Nat.{ℕ, _+_, _*_, _^_, _≤_, _<_}
@@ -7,16 +7,16 @@ use native.Mathlib.Nat.{le-trans, le-of-eq, le-add-left, le-add-right, le-of-mul
 use native.Mathlib.Omega.{arith}
 use lib.Dec.{T, lit≤, lit<}
 use lib.Pow.{pow-pos}
-use lib.Ieee.{Float, binary64, ofBits, round, add, mul}
+use lib.Ieee.{Float, binary64, ofBits, add, mul}
 use lib.Ieee.Exact.{HasValue}
 use lib.Ieee.Scale.{finite, grid, round-val, round-under}
 use Rattle.rounding.proofs.Adding.{plus}
 use Rattle.rounding.proofs.Products.{mul-value}
-use Rattle.rounding.proofs.Whole.{near, places, v-ge, rounded-value}
+use Rattle.rounding.proofs.Whole.{places, v-ge, rounded-value}
 use Rattle.fraction.proofs.Same.{ring}
 use Rattle.fraction.proofs.Units.{Part, Near, near-part}
-use Rattle.near_fused.proofs.Left.{rounded, near-hi, few-below}
-use Rattle.near_fused.proofs.TwoSum.{unders}
+use Rattle.near_fused.proofs.Few.{rounded, near-hi, few-below}
+use Rattle.near_fused.proofs.Larger.{unders}
 use Rattle.near_fused.proofs.Finite.{add-finite, mul-finite}
 
 -- 2 ^ -70 and 2 ^ -960

@@ -1,10 +1,9 @@
 -- The whole step: the two ends lie on both sides of v * mu + c, so that it rounds as they do where they round alike. Assumes nothing.
-use mathlib.Core.Path.{_≡_}
 use mathlib.Core.Bool.{false}
-use Prim.Native.Nat.{ℕ, _+_, _*_, _^_, _<_}
+use Prim.Native.Nat.{_+_, _*_, _^_, _<_}
 use native.Mathlib.Nat.{mul-pos, mul-le-mul-right}
 use lib.Dec.{T, lit≤, lit<}
-use lib.Ieee.{Float, binary64, add, sub, mul, le, fits}
+use lib.Ieee.{Float, binary64, add, sub, mul, fits}
 use lib.Ieee.Fits.{mul-fits}
 use lib.Ieee.Scale.{finite}
 use Rattle.fraction.specs.Fraction.{Frac, frac, nil, plus, times, opp, Same}
@@ -13,7 +12,7 @@ use Rattle.fraction.proofs.Same.{same-refl, same-sym, same-trans, plus-same, pl
 use Rattle.fraction.proofs.Within.{to, from, weaken, within-opp}
 use Rattle.fraction.proofs.Product.{mag-times, mag-signed}
 use Rattle.fraction.proofs.Value.{val-pos}
-use Rattle.fraction.proofs.Operations.{Rounded, add-rounded}
+use Rattle.fraction.proofs.Operations.{add-rounded}
 use Rattle.near_fused.proofs.TwoSum.{sub-rounded}
 use Rattle.near_fused.proofs.Ring.{restored, plus-assoc, split-product}
 use Rattle.near_fused.proofs.Near.{Unit, Near, near-same, near-chain, near-plus, near-two, near-of, near-rounds}
