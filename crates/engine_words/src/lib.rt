@@ -69,11 +69,7 @@ pub fn words_of(e: ModulationEngine) -> [u64; 15]
 pub fn words_left(number: u8, after: ModulationEngine, words: [u64; 15]) -> [u64; 15]
     ensures { λ r. ⌜ r ≡ wordsLeft number after words ⌝ }
 {
-    if number == 0 {
-        words_of(after)
-    } else {
-        words
-    }
+    if number == 0 { words_of(after) } else { words }
 }
 
 // F9. The settings from eight floats, in 001's order.

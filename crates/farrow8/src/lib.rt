@@ -182,12 +182,13 @@ fn slow(s: Powers, mu: f64) -> f64
     fused64::fused64(p1, mu, s.s0)
 }
 
-// Horner's rule over the sums: a finite number less itself is zero.
+// Horner's rule over the sums: a number that is not finite, less itself, is a NaN.
 fn over(s: Powers, mu: f64) -> f64
     ensures { λ r. ⌜ r ≡ horner s mu ⌝ }
 {
     let r = quick(s, mu);
-    if r - r == 0.0 {
+    let d = r - r;
+    if d == d {
         return r;
     }
     slow(s, mu)

@@ -1,10 +1,10 @@
 -- p + c is s and what is left: t, as (p - (s - (s - p))) + (c - (s - p)) gives it, lies within three units of p + c - s. Assumes nothing.
-use Prim.Native.Nat.{ℕ, _+_, _*_, _^_}
+use Prim.Native.Nat.{_+_, _^_}
 use native.Mathlib.Nat.{mul-pos}
 use lib.Dec.{T, lit≤, lit<}
 use lib.Ieee.{Float, binary64, add, sub, fits}
 use lib.Ieee.Scale.{finite}
-use Rattle.fraction.specs.Fraction.{Frac, nil, plus, opp, Same}
+use Rattle.fraction.specs.Fraction.{nil, plus, opp, Same}
 use Rattle.fraction.specs.Value.{val, Is}
 use Rattle.fraction.proofs.Same.{same-refl, same-sym, same-trans, plus-same, opp-same}
 use Rattle.fraction.proofs.Within.{flip, to, from}

@@ -1,5 +1,5 @@
 -- A finite sum, difference or product has finite parts. Assumes nothing.
-use mathlib.Core.Bool.{Bool, true, false, not, Bool·beq, cond}
+use mathlib.Core.Bool.{Bool·beq}
 use lib.Dec.{T, eqb}
 use lib.Ieee.{Float, nan, inf, fin, binary64, unlike, add, sub, mul, neg}
 use lib.Ieee.Scale.{finite}

@@ -1,6 +1,6 @@
 -- The law of the step: where the upper end does not round above the lower one, both are v * mu + c rounded once. Assumes nothing.
 use mathlib.Core.Path.{_≡_, sym}
-use Prim.Native.Nat.{ℕ, _+_, _*_, _^_, _<_}
+use Prim.Native.Nat.{_+_, _^_, _<_}
 use native.Mathlib.Nat.{mul-pos}
 use lib.Dec.{T, lit≤, lit<}
 use lib.Ieee.{Float, binary64, add, le}
@@ -11,15 +11,16 @@ use Rattle.fraction.specs.Value.{val}
 use Rattle.fraction.proofs.Same.{same-refl}
 use Rattle.fraction.proofs.Within.{flip, to, within-opp}
 use Rattle.fraction.proofs.Value.{val-pos}
-use Rattle.fraction.proofs.Operations.{Rounded, add-rounded}
+use Rattle.fraction.proofs.Operations.{add-rounded}
 use Rattle.near_fused.proofs.TwoSum.{sub-rounded}
 use Rattle.near_fused.proofs.Near.{Unit, Near, near-same, near-chain, near-rounds}
-use Rattle.near_fused.proofs.Ends.{AtMost, at-most-trans, ziv}
+use Rattle.near_fused.proofs.Ends.{ziv}
+use Rattle.near_fused.proofs.Mono.{AtMost, at-most-trans}
 use Rattle.near_fused.proofs.Sides.{over, under, not-both}
 use Rattle.near_fused.proofs.Finite.{add-finite}
 use Rattle.near_fused.proofs.Error.{total}
 use Rattle.near_fused.proofs.Low.{fused-rounded, finite-low, zero-same, zero-too}
-use Rattle.near_fused.proofs.Sure.{Step, p, u, hi, lo, exact, end-near, upper-near, lower-end-near, end-size, margin-size}
+use Rattle.near_fused.proofs.Sure.{Step, p, u, hi, lo, end-near, upper-near, lower-end-near, end-size, margin-size}
 
 module _ (U : Unit) (v mu c vh mh e : Float) (K : Step U v mu c vh mh e) (fv : T (finite v)) (fm : T (finite mu)) (fc : T (finite c)) where
   abbrev s : Float
@@ -53,7 +54,7 @@ module _ (U : Unit) (v mu c vh mh e : Float) (K : Step U v mu c vh mh e) (fv : T
     ordered : AtMost (plus (val M) (opp (val e))) (plus (val M) (val e))
     ordered =
         let d = mul-pos (val-pos M) (val-pos e) in
-        at-most-trans (val-pos M) (under U (val M) (val e) (val-pos M) 8192 (K .margin) (plus (val M) (opp (val e))) 0 (lit≤ tt) (same-e d)) (over U (val M) (val e) (val-pos M) 8192 (K .margin) (plus (val M) (val e)) 0 (lit≤ tt) (same-e d))
+        at-most-trans (val-pos M) (under U (val M) (val e) (val-pos M) 2048 (K .margin) (plus (val M) (opp (val e))) 0 (lit≤ tt) (same-e d)) (over U (val M) (val e) (val-pos M) 2048 (K .margin) (plus (val M) (val e)) 0 (lit≤ tt) (same-e d))
 
     fl : T (finite L)
     fl = finite-low s (add binary64 s H) L fs real test fh ordered (sub-rounded M e fu fe) (add-rounded binary64 M e fu fe)
@@ -71,10 +72,10 @@ module _ (U : Unit) (v mu c vh mh e : Float) (K : Step U v mu c vh mh e) (fv : T
     low = end-near U v mu c vh mh e K fu fe (opp (val e)) L (val-pos e) (lower-end-near U v mu c vh mh e K fu fe fl)
 
     above : AtMost Q (plus (val s) (val H))
-    above = over U Q (val e) Qd 8192 (K .margin) (plus (val s) (val H)) 490 (lit≤ tt) high
+    above = over U Q (val e) Qd 2048 (K .margin) (plus (val s) (val H)) 490 (lit≤ tt) high
 
     below : AtMost (plus (val s) (val L)) Q
-    below = under U Q (val e) Qd 8192 (K .margin) (plus (val s) (val L)) 490 (lit≤ tt) low
+    below = under U Q (val e) Qd 2048 (K .margin) (plus (val s) (val L)) 490 (lit≤ tt) low
 
     -- an end that rounds to zero is next to nothing
     vanish : (w : Float) → T (finite w) → T (finite (add binary64 s w)) → Near U (2 ^ 85) (plus (val s) (val w)) nil → val (add binary64 s w) .p + val (add binary64 s w) .n ≡ 0 → Near U 1 (plus (val s) (val w)) nil
@@ -88,7 +89,7 @@ module _ (U : Unit) (v mu c vh mh e : Float) (K : Step U v mu c vh mh e) (fv : T
         let (g, y) = zero-too (add binary64 s H) (add binary64 s L) real z test (at-most-trans Qd below above) (add-rounded binary64 s L fs fl) (add-rounded binary64 s H fs fh) in
         let a = vanish H fh real (end-size U v mu c vh mh e K fu fe (val e) H (margin-size U v mu c vh mh e K fu fe) (upper-near U v mu c vh mh e K fu fe fh)) z in
         let b = vanish L fl g (end-size U v mu c vh mh e K fu fe (opp (val e)) L (within-opp (margin-size U v mu c vh mh e K fu fe)) (lower-end-near U v mu c vh mh e K fu fe fl)) y in
-        not-both U Q (val e) Qd 8192 (K .margin) 982 (lit≤ tt) (lit< tt) (near-chain U 490 492 (flip low) (near-chain U 1 491 b (near-chain U 1 490 (flip a) high)))
+        not-both U Q (val e) Qd 2048 (K .margin) 982 (lit≤ tt) (lit< tt) (near-chain U 490 492 (flip low) (near-chain U 1 491 b (near-chain U 1 490 (flip a) high)))
 
     pub law : add binary64 s H ≡ fused binary64 v mu c
     law = sym (ziv (add binary64 s H) (add-rounded binary64 s L fs fl) (fused-rounded v mu c fv fm fc) (add-rounded binary64 s H fs fh) below above real not-zero test)

@@ -1,8 +1,11 @@
+pub mod Few
 pub mod Left
 pub mod Short
+pub mod Larger
 pub mod TwoSum
 pub mod Ring
 pub mod Near
+pub mod Mono
 pub mod Ends
 pub mod Finite
 pub mod Product

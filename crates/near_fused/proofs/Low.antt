@@ -1,14 +1,14 @@
 -- The exact sum as `fused` rounds it; and that the lower end is finite, and zero where the upper one is. Assumes nothing.
 use mathlib.Core.Path.{_≡_, refl, subst}
 use mathlib.Core.Bool.{Bool, true, false, not}
-use Prim.Native.Nat.{ℕ, zero, suc, _+_, _*_, _^_}
+use Prim.Native.Nat.{ℕ, zero, suc, _+_, _*_}
 use native.Mathlib.Nat.{mul-pos, zero-lt-suc}
 use native.Mathlib.Omega.{arith}
 use lib.IntN.{ℤ}
 use lib.Dec.{T, lit<, lt→ltb}
 use lib.Ieee.{Float, nan, inf, fin, binary64, unlike, up, down, add, neg, lt, eq, le}
 use lib.Ieee.Fits.{down-pos, up-pos}
-use lib.Ieee.Positive.{above, positive, above-of-le}
+use lib.Ieee.Positive.{above, above-of-le}
 use lib.Ieee.Scale.{finite}
 use Rattle.rounding.specs.Operations.{fused}
 use Rattle.rounding.proofs.Sums.{sum-is, sum-sign, sum-size}
@@ -17,7 +17,8 @@ use Rattle.fraction.specs.Value.{val}
 use Rattle.fraction.proofs.Same.{same-refl, same-trans, plus-same}
 use Rattle.fraction.proofs.Value.{signed-pos, val-pos}
 use Rattle.fraction.proofs.Operations.{Rounded, joint-same, sum-same, product-same}
-use Rattle.near_fused.proofs.Ends.{AtMost, mono-above, neg-mono, no-nan, no-inf}
+use Rattle.near_fused.proofs.Ends.{neg-mono, no-nan, no-inf}
+use Rattle.near_fused.proofs.Mono.{AtMost, mono-above}
 
 pub fused-rounded : (v mu c : Float) → T (finite v) → T (finite mu) → T (finite c) → Rounded binary64 (fused binary64 v mu c) (plus (times (val v) (val mu)) (val c))
 unfolding fused

@@ -1,49 +1,57 @@
 -- What the step knows, from its tests: the unit is a part of the margin, and every bound is one on units of 2 ^ -1074. Assumes nothing.
 use mathlib.Core.Path.{_≡_, sym, _∙_}
 use mathlib.Core.Bool.{Bool, true, false}
-use Prim.Native.Nat.{ℕ, _+_, _*_, _/_, _%_, _^_, _≤_, _<_}
-use native.Mathlib.Nat.{le-trans, le-of-eq, lt-of-lt-of-le, mul-pos, mul-assoc, mul-comm, mul-one, one-mul, mul-le-mul-right, mul-le-mul-left}
+use Prim.Native.Nat.{ℕ, _+_, _*_, _/_, _^_, _≤_, _<_}
+use native.Mathlib.Nat.{le-trans, le-of-eq, lt-of-lt-of-le, mul-pos, mul-assoc, mul-comm, one-mul, mul-le-mul-right, mul-le-mul-left, le-of-mul-le-mul-right}
 use native.Mathlib.Omega.{arith}
 use lib.Dec.{T, lit≤, lit<}
 use lib.Pow.{pow-pos}
-use lib.Ieee.{Float, binary64, add, mul, le, fits}
+use lib.Ieee.{Float, binary64, mul, fits}
 use lib.Ieee.Exact.{HasValue}
 use lib.Ieee.Scale.{finite}
-use Rattle.rounding.specs.Operations.{fused}
 use Rattle.fraction.specs.Fraction.{Frac, frac, nil, Same, Within}
 use Rattle.fraction.specs.Value.{signed, val}
 use Rattle.fraction.proofs.Same.{ring, same-sym, same-trans}
 use Rattle.fraction.proofs.Within.{from, rescale}
 use Rattle.fraction.proofs.Value.{value-is}
 use Rattle.fraction.proofs.Product.{mag-signed}
-use Rattle.near_fused.specs.Parts.{high, sized}
+use Rattle.near_fused.specs.Parts.{high}
 use Rattle.near_fused.proofs.Near.{Unit, Near}
 use Rattle.near_fused.proofs.Split.{Split}
-use Rattle.near_fused.proofs.Product.{Factors, rest}
+use Rattle.near_fused.proofs.Product.{Factors}
 use Rattle.near_fused.proofs.Upper.{cut, rests, cut-le, rest-same, rests-le, product-near}
 use Rattle.near_fused.proofs.Sure.{Step}
 
-deep : (E : ℕ) → 2 ^ 114 ≤ E → 2 ^ 1074 * 8192 ≤ E * 2 ^ 1020
-deep E P = let z : 2 ^ 1074 * 8192 ≤ 2 ^ 114 * 2 ^ 1020 = lit≤ tt in le-trans z (mul-le-mul-right (2 ^ 1020) P)
+deep : (E : ℕ) → 2 ^ 114 ≤ E → 2 ^ 1074 * 2048 ≤ E * 2 ^ 1020
+deep E P = let z : 2 ^ 1074 * 2048 ≤ 2 ^ 114 * 2 ^ 1020 = lit≤ tt in le-trans z (mul-le-mul-right (2 ^ 1020) P)
 
--- ---- the unit: E / 2 ^ 1074 / 8192
+-- ---- the unit: E / 2 ^ 1074 / 2048
 pub unit : (E : ℕ) → 2 ^ 114 ≤ E → Unit
-unit E P = record { g = 2 ^ 1074 * 8192; N = E; G = lit< tt; some = lt-of-lt-of-le (lit< tt) P; deep = deep E P }
+unit E P = record { g = 2 ^ 1074 * 2048; N = E; G = lit< tt; some = lt-of-lt-of-le (lit< tt) P; deep = deep E P }
 
-scale : (A k E L : ℕ) → A * 8192 ≤ k * E → A * (L * 8192) ≤ k * E * L
+scale : (A k E L : ℕ) → A * 2048 ≤ k * E → A * (L * 2048) ≤ k * E * L
 scale A k E L h = simp ring (simp ring at (mul-le-mul-right L h))
 
+rest-core : (D A E : ℕ) → D * 2 ^ 25 ≤ A + 2 ^ 52 → A ≤ E * 2 ^ 72 → 2 ^ 52 ≤ E → D * 2048 ≤ (2 ^ 58 + 1) * E
+rest-core D A E a b c = le-of-mul-le-mul-right {k = 2 ^ 14} (le-trans (le-of-eq (mul-assoc D 2048 (2 ^ 14))) (le-trans a (le-trans (sum A E b c) (wide E)))) (lit< tt)
+  where
+    sum : (A E : ℕ) → A ≤ E * 2 ^ 72 → 2 ^ 52 ≤ E → A + 2 ^ 52 ≤ E * 2 ^ 72 + E
+    sum A E b c = omega arith
+
+    wide : (E : ℕ) → E * 2 ^ 72 + E ≤ (2 ^ 58 + 1) * E * 2 ^ 14
+    wide E = omega arith
+
 module _ (E : ℕ) (P : 2 ^ 114 ≤ E) where
-  near-size : (s : Bool) (A k : ℕ) {x : Frac} → Same (signed s A (2 ^ 1074)) x → A * 8192 ≤ k * E → Near (unit E P) k x nil
+  near-size : (s : Bool) (A k : ℕ) {x : Frac} → Same (signed s A (2 ^ 1074)) x → A * 2048 ≤ k * E → Near (unit E P) k x nil
   unfolding unit
   near-size s A k e h = from e (rescale (pow-pos 1074) (scale A k E (2 ^ 1074) h) (mag-signed s A (2 ^ 1074) (pow-pos 1074)))
 
-  value-near : (x : Float) (s : Bool) (A k : ℕ) → HasValue x s A (2 ^ 1074) → A * 8192 ≤ k * E → Near (unit E P) k (val x) nil
+  value-near : (x : Float) (s : Bool) (A k : ℕ) → HasValue x s A (2 ^ 1074) → A * 2048 ≤ k * E → Near (unit E P) k (val x) nil
   value-near x s A k v h = near-size s A k (same-sym (value-is x s A (2 ^ 1074) (pow-pos 1074) v .same)) h
 
   -- ---- the parts
   module _ (v mu c e : Float) (X : Split v) (R : Split mu) (C : Split c) (small : Within 1 1 (val mu) nil)
-      (x-most : X .q * 2 ^ X .k ≤ E * 2 ^ 70) (c-most : C .q * 2 ^ C .k ≤ E * 2 ^ 70) (held : T (fits binary64 c)) (margin : HasValue e false E (2 ^ 1074)) (real : T (finite (mul binary64 (high v) (high mu)))) where
+      (x-most : X .q * 2 ^ X .k ≤ E * 2 ^ 72) (c-most : C .q * 2 ^ C .k ≤ E * 2 ^ 72) (held : T (fits binary64 c)) (margin : HasValue e false E (2 ^ 1074)) (real : T (finite (mul binary64 (high v) (high mu)))) where
     mu-most : R .q * 2 ^ R .k ≤ 2 ^ 1074
     mu-most = go (R .sign) (R .q * 2 ^ R .k) (2 ^ 1074) (from (value-is mu (R .sign) (R .q * 2 ^ R .k) (2 ^ 1074) (pow-pos 1074) (R .value) .same) small)
       where
@@ -54,14 +62,11 @@ module _ (E : ℕ) (P : 2 ^ 114 ≤ E) where
     cut-most : cut mu R ≤ 2 ^ 1074
     cut-most = le-trans (cut-le mu R) mu-most
 
-    most : (A : ℕ) → A ≤ E * 2 ^ 70 → A * 8192 ≤ 2 ^ 83 * E
-    most A h = le-trans (mul-le-mul-right 8192 h) (le-of-eq (mul-assoc E (2 ^ 70) 8192 ∙ mul-comm E (2 ^ 83)))
+    most : (A : ℕ) → A ≤ E * 2 ^ 72 → A * 2048 ≤ 2 ^ 83 * E
+    most A h = le-trans (mul-le-mul-right 2048 h) (le-of-eq (mul-assoc E (2 ^ 72) 2048 ∙ mul-comm E (2 ^ 83)))
 
-    rest-most : rests v X * 8192 ≤ (2 ^ 58 + 1) * E
-    rest-most = go (rests v X) (X .q * 2 ^ X .k) (rests-le v X) x-most (le-trans (lit≤ tt) P)
-      where
-        go : (D A : ℕ) → D * 2 ^ 25 ≤ A + 2 ^ 52 → A ≤ E * 2 ^ 70 → 2 ^ 52 ≤ E → D * 8192 ≤ (2 ^ 58 + 1) * E
-        go D A a b c = omega arith
+    rest-most : rests v X * 2048 ≤ (2 ^ 58 + 1) * E
+    rest-most = rest-core (rests v X) (X .q * 2 ^ X .k) E (rests-le v X) x-most (le-trans (lit≤ tt) P)
 
     mu-rest-most : rests mu R * 2 ^ 24 ≤ 1 * 2 ^ 1074
     mu-rest-most = go (rests mu R) (R .q * 2 ^ R .k) (2 ^ 1074) (rests-le mu R) mu-most (lit≤ tt)
@@ -93,11 +98,11 @@ module _ (E : ℕ) (P : 2 ^ 114 ≤ E) where
           margin = same-trans (value-is e false E (2 ^ 1074) (pow-pos 1074) margin .same) (widened E (2 ^ 1074) (pow-pos 1074));
         }
       where
-        widened : (E L : ℕ) → 0 < L → Same (frac E 0 L) (frac (8192 * E) 0 (L * 8192))
+        widened : (E L : ℕ) → 0 < L → Same (frac E 0 L) (frac (2048 * E) 0 (L * 2048))
         widened E L h = record { left = h; right = mul-pos h (lit< tt); cross = simp ring (omega arith) }
 
-        one-unit : 2 ^ 1074 * 8192 ≤ E * 2 ^ 1020 → 1 * (2 ^ 1074 * 8192) ≤ 1 * E * (2 ^ 1074 * 2)
-        one-unit h = let z : 2 ^ 1020 ≤ 2 ^ 1074 * 2 = lit≤ tt in le-trans (le-of-eq (one-mul (2 ^ 1074 * 8192))) (le-trans h (le-trans (mul-le-mul-left E z) (le-of-eq (sym (one E (2 ^ 1074 * 2))))))
+        one-unit : 2 ^ 1074 * 2048 ≤ E * 2 ^ 1020 → 1 * (2 ^ 1074 * 2048) ≤ 1 * E * (2 ^ 1074 * 2)
+        one-unit h = let z : 2 ^ 1020 ≤ 2 ^ 1074 * 2 = lit≤ tt in le-trans (le-of-eq (one-mul (2 ^ 1074 * 2048))) (le-trans h (le-trans (mul-le-mul-left E z) (le-of-eq (sym (one E (2 ^ 1074 * 2))))))
           where
             one : (E x : ℕ) → 1 * E * x ≡ E * x
             one E x = omega arith

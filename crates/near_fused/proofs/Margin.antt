@@ -1,5 +1,5 @@
--- The margin (|v| + |c|) * 2 ^ -68 + 2 ^ -960, in floats: not below 2 ^ -960, and |v| and |c| are at most 2 ^ 70 of it. Units are 2 ^ -1074. Assumes nothing.
-use mathlib.Core.Path.{_≡_, refl, sym, ap, _∙_, subst}
+-- The margin (|v| + |c|) * 2 ^ -70 + 2 ^ -960, in floats: not below 2 ^ -960, and |v| and |c| are at most 2 ^ 72 of it. Units are 2 ^ -1074. Assumes nothing.
+use mathlib.Core.Path.{_≡_, refl, sym, ap}
 use mathlib.Core.Logic.{_⊎_, inl, inr}
 use mathlib.Core.Bool.{false}
 use Prim.Native.Nat.{ℕ, _+_, _*_, _^_, _≤_, _<_}
@@ -7,26 +7,26 @@ use native.Mathlib.Nat.{le-trans, le-of-eq, le-add-left, le-add-right, le-of-mul
 use native.Mathlib.Omega.{arith}
 use lib.Dec.{T, lit≤, lit<}
 use lib.Pow.{pow-pos}
-use lib.Ieee.{Float, binary64, ofBits, round, add, mul}
+use lib.Ieee.{Float, binary64, ofBits, add, mul}
 use lib.Ieee.Exact.{HasValue}
 use lib.Ieee.Scale.{finite, grid, round-val, round-under}
 use Rattle.rounding.proofs.Adding.{plus}
 use Rattle.rounding.proofs.Products.{mul-value}
-use Rattle.rounding.proofs.Whole.{near, places, v-ge, rounded-value}
+use Rattle.rounding.proofs.Whole.{places, v-ge, rounded-value}
 use Rattle.fraction.proofs.Same.{ring}
 use Rattle.fraction.proofs.Units.{Part, Near, near-part}
-use Rattle.near_fused.proofs.Left.{rounded, near-hi, few-below}
-use Rattle.near_fused.proofs.TwoSum.{unders}
+use Rattle.near_fused.proofs.Few.{rounded, near-hi, few-below}
+use Rattle.near_fused.proofs.Larger.{unders}
 use Rattle.near_fused.proofs.Finite.{add-finite, mul-finite}
 
--- 2 ^ -68 and 2 ^ -960
+-- 2 ^ -70 and 2 ^ -960
 abbrev pub part : Float
-part = ofBits binary64 0x3bb0_0000_0000_0000
+part = ofBits binary64 0x3b90_0000_0000_0000
 
 abbrev pub least : Float
 least = ofBits binary64 0x03f0_0000_0000_0000
 
-part-value : HasValue part false 1 (2 ^ 68)
+part-value : HasValue part false 1 (2 ^ 70)
 unfolding ofBits
 part-value = (refl, refl)
 
@@ -48,7 +48,7 @@ sum-of x y A B h k f =
     let e = plus binary64 x y A B (2 ^ 1074) (pow-pos 1074) h k in
     rw e (rounded-value binary64 (A + B) false (unders false (A + B) (rw e at f)))
 
--- m * 2 ^ -68 rounded, times 2 ^ 69, and 2 ^ 69 more, is no less than m
+-- m * 2 ^ -70 rounded, times 2 ^ 71, and 2 ^ 71 more, is no less than m
 scaled : (M t S : ℕ) → 0 < t → 0 < S → (w : ℕ) → Part (2 ^ 53) w (M * 1 * t) (t * S) ⊎ Near w (M * 1 * t) (t * S) 0 → M ≤ (w + 1) * (S * 2)
 scaled M t S T P w (inl h) = le-of-mul-le-mul-right {k = t} (simp ring (omega (arith, simp ring at (twice (M * 1 * t) (w * (t * S)) (h .below))))) T
   where
@@ -71,7 +71,7 @@ module _ (x y : Float) (A B : ℕ) (X : HasValue x false A (2 ^ 1074)) (Y : HasV
     M = rounded (A + B)
 
     abbrev W : ℕ
-    W = grid binary64 (M * 1) (2 ^ 1074 * 2 ^ 68)
+    W = grid binary64 (M * 1) (2 ^ 1074 * 2 ^ 70)
 
     abbrev pub E : ℕ
     E = rounded (W + 1 * 2 ^ 114)
@@ -81,8 +81,8 @@ module _ (x y : Float) (A B : ℕ) (X : HasValue x false A (2 ^ 1074)) (Y : HasV
 
     scaled-value : HasValue (mul binary64 m part) false W (2 ^ 1074)
     scaled-value =
-        let r = mul-value binary64 m part false false M 1 (2 ^ 1074) (2 ^ 68) (pow-pos 1074) (pow-pos 68) m-value part-value in
-        rw r (round-val binary64 (M * 1) (2 ^ 1074 * 2 ^ 68) (round-under binary64 (M * 1) (2 ^ 1074 * 2 ^ 68) (rw r at f1)))
+        let r = mul-value binary64 m part false false M 1 (2 ^ 1074) (2 ^ 70) (pow-pos 1074) (pow-pos 70) m-value part-value in
+        rw r (round-val binary64 (M * 1) (2 ^ 1074 * 2 ^ 70) (round-under binary64 (M * 1) (2 ^ 1074 * 2 ^ 70) (rw r at f1)))
 
     pub margin-value : HasValue e false E (2 ^ 1074)
     margin-value = sum-of (mul binary64 m part) least W (1 * 2 ^ 114) scaled-value least-value f
@@ -90,11 +90,11 @@ module _ (x y : Float) (A B : ℕ) (X : HasValue x false A (2 ^ 1074)) (Y : HasV
     pub margin-least : 2 ^ 114 ≤ E
     margin-least = few-below 1 114 (W + 1 * 2 ^ 114) (lit< tt) (le-add-left (1 * 2 ^ 114) W)
 
-    M-most : M ≤ E * 2 ^ 70
+    M-most : M ≤ E * 2 ^ 72
     M-most =
-        let a : M ≤ (W + 1) * 2 ^ 69 = scaled M (2 ^ 1074) (2 ^ 68) (pow-pos 1074) (pow-pos 68) W (near-part 53 (M * 1 * 2 ^ 1074) (2 ^ 1074 * 2 ^ 68) (lit< tt) (mul-pos (pow-pos 1074) (pow-pos 68))) in
+        let a : M ≤ (W + 1) * 2 ^ 71 = scaled M (2 ^ 1074) (2 ^ 70) (pow-pos 1074) (pow-pos 70) W (near-part 53 (M * 1 * 2 ^ 1074) (2 ^ 1074 * 2 ^ 70) (lit< tt) (mul-pos (pow-pos 1074) (pow-pos 70))) in
         let b = half (W + 1 * 2 ^ 114) (lt-add W) in
-        le-trans a (le-trans (mul-le-mul-right (2 ^ 69) (fewer W (1 * 2 ^ 114) (E * 2) (lit≤ tt) b)) (le-of-eq (mul-assoc E 2 (2 ^ 69))))
+        le-trans a (le-trans (mul-le-mul-right (2 ^ 71) (fewer W (1 * 2 ^ 114) (E * 2) (lit≤ tt) b)) (le-of-eq (mul-assoc E 2 (2 ^ 71))))
       where
         lt-add : (w : ℕ) → 0 < w + 1 * 2 ^ 114
         lt-add w = omega arith
@@ -102,8 +102,8 @@ module _ (x y : Float) (A B : ℕ) (X : HasValue x false A (2 ^ 1074)) (Y : HasV
         fewer : (w t e : ℕ) → 1 ≤ t → w + t ≤ e → w + 1 ≤ e
         fewer w t e h k = omega arith
 
-    pub first-most : (q k : ℕ) → A ≡ q * 2 ^ k → q < 2 ^ 53 → A ≤ E * 2 ^ 70
+    pub first-most : (q k : ℕ) → A ≡ q * 2 ^ k → q < 2 ^ 53 → A ≤ E * 2 ^ 72
     first-most q k e Q = le-trans (le-of-eq e) (le-trans (few-below q k (A + B) Q (le-trans (le-of-eq (sym e)) (le-add-right A B))) M-most)
 
-    pub second-most : (q k : ℕ) → B ≡ q * 2 ^ k → q < 2 ^ 53 → B ≤ E * 2 ^ 70
+    pub second-most : (q k : ℕ) → B ≡ q * 2 ^ k → q < 2 ^ 53 → B ≤ E * 2 ^ 72
     second-most q k e Q = le-trans (le-of-eq e) (le-trans (few-below q k (A + B) Q (le-trans (le-of-eq (sym e)) (le-add-left B A))) M-most)

@@ -1,5 +1,5 @@
 -- Distances counted in a unit N / g that is not below 2 ^ -1020: they add up, and one rounding of a number of k units is off by at most k / 2 ^ 53 of them. Assumes nothing.
-use mathlib.Core.Path.{_≡_, sym, ap, _∙_, subst}
+use mathlib.Core.Path.{_∙_, subst}
 use mathlib.Core.Logic.{inl, inr}
 use mathlib.Core.Bool.{Bool}
 use Prim.Native.Nat.{ℕ, _+_, _*_, _^_, _≤_, _<_}

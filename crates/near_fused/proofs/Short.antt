@@ -15,7 +15,7 @@ use Rattle.fraction.specs.Value.{signed, val, Is}
 use Rattle.fraction.proofs.Same.{same-sym, same-trans, opp-same}
 use Rattle.fraction.proofs.Value.{value-is}
 use Rattle.fraction.proofs.Operations.{Rounded, bottom}
-use Rattle.near_fused.proofs.Left.{Few}
+use Rattle.near_fused.proofs.Few.{Few}
 
 abbrev pub L : ℕ
 L = 2 ^ 1074

@@ -3,10 +3,10 @@ use mathlib.Core.Path.{_≡_}
 use Prim.Native.Nat.{ℕ, _+_, _*_, _≤_, _<_}
 use native.Mathlib.Nat.{mul-pos, mul-le-mul-right, le-of-mul-le-mul-right}
 use native.Mathlib.Omega.{arith}
-use Rattle.fraction.specs.Fraction.{Frac, frac, plus, opp, Same, Within}
+use Rattle.fraction.specs.Fraction.{Frac, frac, plus, opp, Same}
 use Rattle.fraction.proofs.Same.{ring, same-refl, plus-same, opp-same}
 use Rattle.fraction.proofs.Within.{to}
-use Rattle.near_fused.proofs.Ends.{AtMost}
+use Rattle.near_fused.proofs.Mono.{AtMost}
 use Rattle.near_fused.proofs.Near.{Unit, Near}
 
 over-core : (g N k j qp qn qd hp hn hd : ℕ) → 0 < g → k ≤ j → g * ((qp * g + j * N * qd) * hd + hn * (qd * g)) ≤ g * (hp * (qd * g) + (qn * g + 0 * qd) * hd) + k * N * (qd * g * hd) → qp * hd + hn * qd ≤ hp * qd + qn * hd

@@ -1,10 +1,9 @@
 -- The whole step: the two ends lie on both sides of v * mu + c, so that it rounds as they do where they round alike. Assumes nothing.
-use mathlib.Core.Path.{_≡_}
 use mathlib.Core.Bool.{false}
-use Prim.Native.Nat.{ℕ, _+_, _*_, _^_, _<_}
+use Prim.Native.Nat.{_+_, _*_, _^_, _<_}
 use native.Mathlib.Nat.{mul-pos, mul-le-mul-right}
 use lib.Dec.{T, lit≤, lit<}
-use lib.Ieee.{Float, binary64, add, sub, mul, le, fits}
+use lib.Ieee.{Float, binary64, add, sub, mul, fits}
 use lib.Ieee.Fits.{mul-fits}
 use lib.Ieee.Scale.{finite}
 use Rattle.fraction.specs.Fraction.{Frac, frac, nil, plus, times, opp, Same}
@@ -13,7 +12,7 @@ use Rattle.fraction.proofs.Same.{same-refl, same-sym, same-trans, plus-same, pl
 use Rattle.fraction.proofs.Within.{to, from, weaken, within-opp}
 use Rattle.fraction.proofs.Product.{mag-times, mag-signed}
 use Rattle.fraction.proofs.Value.{val-pos}
-use Rattle.fraction.proofs.Operations.{Rounded, add-rounded}
+use Rattle.fraction.proofs.Operations.{add-rounded}
 use Rattle.near_fused.proofs.TwoSum.{sub-rounded}
 use Rattle.near_fused.proofs.Ring.{restored, plus-assoc, split-product}
 use Rattle.near_fused.proofs.Near.{Unit, Near, near-same, near-chain, near-plus, near-two, near-of, near-rounds}
@@ -32,13 +31,13 @@ gathered s x w e S X W E =
 swapped : (x c w : Frac) → 0 < x .d → 0 < c .d → 0 < w .d → Same (plus (plus x c) w) (plus (plus x w) c)
 swapped x c w X C W = same-trans (plus-assoc x c X C w W) (same-trans (plus-same (same-refl X) (plus-comm c w C W)) (same-sym (plus-assoc x w X W c C)))
 
--- what the step knows: the factors' parts, the addend, the product of the upper parts, and E, 8192 units
+-- what the step knows: the factors' parts, the addend, the product of the upper parts, and E, 2048 units
 pub record Step (U : Unit) (v mu c vh mh e : Float) : Type 0 where
   pub factors : Factors U v mu vh mh
   pub held : T (fits binary64 c)
   pub addend : Near U (2 ^ 83) (val c) nil
   pub product : Near U 1 (val (mul binary64 vh mh)) (times (val vh) (val mh))
-  pub margin : Same (val e) (frac (8192 * U .N) 0 (U .g))
+  pub margin : Same (val e) (frac (2048 * U .N) 0 (U .g))
 
 module _ (v mu c vh mh e : Float) where
   abbrev pub p : Float
@@ -90,8 +89,8 @@ module _ (U : Unit) (v mu c vh mh e : Float) (K : Step U v mu c vh mh e) (real :
       near-chain U 97 295 mid-near
       (near-plus U 3 292 (left-near U P c (mul-fits binary64 vh mh) (K .held) p-size (K .addend) (parts .0)) (lower-near U v mu vh mh (K .factors) (parts .1)))
 
-  pub margin-size : Near U 8192 (val e) nil
-  margin-size = from (same-sym (K .margin)) (mag-signed false (8192 * U .N) (U .g) (U .G))
+  pub margin-size : Near U 2048 (val e) nil
+  margin-size = from (same-sym (K .margin)) (mag-signed false (2048 * U .N) (U .g) (U .G))
 
   -- an end: M, with the margin added or taken away, rounded
   pub end-near : (E : Frac) (w : Float) → 0 < E .d → Near U 97 (val w) (plus (val M) E) → Near U 490 (plus S (val w)) (plus exact E)
@@ -108,13 +107,13 @@ module _ (U : Unit) (v mu c vh mh e : Float) (K : Step U v mu c vh mh e) (real :
       near-chain U 489 1 b (to z x)
 
   pub upper-near : T (finite (hi v mu c vh mh e)) → Near U 97 (val (hi v mu c vh mh e)) (plus (val M) (val e))
-  upper-near f = near-rounds U (2 ^ 59 + 2 ^ 58 + 2 ^ 32 + 8588) 97 (lit< tt) (lit≤ tt) f (near-two U (2 ^ 59 + 2 ^ 58 + 2 ^ 32 + 396) 8192 mid-size margin-size) (add-rounded binary64 M e real fe)
+  upper-near f = near-rounds U (2 ^ 59 + 2 ^ 58 + 2 ^ 32 + 2444) 97 (lit< tt) (lit≤ tt) f (near-two U (2 ^ 59 + 2 ^ 58 + 2 ^ 32 + 396) 2048 mid-size margin-size) (add-rounded binary64 M e real fe)
 
   pub lower-end-near : T (finite (lo v mu c vh mh e)) → Near U 97 (val (lo v mu c vh mh e)) (plus (val M) (opp (val e)))
-  lower-end-near f = near-rounds U (2 ^ 59 + 2 ^ 58 + 2 ^ 32 + 8588) 97 (lit< tt) (lit≤ tt) f (near-two U (2 ^ 59 + 2 ^ 58 + 2 ^ 32 + 396) 8192 mid-size (within-opp margin-size)) (sub-rounded M e real fe)
+  lower-end-near f = near-rounds U (2 ^ 59 + 2 ^ 58 + 2 ^ 32 + 2444) 97 (lit< tt) (lit≤ tt) f (near-two U (2 ^ 59 + 2 ^ 58 + 2 ^ 32 + 396) 2048 mid-size (within-opp margin-size)) (sub-rounded M e real fe)
 
-  pub end-size : (E : Frac) (w : Float) → Near U 8192 E nil → Near U 97 (val w) (plus (val M) E) → Near U (2 ^ 85) (plus S (val w)) nil
-  end-size E w h n = wider (near-two U (2 ^ 84 + 2 ^ 31 + 2) (2 ^ 59 + 2 ^ 58 + 2 ^ 32 + 8685) (total-size U P c (mul-fits binary64 vh mh) (K .held) p-size (K .addend) (parts .0)) (near-chain U 97 (2 ^ 59 + 2 ^ 58 + 2 ^ 32 + 8588) n (near-two U (2 ^ 59 + 2 ^ 58 + 2 ^ 32 + 396) 8192 mid-size h)))
+  pub end-size : (E : Frac) (w : Float) → Near U 2048 E nil → Near U 97 (val w) (plus (val M) E) → Near U (2 ^ 85) (plus S (val w)) nil
+  end-size E w h n = wider (near-two U (2 ^ 84 + 2 ^ 31 + 2) (2 ^ 59 + 2 ^ 58 + 2 ^ 32 + 2541) (total-size U P c (mul-fits binary64 vh mh) (K .held) p-size (K .addend) (parts .0)) (near-chain U 97 (2 ^ 59 + 2 ^ 58 + 2 ^ 32 + 2444) n (near-two U (2 ^ 59 + 2 ^ 58 + 2 ^ 32 + 396) 2048 mid-size h)))
     where
-      wider : {x : Frac} → Near U (2 ^ 84 + 2 ^ 59 + 2 ^ 58 + 2 ^ 32 + 2 ^ 31 + 8687) x nil → Near U (2 ^ 85) x nil
+      wider : {x : Frac} → Near U (2 ^ 84 + 2 ^ 59 + 2 ^ 58 + 2 ^ 32 + 2 ^ 31 + 2543) x nil → Near U (2 ^ 85) x nil
       wider w = weaken (mul-le-mul-right (U .N) (lit≤ tt)) w

@@ -1,12 +1,11 @@
 -- What the patterns and the tests of the step know. Assumes nothing.
-use mathlib.Core.Path.{_≡_, refl, sym, ap, _∙_, subst}
+use mathlib.Core.Path.{_≡_, sym, ap, _∙_, subst}
 use mathlib.Core.Bool.{Bool, true, false, not, cond}
 use Prim.Native.Nat.{ℕ, _+_, _*_, _/_, _%_, _^_, _≤_, _<_}
 use native.Mathlib.Nat.{le-trans, le-of-eq}
 use native.Mathlib.Omega.{arith}
-use lib.IntN.{ℤ}
 use lib.Dec.{T, leb, leb→le, lit<}
-use lib.Ieee.{Float, nan, inf, fin, binary64, up, down, fits, ofBits, toBits, nanBits, isNan, lt, eq, le}
+use lib.Ieee.{Float, nan, inf, fin, binary64, fits, ofBits, toBits, nanBits, isNan, lt, eq, le}
 use lib.Ieee.Bits.{toBits-lt}
 use lib.Ieee.Scale.{finite}
 use Rattle.rounding.proofs.Patterns.{rest-is, sign-rest, no-nan-rest, rest-no-nan, value-bits}

@@ -1,28 +1,27 @@
 -- The product of two upper parts: 26 digits each, so that it is exact, or smaller than every unit. And what a float leaves beside its upper part. Assumes nothing.
-use mathlib.Core.Path.{_≡_, refl, sym, ap, _∙_, subst}
+use mathlib.Core.Path.{_≡_, sym, ap, _∙_, subst}
 use mathlib.Core.Logic.{inl, inr}
-use mathlib.Core.Bool.{Bool, true, false}
 use Prim.Native.Nat.{ℕ, zero, suc, _+_, _-_, _*_, _/_, _%_, _^_, _≤_, _<_}
-use native.Mathlib.Nat.{le-trans, le-of-eq, le-of-lt, lt-of-le-of-lt, mul-pos, mul-one, one-mul, mul-assoc, mul-comm, mul-le-mul, mul-le-mul-right, mul-le-mul-left, le-of-mul-le-mul-right, mul-mul-mul-comm, mul-lt-mul-of-pos-right, eq-zero-or-pos, add-mul, div-add-mod'}
+use native.Mathlib.Nat.{le-trans, le-of-eq, le-of-lt, lt-of-le-of-lt, mul-pos, mul-assoc, mul-le-mul, mul-le-mul-right, mul-le-mul-left, le-of-mul-le-mul-right, mul-mul-mul-comm, mul-lt-mul-of-pos-right, add-mul, div-add-mod'}
 use native.Mathlib.Omega.{arith}
 use lib.Dec.{T, lit≤, lit<}
 use lib.Pow.{pow-add, pow-pos, pow-mono}
 use lib.Ieee.{Float, binary64, round, mul, unlike}
 use lib.Ieee.Digits.{back}
-use lib.Ieee.Exact.{HasValue, round-exact}
-use lib.Ieee.Scale.{finite, overflow}
+use lib.Ieee.Exact.{round-exact}
+use lib.Ieee.Scale.{finite}
 use Rattle.rounding.proofs.Orders.{lt-or-ge}
 use Rattle.rounding.proofs.Products.{mul-value}
 use Rattle.rounding.proofs.Values.{value-finite}
-use Rattle.fraction.specs.Fraction.{Frac, nil, plus, times, opp, Same, Within}
+use Rattle.fraction.specs.Fraction.{plus, times, opp, Same, Within}
 use Rattle.fraction.specs.Value.{signed, val}
 use Rattle.fraction.proofs.Same.{same-sym, same-trans, times-same, plus-same, opp-same}
 use Rattle.fraction.proofs.Within.{from, rescale, same-within}
-use Rattle.fraction.proofs.Value.{value-is, signed-pos}
+use Rattle.fraction.proofs.Value.{value-is}
 use Rattle.fraction.proofs.Product.{mag-signed}
 use Rattle.fraction.proofs.Operations.{product-same, mul-rounded}
 use Rattle.fraction.proofs.Near.{rounded-absolute}
-use Rattle.near_fused.proofs.TwoSum.{up}
+use Rattle.near_fused.proofs.Larger.{up}
 use Rattle.near_fused.specs.Parts.{high}
 use Rattle.near_fused.proofs.Split.{Split}
 use Rattle.near_fused.proofs.Product.{rest}

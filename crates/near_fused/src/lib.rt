@@ -40,20 +40,22 @@ fn inside(mu: f64) -> bool
 }
 
 // v * mu + c, rounded once, or a NaN. p and s are the greater parts of the product and of the sum; what s lost of p + c is told exactly (a two-sum), the rest of the product nearly;
-// and a 2^68th part of the terms is more than all errors together.
+// and a 2^70th part of the terms is more than all errors together.
 pub fn near_fused(v: f64, mu: f64, c: f64) -> f64
     ensures { λ r. ⌜ Sure v mu c r ⌝ }
 {
     if inside(mu) {
         if ordered(v, c) {
             let mh = high(mu);
+            let ml = mu - mh;
             let vh = high(v);
+            let vl = v - vh;
             let p = vh * mh;
-            let rest = vh * (mu - mh) + (v - vh) * mu;
+            let rest = vh * ml + vl * mu;
             let s = p + c;
             let z = s - p;
             let u = (p - (s - z)) + (c - z) + rest;
-            let e = (size(v) + size(c)) * 3.3881317890172014e-21 + 1.0261342003245941e-289;
+            let e = (size(v) + size(c)) * 8.470329472543003e-22 + 1.0261342003245941e-289;
             let r = s + (u + e);
             if r <= s + (u - e) {
                 return r;
