@@ -1,8 +1,13 @@
 // M5. What a sample of 001's engine is made of: the offsets that it renders, and the phases that it advances. The settings and the state are tested before (`modulation`).
 ghost use mathlib.Core.Path.{_≡_};
+ghost use mathlib.Core.Bool.{_&&_};
+ghost use lib.Dec.{eqb};
+ghost use lib.Ieee as Ieee;
+ghost use lib.Ieee.{binary64};
 ghost use Rattle.modulation_sample.specs.Sample.{multiplierOf, offsetOf, steppedBy};
 use modulation_engine::ModulationEngine;
 use modulation_params::ModulationParams;
+use patterns::bits_of;
 use smooth_random::Next as Drift;
 
 pub struct StereoDelayOffset {
@@ -30,7 +35,25 @@ fn multiplier(drift_amount: f64, value: f64) -> f64
     waves::power_of_two(0.5 * drift * value)
 }
 
-// 001 renders each side by oscillator_delay; what that multiplies the shapes by is the same on both.
+// Whether two floats are one, by their patterns; most that are not differ as numbers.
+fn same(a: f64, b: f64) -> bool
+    ensures { λ r. ⌜ r ≡ (Ieee.eq a b && eqb (Ieee.toBits binary64 a) (Ieee.toBits binary64 b)) ⌝ }
+{
+    if a == b {
+        bits_of(a) == bits_of(b)
+    } else {
+        false
+    }
+}
+
+// Whether neither pair differs.
+fn pairs(a: f64, b: f64, c: f64, d: f64) -> bool
+    ensures { λ r. ⌜ r ≡ ((Ieee.eq a b && eqb (Ieee.toBits binary64 a) (Ieee.toBits binary64 b)) && (Ieee.eq c d && eqb (Ieee.toBits binary64 c) (Ieee.toBits binary64 d))) ⌝ }
+{
+    if same(a, b) { same(c, d) } else { false }
+}
+
+// 001 renders each side by oscillator_delay; what that multiplies the shapes by is the same on both, and so is all where no side is displaced: that is rendered once.
 pub fn render(engine: ModulationEngine, params: ModulationParams) -> StereoDelayOffset
     ensures { λ r. ⌜ r ≡ offsetOf engine params ⌝ }
 {
@@ -45,10 +68,17 @@ pub fn render(engine: ModulationEngine, params: ModulationParams) -> StereoDelay
         params.flutter_depth_cents,
         engine.sample_rate,
     );
-    let left = wow * waves::shape_primitive(engine.wow_phase + (-side), params.wow_shape)
-        + flutter * waves::shape_primitive(engine.flutter_phase + (-side), params.flutter_shape);
-    let right = wow * waves::shape_primitive(engine.wow_phase + side, params.wow_shape)
-        + flutter * waves::shape_primitive(engine.flutter_phase + side, params.flutter_shape);
+    let wow_left = engine.wow_phase + (-side);
+    let wow_right = engine.wow_phase + side;
+    let flutter_left = engine.flutter_phase + (-side);
+    let flutter_right = engine.flutter_phase + side;
+    let left = wow * waves::shape_primitive(wow_left, params.wow_shape)
+        + flutter * waves::shape_primitive(flutter_left, params.flutter_shape);
+    if pairs(wow_left, wow_right, flutter_left, flutter_right) {
+        return StereoDelayOffset { left, right: left };
+    }
+    let right = wow * waves::shape_primitive(wow_right, params.wow_shape)
+        + flutter * waves::shape_primitive(flutter_right, params.flutter_shape);
     StereoDelayOffset { left, right }
 }
 
