@@ -4,61 +4,25 @@
 mod distance;
 mod exact;
 mod kinds;
+mod seen; // what was seen of all calls, and its report
 mod whole;
 
-use answer::Answer;
-use distance::UNIT;
-use distance::distance;
 use exact::RING;
 use exact::exact;
 use kinds::delay;
 use kinds::next;
 use kinds::sample;
 use kinds::sample_float;
-use libc::STDOUT_FILENO;
+use seen::Seen;
+use seen::report;
+use seen::seen_too;
 use variable_delay::Opened;
 use variable_delay::VariableDelay;
-use whole::Wide;
 use whole::plus;
-use whole::times;
 
 const RUNS: u64 = 256;
 
 const CALLS: usize = 4096;
-
-struct Seen {
-    calls: u64,
-    refused: u64,
-    beyond: u64,
-    largest: u64,
-}
-
-fn larger(a: u64, b: u64) -> u64 {
-    if a < b { b } else { a }
-}
-
-// One call more, that was answered so where e is exact.
-fn seen_too(seen: Seen, answer: Answer, e: Wide) -> Seen {
-    let calls = plus(seen.calls, 1);
-    match answer {
-        Answer::Refused(_) => Seen {
-            calls: calls,
-            refused: plus(seen.refused, 1),
-            beyond: seen.beyond,
-            largest: seen.largest,
-        },
-        Answer::Sample(v) => {
-            let far = distance(v, e);
-            let more = if far > times(16, UNIT) { 1 } else { 0 };
-            Seen {
-                calls: calls,
-                refused: seen.refused,
-                beyond: plus(seen.beyond, more),
-                largest: larger(seen.largest, far),
-            }
-        }
-    }
-}
 
 // Between two calls of a run: the generator, the reader, and what was seen.
 struct Turn {
@@ -127,23 +91,6 @@ fn run(samples: u64, delays: u64, seed: u64, seen: Seen) -> Seen {
         i += 1;
     }
     turn.seen
-}
-
-fn line(text: &[u8], n: u64) {
-    io::write_all(STDOUT_FILENO, text);
-    io::print_decimal(STDOUT_FILENO, n);
-    io::write_all(STDOUT_FILENO, b"\n");
-}
-
-fn report(seen: Seen) {
-    line(b"calls ", seen.calls);
-    line(b"refused ", seen.refused);
-    line(b"further than 2^-50 ", seen.beyond);
-    line(b"largest distance, in 1 / 786432 of 2^-54: ", seen.largest);
-    line(
-        b"that is, in thousandths of 2^-54: ",
-        times(seen.largest, 1000) / UNIT,
-    );
 }
 
 fn main() {
