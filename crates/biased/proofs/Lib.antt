@@ -1,5 +1,6 @@
 pub mod Grid
 pub mod Signs
 pub mod Inside
+pub mod Taking
 pub mod Steps
 pub mod Frames

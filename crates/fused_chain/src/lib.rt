@@ -100,15 +100,8 @@ pub fn chain<'a>(xs: &'a [f32], row0: &'a [f32], row1: &'a [f32], blend: f32, su
 {
     let n = least(xs.len(), least(row0.len(), row1.len()));
     let middle = ahead(n / 2, 4, n);
-    let mut held = plainly(
-        xs,
-        row0,
-        row1,
-        blend,
-        0,
-        middle,
-        std::num::f32_to_f64_with_nan(sum),
-    );
+    let wide = std::num::f32_to_f64_with_nan(sum);
+    let mut held = plainly(xs, row0, row1, blend, 0, middle, wide);
     let mut k = middle;
     while k < n {
         let r = biased_run(xs, row0, row1, blend, k, n, held);

@@ -15,10 +15,10 @@ use Rattle.fused_chain.proofs.chain.Statement.{statement}
 use Rattle.fused_chain.proofs.chain.Tie as tie
 
 abbrev Inv-loop : tie.InvT-loop
-Inv-loop xs row0 row1 blend sum n middle held₀ k₀ held k = (k ≤ n) × (Carries xs row0 row1 blend 0 k sum held)
+Inv-loop xs row0 row1 blend sum n middle wide held₀ k₀ held k = (k ≤ n) × (Carries xs row0 row1 blend 0 k sum held)
 
 abbrev μ-loop : tie.MeasureT-loop
-μ-loop xs row0 row1 blend sum n middle held₀ k₀ held k = n - k
+μ-loop xs row0 row1 blend sum n middle wide held₀ k₀ held k = n - k
 
 held : (c : tie.Start Inv-loop μ-loop) → T (fits binary32 (c .args .sum))
 held c = subst T (sym (c .good .1 .1 .1 .1 .0 .1)) tt
