@@ -71,7 +71,7 @@ uint8_t fugnadri_farrow8_sample_bits(const double *source, size_t source_len, ui
  * The engine's state is 15 words: the sample rate, the two phases, then six for each generator; a float is its pattern. Sample rate 8000 to
  * 768000. A refusal by 1 is for an argument or the kept sample rate, by 3 for any other word. */
 
-/* Refused by 1. The words may hold anything before; a refusal leaves them, with one pattern for every NaN. */
+/* Refused by 1. The words may hold anything before; a refusal leaves them. */
 uint8_t fugnadri_engine_new(double sample_rate, uint64_t seed, uint64_t words[15]);
 /* Refused by 1 or 3. A seed that a generator holds already leaves it as it is. */
 uint8_t fugnadri_engine_set_sample_rate(uint64_t words[15], double sample_rate);

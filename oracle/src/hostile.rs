@@ -25,7 +25,6 @@ mod hostile {
 }
 
 use hostile::{bank, numbers, outside, pool::Memory, readers, tables, tally::Tally, turn::Turn, wander, watch};
-use std::sync::atomic::Ordering::Relaxed;
 use std::time::{Duration, Instant};
 
 /// An export, and one hostile call of it, which gives the number that it answered: 0 for none, and where there is none.
@@ -67,7 +66,6 @@ pub extern "C" fn main(_: i32, _: *const *const u8) -> i32 {
     }
     watch::stop();
     tally.report(&exports);
-    println!("after {} refused calls of the engine a NaN that had another pattern is 7FF8000000000000", wander::ONE_PATTERN.load(Relaxed));
     println!("no fault: seed {seed}, {calls} calls from {from} on, sum of all answers {sum:016X}, {:.1} s", start.elapsed().as_secs_f64());
     tally.silent(&exports)
 }
