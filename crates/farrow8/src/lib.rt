@@ -10,7 +10,7 @@ ghost use lib.Ieee.Scale.{finite};
 ghost use lib.Signed.{mag};
 ghost use Rattle.answer.specs.Answers.{answerOf};
 ghost use Rattle.ring.specs.Places.{positionOk};
-ghost use Rattle.farrow8.specs.Kernel.{dotOf, Summed, horner, polynomialOf, tapsAt, farrowAt, readOf};
+ghost use Rattle.farrow8.specs.Kernel.{dotOf, Summed, horner, tapsAt, farrowAt, readOf};
 ghost use Rattle.farrow8.specs.Table.{columnIn};
 use answer::Answer;
 
@@ -194,13 +194,6 @@ fn over(s: Powers, mu: f64) -> f64
     slow(s, mu)
 }
 
-// The polynomial in the fraction, from the seventh power down.
-fn polynomial(x: [f64; 8], mu: f64) -> f64
-    ensures { λ r. ⌜ r ≡ polynomialOf x mu ⌝ }
-{
-    over(sums(x), mu)
-}
-
 // The eight taps from a place on, side by side.
 fn side_by_side(source: &[f64], p: usize) -> [f64; 8]
     requires { ⌜ p + 8 ≤ length (now source) ⌝ }
@@ -246,10 +239,10 @@ fn at(source: &[f64], count: u64, position: f64) -> f64
     let p = s.place;
     if s.held {
         if p + 8 <= source.len() {
-            return polynomial(side_by_side(source, p), mu);
+            return over(sums(side_by_side(source, p)), mu);
         }
     }
-    polynomial(one_by_one(source, count, i), mu)
+    over(sums(one_by_one(source, count, i)), mu)
 }
 
 // The reading at a position; zero outside the positions' range.

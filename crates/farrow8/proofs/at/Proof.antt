@@ -19,6 +19,7 @@ use Rattle.ring.specs.Places.{startOf}
 use Rattle.ring.proofs.Positions.{position-at-most}
 use Rattle.ring.proofs.Run.{inside}
 use Rattle.farrow8.proofs.Ways as ways
+use Rattle.farrow8.proofs.Steps.{horner-is}
 use Rattle.farrow8.proofs.at.Statement.{statement}
 use Rattle.farrow8.proofs.at.Tie as tie
 
@@ -56,25 +57,31 @@ add-if2 c =
 side-by-side-requires : tie.Need-side-by-side-requires
 side-by-side-requires c κs = search needs
 
-polynomial-requires : tie.Need-polynomial-requires
-polynomial-requires c κs = search needs
+sums-requires : tie.Need-sums-requires
+sums-requires c κs = search needs
+
+over-requires : tie.Need-over-requires
+over-requires c κs = search needs
 
 returns : tie.Need-returns
 returns c =
-    let r = c .before .before .before .before in
+    let r = c .before .before .before .before .before in
     let n = r .before in
-    ways.side-by-side _ _ _ (Z (n .before)) (whole (n .before)) _ (n .nearest-i64-to-f64 .ensures) (r .run-start .result) (start r) (c .before .before .before .if1 .taken) (c .before .before .if2 .taken) (c .polynomial .ensures) (c .before .side-by-side .ensures)
+    ways.side-by-side _ _ _ (Z (n .before)) (whole (n .before)) _ (n .nearest-i64-to-f64 .ensures) (r .run-start .result) (start r) (c .before .before .before .before .if1 .taken) (c .before .before .before .if2 .taken) (c .over .ensures ∙ horner-is (c .before .before .side-by-side .result) (c .before .sums .result) _ (c .before .sums .ensures)) (c .before .before .side-by-side .ensures)
 
 one-by-one-requires : tie.Need-one-by-one-requires
 one-by-one-requires c κs = small (c .before .before .before)
 
-polynomial-requires-2 : tie.Need-polynomial-requires-2
-polynomial-requires-2 c κs = search needs
+sums-requires-2 : tie.Need-sums-requires-2
+sums-requires-2 c κs = search needs
+
+over-requires-2 : tie.Need-over-requires-2
+over-requires-2 c κs = search needs
 
 returns-2 : tie.Need-returns-2
 returns-2 c =
-    let n = c .before .before .before .before in
-    ways.one-by-one _ _ _ (Z (n .before)) (whole (n .before)) _ (n .nearest-i64-to-f64 .ensures) (rw (c .before .one-by-one .ensures) at (c .polynomial2 .ensures))
+    let n = c .before .before .before .before .before in
+    ways.one-by-one _ _ _ (Z (n .before)) (whole (n .before)) _ (n .nearest-i64-to-f64 .ensures) (rw (c .before .before .one-by-one .ensures) at (c .over2 .ensures ∙ horner-is (c .before .before .one-by-one .result) (c .before .sums2 .result) _ (c .before .sums2 .ensures)))
 
 pub at-spec : {M : Type 1} → statement M
-at-spec = tie.close (tie.spec floor-requires nearest-i64-to-f64-requires sub-run-start run-start-requires add-if2 side-by-side-requires polynomial-requires returns one-by-one-requires polynomial-requires-2 returns-2)
+at-spec = tie.close (tie.spec floor-requires nearest-i64-to-f64-requires sub-run-start run-start-requires add-if2 side-by-side-requires sums-requires over-requires returns one-by-one-requires sums-requires-2 over-requires-2 returns-2)
