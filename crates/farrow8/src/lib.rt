@@ -234,7 +234,7 @@ fn at(source: &[f64], count: u64, position: f64) -> f64
     ensures { λ r. ⌜ r ≡ farrowAt (now (source .entry)) count position ⌝ }
 {
     let i = integer_part::floor(position);
-    let mu = position - std::num::nearest_i64_to_f64(i);
+    let mu = position - (i as f64);
     let s = ring::run_start(source.len(), count, i - 3, 8);
     let p = s.place;
     if s.held {

@@ -1,10 +1,11 @@
 -- `farrow8::at` meets its contract: each way is the definition's, by `Ways`, and the indices fit since a position in range has a small integer part.
 -- Assumes nothing.
 use borrow.Author.Needs.{needs}
-use mathlib.Core.Path.{_≡_, _∙_}
+use mathlib.Core.Path.{_≡_, refl, _∙_}
 use Prim.Native.Nat.{_^_, _<_, _≤_}
+use native.Mathlib.Nat.{le-trans}
 use native.Mathlib.Omega.{arith}
-use lib.Dec.{lit<}
+use lib.Dec.{lit<, lit≤}
 use lib.IntN.{ℤ, pos, negsuc, _-ℤ_}
 use lib.ListN.{length}
 use lib.Signed.{mag}
@@ -15,6 +16,7 @@ use denote.Ref.{now}
 use Rattle.integer_part.specs.Parts.{floorOf}
 use Rattle.integer_part.proofs.Floors.{floor-mag}
 use Rattle.integer_part.proofs.Signed.{sum-fits}
+use Rattle.integer_part.proofs.Step.{in-float}
 use Rattle.ring.specs.Places.{startOf}
 use Rattle.ring.proofs.Positions.{position-at-most}
 use Rattle.ring.proofs.Run.{inside}
@@ -36,8 +38,8 @@ whole c = toZ-ofZ w64 (c .floor .result) (record { sfits = c .floor .ok }) ∙ c
 small : (c : tie.After-floor) → mag (Z c) ≤ 2 ^ 36
 small c = rw (whole c) (floor-mag (2 ^ 36) _ (lit< tt) (position-at-most _ (c .before .before .pre)))
 
-nearest-i64-to-f64-requires : tie.Need-nearest-i64-to-f64-requires
-nearest-i64-to-f64-requires c κs = search needs
+int-to-float-mu : tie.Need-int-to-float-mu
+int-to-float-mu c = in-float (Z (c .before)) (le-trans (small (c .before)) (lit≤ tt))
 
 sub-run-start : tie.Need-sub-run-start
 sub-run-start c = sum-fits (Z (c .before)) (negsuc 2) (omega (arith, small (c .before)))
@@ -67,7 +69,7 @@ returns : tie.Need-returns
 returns c =
     let r = c .before .before .before .before .before in
     let n = r .before in
-    ways.side-by-side _ _ _ (Z (n .before)) (whole (n .before)) _ (n .nearest-i64-to-f64 .ensures) (r .run-start .result) (start r) (c .before .before .before .before .if1 .taken) (c .before .before .before .if2 .taken) (c .over .ensures ∙ horner-is (c .before .before .side-by-side .result) (c .before .sums .result) _ (c .before .sums .ensures)) (c .before .before .side-by-side .ensures)
+    ways.side-by-side _ _ _ (Z (n .before)) (whole (n .before)) _ refl (r .run-start .result) (start r) (c .before .before .before .before .if1 .taken) (c .before .before .before .if2 .taken) (c .over .ensures ∙ horner-is (c .before .before .side-by-side .result) (c .before .sums .result) _ (c .before .sums .ensures)) (c .before .before .side-by-side .ensures)
 
 one-by-one-requires : tie.Need-one-by-one-requires
 one-by-one-requires c κs = small (c .before .before .before)
@@ -81,7 +83,7 @@ over-requires-2 c κs = search needs
 returns-2 : tie.Need-returns-2
 returns-2 c =
     let n = c .before .before .before .before .before in
-    ways.one-by-one _ _ _ (Z (n .before)) (whole (n .before)) _ (n .nearest-i64-to-f64 .ensures) (rw (c .before .before .one-by-one .ensures) at (c .over2 .ensures ∙ horner-is (c .before .before .one-by-one .result) (c .before .sums2 .result) _ (c .before .sums2 .ensures)))
+    ways.one-by-one _ _ _ (Z (n .before)) (whole (n .before)) _ refl (rw (c .before .before .one-by-one .ensures) at (c .over2 .ensures ∙ horner-is (c .before .before .one-by-one .result) (c .before .sums2 .result) _ (c .before .sums2 .ensures)))
 
 pub at-spec : {M : Type 1} → statement M
-at-spec = tie.close (tie.spec floor-requires nearest-i64-to-f64-requires sub-run-start run-start-requires add-if2 side-by-side-requires sums-requires over-requires returns one-by-one-requires sums-requires-2 over-requires-2 returns-2)
+at-spec = tie.close (tie.spec floor-requires int-to-float-mu sub-run-start run-start-requires add-if2 side-by-side-requires sums-requires over-requires returns one-by-one-requires sums-requires-2 over-requires-2 returns-2)
