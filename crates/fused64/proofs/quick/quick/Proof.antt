@@ -63,30 +63,6 @@ same-sign k = omega (arith, and-mask (k / 2 ^ 11) 1)
 same-place : (k : ℕ) → bitAnd k 0x7ff ≡ k % 2 ^ 11
 same-place k = and-mask k 11
 
-head-requires : tie.Need-head-requires
-head-requires c κs = search needs
-
-head-requires-2 : tie.Need-head-requires-2
-head-requires-2 c κs = search needs
-
-head-requires-3 : tie.Need-head-requires-3
-head-requires-3 c κs = search needs
-
-in-reach-requires : tie.Need-in-reach-requires
-in-reach-requires c κs = search needs
-
-digits-of-requires : tie.Need-digits-of-requires
-digits-of-requires c κs = search needs
-
-digits-of-requires-2 : tie.Need-digits-of-requires-2
-digits-of-requires-2 c κs = search needs
-
-columns-requires : tie.Need-columns-requires
-columns-requires c κs = search needs
-
-digits-of-requires-3 : tie.Need-digits-of-requires-3
-digits-of-requires-3 c κs = search needs
-
 add-k : tie.Need-add-k
 add-k c =
     let t = c .before .before .before .before .before in
@@ -131,17 +107,8 @@ returns c = λ some.
 returns-2 : tie.Need-returns-2
 returns-2 c = λ some. absurd (lt-irrefl 0 some)
 
-sub-if4 : tie.Need-sub-if4
-sub-if4 c = search needs
-
 without-requires-2 : tie.Need-without-requires-2
 without-requires-2 c κs = (zero-lt-suc 63, narrow (c .before .before .before .before))
-
-sub-joined : tie.Need-sub-joined
-sub-joined c = search needs
-
-shr-joined : tie.Need-shr-joined
-shr-joined c = search needs
 
 joined-requires-2 : tie.Need-joined-requires-2
 joined-requires-2 c κs =
@@ -179,28 +146,4 @@ returns-5 c = λ some. absurd (lt-irrefl 0 some)
 
 pub quick-spec : {M : Type 1} → statement M
 quick-spec =
-    tie.close
-    (tie.spec
-    head-requires
-    head-requires-2
-    head-requires-3
-    in-reach-requires
-    digits-of-requires
-    digits-of-requires-2
-    columns-requires
-    digits-of-requires-3
-    add-k
-    add-i
-    add-j
-    without-requires
-    joined-requires
-    returns
-    returns-2
-    sub-if4
-    without-requires-2
-    sub-joined
-    shr-joined
-    joined-requires-2
-    returns-3
-    returns-4
-    returns-5)
+    tie.close (tie.spec (λ c κs. search needs) (λ c κs. search needs) (λ c κs. search needs) (λ c κs. search needs) (λ c κs. search needs) (λ c κs. search needs) (λ c κs. search needs) (λ c κs. search needs) add-k add-i add-j without-requires joined-requires returns returns-2 (λ c. search needs) without-requires-2 (λ c. search needs) (λ c. search needs) joined-requires-2 returns-3 returns-4 returns-5)
