@@ -22,48 +22,6 @@ right c =
     let b = c .before in
     second-of (b .both3 .result) (b .before .before .before .before .both .result) (b .before .both2 .result) (b .both3 .ensures) (all c)
 
-tap-at-requires : tie.Need-tap-at-requires
-tap-at-requires c κs = search needs
-
-add-tap-at : tie.Need-add-tap-at
-add-tap-at c = search needs
-
-tap-at-requires-2 : tie.Need-tap-at-requires-2
-tap-at-requires-2 c κs = search needs
-
-add-tap-at-2 : tie.Need-add-tap-at-2
-add-tap-at-2 c = search needs
-
-tap-at-requires-3 : tie.Need-tap-at-requires-3
-tap-at-requires-3 c κs = search needs
-
-add-tap-at-3 : tie.Need-add-tap-at-3
-add-tap-at-3 c = search needs
-
-tap-at-requires-4 : tie.Need-tap-at-requires-4
-tap-at-requires-4 c κs = search needs
-
-are-numbers-requires : tie.Need-are-numbers-requires
-are-numbers-requires c κs = search needs
-
-are-numbers-requires-2 : tie.Need-are-numbers-requires-2
-are-numbers-requires-2 c κs = search needs
-
-both-requires : tie.Need-both-requires
-both-requires c κs = search needs
-
-are-numbers-requires-3 : tie.Need-are-numbers-requires-3
-are-numbers-requires-3 c κs = search needs
-
-are-numbers-requires-4 : tie.Need-are-numbers-requires-4
-are-numbers-requires-4 c κs = search needs
-
-both-requires-2 : tie.Need-both-requires-2
-both-requires-2 c κs = search needs
-
-both-requires-3 : tie.Need-both-requires-3
-both-requires-3 c κs = search needs
-
 returns : tie.Need-returns
 returns c = λ h. absurd (false≢true h)
 
@@ -119,20 +77,20 @@ pub multiplied-spec : {M : Type 1} → statement M
 multiplied-spec =
     tie.close
     (tie.spec
-    tap-at-requires
-    add-tap-at
-    tap-at-requires-2
-    add-tap-at-2
-    tap-at-requires-3
-    add-tap-at-3
-    tap-at-requires-4
-    are-numbers-requires
-    are-numbers-requires-2
-    both-requires
-    are-numbers-requires-3
-    are-numbers-requires-4
-    both-requires-2
-    both-requires-3
+    (λ c κs. search needs)
+    (λ c. search needs)
+    (λ c κs. search needs)
+    (λ c. search needs)
+    (λ c κs. search needs)
+    (λ c. search needs)
+    (λ c κs. search needs)
+    (λ c κs. search needs)
+    (λ c κs. search needs)
+    (λ c κs. search needs)
+    (λ c κs. search needs)
+    (λ c κs. search needs)
+    (λ c κs. search needs)
+    (λ c κs. search needs)
     returns
     multiply-requires
     multiply-requires-2
