@@ -5,9 +5,6 @@ use lib.Ieee.{ofBits}
 use Rattle.bank_choice.proofs.choose.Statement.{statement}
 use Rattle.bank_choice.proofs.choose.Tie as tie
 
-within-requires : tie.Need-within-requires
-within-requires c κs = search needs
-
 chosen-requires : tie.Need-chosen-requires
 unfolding ofBits
 chosen-requires c κs = sym (c .before .within .ensures) ∙ c .if1 .taken
@@ -21,4 +18,4 @@ unfolding ofBits
 returns-2 c = rw (← c .before .within .ensures, c .if1 .left)
 
 pub choose-spec : {M : Type 1} → statement M
-choose-spec = tie.close (tie.spec within-requires chosen-requires returns returns-2)
+choose-spec = tie.close (tie.spec (λ c κs. search needs) chosen-requires returns returns-2)

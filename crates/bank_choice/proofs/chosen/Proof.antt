@@ -24,15 +24,9 @@ joined : (top rate : Float) (n p s t w : ℕ) (r o l b g : Float) (k : Bool)
 unfolding chosenOf blendOf
 joined top rate n p s t w r o l b g k hn hr hp hs ht ho hl hb hk hw hg = rw (hg, hw, hk, hb, hl, ho, ht, hs, hp, hr, hn)
 
-steps-requires : tie.Need-steps-requires
-steps-requires c κs = search needs
-
 -- in range, the number of sets is the definition's
 count : (c : tie.After-steps) → c .steps .result ≡ stepsOf (c .before .args .max-rate)
 count c = rw (c .before .pre) at (c .steps .ensures)
-
-clamp-requires : tie.Need-clamp-requires
-clamp-requires c κs = search needs
 
 among-requires : tie.Need-among-requires
 among-requires c κs = (c .before .before .pre, count (c .before))
@@ -40,38 +34,8 @@ among-requires c κs = (c .before .before .pre, count (c .before))
 sub-at-most : tie.Need-sub-at-most
 sub-at-most c = let s = c .before .before in omega (arith, count s, least (s .before .args .max-rate))
 
-at-most-requires : tie.Need-at-most-requires
-at-most-requires c κs = search needs
-
-add-at-most : tie.Need-add-at-most
-add-at-most c = search needs
-
 sub-at-most-2 : tie.Need-sub-at-most-2
 sub-at-most-2 c = sub-at-most (c .before)
-
-at-most-requires-2 : tie.Need-at-most-requires-2
-at-most-requires-2 c κs = search needs
-
-add-rate : tie.Need-add-rate
-add-rate c = search needs
-
-rate-requires : tie.Need-rate-requires
-rate-requires c κs = search needs
-
-lower-requires : tie.Need-lower-requires
-lower-requires c κs = search needs
-
-narrow-requires : tie.Need-narrow-requires
-narrow-requires c κs = search needs
-
-within-requires : tie.Need-within-requires
-within-requires c κs = search needs
-
-which-requires : tie.Need-which-requires
-which-requires c κs = search needs
-
-clamp-f32-requires : tie.Need-clamp-f32-requires
-clamp-f32-requires c κs = search needs
 
 returns : tie.Need-returns
 unfolding ofBits neg
@@ -92,21 +56,4 @@ returns c =
 
 pub chosen-spec : {M : Type 1} → statement M
 chosen-spec =
-    tie.close
-    (tie.spec
-    steps-requires
-    clamp-requires
-    among-requires
-    sub-at-most
-    at-most-requires
-    add-at-most
-    sub-at-most-2
-    at-most-requires-2
-    add-rate
-    rate-requires
-    lower-requires
-    narrow-requires
-    within-requires
-    which-requires
-    clamp-f32-requires
-    returns)
+    tie.close (tie.spec (λ c κs. search needs) (λ c κs. search needs) among-requires sub-at-most (λ c κs. search needs) (λ c. search needs) sub-at-most-2 (λ c κs. search needs) (λ c. search needs) (λ c κs. search needs) (λ c κs. search needs) (λ c κs. search needs) (λ c κs. search needs) (λ c κs. search needs) (λ c κs. search needs) returns)

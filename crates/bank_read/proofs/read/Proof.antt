@@ -13,23 +13,11 @@ use Rattle.bank_read.proofs.Bank.{draft-read, tables-read, no-place, no
 use Rattle.bank_read.proofs.read.Statement.{statement}
 use Rattle.bank_read.proofs.read.Tie as tie
 
-same-requires : tie.Need-same-requires
-same-requires c κs = search needs
-
-read-requires : tie.Need-read-requires
-read-requires c κs = search needs
-
 returns : tie.Need-returns
 returns c =
     let d = c .before .before in
     let a = d .before .before .before .args in
     c .read .ensures ∙ draft-read (a .choice) (now (a .sets)) (now (a .source)) (a .count) (a .position) (a .quality) (sym (d .same .ensures) ∙ c .before .if1 .taken)
-
-sets-ok-requires : tie.Need-sets-ok-requires
-sets-ok-requires c κs = search needs
-
-position-ok-requires : tie.Need-position-ok-requires
-position-ok-requires c κs = search needs
 
 -- Draft is not asked for; the bank has the sets
 no-draft : (c : tie.Else1) → sameQ (c .before .before .before .before .args .quality) Draft ≡ false
@@ -67,14 +55,4 @@ returns-4 c =
 
 pub read-spec : {M : Type 1} → statement M
 read-spec =
-    tie.close
-    (tie.spec
-    same-requires
-    read-requires
-    returns
-    sets-ok-requires
-    position-ok-requires
-    tables-read-requires
-    returns-2
-    returns-3
-    returns-4)
+    tie.close (tie.spec (λ c κs. search needs) (λ c κs. search needs) returns (λ c κs. search needs) (λ c κs. search needs) tables-read-requires returns-2 returns-3 returns-4)

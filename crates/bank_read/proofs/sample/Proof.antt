@@ -7,28 +7,15 @@ use Rattle.bank_read.proofs.Bank.{draft-read}
 use Rattle.bank_read.proofs.sample.Statement.{statement}
 use Rattle.bank_read.proofs.sample.Tie as tie
 
-same-requires : tie.Need-same-requires
-same-requires c κs = search needs
-
-read-requires : tie.Need-read-requires
-read-requires c κs = search needs
-
 returns : tie.Need-returns
 returns c =
     let d = c .before .before in
     let a = d .before .before .before .args in
     c .read .ensures ∙ draft-read (choiceOf (a .max-rate) (a .rate)) (now (a .sets)) (now (a .source)) (a .count) (a .position) (a .quality) (sym (d .same .ensures) ∙ c .before .if1 .taken)
 
-choose-requires : tie.Need-choose-requires
-choose-requires c κs = search needs
-
-read-requires-2 : tie.Need-read-requires-2
-read-requires-2 c κs = search needs
-
 returns-2 : tie.Need-returns-2
 returns-2 c = rw (← c .before .choose .ensures) (c .read2 .ensures)
 
 pub sample-spec : {M : Type 1} → statement M
 sample-spec =
-    tie.close
-    (tie.spec same-requires read-requires returns choose-requires read-requires-2 returns-2)
+    tie.close (tie.spec (λ c κs. search needs) (λ c κs. search needs) returns (λ c κs. search needs) (λ c κs. search needs) returns-2)

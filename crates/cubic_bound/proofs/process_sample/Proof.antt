@@ -4,14 +4,8 @@ use Rattle.cubic_bound.proofs.Demand.{demand3}
 use Rattle.cubic_bound.proofs.process_sample.Statement.{statement}
 use Rattle.cubic_bound.proofs.process_sample.Tie as tie
 
-process-sample-requires : tie.Need-process-sample-requires
-process-sample-requires c κs = search needs
-
-same-length : tie.Need-same-length
-same-length c = search needs
-
 returns : tie.Need-returns
 returns c = rw (c .before .before .process-sample .ensures .0) (demand3 _ _)
 
 pub process-sample-spec : {M : Type 1} → statement M
-process-sample-spec = tie.close (tie.spec process-sample-requires same-length returns)
+process-sample-spec = tie.close (tie.spec (λ c κs. search needs) (λ c. search needs) returns)

@@ -17,9 +17,6 @@ use Rattle.cubic_farrow.proofs.Ways as ways
 use Rattle.cubic_farrow.proofs.at.Statement.{statement}
 use Rattle.cubic_farrow.proofs.at.Tie as tie
 
-floor-requires : tie.Need-floor-requires
-floor-requires c κs = search needs
-
 -- the integer part, as the code holds it
 abbrev Z : tie.After-floor → ℤ
 Z c = toZ w64 (ofZ w64 (c .floor .result))
@@ -40,4 +37,4 @@ returns : tie.Need-returns
 returns c = ways.one-by-one _ _ _ (Z (c .before .before)) (whole (c .before .before)) (c .one-by-one .ensures)
 
 pub at-spec : {M : Type 1} → statement M
-at-spec = tie.close (tie.spec floor-requires int-to-float-mu one-by-one-requires returns)
+at-spec = tie.close (tie.spec (λ c κs. search needs) int-to-float-mu one-by-one-requires returns)

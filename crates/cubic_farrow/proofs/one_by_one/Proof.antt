@@ -23,26 +23,11 @@ near c k h = rw (word c) (sum-fits (c .args .i) k (omega (arith, c .pre)))
 sub-tap : tie.Need-sub-tap
 sub-tap c = near (c .before) (negsuc 0) (lit≤ tt)
 
-tap-requires : tie.Need-tap-requires
-tap-requires c κs = search needs
-
-tap-requires-2 : tie.Need-tap-requires-2
-tap-requires-2 c κs = search needs
-
 add-tap : tie.Need-add-tap
 add-tap c = near (c .before .before .before) (pos 1) (lit≤ tt)
 
-tap-requires-3 : tie.Need-tap-requires-3
-tap-requires-3 c κs = search needs
-
 add-tap-2 : tie.Need-add-tap-2
 add-tap-2 c = near (c .before .before .before .before) (pos 2) (lit≤ tt)
-
-tap-requires-4 : tie.Need-tap-requires-4
-tap-requires-4 c κs = search needs
-
-weigh-requires : tie.Need-weigh-requires
-weigh-requires c κs = search needs
 
 returns : tie.Need-returns
 returns c =
@@ -60,4 +45,4 @@ returns c =
     )
 
 pub one-by-one-spec : {M : Type 1} → statement M
-one-by-one-spec = tie.close (tie.spec sub-tap tap-requires tap-requires-2 add-tap tap-requires-3 add-tap-2 tap-requires-4 weigh-requires returns)
+one-by-one-spec = tie.close (tie.spec sub-tap (λ c κs. search needs) (λ c κs. search needs) add-tap (λ c κs. search needs) add-tap-2 (λ c κs. search needs) (λ c κs. search needs) returns)

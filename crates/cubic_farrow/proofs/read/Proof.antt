@@ -24,12 +24,6 @@ use Rattle.cubic_farrow.proofs.Ways as ways
 use Rattle.cubic_farrow.proofs.read.Statement.{statement}
 use Rattle.cubic_farrow.proofs.read.Tie as tie
 
-position-ok-requires : tie.Need-position-ok-requires
-position-ok-requires c κs = search needs
-
-floor-requires : tie.Need-floor-requires
-floor-requires c κs = search needs
-
 in-range : (c : tie.Then1) → positionOk (c .before .before .before .args .position) ≡ true
 in-range c = sym (c .before .position-ok .ensures) ∙ c .if1 .taken
 
@@ -46,9 +40,6 @@ small c = rw (whole c) (floor-mag (2 ^ 36) _ (lit< tt) (position-at-most _ (in-r
 sub-first : tie.Need-sub-first
 sub-first c = sum-fits (Z c) (negsuc 0) (omega (arith, small c))
 
-run-start-requires : tie.Need-run-start-requires
-run-start-requires c κs = search needs
-
 -- where the run starts
 start : (c : tie.After-run-start) → let a = c .before .before .before .before .before .args in c .run-start .result ≡ startOf (length (now (a .source))) (a .count) (Z (c .before) -ℤ pos 1) 4
 start c = rw (toZ-ofZ w64 _ (sub-first (c .before))) at (c .run-start .ensures)
@@ -58,12 +49,6 @@ add-if3 c =
     let r = c .before in
     let a = r .before .before .before .before .before .args in
     omega (arith, inside (now (a .source)) (a .count) 4 (Z (r .before) -ℤ pos 1) (r .run-start .result) (start r) (c .if2 .taken) (lit< tt))
-
-fraction-requires : tie.Need-fraction-requires
-fraction-requires c κs = search needs
-
-side-by-side-requires : tie.Need-side-by-side-requires
-side-by-side-requires c κs = search needs
 
 returns : tie.Need-returns
 returns c =
@@ -85,16 +70,4 @@ returns-3 c = rw (← c .before .position-ok .ensures, c .if1 .left)
 
 pub read-spec : {M : Type 1} → statement M
 read-spec =
-    tie.close
-    (tie.spec
-    position-ok-requires
-    floor-requires
-    sub-first
-    run-start-requires
-    add-if3
-    fraction-requires
-    side-by-side-requires
-    returns
-    at-requires
-    returns-2
-    returns-3)
+    tie.close (tie.spec (λ c κs. search needs) (λ c κs. search needs) sub-first (λ c κs. search needs) add-if3 (λ c κs. search needs) (λ c κs. search needs) returns at-requires returns-2 returns-3)

@@ -24,9 +24,6 @@ use Rattle.cubic_farrow_f32.proofs.Ways as ways
 use Rattle.cubic_farrow_f32.proofs.at.Statement.{statement}
 use Rattle.cubic_farrow_f32.proofs.at.Tie as tie
 
-floor-requires : tie.Need-floor-requires
-floor-requires c κs = search needs
-
 -- the integer part, as the code holds it
 abbrev Z : tie.After-floor → ℤ
 Z c = toZ w64 (ofZ w64 (c .floor .result))
@@ -40,14 +37,8 @@ small c = rw (whole c) (floor-mag (2 ^ 36) _ (lit< tt) (position-at-most _ (c .b
 int-to-float-narrow : tie.Need-int-to-float-narrow
 int-to-float-narrow c = in-float (Z (c .before)) (le-trans (small (c .before)) (lit≤ tt))
 
-narrow-requires : tie.Need-narrow-requires
-narrow-requires c κs = search needs
-
 sub-run-start : tie.Need-sub-run-start
 sub-run-start c = sum-fits (Z (c .before .before)) (negsuc 0) (omega (arith, small (c .before .before)))
-
-run-start-requires : tie.Need-run-start-requires
-run-start-requires c κs = search needs
 
 -- where the run starts
 start : (c : tie.After-run-start) → let a = c .before .before .before .before .before .args in c .run-start .result ≡ startOf (length (now (a .source))) (a .count) (Z (c .before .before .before) -ℤ pos 1) 4
@@ -58,9 +49,6 @@ add-if2 c =
     let r = c .before in
     let a = r .before .before .before .before .before .args in
     omega (arith, inside (now (a .source)) (a .count) 4 (Z (r .before .before .before) -ℤ pos 1) (r .run-start .result) (start r) (c .if1 .taken) (lit< tt))
-
-side-by-side-requires : tie.Need-side-by-side-requires
-side-by-side-requires c κs = search needs
 
 returns : tie.Need-returns
 returns c =
@@ -79,4 +67,4 @@ returns-2 c =
     ways.one-by-one _ _ _ (Z z) (whole z) (n .narrow .result) (n .narrow .ensures) (c .one-by-one .ensures)
 
 pub at-spec : {M : Type 1} → statement M
-at-spec = tie.close (tie.spec floor-requires int-to-float-narrow narrow-requires sub-run-start run-start-requires add-if2 side-by-side-requires returns one-by-one-requires returns-2)
+at-spec = tie.close (tie.spec (λ c κs. search needs) int-to-float-narrow (λ c κs. search needs) sub-run-start (λ c κs. search needs) add-if2 (λ c κs. search needs) returns one-by-one-requires returns-2)

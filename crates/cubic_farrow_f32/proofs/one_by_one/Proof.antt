@@ -23,26 +23,11 @@ near c k h = rw (word c) (sum-fits (c .args .i) k (omega (arith, c .pre)))
 sub-tap : tie.Need-sub-tap-f32
 sub-tap c = near (c .before) (negsuc 0) (lit≤ tt)
 
-tap-f32-requires : tie.Need-tap-f32-requires
-tap-f32-requires c κs = search needs
-
-tap-f32-requires-2 : tie.Need-tap-f32-requires-2
-tap-f32-requires-2 c κs = search needs
-
 add-tap : tie.Need-add-tap-f32
 add-tap c = near (c .before .before .before) (pos 1) (lit≤ tt)
 
-tap-f32-requires-3 : tie.Need-tap-f32-requires-3
-tap-f32-requires-3 c κs = search needs
-
 add-tap-2 : tie.Need-add-tap-f32-2
 add-tap-2 c = near (c .before .before .before .before) (pos 2) (lit≤ tt)
-
-tap-f32-requires-4 : tie.Need-tap-f32-requires-4
-tap-f32-requires-4 c κs = search needs
-
-weigh-requires : tie.Need-weigh-requires
-weigh-requires c κs = search needs
 
 returns : tie.Need-returns
 returns c =
@@ -60,4 +45,4 @@ returns c =
     )
 
 pub one-by-one-spec : {M : Type 1} → statement M
-one-by-one-spec = tie.close (tie.spec sub-tap tap-f32-requires tap-f32-requires-2 add-tap tap-f32-requires-3 add-tap-2 tap-f32-requires-4 weigh-requires returns)
+one-by-one-spec = tie.close (tie.spec sub-tap (λ c κs. search needs) (λ c κs. search needs) add-tap (λ c κs. search needs) add-tap-2 (λ c κs. search needs) (λ c κs. search needs) returns)

@@ -10,9 +10,6 @@ use Rattle.digits.proofs.Putting.{magnitude-le}
 use Rattle.digits.proofs.pack.Statement.{statement}
 use Rattle.digits.proofs.pack.Tie as tie
 
-magnitude-requires : tie.Need-magnitude-requires
-magnitude-requires c κs = search needs
-
 top : (c : tie.After-magnitude) → c .magnitude .result ≤ 0x7ff0_0000_0000_0000
 top c = le-trans (le-of-eq (c .magnitude .ensures)) (magnitude-le (c .before .args .w) (c .before .args .k))
 
@@ -28,4 +25,4 @@ returns c =
     rw (e, c .magnitude .ensures)
 
 pub pack-spec : {M : Type 1} → statement M
-pack-spec = tie.close (tie.spec magnitude-requires add-result float-from-bits-result returns)
+pack-spec = tie.close (tie.spec (λ c κs. search needs) add-result float-from-bits-result returns)

@@ -13,12 +13,6 @@ use Rattle.digits.proofs.Lengths.{zeros-and-size}
 use Rattle.digits.proofs.unpack.Statement.{statement}
 use Rattle.digits.proofs.unpack.Tie as tie
 
-place-requires : tie.Need-place-requires
-place-requires c κs = search needs
-
-sub-d : tie.Need-sub-d
-sub-d c = search needs
-
 -- the digits as the code has them, and how long they are
 abbrev D : (c : tie.After-place) → ℕ
 D c = bitAnd (c .before .args .bits) 0x7fff_ffff_ffff_ffff - c .place .result * 2 ^ 52 % 2 ^ 64
@@ -55,4 +49,4 @@ returns c =
     rw (z, e, whole, is c, c .place .ensures, and-mask (c .before .args .bits) 63)
 
 pub unpack-spec : {M : Type 1} → statement M
-unpack-spec = tie.close (tie.spec place-requires sub-d cast-z sub-t8 shl-t9 add-t10 sub-t11 returns)
+unpack-spec = tie.close (tie.spec (λ c κs. search needs) (λ c. search needs) cast-z sub-t8 shl-t9 add-t10 sub-t11 returns)

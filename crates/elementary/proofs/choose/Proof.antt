@@ -16,25 +16,13 @@ last (suc zero) r a b c = absurd (b refl)
 last (suc (suc zero)) r a b c = absurd (c refl)
 last (suc (suc (suc q))) r a b c = refl
 
-sine-near-requires : tie.Need-sine-near-requires
-sine-near-requires c κs = search needs
-
 returns : tie.Need-returns
 unfolding pick
 returns c = rw (c .before .if1 .taken) (c .sine-near .ensures)
 
-cosine-near-requires : tie.Need-cosine-near-requires
-cosine-near-requires c κs = search needs
-
 returns-2 : tie.Need-returns-2
 unfolding pick
 returns-2 c = rw (c .before .if2 .taken) (c .cosine-near .ensures)
-
-sine-near-requires-2 : tie.Need-sine-near-requires-2
-sine-near-requires-2 c κs = search needs
-
-cosine-near-requires-2 : tie.Need-cosine-near-requires-2
-cosine-near-requires-2 c κs = search needs
 
 returns-3 : tie.Need-returns-3
 unfolding pick
@@ -45,13 +33,4 @@ returns-4 c = let a = c .before .before .before .before .args in ap neg (c .cosi
 
 pub choose-spec : {M : Type 1} → statement M
 choose-spec =
-    tie.close
-    (tie.spec
-    sine-near-requires
-    returns
-    cosine-near-requires
-    returns-2
-    sine-near-requires-2
-    cosine-near-requires-2
-    returns-3
-    returns-4)
+    tie.close (tie.spec (λ c κs. search needs) returns (λ c κs. search needs) returns-2 (λ c κs. search needs) (λ c κs. search needs) returns-3 returns-4)

@@ -13,15 +13,9 @@ use Rattle.elementary.proofs.Picked.{cosine-short, cosine-long}
 use Rattle.elementary.proofs.cosine_at.Statement.{statement}
 use Rattle.elementary.proofs.cosine_at.Tie as tie
 
-inside-requires : tie.Need-inside-requires
-inside-requires c κs = search needs
-
 tested : (c : tie.After-inside) → c .inside .result ≡ atMost 1 (c .before .args .x)
 unfolding ofBits
 tested c = c .inside .ensures ∙ inside-is 0 (c .before .args .x)
-
-cosine-near-requires : tie.Need-cosine-near-requires
-cosine-near-requires c κs = search needs
 
 returns : tie.Need-returns
 returns c = cosine-short (c .before .before .before .args .x) (subst T (sym (c .before .if1 .taken) ∙ tested (c .before .before)) tt) (c .cosine-near .ensures)
@@ -32,9 +26,6 @@ beyond c = subst (λ (b : Bool). T (not b)) (sym (c .if1 .left) ∙ tested (c .b
 turn-requires : tie.Need-turn-requires
 turn-requires c κs = (beyond c, c .before .before .pre)
 
-choose-requires : tie.Need-choose-requires
-choose-requires c κs = search needs
-
 add-choose : tie.Need-add-choose
 add-choose c = let e = c .before .turn .ensures .quarter in let l = fourth-small (turns (c .before .before .before .before .args .x)) in omega arith
 
@@ -42,4 +33,4 @@ returns-2 : tie.Need-returns-2
 returns-2 c = cosine-long (beyond (c .before .before .before)) (c .before .before .turn .ensures) (omega arith) (c .choose .ensures)
 
 pub cosine-at-spec : {M : Type 1} → statement M
-cosine-at-spec = tie.close (tie.spec inside-requires cosine-near-requires returns turn-requires add-choose choose-requires returns-2)
+cosine-at-spec = tie.close (tie.spec (λ c κs. search needs) (λ c κs. search needs) returns turn-requires add-choose (λ c κs. search needs) returns-2)

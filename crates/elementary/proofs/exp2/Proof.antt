@@ -8,9 +8,6 @@ use Rattle.elementary.proofs.Range.{inside-is, given, refused}
 use Rattle.elementary.proofs.exp2.Statement.{statement}
 use Rattle.elementary.proofs.exp2.Tie as tie
 
-inside-requires : tie.Need-inside-requires
-inside-requires c κs = search needs
-
 tested : (c : tie.After-inside) → c .inside .result ≡ atMost 1 (c .before .args .x)
 unfolding ofBits
 tested c = c .inside .ensures ∙ inside-is 0 (c .before .args .x)
@@ -27,4 +24,4 @@ unfolding exp2Of
 returns-2 c = let x = c .before .before .args .x in refused (atMost 1 x) (powerAt x) (sym (tested (c .before)) ∙ c .if1 .left)
 
 pub exp2-spec : {M : Type 1} → statement M
-exp2-spec = tie.close (tie.spec inside-requires power-at-requires returns returns-2)
+exp2-spec = tie.close (tie.spec (λ c κs. search needs) power-at-requires returns returns-2)

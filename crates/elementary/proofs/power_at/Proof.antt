@@ -8,18 +8,9 @@ use Rattle.elementary.proofs.Shifted.{power-above, power-below, power-m
 use Rattle.elementary.proofs.power_at.Statement.{statement}
 use Rattle.elementary.proofs.power_at.Tie as tie
 
-power-near-requires : tie.Need-power-near-requires
-power-near-requires c κs = search needs
-
 returns : tie.Need-returns
 unfolding ofBits
 returns c = let s = c .before .before in power-above (s .args .x) (subst T (sym (s .good .0 .1)) tt) (s .pre) (c .before .if1 .taken) (ap (mul binary64 two) (c .power-near .ensures))
-
-power-near-requires-2 : tie.Need-power-near-requires-2
-power-near-requires-2 c κs = search needs
-
-power-near-requires-3 : tie.Need-power-near-requires-3
-power-near-requires-3 c κs = search needs
 
 returns-2 : tie.Need-returns-2
 unfolding neg ofBits
@@ -32,4 +23,4 @@ unfolding neg ofBits
 returns-3 c = let s = c .before .before .before in power-middle (s .args .x) (s .pre) (c .before .before .if1 .left) (c .before .if2 .left) (c .power-near3 .ensures)
 
 pub power-at-spec : {M : Type 1} → statement M
-power-at-spec = tie.close (tie.spec power-near-requires returns power-near-requires-2 power-near-requires-3 returns-2 returns-3)
+power-at-spec = tie.close (tie.spec (λ c κs. search needs) returns (λ c κs. search needs) (λ c κs. search needs) returns-2 returns-3)

@@ -7,15 +7,9 @@ use Rattle.elementary.proofs.Remaining.{rest-law}
 use Rattle.elementary.proofs.rest.Statement.{statement}
 use Rattle.elementary.proofs.rest.Tie as tie
 
-cast-whole : tie.Need-cast-whole
-cast-whole c = search needs
-
-int-to-float-k : tie.Need-int-to-float-k
-int-to-float-k c = search needs
-
 returns : tie.Need-returns
 unfolding ofBits
 returns c = let b = c .before in rest-law (b .args .x) (b .args .j) (subst T (sym (b .good .0 .1)) tt) (b .pre .0) (b .pre .1 .0) (b .pre .1 .1)
 
 pub rest-spec : {M : Type 1} → statement M
-rest-spec = tie.close (tie.spec cast-whole int-to-float-k returns)
+rest-spec = tie.close (tie.spec (λ c. search needs) (λ c. search needs) returns)

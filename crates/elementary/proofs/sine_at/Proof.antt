@@ -10,15 +10,9 @@ use Rattle.elementary.proofs.Picked.{sine-short, sine-long}
 use Rattle.elementary.proofs.sine_at.Statement.{statement}
 use Rattle.elementary.proofs.sine_at.Tie as tie
 
-inside-requires : tie.Need-inside-requires
-inside-requires c κs = search needs
-
 tested : (c : tie.After-inside) → c .inside .result ≡ atMost 1 (c .before .args .x)
 unfolding ofBits
 tested c = c .inside .ensures ∙ inside-is 0 (c .before .args .x)
-
-sine-near-requires : tie.Need-sine-near-requires
-sine-near-requires c κs = search needs
 
 returns : tie.Need-returns
 returns c = let s = c .before .before .before in sine-short (s .args .x) (subst T (sym (s .good .0 .1)) tt) (subst T (sym (c .before .if1 .taken) ∙ tested (c .before .before)) tt) (c .sine-near .ensures)
@@ -29,11 +23,8 @@ beyond c = subst (λ (b : Bool). T (not b)) (sym (c .if1 .left) ∙ tested (c .b
 turn-requires : tie.Need-turn-requires
 turn-requires c κs = (beyond c, c .before .before .pre)
 
-choose-requires : tie.Need-choose-requires
-choose-requires c κs = search needs
-
 returns-2 : tie.Need-returns-2
 returns-2 c = sine-long (beyond (c .before .before)) (c .before .turn .ensures) (c .choose .ensures)
 
 pub sine-at-spec : {M : Type 1} → statement M
-sine-at-spec = tie.close (tie.spec inside-requires sine-near-requires returns turn-requires choose-requires returns-2)
+sine-at-spec = tie.close (tie.spec (λ c κs. search needs) (λ c κs. search needs) returns turn-requires (λ c κs. search needs) returns-2)

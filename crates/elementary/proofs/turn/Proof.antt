@@ -35,14 +35,8 @@ guess-requires c κs = c .pre .1
 rest-requires : tie.Need-rest-requires
 rest-requires c κs = (c .before .pre .0, (c .before .pre .1, c .guess .ensures))
 
-sub-i : tie.Need-sub-i
-sub-i c = search needs
-
 rest-requires-2 : tie.Need-rest-requires-2
 rest-requires-2 c κs = let s = c .before .before .before .before in (s .pre .0, (s .pre .1, lower c .guess))
-
-add-i : tie.Need-add-i
-add-i c = search needs
 
 rest-requires-3 : tie.Need-rest-requires-3
 rest-requires-3 c κs = let s = c .before .before .before in (s .pre .0, (s .pre .1, higher c .guess))
@@ -61,4 +55,4 @@ returns-3 : tie.Need-returns-3
 returns-3 c = let b = c .before .before .before in settle (b .before .args .x) (c .rest3 .result) (b .guess .result + 1) (c .rest3 .ensures) (higher (c .before) .halves)
 
 pub turn-spec : {M : Type 1} → statement M
-turn-spec = tie.close (tie.spec guess-requires rest-requires sub-i rest-requires-2 add-i rest-requires-3 returns returns-2 returns-3)
+turn-spec = tie.close (tie.spec guess-requires rest-requires (λ c. search needs) rest-requires-2 (λ c. search needs) rest-requires-3 returns returns-2 returns-3)

@@ -25,9 +25,6 @@ use Rattle.farrow8.proofs.Steps.{horner-is}
 use Rattle.farrow8.proofs.at.Statement.{statement}
 use Rattle.farrow8.proofs.at.Tie as tie
 
-floor-requires : tie.Need-floor-requires
-floor-requires c κs = search needs
-
 -- the integer part, as the code holds it
 abbrev Z : tie.After-floor → ℤ
 Z c = toZ w64 (ofZ w64 (c .floor .result))
@@ -44,9 +41,6 @@ int-to-float-mu c = in-float (Z (c .before)) (le-trans (small (c .before)) (lit�
 sub-run-start : tie.Need-sub-run-start
 sub-run-start c = sum-fits (Z (c .before)) (negsuc 2) (omega (arith, small (c .before)))
 
-run-start-requires : tie.Need-run-start-requires
-run-start-requires c κs = search needs
-
 -- where the run starts
 start : (c : tie.After-run-start) → let a = c .before .before .before .before .args in c .run-start .result ≡ startOf (length (now (a .source))) (a .count) (Z (c .before .before) -ℤ pos 3) 8
 start c = rw (toZ-ofZ w64 _ (sub-run-start (c .before))) at (c .run-start .ensures)
@@ -55,15 +49,6 @@ add-if2 : tie.Need-add-if2
 add-if2 c =
     let a = c .before .before .before .before .before .args in
     omega (arith, inside (now (a .source)) (a .count) 8 (Z (c .before .before .before) -ℤ pos 3) (c .before .run-start .result) (start (c .before)) (c .if1 .taken) (lit< tt))
-
-side-by-side-requires : tie.Need-side-by-side-requires
-side-by-side-requires c κs = search needs
-
-sums-requires : tie.Need-sums-requires
-sums-requires c κs = search needs
-
-over-requires : tie.Need-over-requires
-over-requires c κs = search needs
 
 returns : tie.Need-returns
 returns c =
@@ -74,16 +59,10 @@ returns c =
 one-by-one-requires : tie.Need-one-by-one-requires
 one-by-one-requires c κs = small (c .before .before .before)
 
-sums-requires-2 : tie.Need-sums-requires-2
-sums-requires-2 c κs = search needs
-
-over-requires-2 : tie.Need-over-requires-2
-over-requires-2 c κs = search needs
-
 returns-2 : tie.Need-returns-2
 returns-2 c =
     let n = c .before .before .before .before .before in
     ways.one-by-one _ _ _ (Z (n .before)) (whole (n .before)) _ refl (rw (c .before .before .one-by-one .ensures) at (c .over2 .ensures ∙ horner-is (c .before .before .one-by-one .result) (c .before .sums2 .result) _ (c .before .sums2 .ensures)))
 
 pub at-spec : {M : Type 1} → statement M
-at-spec = tie.close (tie.spec floor-requires int-to-float-mu sub-run-start run-start-requires add-if2 side-by-side-requires sums-requires over-requires returns one-by-one-requires sums-requires-2 over-requires-2 returns-2)
+at-spec = tie.close (tie.spec (λ c κs. search needs) int-to-float-mu sub-run-start (λ c κs. search needs) add-if2 (λ c κs. search needs) (λ c κs. search needs) (λ c κs. search needs) returns one-by-one-requires (λ c κs. search needs) (λ c κs. search needs) returns-2)

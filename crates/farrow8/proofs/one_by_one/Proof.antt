@@ -23,47 +23,23 @@ near c k h = rw (word c) (sum-fits (c .args .i) k (omega (arith, c .pre)))
 sub-tap : tie.Need-sub-tap
 sub-tap c = near (c .before) (negsuc 2) (lit≤ tt)
 
-tap-requires : tie.Need-tap-requires
-tap-requires c κs = search needs
-
 sub-tap-2 : tie.Need-sub-tap-2
 sub-tap-2 c = near (c .before .before) (negsuc 1) (lit≤ tt)
-
-tap-requires-2 : tie.Need-tap-requires-2
-tap-requires-2 c κs = search needs
 
 sub-tap-3 : tie.Need-sub-tap-3
 sub-tap-3 c = near (c .before .before .before) (negsuc 0) (lit≤ tt)
 
-tap-requires-3 : tie.Need-tap-requires-3
-tap-requires-3 c κs = search needs
-
-tap-requires-4 : tie.Need-tap-requires-4
-tap-requires-4 c κs = search needs
-
 add-tap : tie.Need-add-tap
 add-tap c = near (c .before .before .before .before .before) (pos 1) (lit≤ tt)
-
-tap-requires-5 : tie.Need-tap-requires-5
-tap-requires-5 c κs = search needs
 
 add-tap-2 : tie.Need-add-tap-2
 add-tap-2 c = near (c .before .before .before .before .before .before) (pos 2) (lit≤ tt)
 
-tap-requires-6 : tie.Need-tap-requires-6
-tap-requires-6 c κs = search needs
-
 add-tap-3 : tie.Need-add-tap-3
 add-tap-3 c = near (c .before .before .before .before .before .before .before) (pos 3) (lit≤ tt)
 
-tap-requires-7 : tie.Need-tap-requires-7
-tap-requires-7 c κs = search needs
-
 add-tap-4 : tie.Need-add-tap-4
 add-tap-4 c = near (c .before .before .before .before .before .before .before .before) (pos 4) (lit≤ tt)
-
-tap-requires-8 : tie.Need-tap-requires-8
-tap-requires-8 c κs = search needs
 
 returns : tie.Need-returns
 returns c =
@@ -87,4 +63,4 @@ returns c =
     )
 
 pub one-by-one-spec : {M : Type 1} → statement M
-one-by-one-spec = tie.close (tie.spec sub-tap tap-requires sub-tap-2 tap-requires-2 sub-tap-3 tap-requires-3 tap-requires-4 add-tap tap-requires-5 add-tap-2 tap-requires-6 add-tap-3 tap-requires-7 add-tap-4 tap-requires-8 returns)
+one-by-one-spec = tie.close (tie.spec sub-tap (λ c κs. search needs) sub-tap-2 (λ c κs. search needs) sub-tap-3 (λ c κs. search needs) (λ c κs. search needs) add-tap (λ c κs. search needs) add-tap-2 (λ c κs. search needs) add-tap-3 (λ c κs. search needs) add-tap-4 (λ c κs. search needs) returns)

@@ -4,17 +4,11 @@ use Rattle.farrow8.proofs.Steps.{less-itself}
 use Rattle.farrow8.proofs.over.Statement.{statement}
 use Rattle.farrow8.proofs.over.Tie as tie
 
-quick-requires : tie.Need-quick-requires
-quick-requires c κs = search needs
-
 returns : tie.Need-returns
 returns c = c .before .quick .ensures (less-itself (c .before .quick .result) (c .if1 .taken))
-
-slow-requires : tie.Need-slow-requires
-slow-requires c κs = search needs
 
 returns-2 : tie.Need-returns-2
 returns-2 c = c .slow .ensures
 
 pub over-spec : {M : Type 1} → statement M
-over-spec = tie.close (tie.spec quick-requires returns slow-requires returns-2)
+over-spec = tie.close (tie.spec (λ c κs. search needs) returns (λ c κs. search needs) returns-2)

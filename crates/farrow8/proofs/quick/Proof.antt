@@ -6,27 +6,6 @@ use Rattle.farrow8.specs.Kernel.{step}
 use Rattle.farrow8.proofs.quick.Statement.{statement}
 use Rattle.farrow8.proofs.quick.Tie as tie
 
-near-fused-requires : tie.Need-near-fused-requires
-near-fused-requires c κs = search needs
-
-near-fused-requires-2 : tie.Need-near-fused-requires-2
-near-fused-requires-2 c κs = search needs
-
-near-fused-requires-3 : tie.Need-near-fused-requires-3
-near-fused-requires-3 c κs = search needs
-
-near-fused-requires-4 : tie.Need-near-fused-requires-4
-near-fused-requires-4 c κs = search needs
-
-near-fused-requires-5 : tie.Need-near-fused-requires-5
-near-fused-requires-5 c κs = search needs
-
-near-fused-requires-6 : tie.Need-near-fused-requires-6
-near-fused-requires-6 c κs = search needs
-
-near-fused-requires-7 : tie.Need-near-fused-requires-7
-near-fused-requires-7 c κs = search needs
-
 returns : tie.Need-returns
 returns c = λ f7.
     let a = c .before .before .before .before .before .before .before .args in
@@ -45,4 +24,4 @@ returns c = λ f7.
     c .near-fused7 .ensures .is f7 ∙ ap (λ (z : Float). step (a .mu) z (a .s .s0)) e6
 
 pub quick-spec : {M : Type 1} → statement M
-quick-spec = tie.close (tie.spec near-fused-requires near-fused-requires-2 near-fused-requires-3 near-fused-requires-4 near-fused-requires-5 near-fused-requires-6 near-fused-requires-7 returns)
+quick-spec = tie.close (tie.spec (λ c κs. search needs) (λ c κs. search needs) (λ c κs. search needs) (λ c κs. search needs) (λ c κs. search needs) (λ c κs. search needs) (λ c κs. search needs) returns)

@@ -5,17 +5,8 @@ use lib.Ieee.{ofBits}
 use Rattle.farrow8.proofs.sample.Statement.{statement}
 use Rattle.farrow8.proofs.sample.Tie as tie
 
-position-ok-requires : tie.Need-position-ok-requires
-position-ok-requires c κs = search needs
-
 at-requires : tie.Need-at-requires
 at-requires c κs = sym (c .before .position-ok .ensures) ∙ c .if1 .taken
-
-answered-requires : tie.Need-answered-requires
-answered-requires c κs = search needs
-
-answered-requires-2 : tie.Need-answered-requires-2
-answered-requires-2 c κs = search needs
 
 returns : tie.Need-returns
 returns c = rw (c .answered .ensures, c .before .at .ensures, ← c .before .before .before .position-ok .ensures, c .before .before .if1 .taken)
@@ -25,4 +16,4 @@ unfolding ofBits
 returns-2 c = rw (c .answered2 .ensures, ← c .before .before .position-ok .ensures, c .before .if1 .left)
 
 pub sample-spec : {M : Type 1} → statement M
-sample-spec = tie.close (tie.spec position-ok-requires at-requires answered-requires answered-requires-2 returns returns-2)
+sample-spec = tie.close (tie.spec (λ c κs. search needs) at-requires (λ c κs. search needs) (λ c κs. search needs) returns returns-2)

@@ -6,27 +6,6 @@ use Rattle.farrow8.specs.Kernel.{step}
 use Rattle.farrow8.proofs.slow.Statement.{statement}
 use Rattle.farrow8.proofs.slow.Tie as tie
 
-fused64-requires : tie.Need-fused64-requires
-fused64-requires c κs = search needs
-
-fused64-requires-2 : tie.Need-fused64-requires-2
-fused64-requires-2 c κs = search needs
-
-fused64-requires-3 : tie.Need-fused64-requires-3
-fused64-requires-3 c κs = search needs
-
-fused64-requires-4 : tie.Need-fused64-requires-4
-fused64-requires-4 c κs = search needs
-
-fused64-requires-5 : tie.Need-fused64-requires-5
-fused64-requires-5 c κs = search needs
-
-fused64-requires-6 : tie.Need-fused64-requires-6
-fused64-requires-6 c κs = search needs
-
-fused64-requires-7 : tie.Need-fused64-requires-7
-fused64-requires-7 c κs = search needs
-
 returns : tie.Need-returns
 returns c =
     let a = c .before .before .before .before .before .before .before .args in
@@ -39,4 +18,4 @@ returns c =
     c .fused647 .ensures ∙ ap (λ (z : Float). step (a .mu) z (a .s .s0)) e6
 
 pub slow-spec : {M : Type 1} → statement M
-slow-spec = tie.close (tie.spec fused64-requires fused64-requires-2 fused64-requires-3 fused64-requires-4 fused64-requires-5 fused64-requires-6 fused64-requires-7 returns)
+slow-spec = tie.close (tie.spec (λ c κs. search needs) (λ c κs. search needs) (λ c κs. search needs) (λ c κs. search needs) (λ c κs. search needs) (λ c κs. search needs) (λ c κs. search needs) returns)

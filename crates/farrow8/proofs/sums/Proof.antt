@@ -7,51 +7,6 @@ use Rattle.farrow8.specs.Kernel.{dotOf}
 use Rattle.farrow8.proofs.sums.Statement.{statement}
 use Rattle.farrow8.proofs.sums.Tie as tie
 
-column-requires : tie.Need-column-requires
-column-requires c κs = search needs
-
-dot-requires : tie.Need-dot-requires
-dot-requires c κs = search needs
-
-column-requires-2 : tie.Need-column-requires-2
-column-requires-2 c κs = search needs
-
-dot-requires-2 : tie.Need-dot-requires-2
-dot-requires-2 c κs = search needs
-
-column-requires-3 : tie.Need-column-requires-3
-column-requires-3 c κs = search needs
-
-dot-requires-3 : tie.Need-dot-requires-3
-dot-requires-3 c κs = search needs
-
-column-requires-4 : tie.Need-column-requires-4
-column-requires-4 c κs = search needs
-
-dot-requires-4 : tie.Need-dot-requires-4
-dot-requires-4 c κs = search needs
-
-column-requires-5 : tie.Need-column-requires-5
-column-requires-5 c κs = search needs
-
-dot-requires-5 : tie.Need-dot-requires-5
-dot-requires-5 c κs = search needs
-
-column-requires-6 : tie.Need-column-requires-6
-column-requires-6 c κs = search needs
-
-dot-requires-6 : tie.Need-dot-requires-6
-dot-requires-6 c κs = search needs
-
-column-requires-7 : tie.Need-column-requires-7
-column-requires-7 c κs = search needs
-
-dot-requires-7 : tie.Need-dot-requires-7
-dot-requires-7 c κs = search needs
-
-array-read-t27 : tie.Need-array-read-t27
-array-read-t27 c = search needs
-
 power-2 : (c : tie.After-column) → c .column .result ≡ columnIn quotients 2
 unfolding quotients div ofInt ofBits
 power-2 c = c .column .ensures
@@ -96,4 +51,4 @@ returns c =
 
 pub sums-spec : {M : Type 1} → statement M
 sums-spec =
-    tie.close (tie.spec column-requires dot-requires column-requires-2 dot-requires-2 column-requires-3 dot-requires-3 column-requires-4 dot-requires-4 column-requires-5 dot-requires-5 column-requires-6 dot-requires-6 column-requires-7 dot-requires-7 array-read-t27 returns)
+    tie.close (tie.spec (λ c κs. search needs) (λ c κs. search needs) (λ c κs. search needs) (λ c κs. search needs) (λ c κs. search needs) (λ c κs. search needs) (λ c κs. search needs) (λ c κs. search needs) (λ c κs. search needs) (λ c κs. search needs) (λ c κs. search needs) (λ c κs. search needs) (λ c κs. search needs) (λ c κs. search needs) (λ c. search needs) returns)

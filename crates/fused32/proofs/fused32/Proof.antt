@@ -16,15 +16,6 @@ held-b c = subst T (sym (c .good .1 .0 .1)) tt
 held-c : (c : tie.Start) → T (fits binary32 (c .args .c))
 held-c c = subst T (sym (c .good .1 .1 .0 .1)) tt
 
-f32-to-f64-with-nan-requires : tie.Need-f32-to-f64-with-nan-requires
-f32-to-f64-with-nan-requires c κs = search needs
-
-f32-to-f64-with-nan-requires-2 : tie.Need-f32-to-f64-with-nan-requires-2
-f32-to-f64-with-nan-requires-2 c κs = search needs
-
-f32-to-f64-with-nan-requires-3 : tie.Need-f32-to-f64-with-nan-requires-3
-f32-to-f64-with-nan-requires-3 c κs = search needs
-
 join-requires : tie.Need-join-requires
 join-requires c κs =
     let s = c .before .before .before in
@@ -41,10 +32,4 @@ returns c =
 
 pub fused32-spec : {M : Type 1} → statement M
 fused32-spec =
-    tie.close
-    (tie.spec
-    f32-to-f64-with-nan-requires
-    f32-to-f64-with-nan-requires-2
-    f32-to-f64-with-nan-requires-3
-    join-requires
-    returns)
+    tie.close (tie.spec (λ c κs. search needs) (λ c κs. search needs) (λ c κs. search needs) join-requires returns)

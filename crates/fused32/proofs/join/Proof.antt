@@ -21,12 +21,6 @@ second c =
     let a = c .before .before in
     a .pre .1 (both (a .args .p) (a .args .c) (c .before .is-clear .ensures .plain (c .if1 .left)) .1)
 
-is-clear-requires : tie.Need-is-clear-requires
-is-clear-requires c κs = search needs
-
-narrow-requires : tie.Need-narrow-requires
-narrow-requires c κs = search needs
-
 returns : tie.Need-returns
 returns c =
     let a = c .before .before .before in
@@ -34,9 +28,6 @@ returns c =
 
 positive-sum-requires : tie.Need-positive-sum-requires
 positive-sum-requires c κs = record { first = first (c .before); second = second (c .before); is = refl; above = c .if2 .taken }
-
-returns-2 : tie.Need-returns-2
-returns-2 c = search needs
 
 positive-sum-requires-2 : tie.Need-positive-sum-requires-2
 positive-sum-requires-2 c κs =
@@ -55,9 +46,6 @@ returns-3 c =
     let a = e .before .before in
     ap neg (c .positive-sum2 .ensures ∙ negatives (a .args .p) (a .args .c) (first e) (second e) (c .before .if3 .taken) binary32) ∙ neg-neg (add binary32 (a .args .p) (a .args .c))
 
-narrow-requires-2 : tie.Need-narrow-requires-2
-narrow-requires-2 c κs = search needs
-
 returns-4 : tie.Need-returns-4
 returns-4 c =
     let e = c .before .before .before in
@@ -66,14 +54,4 @@ returns-4 c =
 
 pub join-spec : {M : Type 1} → statement M
 join-spec =
-    tie.close
-    (tie.spec
-    is-clear-requires
-    narrow-requires
-    returns
-    positive-sum-requires
-    returns-2
-    positive-sum-requires-2
-    returns-3
-    narrow-requires-2
-    returns-4)
+    tie.close (tie.spec (λ c κs. search needs) (λ c κs. search needs) returns positive-sum-requires (λ c. search needs) positive-sum-requires-2 returns-3 (λ c κs. search needs) returns-4)

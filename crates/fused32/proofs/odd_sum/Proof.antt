@@ -9,9 +9,6 @@ use Rattle.fused32.proofs.OddSum.{same-code, odd-code, up-code, down-co
 use Rattle.fused32.proofs.odd_sum.Statement.{statement}
 use Rattle.fused32.proofs.odd_sum.Tie as tie
 
-narrow-requires : tie.Need-narrow-requires
-narrow-requires c κs = search needs
-
 returns : tie.Need-returns
 returns c =
     let a = c .before .before in
@@ -21,9 +18,6 @@ float-to-bits-n : tie.Need-float-to-bits-n
 float-to-bits-n c =
     let a = c .before in
     s-no-nan (a .args .x) (a .args .y) (a .args .s) (a .pre .0) (a .pre .1)
-
-narrow-requires-2 : tie.Need-narrow-requires-2
-narrow-requires-2 c κs = search needs
 
 returns-2 : tie.Need-returns-2
 returns-2 c =
@@ -40,9 +34,6 @@ float-from-bits-narrow c =
     let a = c .before .before .before in
     rest-no-nan binary64 (toBits binary64 (a .args .s) + 1) (omega (arith, s-bits (a .args .x) (a .args .y) (a .args .s) (a .pre .0) (a .pre .1)))
 
-narrow-requires-3 : tie.Need-narrow-requires-3
-narrow-requires-3 c κs = search needs
-
 returns-3 : tie.Need-returns-3
 returns-3 c =
     let a = c .before .before .before .before in
@@ -58,9 +49,6 @@ float-from-bits-narrow-2 c =
     let a = c .before .before .before in
     rest-no-nan binary64 (toBits binary64 (a .args .s) - 1) (omega (arith, s-bits (a .args .x) (a .args .y) (a .args .s) (a .pre .0) (a .pre .1)))
 
-narrow-requires-4 : tie.Need-narrow-requires-4
-narrow-requires-4 c κs = search needs
-
 returns-4 : tie.Need-returns-4
 returns-4 c =
     let a = c .before .before .before .before in
@@ -69,18 +57,4 @@ returns-4 c =
 
 pub odd-sum-spec : {M : Type 1} → statement M
 odd-sum-spec =
-    tie.close
-    (tie.spec
-    narrow-requires
-    returns
-    float-to-bits-n
-    narrow-requires-2
-    returns-2
-    add-narrow
-    float-from-bits-narrow
-    narrow-requires-3
-    returns-3
-    sub-narrow
-    float-from-bits-narrow-2
-    narrow-requires-4
-    returns-4)
+    tie.close (tie.spec (λ c κs. search needs) returns float-to-bits-n (λ c κs. search needs) returns-2 add-narrow float-from-bits-narrow (λ c κs. search needs) returns-3 sub-narrow float-from-bits-narrow-2 (λ c κs. search needs) returns-4)

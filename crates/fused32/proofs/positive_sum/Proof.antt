@@ -25,8 +25,5 @@ odd-sum-requires-2 c κs =
     let h = a .pre in
     (first-larger (a .args .p) (a .args .c) (h .first) (h .second) (ap (lt (ofBits binary64 0)) (sym (h .is)) ∙ h .above) (c .if1 .left), h .is)
 
-returns-2 : tie.Need-returns-2
-returns-2 c = search needs
-
 pub positive-sum-spec : {M : Type 1} → statement M
-positive-sum-spec = tie.close (tie.spec odd-sum-requires returns odd-sum-requires-2 returns-2)
+positive-sum-spec = tie.close (tie.spec odd-sum-requires returns odd-sum-requires-2 (λ c. search needs))

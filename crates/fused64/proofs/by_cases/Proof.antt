@@ -16,20 +16,11 @@ both c = sym (c .before .both-plain .ensures) ∙ c .if1 .taken
 neither : (c : tie.Else2) → plain (c .before .before .before .before .args .c) ≡ false
 neither c = sym (c .before .is-plain .ensures) ∙ c .if2 .left
 
-both-plain-requires : tie.Need-both-plain-requires
-both-plain-requires c κs = search needs
-
-is-plain-requires : tie.Need-is-plain-requires
-is-plain-requires c κs = search needs
-
 fused-plain-requires : tie.Need-fused-plain-requires
 fused-plain-requires c κs =
     let a = c .before .before .before .before .args in
     let t : T (plain (a .a) && plain (a .b)) = rw (both (c .before .before)) tt in
     (is-true (plain (a .a)) (and-l (plain (a .a)) (plain (a .b)) t), (is-true (plain (a .b)) (and-r (plain (a .a)) (plain (a .b)) t), sym (c .before .is-plain .ensures) ∙ c .if2 .taken))
-
-returns : tie.Need-returns
-returns c = search needs
 
 returns-2 : tie.Need-returns-2
 returns-2 c =
@@ -48,12 +39,4 @@ returns-4 c =
 
 pub by-cases-spec : {M : Type 1} → statement M
 by-cases-spec =
-    tie.close
-    (tie.spec
-    both-plain-requires
-    is-plain-requires
-    fused-plain-requires
-    returns
-    returns-2
-    returns-3
-    returns-4)
+    tie.close (tie.spec (λ c κs. search needs) (λ c κs. search needs) fused-plain-requires (λ c. search needs) returns-2 returns-3 returns-4)

@@ -27,15 +27,6 @@ float-to-bits-quick-2 c = parts c .1
 float-to-bits-quick-3 : tie.Need-float-to-bits-quick-3
 float-to-bits-quick-3 c = parts c .2
 
-quick-requires : tie.Need-quick-requires
-quick-requires c κs = search needs
-
-by-cases-requires : tie.Need-by-cases-requires
-by-cases-requires c κs = search needs
-
-returns : tie.Need-returns
-returns c = search needs
-
 float-from-bits-result : tie.Need-float-from-bits-result
 float-from-bits-result c = rest-no-nan binary64 (c .before .quick .result) (found c .finite)
 
@@ -46,23 +37,6 @@ returns-2 c =
     let p = parts t in
     quick-fused (a .args .a) (a .args .b) (a .args .c) (subst T (sym (a .good .0 .1)) tt) (subst T (sym (a .good .1 .0 .1)) tt) (subst T (sym (a .good .1 .1 .0 .1)) tt) (p .0) (p .1) (p .2) (c .before .quick .result) (found c)
 
-by-cases-requires-2 : tie.Need-by-cases-requires-2
-by-cases-requires-2 c κs = search needs
-
-returns-3 : tie.Need-returns-3
-returns-3 c = search needs
-
 pub fused64-spec : {M : Type 1} → statement M
 fused64-spec =
-    tie.close
-    (tie.spec
-    float-to-bits-quick
-    float-to-bits-quick-2
-    float-to-bits-quick-3
-    quick-requires
-    by-cases-requires
-    returns
-    float-from-bits-result
-    returns-2
-    by-cases-requires-2
-    returns-3)
+    tie.close (tie.spec float-to-bits-quick float-to-bits-quick-2 float-to-bits-quick-3 (λ c κs. search needs) (λ c κs. search needs) (λ c. search needs) float-from-bits-result returns-2 (λ c κs. search needs) (λ c. search needs))

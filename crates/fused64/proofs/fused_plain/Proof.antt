@@ -28,20 +28,11 @@ third c = taken (c .before .before .before .args .c) (c .unpack3 .result) (c .be
 float-to-bits-unpack : tie.Need-float-to-bits-unpack
 float-to-bits-unpack c = plain-no-nan (c .args .a) (rw (c .pre .0) tt)
 
-unpack-requires : tie.Need-unpack-requires
-unpack-requires c κs = search needs
-
 float-to-bits-unpack-2 : tie.Need-float-to-bits-unpack-2
 float-to-bits-unpack-2 c = plain-no-nan (c .before .args .b) (rw (c .before .pre .1 .0) tt)
 
-unpack-requires-2 : tie.Need-unpack-requires-2
-unpack-requires-2 c κs = search needs
-
 float-to-bits-unpack-3 : tie.Need-float-to-bits-unpack-3
 float-to-bits-unpack-3 c = plain-no-nan (c .before .before .args .c) (rw (c .before .before .pre .1 .1) tt)
-
-unpack-requires-3 : tie.Need-unpack-requires-3
-unpack-requires-3 c κs = search needs
 
 product-requires : tie.Need-product-requires
 product-requires c κs = (first (c .before .before) .below, second (c .before) .below)
@@ -79,17 +70,4 @@ returns c =
 
 pub fused-plain-spec : {M : Type 1} → statement M
 fused-plain-spec =
-    tie.close
-    (tie.spec
-    float-to-bits-unpack
-    unpack-requires
-    float-to-bits-unpack-2
-    unpack-requires-2
-    float-to-bits-unpack-3
-    unpack-requires-3
-    product-requires
-    differ-requires
-    add-t11
-    add-t12
-    combined-requires
-    returns)
+    tie.close (tie.spec float-to-bits-unpack (λ c κs. search needs) float-to-bits-unpack-2 (λ c κs. search needs) float-to-bits-unpack-3 (λ c κs. search needs) product-requires differ-requires add-t11 add-t12 combined-requires returns)

@@ -12,18 +12,9 @@ use Rattle.integer_part.proofs.Outside.{beyond}
 use Rattle.integer_part.proofs.beyond.Statement.{statement}
 use Rattle.integer_part.proofs.beyond.Tie as tie
 
-within-requires : tie.Need-within-requires
-within-requires c κs = search needs
-
 stepped-requires : tie.Need-stepped-requires
 unfolding neg ofBits
 stepped-requires c κs = within-at-most (2 ^ 52) _ (c .before .before .args .x) _ (lit≤ tt) (lit≤ tt) (sym (c .before .within .ensures) ∙ c .if1 .taken)
-
-truncated-requires : tie.Need-truncated-requires
-truncated-requires c κs = search needs
-
-returns : tie.Need-returns
-returns c = search needs
 
 returns-2 : tie.Need-returns-2
 unfolding neg ofBits
@@ -34,4 +25,4 @@ returns-2 c =
     ∙ beyond (start .args .x) (passes (fits binary64 (start .args .x)) (start .good .0 .1)) (sym (c .before .before .within .ensures) ∙ c .before .if1 .left)
 
 pub beyond-spec : {M : Type 1} → statement M
-beyond-spec = tie.close (tie.spec within-requires stepped-requires truncated-requires returns returns-2)
+beyond-spec = tie.close (tie.spec (λ c κs. search needs) stepped-requires (λ c κs. search needs) (λ c. search needs) returns-2)

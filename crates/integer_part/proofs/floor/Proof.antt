@@ -17,9 +17,6 @@ use Rattle.integer_part.proofs.Floors.{floor-mag}
 use Rattle.integer_part.proofs.floor.Statement.{statement}
 use Rattle.integer_part.proofs.floor.Tie as tie
 
-within-requires : tie.Need-within-requires
-within-requires c κs = search needs
-
 small : (c : tie.Then1) → AtMost (2 ^ 36) (c .before .before .args .x)
 unfolding neg ofBits
 small c = within-at-most (2 ^ 36) _ (c .before .before .args .x) _ (lit≤ tt) (lit≤ tt) (sym (c .before .within .ensures) ∙ c .if1 .taken)
@@ -33,14 +30,8 @@ held c = le-trans (floor-mag (2 ^ 36) _ (lit< tt) (small (c .before .before))) (
 float-to-int-result : tie.Need-float-to-int-result
 float-to-int-result c = rw (c .before .floored .ensures) (cast-back _ (held c) .0)
 
-beyond-requires : tie.Need-beyond-requires
-beyond-requires c κs = search needs
-
 returns : tie.Need-returns
 returns c = toZ-ofZ w64 _ (record { sfits = toSigned-in 63 (c .before .floored .result) }) ∙ ap (toSigned 63) (c .before .floored .ensures) ∙ cast-back _ (held c) .1
 
-returns-2 : tie.Need-returns-2
-returns-2 c = search needs
-
 pub floor-spec : {M : Type 1} → statement M
-floor-spec = tie.close (tie.spec within-requires floored-requires float-to-int-result beyond-requires returns returns-2)
+floor-spec = tie.close (tie.spec (λ c κs. search needs) floored-requires float-to-int-result (λ c κs. search needs) returns (λ c. search needs))

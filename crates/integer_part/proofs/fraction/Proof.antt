@@ -11,18 +11,9 @@ use Rattle.integer_part.specs.Parts.{fractionOf}
 use Rattle.integer_part.proofs.fraction.Statement.{statement}
 use Rattle.integer_part.proofs.fraction.Tie as tie
 
-within-requires : tie.Need-within-requires
-within-requires c κs = search needs
-
 floored-requires : tie.Need-floored-requires
 unfolding neg ofBits
 floored-requires c κs = within-at-most (2 ^ 36) _ (c .before .before .args .x) _ (lit≤ tt) (lit≤ tt) (sym (c .before .within .ensures) ∙ c .if1 .taken)
-
-beyond-requires : tie.Need-beyond-requires
-beyond-requires c κs = search needs
-
-nearest-i64-to-f64-requires : tie.Need-nearest-i64-to-f64-requires
-nearest-i64-to-f64-requires c κs = search needs
 
 returns : tie.Need-returns
 unfolding fractionOf
@@ -35,4 +26,4 @@ returns-2 c =
     ap (sub binary64 (c .before .before .before .before .args .x)) (c .nearest-i64-to-f64 .ensures ∙ ap (ofInt binary64) integer)
 
 pub fraction-spec : {M : Type 1} → statement M
-fraction-spec = tie.close (tie.spec within-requires floored-requires beyond-requires nearest-i64-to-f64-requires returns returns-2)
+fraction-spec = tie.close (tie.spec (λ c κs. search needs) floored-requires (λ c κs. search needs) (λ c κs. search needs) returns returns-2)

@@ -10,9 +10,6 @@ truncating-f64-to-i64-requires : tie.Need-truncating-f64-to-i64-requires
 unfolding neg ofBits
 truncating-f64-to-i64-requires c κs = (passes _ (c .if2 .taken), passes _ (c .before .if1 .taken))
 
-returns : tie.Need-returns
-returns c = search needs
-
 returns-2 : tie.Need-returns-2
 unfolding neg ofBits
 returns-2 c = under (c .before .before .args .x) (c .before .if1 .taken) (c .if2 .left)
@@ -25,4 +22,4 @@ returns-4 : tie.Need-returns-4
 returns-4 c = unordered (c .before .before .args .x) (c .if3 .left)
 
 pub truncated-spec : {M : Type 1} → statement M
-truncated-spec = tie.close (tie.spec truncating-f64-to-i64-requires returns returns-2 returns-3 returns-4)
+truncated-spec = tie.close (tie.spec truncating-f64-to-i64-requires (λ c. search needs) returns-2 returns-3 returns-4)

@@ -4,12 +4,6 @@ use mathlib.Core.Path.{_∙_, sym}
 use Rattle.lagrange.proofs.in_range.Statement.{statement}
 use Rattle.lagrange.proofs.in_range.Tie as tie
 
-taps-ok-requires : tie.Need-taps-ok-requires
-taps-ok-requires c κs = search needs
-
-position-ok-requires : tie.Need-position-ok-requires
-position-ok-requires c κs = search needs
-
 returns : tie.Need-returns
 returns c = rw (← c .before .before .taps-ok .ensures, c .before .if1 .taken) (c .position-ok .ensures)
 
@@ -17,4 +11,4 @@ returns-2 : tie.Need-returns-2
 returns-2 c = rw (← c .before .taps-ok .ensures, c .if1 .left)
 
 pub in-range-spec : {M : Type 1} → statement M
-in-range-spec = tie.close (tie.spec taps-ok-requires position-ok-requires returns returns-2)
+in-range-spec = tie.close (tie.spec (λ c κs. search needs) (λ c κs. search needs) returns returns-2)

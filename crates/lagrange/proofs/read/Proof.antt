@@ -18,21 +18,12 @@ use Rattle.integer_part.proofs.Shifted.{small, minus-mag, minus-fits}
 use Rattle.lagrange.proofs.read.Statement.{statement}
 use Rattle.lagrange.proofs.read.Tie as tie
 
-in-range-requires : tie.Need-in-range-requires
-in-range-requires c κs = search needs
-
-floor-requires : tie.Need-floor-requires
-floor-requires c κs = search needs
-
 -- what the test says
 ranges : (c : tie.Then1) → let a = c .before .before .before .args in Within (a .taps) (a .position)
 ranges c = within _ _ (sym (c .before .in-range .ensures) ∙ c .if1 .taken)
 
 sub-base : tie.Need-sub-base
 sub-base c = let r = ranges (c .before) in omega (arith, r .least)
-
-cast-base : tie.Need-cast-base
-cast-base c = search needs
 
 -- the base as the machine has it
 exact : (c : tie.After-floor) → let a = c .before .before .before .before .args in
@@ -50,9 +41,6 @@ sub-base-2 c =
     let a = c .before .before .before .before .args in
     let r = ranges (c .before) in
     subst (λ (z : ℤ). SFits w64 z) (sym (exact c)) (minus-fits (floorOf (a .position)) (a .taps / 2 - 1) (omega (arith, floor-near c, r .most)))
-
-nearest-i64-to-f64-requires : tie.Need-nearest-i64-to-f64-requires
-nearest-i64-to-f64-requires c κs = search needs
 
 based : (c : tie.After-floor) → let a = c .before .before .before .before .args in
     toZ w64 (ofZ w64 (toZ w64 (ofZ w64 (c .floor .result)) -ℤ toZ w64 (a .taps / 2 - 1))) ≡ baseOf (a .position) (a .taps)
@@ -81,4 +69,4 @@ returns-2 : tie.Need-returns-2
 returns-2 c = rw (← c .before .in-range .ensures, c .if1 .left) nothing
 
 pub read-spec : {M : Type 1} → statement M
-read-spec = tie.close (tie.spec in-range-requires floor-requires sub-base cast-base sub-base-2 nearest-i64-to-f64-requires sum-requires returns returns-2)
+read-spec = tie.close (tie.spec (λ c κs. search needs) (λ c κs. search needs) sub-base (λ c. search needs) sub-base-2 (λ c κs. search needs) sum-requires returns returns-2)

@@ -8,15 +8,6 @@ use Rattle.lagrange.specs.Kernel.{readOf}
 use Rattle.lagrange.proofs.sample.Statement.{statement}
 use Rattle.lagrange.proofs.sample.Tie as tie
 
-in-range-requires : tie.Need-in-range-requires
-in-range-requires c κs = search needs
-
-read-requires : tie.Need-read-requires
-read-requires c κs = search needs
-
-answered-requires : tie.Need-answered-requires
-answered-requires c κs = search needs
-
 returns : tie.Need-returns
 returns c =
     let t = c .before .before in
@@ -25,11 +16,8 @@ returns c =
     ∙ ap (answerOf 0) (c .before .read .ensures)
     ∙ ap (λ (b : Bool). answerOf (cond b 0 1) (readOf (a .taps) (now (a .source)) (a .count) (a .position))) (sym (t .if1 .taken) ∙ t .before .in-range .ensures)
 
-answered-requires-2 : tie.Need-answered-requires-2
-answered-requires-2 c κs = search needs
-
 returns-2 : tie.Need-returns-2
 returns-2 c = rw (← c .before .before .in-range .ensures, c .before .if1 .left) (c .answered2 .ensures)
 
 pub sample-spec : {M : Type 1} → statement M
-sample-spec = tie.close (tie.spec in-range-requires read-requires answered-requires answered-requires-2 returns returns-2)
+sample-spec = tie.close (tie.spec (λ c κs. search needs) (λ c κs. search needs) (λ c κs. search needs) (λ c κs. search needs) returns returns-2)

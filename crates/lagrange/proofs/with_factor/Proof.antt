@@ -11,14 +11,8 @@ use Rattle.lagrange.proofs.with_factor.Tie as tie
 returns : tie.Need-returns
 returns c = rw (eq-eqb _ _ (c .if1 .taken))
 
-cast-own : tie.Need-cast-own
-cast-own c = search needs
-
 int-to-float-own : tie.Need-int-to-float-own
 int-to-float-own c = let k = c .before .before .args .k in rw (small k (omega arith)) (in-float (pos k) (omega arith))
-
-cast-other : tie.Need-cast-other
-cast-other c = search needs
 
 int-to-float-other : tie.Need-int-to-float-other
 int-to-float-other c = let j = c .before .before .before .args .j in rw (small j (omega arith)) (in-float (pos j) (omega arith))
@@ -27,4 +21,4 @@ returns-2 : tie.Need-returns-2
 returns-2 c = let e = c .before .before in let a = e .before .args in rw (small (a .k) (omega arith), small (a .j) (omega arith), ne-eqb _ _ (e .if1 .left))
 
 pub with-factor-spec : {M : Type 1} → statement M
-with-factor-spec = tie.close (tie.spec returns cast-own int-to-float-own cast-other int-to-float-other returns-2)
+with-factor-spec = tie.close (tie.spec returns (λ c. search needs) int-to-float-own (λ c. search needs) int-to-float-other returns-2)

@@ -13,9 +13,6 @@ use Rattle.narrowing.proofs.magnitude.Tie as tie
 returns : tie.Need-returns
 returns c = over-code (c .before .before .args .b) (omega arith) (omega arith)
 
-sub-result : tie.Need-sub-result
-sub-result c = search needs
-
 add-result : tie.Need-add-result
 add-result c = omega (arith, mask-lt (c .before .before .args .b / 2 ^ 29) 1)
 
@@ -43,15 +40,4 @@ returns-3 c = low-code (c .before .args .b) (omega arith)
 
 pub magnitude-spec : {M : Type 1} → statement M
 magnitude-spec =
-    tie.close
-    (tie.spec
-    returns
-    sub-result
-    add-result
-    add-result-2
-    returns-2
-    float-from-bits-result
-    float-from-bits-result-2
-    float-to-bits-result
-    sub-result-2
-    returns-3)
+    tie.close (tie.spec returns (λ c. search needs) add-result add-result-2 returns-2 float-from-bits-result float-from-bits-result-2 float-to-bits-result sub-result-2 returns-3)

@@ -20,9 +20,6 @@ float-to-bits-n c = differs-no-nan (c .before .args .x) (c .if1 .left)
 magnitude-requires : tie.Need-magnitude-requires
 magnitude-requires c κs = size-of (c .before .args .x) (held (c .before)) (c .if1 .left)
 
-add-result : tie.Need-add-result
-add-result c = search needs
-
 cast-result : tie.Need-cast-result
 cast-result c = record { fits = joined-lt (c .before .before .args .x) (held (c .before .before)) (c .magnitude .result) (c .magnitude .ensures) }
 
@@ -34,12 +31,4 @@ returns-2 c = joined-reads (c .before .before .args .x) (held (c .before .before
 
 pub narrow-spec : {M : Type 1} → statement M
 narrow-spec =
-    tie.close
-    (tie.spec
-    returns
-    float-to-bits-n
-    magnitude-requires
-    add-result
-    cast-result
-    float-from-bits-result
-    returns-2)
+    tie.close (tie.spec returns float-to-bits-n magnitude-requires (λ c. search needs) cast-result float-from-bits-result returns-2)

@@ -8,9 +8,6 @@ use Rattle.near_fused.proofs.Tests.{cut-word, cut-no-nan}
 use Rattle.near_fused.proofs.high.Statement.{statement}
 use Rattle.near_fused.proofs.high.Tie as tie
 
-float-to-bits-result : tie.Need-float-to-bits-result
-float-to-bits-result c = search needs
-
 held : (c : tie.Start) → T (fits binary64 (c .args .x))
 held c = subst T (sym (c .good .0 .1)) tt
 
@@ -21,4 +18,4 @@ returns : tie.Need-returns
 returns c = ap (ofBits binary64) (cut-word (c .args .x) (held c) (c .pre))
 
 pub high-spec : {M : Type 1} → statement M
-high-spec = tie.close (tie.spec float-to-bits-result float-from-bits-result returns)
+high-spec = tie.close (tie.spec (λ c. search needs) float-from-bits-result returns)

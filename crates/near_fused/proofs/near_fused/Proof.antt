@@ -9,12 +9,6 @@ use Rattle.near_fused.proofs.Answer.{fv, answer}
 use Rattle.near_fused.proofs.near_fused.Statement.{statement}
 use Rattle.near_fused.proofs.near_fused.Tie as tie
 
-inside-requires : tie.Need-inside-requires
-inside-requires c κs = search needs
-
-ordered-requires : tie.Need-ordered-requires
-ordered-requires c κs = search needs
-
 -- what the two tests found
 within : (c : tie.Then2) → Inside (c .before .before .before .before .args .mu)
 within c = c .before .before .before .inside .ensures (c .before .before .if1 .taken)
@@ -50,4 +44,4 @@ unfolding div ofBits
 returns-2 c = record { factor = λ f. absurd f; is = λ f. absurd f }
 
 pub near-fused-spec : {M : Type 1} → statement M
-near-fused-spec = tie.close (tie.spec inside-requires ordered-requires high-requires high-requires-2 size-requires size-requires-2 returns returns-2)
+near-fused-spec = tie.close (tie.spec (λ c κs. search needs) (λ c κs. search needs) high-requires high-requires-2 size-requires size-requires-2 returns returns-2)

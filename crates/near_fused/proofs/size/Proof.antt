@@ -9,9 +9,6 @@ use Rattle.near_fused.proofs.Tests.{size-no-nan}
 use Rattle.near_fused.proofs.size.Statement.{statement}
 use Rattle.near_fused.proofs.size.Tie as tie
 
-float-to-bits-result : tie.Need-float-to-bits-result
-float-to-bits-result c = search needs
-
 held : (c : tie.Start) → T (fits binary64 (c .args .x))
 held c = subst T (sym (c .good .0 .1)) tt
 
@@ -22,4 +19,4 @@ returns : tie.Need-returns
 returns c = ap (ofBits binary64) (and-mask (toBits binary64 (c .args .x)) 63)
 
 pub size-spec : {M : Type 1} → statement M
-size-spec = tie.close (tie.spec float-to-bits-result float-from-bits-result returns)
+size-spec = tie.close (tie.spec (λ c. search needs) float-from-bits-result returns)

@@ -12,8 +12,5 @@ returns c = sym quiet-f32 ∙ writes-nan binary32 (c .before .args .a) (c .if1 .
 float-to-bits-result : tie.Need-float-to-bits-result
 float-to-bits-result c = writes-number (c .before .args .a) (c .if1 .left)
 
-returns-2 : tie.Need-returns-2
-returns-2 c = search needs
-
 pub bits-of-f32-spec : {M : Type 1} → statement M
-bits-of-f32-spec = tie.close (tie.spec returns float-to-bits-result returns-2)
+bits-of-f32-spec = tie.close (tie.spec returns float-to-bits-result (λ c. search needs))

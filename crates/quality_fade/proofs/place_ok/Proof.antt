@@ -5,9 +5,6 @@ use Rattle.quality_fade.specs.Fade.{placeOk}
 use Rattle.quality_fade.proofs.place_ok.Statement.{statement}
 use Rattle.quality_fade.proofs.place_ok.Tie as tie
 
-same-requires : tie.Need-same-requires
-same-requires c κs = search needs
-
 returns : tie.Need-returns
 unfolding placeOk
 returns c = rw (sym (c .before .before .same .ensures) ∙ c .before .if1 .taken)
@@ -17,4 +14,4 @@ unfolding placeOk
 returns-2 c = rw (sym (c .before .before .same .ensures) ∙ c .before .if1 .left)
 
 pub place-ok-spec : {M : Type 1} → statement M
-place-ok-spec = tie.close (tie.spec same-requires returns returns-2)
+place-ok-spec = tie.close (tie.spec (λ c κs. search needs) returns returns-2)

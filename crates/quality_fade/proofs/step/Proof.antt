@@ -8,15 +8,6 @@ use Rattle.quality_fade.proofs.Kept.{Ready, ready, step-taken}
 use Rattle.quality_fade.proofs.step.Statement.{statement}
 use Rattle.quality_fade.proofs.step.Tie as tie
 
-length-ok-requires : tie.Need-length-ok-requires
-length-ok-requires c κs = search needs
-
-place-ok-requires : tie.Need-place-ok-requires
-place-ok-requires c κs = search needs
-
-ask-requires : tie.Need-ask-requires
-ask-requires c κs = search needs
-
 -- both tests passed
 placed : (c : tie.Then2) → placeOk (c .before .before .before .before .args .state) ≡ true
 placed c = sym (c .before .place-ok .ensures) ∙ c .if2 .taken
@@ -40,12 +31,4 @@ returns-3 c = rw (sym (c .before .length-ok .ensures) ∙ c .if1 .left)
 
 pub step-spec : {M : Type 1} → statement M
 step-spec =
-    tie.close
-    (tie.spec
-    length-ok-requires
-    place-ok-requires
-    ask-requires
-    turn-requires
-    returns
-    returns-2
-    returns-3)
+    tie.close (tie.spec (λ c κs. search needs) (λ c κs. search needs) (λ c κs. search needs) turn-requires returns returns-2 returns-3)

@@ -14,45 +14,6 @@ use Rattle.quality_variable_delay.specs.State.{fadePart}
 use Rattle.quality_variable_delay.proofs.refusal.Statement.{statement}
 use Rattle.quality_variable_delay.proofs.refusal.Tie as tie
 
-length-for-requires : tie.Need-length-for-requires
-length-for-requires c κs = search needs
-
-length-ok-requires : tie.Need-length-ok-requires
-length-ok-requires c κs = search needs
-
-both-requires : tie.Need-both-requires
-both-requires c κs = search needs
-
-both-requires-2 : tie.Need-both-requires-2
-both-requires-2 c κs = search needs
-
-both-requires-3 : tie.Need-both-requires-3
-both-requires-3 c κs = search needs
-
-fading-requires : tie.Need-fading-requires
-fading-requires c κs = search needs
-
-place-ok-requires : tie.Need-place-ok-requires
-place-ok-requires c κs = search needs
-
-both-requires-4 : tie.Need-both-requires-4
-both-requires-4 c κs = search needs
-
-is-finite-f32-requires : tie.Need-is-finite-f32-requires
-is-finite-f32-requires c κs = search needs
-
-is-finite-requires : tie.Need-is-finite-requires
-is-finite-requires c κs = search needs
-
-both-requires-5 : tie.Need-both-requires-5
-both-requires-5 c κs = search needs
-
-is-number-requires : tie.Need-is-number-requires
-is-number-requires c κs = search needs
-
-first-requires : tie.Need-first-requires
-first-requires c κs = search needs
-
 returns : tie.Need-returns
 unfolding ofBits
 returns c =
@@ -92,19 +53,4 @@ returns c =
 
 pub refusal-spec : {M : Type 1} → statement M
 refusal-spec =
-    tie.close
-    (tie.spec
-    length-for-requires
-    length-ok-requires
-    both-requires
-    both-requires-2
-    both-requires-3
-    fading-requires
-    place-ok-requires
-    both-requires-4
-    is-finite-f32-requires
-    is-finite-requires
-    both-requires-5
-    is-number-requires
-    first-requires
-    returns)
+    tie.close (tie.spec (λ c κs. search needs) (λ c κs. search needs) (λ c κs. search needs) (λ c κs. search needs) (λ c κs. search needs) (λ c κs. search needs) (λ c κs. search needs) (λ c κs. search needs) (λ c κs. search needs) (λ c κs. search needs) (λ c κs. search needs) (λ c κs. search needs) (λ c κs. search needs) returns)

@@ -14,9 +14,6 @@ use Rattle.ring.proofs.Held.{place-mod, place-inside}
 use Rattle.quality_variable_delay.proofs.store.Statement.{statement}
 use Rattle.quality_variable_delay.proofs.store.Tie as tie
 
-place-requires : tie.Need-place-requires
-place-requires c κs = search needs
-
 inside : (c : tie.After-place) → c .place .result < length (now (c .before .before .args .ring))
 inside c = place-inside _ _ (c .before .before .pre .1) (c .place .ensures)
 
@@ -35,9 +32,6 @@ count-is c = toZ-ofZ w64 (pos _) (cast-result (c .before))
 int-to-float-result : tie.Need-int-to-float-result
 int-to-float-result c = let s = c .before .before .before in rw (count-is c) (in-float (pos (s .args .i)) (omega (arith, s .pre .0)))
 
-same-length : tie.Need-same-length
-same-length c = search needs
-
 returns : tie.Need-returns
 returns c =
     let p = c .before .place .ensures ∙ place-mod _ _ (c .before .before .before .pre .1) in
@@ -45,12 +39,4 @@ returns c =
 
 pub store-spec : {M : Type 1} → statement M
 store-spec =
-    tie.close
-    (tie.spec
-    place-requires
-    mul-ring
-    slice-write-ring
-    cast-result
-    int-to-float-result
-    same-length
-    returns)
+    tie.close (tie.spec (λ c κs. search needs) mul-ring slice-write-ring cast-result int-to-float-result (λ c. search needs) returns)

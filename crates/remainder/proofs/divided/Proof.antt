@@ -22,15 +22,6 @@ float-to-bits-u c = finite-number _ (positive-finite (c .args .a) (c .pre .divid
 float-to-bits-v : tie.Need-float-to-bits-v
 float-to-bits-v c = finite-number _ (positive-finite (c .args .b) (c .pre .divisor))
 
-place-requires : tie.Need-place-requires
-place-requires c κs = search needs
-
-place-requires-2 : tie.Need-place-requires-2
-place-requires-2 c κs = search needs
-
-sub-long-division : tie.Need-sub-long-division
-sub-long-division c = search needs
-
 -- both numbers, by their patterns
 dividend : (c : tie.Start) → Taken (c .args .a) (toBits binary64 (c .args .a))
 dividend c = taken (c .args .a) (passes _ (c .good .0 .1)) (c .pre .dividend)
@@ -52,9 +43,6 @@ some c = first-pos _ _ (value-pos (c .args .b) _ _ (c .pre .divisor) (pow-pos 10
 
 sub-long-division-2 : tie.Need-sub-long-division-2
 sub-long-division-2 c = rw (c .place2 .ensures, c .before .place .ensures) (places (c .before .before))
-
-sub-long-division-3 : tie.Need-sub-long-division-3
-sub-long-division-3 c = search needs
 
 long-division-requires : tie.Need-long-division-requires
 long-division-requires c κs =
@@ -85,15 +73,4 @@ returns c =
 
 pub divided-spec : {M : Type 1} → statement M
 divided-spec =
-    tie.close
-    (tie.spec
-    float-to-bits-u
-    float-to-bits-v
-    place-requires
-    place-requires-2
-    sub-long-division
-    sub-long-division-2
-    sub-long-division-3
-    long-division-requires
-    scaled-requires
-    returns)
+    tie.close (tie.spec float-to-bits-u float-to-bits-v (λ c κs. search needs) (λ c κs. search needs) (λ c. search needs) sub-long-division-2 (λ c. search needs) long-division-requires scaled-requires returns)

@@ -22,12 +22,6 @@ returns-2 c =
     let s = c .before .before .before .before in
     sym (euclid-once (s .args .x) (s .args .y) (passes _ (s .good .1 .0 .1)) (passes _ (c .before .if3 .taken)) (refuted (c .before .before .if2 .left)) (passes _ (c .if4 .taken)))
 
-remainder-requires : tie.Need-remainder-requires
-remainder-requires c κs = search needs
-
-absolute-requires : tie.Need-absolute-requires
-absolute-requires c κs = search needs
-
 returns-3 : tie.Need-returns-3
 unfolding remEuclid odd ofFields ofBits
 returns-3 c = rw (c .absolute .ensures, ← c .before .before .remainder .ensures, c .before .if5 .taken)
@@ -37,4 +31,4 @@ unfolding remEuclid odd ofFields ofBits
 returns-4 c = rw (← c .before .remainder .ensures, c .if5 .left)
 
 pub rem-euclid-spec : {M : Type 1} → statement M
-rem-euclid-spec = tie.close (tie.spec returns returns-2 remainder-requires absolute-requires returns-3 returns-4)
+rem-euclid-spec = tie.close (tie.spec returns returns-2 (λ c κs. search needs) (λ c κs. search needs) returns-3 returns-4)

@@ -8,9 +8,6 @@ use Rattle.remainder.proofs.Cases.{negative, not-below, refuted}
 use Rattle.remainder.proofs.remainder.Statement.{statement}
 use Rattle.remainder.proofs.remainder.Tie as tie
 
-absolute-requires : tie.Need-absolute-requires
-absolute-requires c κs = search needs
-
 above-requires : tie.Need-above-requires
 above-requires c κs = let a = c .before .before .args in (rw (negative _ (c .if1 .taken)) (not-below (a .x)), rw (c .before .absolute .ensures) (not-below (a .y)))
 
@@ -31,4 +28,4 @@ returns-2 c =
     rw (c .above2 .ensures, c .before .before .absolute .ensures) (rem-absolute binary64 x y)
 
 pub remainder-spec : {M : Type 1} → statement M
-remainder-spec = tie.close (tie.spec absolute-requires above-requires above-requires-2 returns returns-2)
+remainder-spec = tie.close (tie.spec (λ c κs. search needs) above-requires above-requires-2 returns returns-2)

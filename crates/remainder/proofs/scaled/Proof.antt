@@ -18,12 +18,6 @@ use Rattle.rounding.proofs.Products.{mul-value}
 use Rattle.remainder.proofs.scaled.Statement.{statement}
 use Rattle.remainder.proofs.scaled.Tie as tie
 
-nearest-u64-to-f64-requires : tie.Need-nearest-u64-to-f64-requires
-nearest-u64-to-f64-requires c κs = search needs
-
-add-result : tie.Need-add-result
-add-result c = search needs
-
 float-from-bits-result : tie.Need-float-from-bits-result
 float-from-bits-result c = rest-no-nan binary64 _ (omega arith)
 
@@ -55,4 +49,4 @@ returns c =
     (round-same binary64 false (r * (2 ^ 52 * 2 ^ j)) (2 ^ 52 * 2 ^ 1074) (r * 2 ^ j) (2 ^ 1074) (mul-pos (pow-pos 52) (pow-pos 1074)) (pow-pos 1074) (crossed r (2 ^ 52) (2 ^ j) (2 ^ 1074)))
 
 pub scaled-spec : {M : Type 1} → statement M
-scaled-spec = tie.close (tie.spec nearest-u64-to-f64-requires add-result float-from-bits-result returns)
+scaled-spec = tie.close (tie.spec (λ c κs. search needs) (λ c. search needs) float-from-bits-result returns)

@@ -8,24 +8,6 @@ use Rattle.word_bytes.specs.Bytes.{bytesValue}
 use Rattle.render_blocks.proofs.put_sample.Statement.{statement}
 use Rattle.render_blocks.proofs.put_sample.Tie as tie
 
-low-first-u32-requires : tie.Need-low-first-u32-requires
-low-first-u32-requires c κs = search needs
-
-step-requires : tie.Need-step-requires
-step-requires c κs = search needs
-
-cast-write-bytes : tie.Need-cast-write-bytes
-cast-write-bytes c = search needs
-
-write-bytes-requires : tie.Need-write-bytes-requires
-write-bytes-requires c κs = search needs
-
-same-length : tie.Need-same-length
-same-length c = search needs
-
-same-length-2 : tie.Need-same-length-2
-same-length-2 c = search needs
-
 returns : tie.Need-returns
 returns c =
     let stepped = c .before .before .before .before .before .before .before .before in
@@ -37,12 +19,4 @@ returns c =
 
 pub put-sample-spec : {M : Type 1} → statement M
 put-sample-spec =
-    tie.close
-    (tie.spec
-    low-first-u32-requires
-    step-requires
-    cast-write-bytes
-    write-bytes-requires
-    same-length
-    same-length-2
-    returns)
+    tie.close (tie.spec (λ c κs. search needs) (λ c κs. search needs) (λ c. search needs) (λ c κs. search needs) (λ c. search needs) (λ c. search needs) returns)

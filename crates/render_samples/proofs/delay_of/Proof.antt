@@ -4,12 +4,6 @@ use lib.Ieee.{ofBits, div}
 use Rattle.render_samples.proofs.delay_of.Statement.{statement}
 use Rattle.render_samples.proofs.delay_of.Tie as tie
 
-enum-known-offset : tie.Need-enum-known-offset
-enum-known-offset c = search needs
-
-enum-told : tie.Need-enum-told
-enum-told c = search needs
-
 returns : tie.Need-returns
 unfolding ofBits
 returns c = rw (c .before .before .offset .given .1)
@@ -19,4 +13,4 @@ unfolding ofBits div
 returns-2 c = rw (c .enum-told .given .1)
 
 pub delay-of-spec : {M : Type 1} → statement M
-delay-of-spec = tie.close (tie.spec enum-known-offset enum-told returns returns-2)
+delay-of-spec = tie.close (tie.spec (λ c. search needs) (λ c. search needs) returns returns-2)

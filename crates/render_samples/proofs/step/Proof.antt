@@ -7,30 +7,6 @@ use Rattle.render_samples.proofs.Steps.{stepped}
 use Rattle.render_samples.proofs.step.Statement.{statement}
 use Rattle.render_samples.proofs.step.Tie as tie
 
-default-params-requires : tie.Need-default-params-requires
-default-params-requires c κs = search needs
-
-next-requires : tie.Need-next-requires
-next-requires c κs = search needs
-
-float-of-f32-requires : tie.Need-float-of-f32-requires
-float-of-f32-requires c κs = search needs
-
-delay-of-requires : tie.Need-delay-of-requires
-delay-of-requires c κs = search needs
-
-process-sample-requires : tie.Need-process-sample-requires
-process-sample-requires c κs = search needs
-
-value-f32-requires : tie.Need-value-f32-requires
-value-f32-requires c κs = search needs
-
-bits-of-f32-requires : tie.Need-bits-of-f32-requires
-bits-of-f32-requires c κs = search needs
-
-same-length : tie.Need-same-length
-same-length c = search needs
-
 returns : tie.Need-returns
 returns c =
     let called = c .before .before .before .before .before .before in
@@ -48,14 +24,4 @@ returns c =
 
 pub step-spec : {M : Type 1} → statement M
 step-spec =
-    tie.close
-    (tie.spec
-    default-params-requires
-    next-requires
-    float-of-f32-requires
-    delay-of-requires
-    process-sample-requires
-    value-f32-requires
-    bits-of-f32-requires
-    same-length
-    returns)
+    tie.close (tie.spec (λ c κs. search needs) (λ c κs. search needs) (λ c κs. search needs) (λ c κs. search needs) (λ c κs. search needs) (λ c κs. search needs) (λ c κs. search needs) (λ c. search needs) returns)

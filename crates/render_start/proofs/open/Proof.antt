@@ -16,37 +16,10 @@ returns c = let e = beginning.wrong-ring (length (now (c .before .before .before
 returns-2 : tie.Need-returns-2
 returns-2 c = let e = beginning.wrong-table (c .before .if1 .left) (c .if2 .taken) in (rw e, (rw e, rw e))
 
-open-requires : tie.Need-open-requires
-open-requires c κs = search needs
-
-enum-known-reader : tie.Need-enum-known-reader
-enum-known-reader c = search needs
-
-enum-told : tie.Need-enum-told
-enum-told c = search needs
-
-same-length : tie.Need-same-length
-same-length c = search needs
-
 returns-3 : tie.Need-returns-3
 returns-3 c =
     let o = c .before .before .before .before in
     absurd (beginning.no-reader (o .«open» .ensures .0 ∙ beginning.reader-opens (o .before .before .before .if1 .left)) (c .enum-told .given .1))
-
-new-requires : tie.Need-new-requires
-new-requires c κs = search needs
-
-enum-told-2 : tie.Need-enum-told-2
-enum-told-2 c = search needs
-
-enum-told-3 : tie.Need-enum-told-3
-enum-told-3 c = search needs
-
-same-length-2 : tie.Need-same-length-2
-same-length-2 c = search needs
-
-same-length-3 : tie.Need-same-length-3
-same-length-3 c = search needs
 
 returns-4 : tie.Need-returns-4
 unfolding ofBits
@@ -55,30 +28,9 @@ returns-4 c =
     let o = n .before .before .before .before .before .before .before in
     absurd (beginning.no-kernel (n .new .ensures .0 ∙ beginning.table-opens (o .before .before .if2 .left)) (c .enum-told3 .given .1))
 
-new-requires-2 : tie.Need-new-requires-2
-new-requires-2 c κs = search needs
-
-enum-known-engine : tie.Need-enum-known-engine
-enum-known-engine c = search needs
-
-enum-told-4 : tie.Need-enum-told-4
-enum-told-4 c = search needs
-
-same-length-4 : tie.Need-same-length-4
-same-length-4 c = search needs
-
-same-length-5 : tie.Need-same-length-5
-same-length-5 c = search needs
-
 returns-5 : tie.Need-returns-5
 unfolding ofBits
 returns-5 c = absurd (beginning.no-engine (c .before .before .new2 .ensures ∙ beginning.engine-opens) (c .enum-told4 .given .1))
-
-same-length-6 : tie.Need-same-length-6
-same-length-6 c = search needs
-
-same-length-7 : tie.Need-same-length-7
-same-length-7 c = search needs
 
 returns-6 : tie.Need-returns-6
 unfolding ofBits
@@ -96,27 +48,4 @@ returns-6 c =
 
 pub open-spec : {M : Type 1} → statement M
 open-spec =
-    tie.close
-    (tie.spec
-    returns
-    returns-2
-    open-requires
-    enum-known-reader
-    enum-told
-    same-length
-    returns-3
-    new-requires
-    enum-told-2
-    enum-told-3
-    same-length-2
-    same-length-3
-    returns-4
-    new-requires-2
-    enum-known-engine
-    enum-told-4
-    same-length-4
-    same-length-5
-    returns-5
-    same-length-6
-    same-length-7
-    returns-6)
+    tie.close (tie.spec returns returns-2 (λ c κs. search needs) (λ c. search needs) (λ c. search needs) (λ c. search needs) returns-3 (λ c κs. search needs) (λ c. search needs) (λ c. search needs) (λ c. search needs) (λ c. search needs) returns-4 (λ c κs. search needs) (λ c. search needs) (λ c. search needs) (λ c. search needs) (λ c. search needs) returns-5 (λ c. search needs) (λ c. search needs) returns-6)

@@ -54,20 +54,8 @@ returns c = let a = c .before .args in too-long (a .maximum) (a .margin) (omega 
 returns-2 : tie.Need-returns-2
 returns-2 c = let a = c .before .before .args in too-long (a .maximum) (a .margin) (omega arith)
 
-mul-need : tie.Need-mul-need
-mul-need c = search needs
-
-add-need : tie.Need-add-need
-add-need c = search needs
-
-add-need-2 : tie.Need-add-need-2
-add-need-2 c = search needs
-
 returns-3 : tie.Need-returns-3
 returns-3 c = let a = c .before .before .before .args in too-long (a .maximum) (a .margin) (omega arith)
-
-sub-last : tie.Need-sub-last
-sub-last c = search needs
 
 cast-last : tie.Need-cast-last
 cast-last c = record { fits = lt-of-le-of-lt (leading-le 64 _) (lit< tt) }
@@ -83,16 +71,4 @@ returns-4 c = let a = c .before .before .before .args in raised (a .maximum) (a 
 
 pub length-for-spec : {M : Type 1} → statement M
 length-for-spec =
-    tie.close
-    (tie.spec
-    returns
-    returns-2
-    mul-need
-    add-need
-    add-need-2
-    returns-3
-    sub-last
-    cast-last
-    sub-last-2
-    shl-result
-    returns-4)
+    tie.close (tie.spec returns returns-2 (λ c. search needs) (λ c. search needs) (λ c. search needs) returns-3 (λ c. search needs) cast-last sub-last-2 shl-result returns-4)

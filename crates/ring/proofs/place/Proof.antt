@@ -11,23 +11,14 @@ use Rattle.ring.proofs.place.Tie as tie
 returns : tie.Need-returns
 returns c = rw (eq-eqb _ _ (c .if1 .taken))
 
-sub-if2 : tie.Need-sub-if2
-sub-if2 c = search needs
-
-sub-result : tie.Need-sub-result
-sub-result c = search needs
-
 returns-2 : tie.Need-returns-2
 returns-2 c = rw (ne-eqb _ _ (c .before .if1 .left)) (mask-mod _ _ (omega arith) (c .if2 .taken))
 
 returns-3 : tie.Need-returns-3
 returns-3 c = rw (ne-eqb _ _ (c .before .before .if1 .left)) (sym (mod-eq-of-lt (c .if3 .taken)))
 
-rem-result : tie.Need-rem-result
-rem-result c = search needs
-
 returns-4 : tie.Need-returns-4
 returns-4 c = rw (ne-eqb _ _ (c .before .before .if1 .left))
 
 pub place-spec : {M : Type 1} → statement M
-place-spec = tie.close (tie.spec returns sub-if2 sub-result returns-2 returns-3 rem-result returns-4)
+place-spec = tie.close (tie.spec returns (λ c. search needs) (λ c. search needs) returns-2 returns-3 (λ c. search needs) returns-4)

@@ -4,12 +4,9 @@ use lib.Ieee.{ofBits, neg}
 use Rattle.ring.proofs.position_ok.Statement.{statement}
 use Rattle.ring.proofs.position_ok.Tie as tie
 
-within-requires : tie.Need-within-requires
-within-requires c κs = search needs
-
 returns : tie.Need-returns
 unfolding ofBits neg
 returns c = c .within .ensures
 
 pub position-ok-spec : {M : Type 1} → statement M
-position-ok-spec = tie.close (tie.spec within-requires returns)
+position-ok-spec = tie.close (tie.spec (λ c κs. search needs) returns)

@@ -28,13 +28,10 @@ returns-3 c = held.none-ahead _ _ _ _ (word (c .before .before .before)) (c .bef
 returns-4 : tie.Need-returns-4
 returns-4 c = held.none-gone _ _ _ _ (word (c .before .before .before .before)) (c .before .before .before .if1 .left) (omega arith) (omega arith)
 
-place-requires : tie.Need-place-requires
-place-requires c κs = search needs
-
 returns-5 : tie.Need-returns-5
 returns-5 c =
     let t = c .before in
     held.all-kept _ _ _ _ (word (t .before .before .before .before)) (t .before .before .before .if1 .left) (omega arith) (omega arith) (c .place .ensures)
 
 pub run-start-spec : {M : Type 1} → statement M
-run-start-spec = tie.close (tie.spec returns cast-k returns-2 returns-3 returns-4 place-requires returns-5)
+run-start-spec = tie.close (tie.spec returns cast-k returns-2 returns-3 returns-4 (λ c κs. search needs) returns-5)

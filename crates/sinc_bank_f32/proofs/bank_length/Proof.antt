@@ -7,9 +7,6 @@ use Rattle.sinc_bank_f32.proofs.Counted.{few, times}
 use Rattle.sinc_bank_f32.proofs.bank_length.Statement.{statement}
 use Rattle.sinc_bank_f32.proofs.bank_length.Tie as tie
 
-steps-requires : tie.Need-steps-requires
-steps-requires c κs = search needs
-
 mul-result : tie.Need-mul-result
 mul-result c = omega (arith, few (c .before .args .max-rate) (c .steps .result) (c .steps .ensures))
 
@@ -17,4 +14,4 @@ returns : tie.Need-returns
 returns c = let top = c .before .args .max-rate in times (bankOk top) (c .steps .result) (stepsOf top) setLength (c .steps .ensures)
 
 pub bank-length-spec : {M : Type 1} → statement M
-bank-length-spec = tie.close (tie.spec steps-requires mul-result returns)
+bank-length-spec = tie.close (tie.spec (λ c κs. search needs) mul-result returns)

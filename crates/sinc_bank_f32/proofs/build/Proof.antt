@@ -14,16 +14,10 @@ use Rattle.sinc_bank_f32.proofs.Counted.{none, some}
 use Rattle.sinc_bank_f32.proofs.build.Statement.{statement}
 use Rattle.sinc_bank_f32.proofs.build.Tie as tie
 
-steps-requires : tie.Need-steps-requires
-steps-requires c κs = search needs
-
 returns : tie.Need-returns
 returns c =
     let s = c .before in
     rw (none (s .before .before .args .max-rate) (s .steps .result) (s .steps .ensures) (c .if1 .taken)) (refl, refl)
-
-bank-length-requires : tie.Need-bank-length-requires
-bank-length-requires c κs = search needs
 
 -- where there is a set the rate is in range
 ok : (c : tie.Else1) → bankOk (c .before .before .before .args .max-rate) ≡ true
@@ -47,9 +41,6 @@ write-sets-requires c κs =
     let l = e .before in
     (ok (l .before), count (l .before), refl, omega (arith, e .if2 .left, need l, count (l .before)))
 
-same-length : tie.Need-same-length
-same-length c = search needs
-
 returns-3 : tie.Need-returns-3
 returns-3 c =
     let w = c .before .before in
@@ -59,4 +50,4 @@ returns-3 c =
     rw (ok (l .before), eq-eqb (length (now (a .sets))) (stepsOf (a .max-rate) * setLength) (omega (arith, e .if2 .left, need l))) (ap Sets (count (l .before)), w .write-sets .ensures)
 
 pub build-spec : {M : Type 1} → statement M
-build-spec = tie.close (tie.spec steps-requires returns bank-length-requires returns-2 write-sets-requires same-length returns-3)
+build-spec = tie.close (tie.spec (λ c κs. search needs) returns (λ c κs. search needs) returns-2 write-sets-requires (λ c. search needs) returns-3)

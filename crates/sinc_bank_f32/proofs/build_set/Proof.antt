@@ -12,9 +12,6 @@ use Rattle.sinc_bank_f32.specs.Sets.{setLength}
 use Rattle.sinc_bank_f32.proofs.build_set.Statement.{statement}
 use Rattle.sinc_bank_f32.proofs.build_set.Tie as tie
 
-within-requires : tie.Need-within-requires
-within-requires c κs = search needs
-
 returns : tie.Need-returns
 unfolding ofBits
 returns c = rw (← c .before .within .ensures, not-true (c .before .within .result) (c .if1 .taken)) (refl, refl)
@@ -32,9 +29,6 @@ returns-2 c =
 write-set-requires : tie.Need-write-set-requires
 write-set-requires c κs = (ok (c .before .before), omega (arith, c .before .if2 .left))
 
-same-length : tie.Need-same-length
-same-length c = search needs
-
 returns-3 : tie.Need-returns-3
 returns-3 c =
     let w = c .before .before in
@@ -43,4 +37,4 @@ returns-3 c =
     rw (ok (e .before), eq-eqb (length xs) setLength (omega (arith, e .if2 .left))) (refl, w .write-set .ensures)
 
 pub build-set-spec : {M : Type 1} → statement M
-build-set-spec = tie.close (tie.spec within-requires returns returns-2 write-set-requires same-length returns-3)
+build-set-spec = tie.close (tie.spec (λ c κs. search needs) returns returns-2 write-set-requires (λ c. search needs) returns-3)

@@ -15,24 +15,6 @@ use Rattle.sinc_bank_f32.specs.Sets.{passband, withPart}
 use Rattle.sinc_bank_f32.proofs.write_part.Statement.{statement}
 use Rattle.sinc_bank_f32.proofs.write_part.Tie as tie
 
-mul-for-max-rate : tie.Need-mul-for-max-rate
-mul-for-max-rate c = search needs
-
-sub-for-max-rate : tie.Need-sub-for-max-rate
-sub-for-max-rate c = search needs
-
-part-for-max-rate-start : tie.Need-part-for-max-rate-start
-part-for-max-rate-start c = search needs
-
-part-for-max-rate-end : tie.Need-part-for-max-rate-end
-part-for-max-rate-end c = search needs
-
-for-max-rate-requires : tie.Need-for-max-rate-requires
-for-max-rate-requires c κs = search needs
-
-same-length : tie.Need-same-length
-same-length c = search needs
-
 returns : tie.Need-returns
 unfolding withPart ofBits
 returns c =
@@ -47,4 +29,4 @@ returns c =
     ap (λ (ys : List Float). take (a .start) xs ++ (ys ++ drop (a .end - a .start) (drop (a .start) xs))) (w .for-max-rate .ensures .1 ∙ ap (λ (v : ℕ). tableAfter v (tableF32Of s) lent) none)
 
 pub write-part-spec : {M : Type 1} → statement M
-write-part-spec = tie.close (tie.spec mul-for-max-rate sub-for-max-rate part-for-max-rate-start part-for-max-rate-end for-max-rate-requires same-length returns)
+write-part-spec = tie.close (tie.spec (λ c. search needs) (λ c. search needs) (λ c. search needs) (λ c. search needs) (λ c κs. search needs) (λ c. search needs) returns)

@@ -52,9 +52,6 @@ write-part-requires-3 c κs =
     let b = v .before .before .before .before .before .before .before in
     (omega arith, omega (arith, second-long v), unrefused 128 4096 (b .args .rate) (fin false 1 (pos 4)) 524416 (b .pre .0) refl refl refl refl)
 
-same-length : tie.Need-same-length
-same-length c = search needs
-
 returns : tie.Need-returns
 unfolding setOf ofBits
 returns c =
@@ -67,4 +64,4 @@ returns c =
     (lit≤ tt) (lit≤ tt) (b .pre .1) (normal-long r) (hq-long r) (ultra-long r) (u .write-part .ensures) (v .write-part2 .ensures) (w .write-part3 .ensures)
 
 pub write-set-spec : {M : Type 1} → statement M
-write-set-spec = tie.close (tie.spec write-part-requires write-part-requires-2 write-part-requires-3 same-length returns)
+write-set-spec = tie.close (tie.spec write-part-requires write-part-requires-2 write-part-requires-3 (λ c. search needs) returns)

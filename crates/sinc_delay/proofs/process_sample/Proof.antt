@@ -16,18 +16,6 @@ use Rattle.variable_delay.proofs.Calls as calls
 use Rattle.sinc_delay.proofs.process_sample.Statement.{statement}
 use Rattle.sinc_delay.proofs.process_sample.Tie as tie
 
-table-refusal-requires : tie.Need-table-refusal-requires
-table-refusal-requires c κs = search needs
-
-accept-requires : tie.Need-accept-requires
-accept-requires c κs = search needs
-
-answered-requires : tie.Need-answered-requires
-answered-requires c κs = search needs
-
-same-length : tie.Need-same-length
-same-length c = search needs
-
 -- the verdict on what `table_refusal` gave is the contract's
 as-due : (c : tie.After-accept)
     → let s = c .before .before .before .before .before .args in
@@ -50,15 +38,6 @@ returns c =
     let e = rw (as-due a) at (a .accept .ensures) in
     (rw (c .answered .ensures) (calls.refused-call (sincAt (now (s .table)) (s .taps) (s .phases)) own lent (s .state) (now (s .ring)) (s .input) (s .delay) (e .0) _ (c .before .if1 .taken)), e .1)
 
-read-requires : tie.Need-read-requires
-read-requires c κs = search needs
-
-answered-requires-2 : tie.Need-answered-requires-2
-answered-requires-2 c κs = search needs
-
-same-length-2 : tie.Need-same-length-2
-same-length-2 c = search needs
-
 returns-2 : tie.Need-returns-2
 returns-2 c =
     let i = c .before .before .before in
@@ -75,4 +54,4 @@ returns-2 c =
     (rw (c .answered2 .ensures) (calls.taken-call read own lent (s .state) (now (s .ring)) (s .input) (s .delay) (e .0) none (e .1) (c .before .read .ensures ∙ rw (both-pass p q, here))), e .1)
 
 pub process-sample-spec : {M : Type 1} → statement M
-process-sample-spec = tie.close (tie.spec table-refusal-requires accept-requires answered-requires same-length returns read-requires answered-requires-2 same-length-2 returns-2)
+process-sample-spec = tie.close (tie.spec (λ c κs. search needs) (λ c κs. search needs) (λ c κs. search needs) (λ c. search needs) returns (λ c κs. search needs) (λ c κs. search needs) (λ c. search needs) returns-2)

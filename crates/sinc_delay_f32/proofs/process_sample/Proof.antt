@@ -18,18 +18,6 @@ use Rattle.variable_delay_f32.proofs.Calls as calls
 use Rattle.sinc_delay_f32.proofs.process_sample.Statement.{statement}
 use Rattle.sinc_delay_f32.proofs.process_sample.Tie as tie
 
-table-refusal-requires : tie.Need-table-refusal-requires
-table-refusal-requires c κs = search needs
-
-accept-requires : tie.Need-accept-requires
-accept-requires c κs = search needs
-
-answered-f32-requires : tie.Need-answered-f32-requires
-answered-f32-requires c κs = search needs
-
-same-length : tie.Need-same-length
-same-length c = search needs
-
 -- the verdict on what `table_refusal` gave is the contract's
 as-due : (c : tie.After-accept)
     → let s = c .before .before .before .before .before .args in
@@ -54,15 +42,6 @@ returns c =
     let r = a .accept .ensures .1 ∙ ap (λ (v : ℕ). ringAfter v (s .state) (now (s .ring)) (s .input)) (as-due a) in
     (rw (c .answered-f32 .ensures) (calls.refused-call (sincF32At (now (s .table)) (s .taps) (s .phases)) own lent (s .state) (now (s .ring)) (s .input) (s .delay) e _ (c .before .if1 .taken)), r)
 
-read-requires : tie.Need-read-requires
-read-requires c κs = search needs
-
-answered-f32-requires-2 : tie.Need-answered-f32-requires-2
-answered-f32-requires-2 c κs = search needs
-
-same-length-2 : tie.Need-same-length-2
-same-length-2 c = search needs
-
 returns-2 : tie.Need-returns-2
 returns-2 c =
     let i = c .before .before .before in
@@ -81,14 +60,4 @@ returns-2 c =
 
 pub process-sample-spec : {M : Type 1} → statement M
 process-sample-spec =
-    tie.close
-    (tie.spec
-    table-refusal-requires
-    accept-requires
-    answered-f32-requires
-    same-length
-    returns
-    read-requires
-    answered-f32-requires-2
-    same-length-2
-    returns-2)
+    tie.close (tie.spec (λ c κs. search needs) (λ c κs. search needs) (λ c κs. search needs) (λ c. search needs) returns (λ c κs. search needs) (λ c κs. search needs) (λ c. search needs) returns-2)

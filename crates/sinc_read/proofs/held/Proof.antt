@@ -12,39 +12,12 @@ use Rattle.sinc_read.proofs.Around as around
 use Rattle.sinc_read.proofs.held.Statement.{statement}
 use Rattle.sinc_read.proofs.held.Tie as tie
 
-mul-row : tie.Need-mul-row
-mul-row c = search needs
-
-add-next : tie.Need-add-next
-add-next c = search needs
-
-sub-left : tie.Need-sub-left
-sub-left c = search needs
-
-run-requires : tie.Need-run-requires
-run-requires c κs = search needs
-
 returns : tie.Need-returns
 unfolding ofBits
 returns c =
     let s = c .before .before .before .before in
     let a = s .args in
     c .run .ensures ∙ around.one-run (now (a .table)) (a .taps) (a .phase) (a .blend) (now (a .source)) (a .place) (s .pre .2) (c .before .if1 .taken)
-
-run-requires-2 : tie.Need-run-requires-2
-run-requires-2 c κs = search needs
-
-add-run : tie.Need-add-run
-add-run c = search needs
-
-add-run-2 : tie.Need-add-run-2
-add-run-2 c = search needs
-
-sub-run : tie.Need-sub-run
-sub-run c = search needs
-
-run-requires-3 : tie.Need-run-requires-3
-run-requires-3 c κs = search needs
 
 returns-2 : tie.Need-returns-2
 unfolding ofBits
@@ -57,4 +30,4 @@ returns-2 c =
     ∙ around.two-runs (now (a .table)) (a .taps) (a .phase) (a .blend) (now (a .source)) (a .place) (s .pre .2) (s .pre .1) (omega arith)
 
 pub held-spec : {M : Type 1} → statement M
-held-spec = tie.close (tie.spec mul-row add-next sub-left run-requires returns run-requires-2 add-run add-run-2 sub-run run-requires-3 returns-2)
+held-spec = tie.close (tie.spec (λ c. search needs) (λ c. search needs) (λ c. search needs) (λ c κs. search needs) returns (λ c κs. search needs) (λ c. search needs) (λ c. search needs) (λ c. search needs) (λ c κs. search needs) returns-2)

@@ -17,21 +17,6 @@ use Rattle.sinc_read_f32.proofs.Chains.{laid-out}
 use Rattle.sinc_read_f32.proofs.scattered.Statement.{statement}
 use Rattle.sinc_read_f32.proofs.scattered.Tie as tie
 
-sub-gather : tie.Need-sub-gather
-sub-gather c = search needs
-
-part-samples-start : tie.Need-part-samples-start
-part-samples-start c = search needs
-
-part-samples-end : tie.Need-part-samples-end
-part-samples-end c = search needs
-
-gather-requires : tie.Need-gather-requires
-gather-requires c κs = search needs
-
-mul-row : tie.Need-mul-row
-mul-row c = search needs
-
 -- the taps side by side
 abbrev begun : tie.After-gather → tie.Start
 begun c = c .before .before .before .before
@@ -51,20 +36,8 @@ made c =
 long : (c : tie.After-gather) → length (c .gather .last .0) ≡ begun c .args .taps
 long c = ap length (made c) ∙ length-list (tap c) (begun c .args .taps)
 
-sub-over : tie.Need-sub-over
-sub-over c = search needs
-
-part-over-start : tie.Need-part-over-start
-part-over-start c = search needs
-
 part-over-end : tie.Need-part-over-end
 part-over-end c = let g = c .before .before in front-fits (g .gather .last .0) _ _ (long g)
-
-add-over : tie.Need-add-over
-add-over c = search needs
-
-over-requires : tie.Need-over-requires
-over-requires c κs = search needs
 
 returns : tie.Need-returns
 returns c =
@@ -74,16 +47,4 @@ returns c =
 
 pub scattered-spec : {M : Type 1} → statement M
 scattered-spec =
-    tie.close
-    (tie.spec
-    sub-gather
-    part-samples-start
-    part-samples-end
-    gather-requires
-    mul-row
-    sub-over
-    part-over-start
-    part-over-end
-    add-over
-    over-requires
-    returns)
+    tie.close (tie.spec (λ c. search needs) (λ c. search needs) (λ c. search needs) (λ c κs. search needs) (λ c. search needs) (λ c. search needs) (λ c. search needs) part-over-end (λ c. search needs) (λ c κs. search needs) returns)

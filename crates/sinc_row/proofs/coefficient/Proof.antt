@@ -3,11 +3,8 @@ use borrow.Author.Needs.{needs}
 use Rattle.sinc_row.proofs.coefficient.Statement.{statement}
 use Rattle.sinc_row.proofs.coefficient.Tie as tie
 
-sinc-requires : tie.Need-sinc-requires
-sinc-requires c κs = search needs
-
 returns : tie.Need-returns
 returns c = rw (c .sinc .ensures)
 
 pub coefficient-spec : {M : Type 1} → statement M
-coefficient-spec = tie.close (tie.spec sinc-requires returns)
+coefficient-spec = tie.close (tie.spec (λ c κs. search needs) returns)

@@ -21,15 +21,6 @@ sub-normalized c = omega (arith, inside (c .before .before) .least-taps)
 int-to-float-normalized-2 : tie.Need-int-to-float-normalized-2
 int-to-float-normalized-2 c = let s = c .before .before .before in exact (s .args .settings .taps - 1) (omega (arith, inside s .most-taps))
 
-max-requires : tie.Need-max-requires
-max-requires c κs = search needs
-
-square-root-requires : tie.Need-square-root-requires
-square-root-requires c κs = search needs
-
-bessel-i0-requires : tie.Need-bessel-i0-requires
-bessel-i0-requires c κs = search needs
-
 returns : tie.Need-returns
 unfolding windowOf ofBits
 returns c =
@@ -38,4 +29,4 @@ returns c =
     rw (c .bessel-i0 .ensures, r .square-root .ensures, r .before .max .ensures, s .pre .2)
 
 pub kaiser-spec : {M : Type 1} → statement M
-kaiser-spec = tie.close (tie.spec int-to-float-normalized sub-normalized int-to-float-normalized-2 max-requires square-root-requires bessel-i0-requires returns)
+kaiser-spec = tie.close (tie.spec int-to-float-normalized sub-normalized int-to-float-normalized-2 (λ c κs. search needs) (λ c κs. search needs) (λ c κs. search needs) returns)

@@ -25,9 +25,6 @@ same x v h e = let a = answers x h in cc
 never : (x : Float) (n : ℕ) → AtMost 65 x → sineOf (mul binary64 pi x) ≡ Refused n → {A : Type 0} → A
 never x n h e = let a = answers x h in let z : _≡_ {A = ℕ} 0 1 = cc in absurd (omega arith)
 
-small-requires : tie.Need-small-requires
-small-requires c κs = search needs
-
 picked : (x r : Float) (b : Bool) → smallOf x ≡ b → r ≡ cond b one-f (div binary64 (sineAt (mul binary64 pi x)) (mul binary64 pi x)) → r ≡ sincOf x
 unfolding sincOf
 picked x r b h e = e ∙ rw h
@@ -35,15 +32,6 @@ picked x r b h e = e ∙ rw h
 returns : tie.Need-returns
 unfolding ofBits
 returns c = picked (c .before .before .args .x) _ true (sym (c .before .small .ensures) ∙ c .if1 .taken) refl
-
-sine-requires : tie.Need-sine-requires
-sine-requires c κs = search needs
-
-enum-known-v : tie.Need-enum-known-v
-enum-known-v c = search needs
-
-enum-told : tie.Need-enum-told
-enum-told c = search needs
 
 returns-2 : tie.Need-returns-2
 unfolding ofBits
@@ -60,4 +48,4 @@ returns-3 c =
     never (t .before .before .before .args .x) _ (t .before .before .before .pre) (sym (t .sine .ensures .0) ∙ c .enum-told .given .1)
 
 pub sinc-spec : {M : Type 1} → statement M
-sinc-spec = tie.close (tie.spec small-requires returns sine-requires enum-known-v enum-told returns-2 returns-3)
+sinc-spec = tie.close (tie.spec (λ c κs. search needs) returns (λ c κs. search needs) (λ c. search needs) (λ c. search needs) returns-2 returns-3)

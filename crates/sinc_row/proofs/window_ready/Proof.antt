@@ -3,9 +3,6 @@ use borrow.Author.Needs.{needs}
 use Rattle.sinc_row.proofs.window_ready.Statement.{statement}
 use Rattle.sinc_row.proofs.window_ready.Tie as tie
 
-settings-ok-requires : tie.Need-settings-ok-requires
-settings-ok-requires c κs = search needs
-
 returns : tie.Need-returns
 returns c = let t = c .before in rw (← t .before .settings-ok .ensures, t .if1 .taken)
 
@@ -13,4 +10,4 @@ returns-2 : tie.Need-returns-2
 returns-2 c = rw (← c .before .settings-ok .ensures, c .if1 .left)
 
 pub window-ready-spec : {M : Type 1} → statement M
-window-ready-spec = tie.close (tie.spec settings-ok-requires returns returns-2)
+window-ready-spec = tie.close (tie.spec (λ c κs. search needs) returns returns-2)

@@ -14,9 +14,6 @@ use Rattle.sinc_row.proofs.Ready.{row-ready}
 use Rattle.sinc_row.proofs.write_row.Statement.{statement}
 use Rattle.sinc_row.proofs.write_row.Tie as tie
 
-row-ready-requires : tie.Need-row-ready-requires
-row-ready-requires c κs = search needs
-
 returns : tie.Need-returns
 returns c = rw (← c .before .row-ready .ensures, not-true (c .before .row-ready .result) (c .if1 .taken))
 
@@ -26,12 +23,6 @@ passed c = sym (c .before .row-ready .ensures) ∙ not-false _ (c .if1 .left)
 
 fill-requires : tie.Need-fill-requires
 fill-requires c κs = let r = row-ready _ _ _ _ (passed (c .before)) in (r .row .settings, r .phase-in, r .row .long, r .window-long)
-
-divide-requires : tie.Need-divide-requires
-divide-requires c κs = search needs
-
-same-length : tie.Need-same-length
-same-length c = search needs
 
 returns-2 : tie.Need-returns-2
 returns-2 c =
@@ -47,4 +38,4 @@ returns-2 c =
     ∙ map-list (λ (x : Float). div binary64 x (gainOf (a .settings) (at (now (a .window))) (a .phase) (a .settings .taps))) raw (a .settings .taps))
 
 pub write-row-spec : {M : Type 1} → statement M
-write-row-spec = tie.close (tie.spec row-ready-requires returns fill-requires divide-requires same-length returns-2)
+write-row-spec = tie.close (tie.spec (λ c κs. search needs) returns fill-requires (λ c κs. search needs) (λ c. search needs) returns-2)

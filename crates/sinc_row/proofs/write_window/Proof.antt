@@ -10,9 +10,6 @@ use Rattle.sinc_row.proofs.Ready.{window-ready}
 use Rattle.sinc_row.proofs.write_window.Statement.{statement}
 use Rattle.sinc_row.proofs.write_window.Tie as tie
 
-window-ready-requires : tie.Need-window-ready-requires
-window-ready-requires c κs = search needs
-
 returns : tie.Need-returns
 returns c = rw (← c .before .window-ready .ensures, not-true (c .before .window-ready .result) (c .if1 .taken))
 
@@ -26,11 +23,8 @@ fill-window-requires c κs =
     let r = window-ready (e .before .before .before .args .settings) _ (passed e) in
     (r .settings, r .long)
 
-same-length : tie.Need-same-length
-same-length c = search needs
-
 returns-2 : tie.Need-returns-2
 returns-2 c = let f = c .before .before in rw (passed (f .before .before)) (f .fill-window .ensures)
 
 pub write-window-spec : {M : Type 1} → statement M
-write-window-spec = tie.close (tie.spec window-ready-requires returns fill-window-requires same-length returns-2)
+write-window-spec = tie.close (tie.spec (λ c κs. search needs) returns fill-window-requires (λ c. search needs) returns-2)

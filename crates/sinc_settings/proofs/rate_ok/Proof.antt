@@ -5,18 +5,9 @@ use lib.Ieee.{ofBits}
 use Rattle.sinc_settings.proofs.rate_ok.Statement.{statement}
 use Rattle.sinc_settings.proofs.rate_ok.Tie as tie
 
-within-requires : tie.Need-within-requires
-within-requires c κs = search needs
-
-both-requires : tie.Need-both-requires
-both-requires c κs = search needs
-
-both-requires-2 : tie.Need-both-requires-2
-both-requires-2 c κs = search needs
-
 returns : tie.Need-returns
 unfolding ofBits
 returns c = c .both2 .ensures ∙ rw (c .before .both .ensures, c .before .before .within .ensures)
 
 pub rate-ok-spec : {M : Type 1} → statement M
-rate-ok-spec = tie.close (tie.spec within-requires both-requires both-requires-2 returns)
+rate-ok-spec = tie.close (tie.spec (λ c κs. search needs) (λ c κs. search needs) (λ c κs. search needs) returns)

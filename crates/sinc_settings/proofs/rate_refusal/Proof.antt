@@ -6,15 +6,9 @@ use Rattle.sinc_settings.specs.Ranges.{rateOk, passbandOk}
 use Rattle.sinc_settings.proofs.rate_refusal.Statement.{statement}
 use Rattle.sinc_settings.proofs.rate_refusal.Tie as tie
 
-rate-ok-requires : tie.Need-rate-ok-requires
-rate-ok-requires c κs = search needs
-
 -- what the test says
 tested : (c : tie.After-rate-ok) → let a = c .before .args in rateOk (a .rate) && passbandOk (a .passband) ≡ c .rate-ok .result
 tested c = sym (c .rate-ok .ensures)
-
-refusal-requires : tie.Need-refusal-requires
-refusal-requires c κs = search needs
 
 returns : tie.Need-returns
 returns c = let t = c .before in c .refusal .ensures ∙ rw (tested (t .before) ∙ t .if1 .taken)
@@ -23,4 +17,4 @@ returns-2 : tie.Need-returns-2
 returns-2 c = rw (tested (c .before) ∙ c .if1 .left)
 
 pub rate-refusal-spec : {M : Type 1} → statement M
-rate-refusal-spec = tie.close (tie.spec rate-ok-requires refusal-requires returns returns-2)
+rate-refusal-spec = tie.close (tie.spec (λ c κs. search needs) (λ c κs. search needs) returns returns-2)

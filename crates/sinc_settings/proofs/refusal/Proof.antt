@@ -5,12 +5,6 @@ use Rattle.sinc_settings.proofs.Accepted.{accepted}
 use Rattle.sinc_settings.proofs.refusal.Statement.{statement}
 use Rattle.sinc_settings.proofs.refusal.Tie as tie
 
-settings-ok-requires : tie.Need-settings-ok-requires
-settings-ok-requires c κs = search needs
-
-table-refusal-requires : tie.Need-table-refusal-requires
-table-refusal-requires c κs = search needs
-
 returns : tie.Need-returns
 returns c =
     let t = c .before in
@@ -21,4 +15,4 @@ returns-2 : tie.Need-returns-2
 returns-2 c = rw (← c .before .settings-ok .ensures, c .if1 .left)
 
 pub refusal-spec : {M : Type 1} → statement M
-refusal-spec = tie.close (tie.spec settings-ok-requires table-refusal-requires returns returns-2)
+refusal-spec = tie.close (tie.spec (λ c κs. search needs) (λ c κs. search needs) returns returns-2)

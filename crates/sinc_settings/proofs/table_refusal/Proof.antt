@@ -9,15 +9,6 @@ use Rattle.sinc_settings.proofs.Accepted.{Counts, counts, length-fits}
 use Rattle.sinc_settings.proofs.table_refusal.Statement.{statement}
 use Rattle.sinc_settings.proofs.table_refusal.Tie as tie
 
-taps-ok-requires : tie.Need-taps-ok-requires
-taps-ok-requires c κs = search needs
-
-phases-ok-requires : tie.Need-phases-ok-requires
-phases-ok-requires c κs = search needs
-
-both-requires : tie.Need-both-requires
-both-requires c κs = search needs
-
 -- what the test says
 tested : (c : tie.After-both) → let a = c .before .before .before .args in tapsOk (a .taps) && phasesOk (a .phases) ≡ c .both .result
 tested c = sym (c .both .ensures ∙ rw (c .before .phases-ok .ensures, c .before .before .taps-ok .ensures))
@@ -41,4 +32,4 @@ returns-3 : tie.Need-returns-3
 returns-3 c = rw (tested (c .before), c .if1 .left)
 
 pub table-refusal-spec : {M : Type 1} → statement M
-table-refusal-spec = tie.close (tie.spec taps-ok-requires phases-ok-requires both-requires add-if2 mul-if2 returns returns-2 returns-3)
+table-refusal-spec = tie.close (tie.spec (λ c κs. search needs) (λ c κs. search needs) (λ c κs. search needs) add-if2 mul-if2 returns returns-2 returns-3)

@@ -4,14 +4,8 @@ use mathlib.Core.Path.{_∙_}
 use Rattle.sinc_settings.proofs.taps_ok.Statement.{statement}
 use Rattle.sinc_settings.proofs.taps_ok.Tie as tie
 
-both-requires : tie.Need-both-requires
-both-requires c κs = search needs
-
-both-requires-2 : tie.Need-both-requires-2
-both-requires-2 c κs = search needs
-
 returns : tie.Need-returns
 returns c = c .both2 .ensures ∙ rw (c .before .both .ensures)
 
 pub taps-ok-spec : {M : Type 1} → statement M
-taps-ok-spec = tie.close (tie.spec both-requires both-requires-2 returns)
+taps-ok-spec = tie.close (tie.spec (λ c κs. search needs) (λ c κs. search needs) returns)

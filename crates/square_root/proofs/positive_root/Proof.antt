@@ -29,15 +29,6 @@ found c = c .before .digits-of .ensures (pos-of-ne-zero (c .if1 .left))
 float-to-bits-bits : tie.Need-float-to-bits-bits
 float-to-bits-bits c = plain-no-nan (c .args .x) (positive-plain (c .args .x) (above c))
 
-digits-of-requires : tie.Need-digits-of-requires
-digits-of-requires c κs = search needs
-
-restored-requires : tie.Need-restored-requires
-restored-requires c κs = search needs
-
-returns : tie.Need-returns
-returns c = search needs
-
 add-result : tie.Need-add-result
 add-result c = omega (arith, unsigned (c .before .before))
 
@@ -54,13 +45,4 @@ returns-2 c =
 
 pub positive-root-spec : {M : Type 1} → statement M
 positive-root-spec =
-    tie.close
-    (tie.spec
-    float-to-bits-bits
-    digits-of-requires
-    restored-requires
-    returns
-    add-result
-    add-result-2
-    float-from-bits-result
-    returns-2)
+    tie.close (tie.spec float-to-bits-bits (λ c κs. search needs) (λ c κs. search needs) (λ c. search needs) add-result add-result-2 float-from-bits-result returns-2)

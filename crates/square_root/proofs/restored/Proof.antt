@@ -19,9 +19,6 @@ taken c = rw (c .unpack .ensures) (scaling (c .before .args .x) (subst T (sym (c
 float-to-bits-unpack : tie.Need-float-to-bits-unpack
 float-to-bits-unpack c = plain-no-nan (c .args .x) (positive-plain (c .args .x) (above c))
 
-unpack-requires : tie.Need-unpack-requires
-unpack-requires c κs = search needs
-
 add-root-digits : tie.Need-add-root-digits
 add-root-digits c = omega (arith, taken (c .before) .bounded)
 
@@ -34,9 +31,6 @@ root-digits-requires c κs = shifted-ge (c .before .before .before .args .x) (c 
 add-pack : tie.Need-add-pack
 add-pack c = omega (arith, taken (c .before .before .before .before) .bounded)
 
-pack-requires : tie.Need-pack-requires
-pack-requires c κs = search needs
-
 returns : tie.Need-returns
 returns c =
     let d = c .before .before .root-digits in
@@ -45,13 +39,4 @@ returns c =
 
 pub restored-spec : {M : Type 1} → statement M
 restored-spec =
-    tie.close
-    (tie.spec
-    float-to-bits-unpack
-    unpack-requires
-    add-root-digits
-    shl-root-digits
-    root-digits-requires
-    add-pack
-    pack-requires
-    returns)
+    tie.close (tie.spec float-to-bits-unpack (λ c κs. search needs) add-root-digits shl-root-digits root-digits-requires add-pack (λ c κs. search needs) returns)

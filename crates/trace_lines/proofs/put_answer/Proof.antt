@@ -9,48 +9,12 @@ use Rattle.trace_lines.specs.Lines.{answerText}
 use Rattle.trace_lines.proofs.put_answer.Statement.{statement}
 use Rattle.trace_lines.proofs.put_answer.Tie as tie
 
-enum-known-answer : tie.Need-enum-known-answer
-enum-known-answer c = search needs
-
-bits-of-requires : tie.Need-bits-of-requires
-bits-of-requires c κs = search needs
-
-hex16-requires : tie.Need-hex16-requires
-hex16-requires c κs = search needs
-
-slice-aggregate-put : tie.Need-slice-aggregate-put
-slice-aggregate-put c = search needs
-
-put-requires : tie.Need-put-requires
-put-requires c κs = search needs
-
-enum-known-answer-2 : tie.Need-enum-known-answer-2
-enum-known-answer-2 c = search needs
-
-slice-aggregate-put-2 : tie.Need-slice-aggregate-put-2
-slice-aggregate-put-2 c = search needs
-
-put-requires-2 : tie.Need-put-requires-2
-put-requires-2 c κs = search needs
-
-cast-put-decimal : tie.Need-cast-put-decimal
-cast-put-decimal c = search needs
-
-put-decimal-requires : tie.Need-put-decimal-requires
-put-decimal-requires c κs = search needs
-
-same-length : tie.Need-same-length
-same-length c = search needs
-
 returns : tie.Need-returns
 returns c =
     let m = c .before .before .before .before .before .before in
     let e = c .before .before .put .ensures in
     let t = c .before .before .before .before .before .hex16 .ensures ∙ ap (hexDigits 16) (m .bits-of .ensures) ∙ ap answerText (sym (m .before .before .answer .given .1)) in
     (e .0 ∙ ap (placeAfter _ _) t, e .1 ∙ ap (putAt _ _) t)
-
-same-length-2 : tie.Need-same-length-2
-same-length-2 c = search needs
 
 returns-2 : tie.Need-returns-2
 unfolding ascii
@@ -63,19 +27,4 @@ returns-2 c =
 
 pub put-answer-spec : {M : Type 1} → statement M
 put-answer-spec =
-    tie.close
-    (tie.spec
-    enum-known-answer
-    bits-of-requires
-    hex16-requires
-    slice-aggregate-put
-    put-requires
-    enum-known-answer-2
-    slice-aggregate-put-2
-    put-requires-2
-    cast-put-decimal
-    put-decimal-requires
-    same-length
-    returns
-    same-length-2
-    returns-2)
+    tie.close (tie.spec (λ c. search needs) (λ c κs. search needs) (λ c κs. search needs) (λ c. search needs) (λ c κs. search needs) (λ c. search needs) (λ c. search needs) (λ c κs. search needs) (λ c. search needs) (λ c κs. search needs) (λ c. search needs) returns (λ c. search needs) returns-2)

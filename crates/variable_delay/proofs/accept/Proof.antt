@@ -26,12 +26,6 @@ use Rattle.variable_delay.proofs.Refused.{not-accepted, same-ring}
 use Rattle.variable_delay.proofs.accept.Statement.{statement}
 use Rattle.variable_delay.proofs.accept.Tie as tie
 
-length-for-requires : tie.Need-length-for-requires
-length-for-requires c κs = search needs
-
-passes-requires : tie.Need-passes-requires
-passes-requires c κs = search needs
-
 -- the verdict, and whether it is none, as the code has them
 abbrev Verdict : tie.After-passes → ℕ
 Verdict c = let a = c .before .before .before .args in verdict (a .own) (a .lent) (a .state) (length (now (a .ring))) (a .input) (a .delay)
@@ -77,14 +71,8 @@ int-to-float-t18 c =
     let n = c .before .before .before .before .before .args .state .accepted in
     rw (count-is c) (in-float (pos n) (omega (arith, passed (c .before) .room)))
 
-same-length : tie.Need-same-length
-same-length c = search needs
-
 returns : tie.Need-returns
 returns c = let t = c .before in (rw (none t, count-is c), rw (none t, place t))
-
-due-requires : tie.Need-due-requires
-due-requires c κs = search needs
 
 returns-2 : tie.Need-returns-2
 unfolding ofBits
@@ -97,17 +85,4 @@ returns-2 c =
 
 pub accept-spec : {M : Type 1} → statement M
 accept-spec =
-    tie.close
-    (tie.spec
-    length-for-requires
-    passes-requires
-    sub-at
-    mul-ring
-    slice-write-ring
-    add-t12
-    cast-t17
-    int-to-float-t18
-    same-length
-    returns
-    due-requires
-    returns-2)
+    tie.close (tie.spec (λ c κs. search needs) (λ c κs. search needs) sub-at mul-ring slice-write-ring add-t12 cast-t17 int-to-float-t18 (λ c. search needs) returns (λ c κs. search needs) returns-2)

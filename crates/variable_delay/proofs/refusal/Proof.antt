@@ -5,14 +5,8 @@ use Rattle.variable_delay.proofs.Settings.{due-is}
 use Rattle.variable_delay.proofs.refusal.Statement.{statement}
 use Rattle.variable_delay.proofs.refusal.Tie as tie
 
-length-for-requires : tie.Need-length-for-requires
-length-for-requires c κs = search needs
-
-due-requires : tie.Need-due-requires
-due-requires c κs = search needs
-
 returns : tie.Need-returns
 returns c = let a = c .before .before .args in c .due .ensures ∙ due-is (a .own) (a .lent) (a .state) (a .len) (a .input) (a .delay) (c .before .length-for .ensures)
 
 pub refusal-spec : {M : Type 1} → statement M
-refusal-spec = tie.close (tie.spec length-for-requires due-requires returns)
+refusal-spec = tie.close (tie.spec (λ c κs. search needs) (λ c κs. search needs) returns)

@@ -18,15 +18,9 @@ use Rattle.variable_delay.proofs.Refused.{not-accepted, same-ring}
 use Rattle.variable_delay_f32.proofs.accept.Statement.{statement}
 use Rattle.variable_delay_f32.proofs.accept.Tie as tie
 
-refusal-requires : tie.Need-refusal-requires
-refusal-requires c κs = search needs
-
 returns : tie.Need-returns
 unfolding ofBits
 returns c = let e = c .before .refusal .ensures in (not-accepted _ e (c .if1 .taken) _ _, same-ring _ e (c .if1 .taken) _ _ _)
-
-place-requires : tie.Need-place-requires
-place-requires c κs = search needs
 
 -- the call is accepted
 none : (c : tie.Else1) → let a = c .before .before .before .args in verdict (a .own) (a .lent) (a .state) (length (now (a .ring))) (a .input) (a .delay) ≡ 0
@@ -59,9 +53,6 @@ int-to-float-t16 c =
     let n = c .before .before .before .before .before .args .state .accepted in
     rw (count-is c) (in-float (pos n) (omega (arith, passed (c .before .before) .room)))
 
-same-length : tie.Need-same-length
-same-length c = search needs
-
 returns-2 : tie.Need-returns-2
 returns-2 c =
     let e = c .before .before in
@@ -69,4 +60,4 @@ returns-2 c =
     (rw (none e, count-is c), rw (none e, p))
 
 pub accept-spec : {M : Type 1} → statement M
-accept-spec = tie.close (tie.spec refusal-requires returns place-requires mul-ring slice-write-ring add-t14 cast-t15 int-to-float-t16 same-length returns-2)
+accept-spec = tie.close (tie.spec (λ c κs. search needs) returns (λ c κs. search needs) mul-ring slice-write-ring add-t14 cast-t15 int-to-float-t16 (λ c. search needs) returns-2)

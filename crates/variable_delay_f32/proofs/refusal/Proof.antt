@@ -12,32 +12,8 @@ use Rattle.variable_delay.proofs.Settings.{settled}
 use Rattle.variable_delay_f32.proofs.refusal.Statement.{statement}
 use Rattle.variable_delay_f32.proofs.refusal.Tie as tie
 
-served-requires : tie.Need-served-requires
-served-requires c κs = search needs
-
 returns : tie.Need-returns
 returns c = sym (c .before .served .ensures (c .if1 .taken))
-
-length-for-requires : tie.Need-length-for-requires
-length-for-requires c κs = search needs
-
-both-requires : tie.Need-both-requires
-both-requires c κs = search needs
-
-both-requires-2 : tie.Need-both-requires-2
-both-requires-2 c κs = search needs
-
-is-finite-f32-requires : tie.Need-is-finite-f32-requires
-is-finite-f32-requires c κs = search needs
-
-is-finite-requires : tie.Need-is-finite-requires
-is-finite-requires c κs = search needs
-
-both-requires-3 : tie.Need-both-requires-3
-both-requires-3 c κs = search needs
-
-first-requires : tie.Need-first-requires
-first-requires c κs = search needs
 
 returns-2 : tie.Need-returns-2
 unfolding ofBits
@@ -61,15 +37,4 @@ returns-2 c =
 
 pub refusal-spec : {M : Type 1} → statement M
 refusal-spec =
-    tie.close
-    (tie.spec
-    served-requires
-    returns
-    length-for-requires
-    both-requires
-    both-requires-2
-    is-finite-f32-requires
-    is-finite-requires
-    both-requires-3
-    first-requires
-    returns-2)
+    tie.close (tie.spec (λ c κs. search needs) returns (λ c κs. search needs) (λ c κs. search needs) (λ c κs. search needs) (λ c κs. search needs) (λ c κs. search needs) (λ c κs. search needs) (λ c κs. search needs) returns-2)

@@ -13,12 +13,6 @@ use Rattle.variable_delay.proofs.Refused.{not-opened, not-cleared}
 use Rattle.variable_delay_f32.proofs.reset.Statement.{statement}
 use Rattle.variable_delay_f32.proofs.reset.Tie as tie
 
-length-for-requires : tie.Need-length-for-requires
-length-for-requires c κs = search needs
-
-first-requires : tie.Need-first-requires
-first-requires c κs = search needs
-
 verdict-is : (c : tie.After-first) → let a = c .before .before .before .before .args in c .first .result ≡ resetVerdict (a .state) (length (now (a .ring)))
 verdict-is c =
     let s = c .before .before .before .before .args .state in
@@ -28,12 +22,6 @@ verdict-is c =
 returns : tie.Need-returns
 returns c = (not-opened _ (verdict-is (c .before)) (c .if1 .taken) _, not-cleared _ (verdict-is (c .before)) (c .if1 .taken) _)
 
-clear-f32-requires : tie.Need-clear-f32-requires
-clear-f32-requires c κs = search needs
-
-same-length : tie.Need-same-length
-same-length c = search needs
-
 returns-2 : tie.Need-returns-2
 returns-2 c =
     let e = c .before .before .before .before in
@@ -41,4 +29,4 @@ returns-2 c =
     (rw none, rw none (c .before .before .clear-f32 .ensures))
 
 pub reset-spec : {M : Type 1} → statement M
-reset-spec = tie.close (tie.spec length-for-requires first-requires returns clear-f32-requires same-length returns-2)
+reset-spec = tie.close (tie.spec (λ c κs. search needs) (λ c κs. search needs) returns (λ c κs. search needs) (λ c. search needs) returns-2)

@@ -3,17 +3,8 @@ use borrow.Author.Needs.{needs}
 use Rattle.windowed_sinc.proofs.new.Statement.{statement}
 use Rattle.windowed_sinc.proofs.new.Tie as tie
 
-refusal-requires : tie.Need-refusal-requires
-refusal-requires c κs = search needs
-
-build-requires : tie.Need-build-requires
-build-requires c κs = search needs
-
-same-length : tie.Need-same-length
-same-length c = search needs
-
 returns : tie.Need-returns
 returns c = let b = c .before .before in rw (b .before .before .refusal .ensures) at (b .build .ensures)
 
 pub new-spec : {M : Type 1} → statement M
-new-spec = tie.close (tie.spec refusal-requires build-requires same-length returns)
+new-spec = tie.close (tie.spec (λ c κs. search needs) (λ c κs. search needs) (λ c. search needs) returns)

@@ -7,20 +7,11 @@ use Rattle.sinc_settings.proofs.Fitting.{by-rate}
 use Rattle.windowed_sinc_f32.proofs.for_max_rate.Statement.{statement}
 use Rattle.windowed_sinc_f32.proofs.for_max_rate.Tie as tie
 
-for-rate-requires : tie.Need-for-rate-requires
-for-rate-requires c κs = search needs
-
-rate-refusal-requires : tie.Need-rate-refusal-requires
-rate-refusal-requires c κs = search needs
-
 build-requires : tie.Need-build-requires
 build-requires c κs =
     let r = c .before in
     let a = r .before .before .before .args in
     λ none. by-rate (r .before .for-rate .result) (a .max-rate) (a .passband) (length (now (a .table))) (sym (r .rate-refusal .ensures) ∙ none)
-
-same-length : tie.Need-same-length
-same-length c = search needs
 
 returns : tie.Need-returns
 returns c =
@@ -29,4 +20,4 @@ returns c =
     rw (r .rate-refusal .ensures, r .before .for-rate .ensures) at (b .build .ensures)
 
 pub for-max-rate-spec : {M : Type 1} → statement M
-for-max-rate-spec = tie.close (tie.spec for-rate-requires rate-refusal-requires build-requires same-length returns)
+for-max-rate-spec = tie.close (tie.spec (λ c κs. search needs) (λ c κs. search needs) build-requires (λ c. search needs) returns)

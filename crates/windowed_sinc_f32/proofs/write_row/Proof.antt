@@ -16,17 +16,8 @@ use Rattle.sinc_row.proofs.Lent.{scratch, scratch-long, row-lent}
 use Rattle.windowed_sinc_f32.proofs.write_row.Statement.{statement}
 use Rattle.windowed_sinc_f32.proofs.write_row.Tie as tie
 
-sub-write-row : tie.Need-sub-write-row
-sub-write-row c = search needs
-
-part-scratch-start : tie.Need-part-scratch-start
-part-scratch-start c = search needs
-
 part-scratch-end : tie.Need-part-scratch-end
 part-scratch-end c = let b = c .before .before in let s = b .args .settings in omega (arith, counts (s .taps) (s .phases) (accepted s (b .pre .0) .counted) .most-taps)
-
-write-row-requires : tie.Need-write-row-requires
-write-row-requires c κs = search needs
 
 -- the row in f64
 abbrev begun : tie.After-write-row → tie.Start
@@ -41,20 +32,8 @@ made c =
 long : (c : tie.After-write-row) → length (c .write-row .last .0) ≡ begun c .args .settings .taps
 long c = let a = begun c .args in ap length (made c) ∙ length-row (a .settings) (windowOf (a .settings)) (a .phase)
 
-sub-narrow-row : tie.Need-sub-narrow-row
-sub-narrow-row c = search needs
-
-part-narrow-row-start : tie.Need-part-narrow-row-start
-part-narrow-row-start c = search needs
-
 part-narrow-row-end : tie.Need-part-narrow-row-end
 part-narrow-row-end c = let w = c .before .before .before in front-fits (w .write-row .last .0) _ _ (long w)
-
-narrow-row-requires : tie.Need-narrow-row-requires
-narrow-row-requires c κs = search needs
-
-same-length : tie.Need-same-length
-same-length c = search needs
 
 returns : tie.Need-returns
 returns c =
@@ -63,4 +42,4 @@ returns c =
     n .narrow-row .ensures ∙ ap (map narrowed) (front-again (w .write-row .last .0) _ (begun w .args .settings .taps) (long w) ∙ made w)
 
 pub write-row-spec : {M : Type 1} → statement M
-write-row-spec = tie.close (tie.spec sub-write-row part-scratch-start part-scratch-end write-row-requires sub-narrow-row part-narrow-row-start part-narrow-row-end narrow-row-requires same-length returns)
+write-row-spec = tie.close (tie.spec (λ c. search needs) (λ c. search needs) part-scratch-end (λ c κs. search needs) (λ c. search needs) (λ c. search needs) part-narrow-row-end (λ c κs. search needs) (λ c. search needs) returns)

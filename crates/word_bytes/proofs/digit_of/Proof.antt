@@ -8,17 +8,11 @@ use Rattle.word_bytes.proofs.digit_of.Tie as tie
 returns : tie.Need-returns
 returns c = (simp (lt-ltb _ _ (c .if1 .taken)), omega arith)
 
-sub-result : tie.Need-sub-result
-sub-result c = search needs
-
 returns-2 : tie.Need-returns-2
 returns-2 c = (simp (le-ltb _ _ (c .before .if1 .left), lt-ltb _ _ (c .if2 .taken)), omega arith)
 
 returns-3 : tie.Need-returns-3
 returns-3 c = (simp (le-ltb _ _ (c .before .before .if1 .left), le-ltb _ _ (c .before .if2 .left), lt-ltb _ _ (c .if3 .taken)), omega arith)
-
-sub-result-2 : tie.Need-sub-result-2
-sub-result-2 c = search needs
 
 returns-4 : tie.Need-returns-4
 returns-4 c = (
@@ -34,4 +28,4 @@ returns-5 c = (
 
 pub digit-of-spec : {M : Type 1} → statement M
 digit-of-spec =
-    tie.close (tie.spec returns sub-result returns-2 returns-3 sub-result-2 returns-4 returns-5)
+    tie.close (tie.spec returns (λ c. search needs) returns-2 returns-3 (λ c. search needs) returns-4 returns-5)

@@ -6,9 +6,6 @@ use Rattle.word_bytes.specs.Bytes.{bytesValue}
 use Rattle.word_bytes.proofs.low_first.Statement.{statement}
 use Rattle.word_bytes.proofs.low_first.Tie as tie
 
-part-requires : tie.Need-part-requires
-part-requires c κs = search needs
-
 read-bytes-requires : tie.Need-read-bytes-requires
 read-bytes-requires c κs = omega arith
 
@@ -16,4 +13,4 @@ returns : tie.Need-returns
 returns c = c .read-bytes .ensures .0 ∙ ap bytesValue (c .before .part .ensures .0)
 
 pub low-first-spec : {M : Type 1} → statement M
-low-first-spec = tie.close (tie.spec part-requires read-bytes-requires returns)
+low-first-spec = tie.close (tie.spec (λ c κs. search needs) read-bytes-requires returns)

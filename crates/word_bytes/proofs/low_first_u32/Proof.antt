@@ -9,9 +9,6 @@ use Rattle.word_bytes.proofs.Rows.{within}
 use Rattle.word_bytes.proofs.low_first_u32.Statement.{statement}
 use Rattle.word_bytes.proofs.low_first_u32.Tie as tie
 
-part-requires : tie.Need-part-requires
-part-requires c κs = search needs
-
 read-bytes-requires : tie.Need-read-bytes-requires
 read-bytes-requires c κs = omega arith
 
@@ -24,4 +21,4 @@ returns : tie.Need-returns
 returns c = c .read-bytes .ensures .0 ∙ ap bytesValue (c .before .part .ensures .0)
 
 pub low-first-u32-spec : {M : Type 1} → statement M
-low-first-u32-spec = tie.close (tie.spec part-requires read-bytes-requires cast-result returns)
+low-first-u32-spec = tie.close (tie.spec (λ c κs. search needs) read-bytes-requires cast-result returns)

@@ -9,41 +9,14 @@ use lib.Seq.{take-all, take-nil}
 use Rattle.word_bytes.proofs.part.Statement.{statement}
 use Rattle.word_bytes.proofs.part.Tie as tie
 
-slice-aggregate-result : tie.Need-slice-aggregate-result
-slice-aggregate-result c = search needs
-
 returns : tie.Need-returns
 returns c = (rw (drop-of-length-le (c .before .before .args .s .now) (c .before .if1 .taken)) (sym (take-nil (c .before .before .args .count))), search needs)
-
-sub-if2 : tie.Need-sub-if2
-sub-if2 c = search needs
-
-add-end : tie.Need-add-end
-add-end c = search needs
-
-sub-result : tie.Need-sub-result
-sub-result c = search needs
-
-part-result-start : tie.Need-part-result-start
-part-result-start c = search needs
-
-part-result-end : tie.Need-part-result-end
-part-result-end c = search needs
 
 returns-2 : tie.Need-returns-2
 returns-2 c =
     let s = c .before .before .before .args .s .now in
     let at = c .before .before .before .args .at in
     (rw add-sub-cancel-left, simp (length-take, length-drop) (omega arith))
-
-sub-result-2 : tie.Need-sub-result-2
-sub-result-2 c = search needs
-
-part-result-start-2 : tie.Need-part-result-start-2
-part-result-start-2 c = search needs
-
-part-result-end-2 : tie.Need-part-result-end-2
-part-result-end-2 c = search needs
 
 returns-3 : tie.Need-returns-3
 returns-3 c =
@@ -55,17 +28,4 @@ returns-3 c =
 
 pub part-spec : {M : Type 1} → statement M
 part-spec =
-    tie.close
-    (tie.spec
-    slice-aggregate-result
-    returns
-    sub-if2
-    add-end
-    sub-result
-    part-result-start
-    part-result-end
-    returns-2
-    sub-result-2
-    part-result-start-2
-    part-result-end-2
-    returns-3)
+    tie.close (tie.spec (λ c. search needs) returns (λ c. search needs) (λ c. search needs) (λ c. search needs) (λ c. search needs) (λ c. search needs) returns-2 (λ c. search needs) (λ c. search needs) (λ c. search needs) returns-3)

@@ -7,12 +7,6 @@ use borrow.Author.Needs.{needs}
 use Rattle.words.proofs.shl.Statement.{statement}
 use Rattle.words.proofs.shl.Tie as tie
 
-shl-wrapping-mul : tie.Need-shl-wrapping-mul
-shl-wrapping-mul c = search needs
-
-wrapping-mul-requires : tie.Need-wrapping-mul-requires
-wrapping-mul-requires c κs = search needs
-
 power : (n : ℕ) → n < 64 → 1 * 2 ^ n % 2 ^ 64 ≡ 2 ^ n
 power n h = rw (one-mul, mod-eq-of-lt (pow-lt h))
 
@@ -26,4 +20,4 @@ returns-2 : tie.Need-returns-2
 returns-2 c = gone _ _ (c .if1 .left)
 
 pub shl-spec : {M : Type 1} → statement M
-shl-spec = tie.close (tie.spec shl-wrapping-mul wrapping-mul-requires returns returns-2)
+shl-spec = tie.close (tie.spec (λ c. search needs) (λ c κs. search needs) returns returns-2)

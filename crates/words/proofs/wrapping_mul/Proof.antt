@@ -21,9 +21,6 @@ add-mixed c = omega (arith, mask-lt (bitAnd (c .args .a) 0xffff_ffff * (c .args 
 mul-wrapping-add-u64 : tie.Need-mul-wrapping-add-u64
 mul-wrapping-add-u64 c = record { fits = below 32 (mask-lt (c .args .a) 32) (mask-lt (c .args .b) 32) }
 
-wrapping-add-u64-requires : tie.Need-wrapping-add-u64-requires
-wrapping-add-u64-requires c κs = search needs
-
 lower : (n : ℕ) → bitAnd n 0xffff_ffff ≡ n % 2 ^ 32
 lower n = and-mask n 32
 
@@ -31,4 +28,4 @@ returns : tie.Need-returns
 returns c = c .wrapping-add-u64 .ensures ∙ simp lower (halves (c .before .args .a) (c .before .args .b) (2 ^ 32))
 
 pub wrapping-mul-spec : {M : Type 1} → statement M
-wrapping-mul-spec = tie.close (tie.spec mul-mixed mul-mixed-2 add-mixed mul-wrapping-add-u64 wrapping-add-u64-requires returns)
+wrapping-mul-spec = tie.close (tie.spec mul-mixed mul-mixed-2 add-mixed mul-wrapping-add-u64 (λ c κs. search needs) returns)

@@ -8,9 +8,6 @@ use Rattle.xorshift.specs.Draws.{bipolarOf}
 use Rattle.xorshift.proofs.bipolar.Statement.{statement}
 use Rattle.xorshift.proofs.bipolar.Tie as tie
 
-wrapping-mul-requires : tie.Need-wrapping-mul-requires
-wrapping-mul-requires c κs = search needs
-
 int-to-float-unit : tie.Need-int-to-float-unit
 unfolding inFloat
 int-to-float-unit c = le→leb (c .before .wrapping-mul .result / 2 ^ 11) (2 ^ 53) (omega arith)
@@ -20,4 +17,4 @@ unfolding bipolarOf
 returns c = rw (c .before .wrapping-mul .ensures)
 
 pub bipolar-spec : {M : Type 1} → statement M
-bipolar-spec = tie.close (tie.spec wrapping-mul-requires int-to-float-unit returns)
+bipolar-spec = tie.close (tie.spec (λ c κs. search needs) int-to-float-unit returns)

@@ -7,11 +7,8 @@ use Rattle.xorshift.specs.Seeds.{seedOf}
 use Rattle.xorshift.proofs.flutter_seed.Statement.{statement}
 use Rattle.xorshift.proofs.flutter_seed.Tie as tie
 
-normalized-seed-requires : tie.Need-normalized-seed-requires
-normalized-seed-requires c κs = search needs
-
 returns : tie.Need-returns
 returns c = c .normalized-seed .ensures ∙ ap seedOf (xor-is 64 _ _ (c .before .fits .seed .fits) (lit< tt))
 
 pub flutter-seed-spec : {M : Type 1} → statement M
-flutter-seed-spec = tie.close (tie.spec normalized-seed-requires returns)
+flutter-seed-spec = tie.close (tie.spec (λ c κs. search needs) returns)

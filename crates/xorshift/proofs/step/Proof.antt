@@ -11,9 +11,6 @@ use Rattle.xorshift.specs.Xorshift.{stepOf}
 use Rattle.xorshift.proofs.step.Statement.{statement}
 use Rattle.xorshift.proofs.step.Tie as tie
 
-shl-requires : tie.Need-shl-requires
-shl-requires c κs = search needs
-
 right : (n x : ℕ) → x < 2 ^ 64 → bitXor x (x / 2 ^ n) ≡ xor x (x / 2 ^ n)
 right n x h = xor-is 64 x (x / 2 ^ n) h (lt-of-le-of-lt (shr-le x n) h)
 
@@ -29,4 +26,4 @@ returns c =
     rw (c .shl .ensures, right 12 x (c .before .fits .x .fits), left 25 a (xor-below 64 _ _), right 27 b (xor-below 64 _ _))
 
 pub step-spec : {M : Type 1} → statement M
-step-spec = tie.close (tie.spec shl-requires returns)
+step-spec = tie.close (tie.spec (λ c κs. search needs) returns)

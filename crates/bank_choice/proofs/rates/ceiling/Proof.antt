@@ -22,9 +22,6 @@ above : (c : tie.Then1) → ceilings.Inside (c .before .args .x)
 unfolding ofBits
 above c = ceilings.inside (c .before .args .x) (c .before .pre) (c .if1 .taken)
 
-floor-requires : tie.Need-floor-requires
-floor-requires c κs = search needs
-
 -- the floor, as the code holds it: the cut, which is small
 word : (c : tie.After-floor) → toZ w64 (ofZ w64 (c .floor .result)) ≡ pos (toUnsigned 64 (c .before .before .args .x))
 word c = toZ-ofZ w64 (c .floor .result) (record { sfits = c .floor .ok }) ∙ c .floor .ensures ∙ ceilings.floor-is _ (above (c .before))
@@ -67,4 +64,4 @@ unfolding ofBits
 returns-3 c = ceilings.low (c .before .args .x) (c .before .pre) (c .if1 .left)
 
 pub ceiling-spec : {M : Type 1} → statement M
-ceiling-spec = tie.close (tie.spec floor-requires cast-t cast-if2 int-to-float-if2 add-result returns returns-2 returns-3)
+ceiling-spec = tie.close (tie.spec (λ c κs. search needs) cast-t cast-if2 int-to-float-if2 add-result returns returns-2 returns-3)

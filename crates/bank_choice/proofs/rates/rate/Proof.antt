@@ -5,15 +5,9 @@ use Rattle.bank_choice.specs.Rates.{rateOf}
 use Rattle.bank_choice.proofs.rates.rate.Statement.{statement}
 use Rattle.bank_choice.proofs.rates.rate.Tie as tie
 
-nearest-u64-to-f64-requires : tie.Need-nearest-u64-to-f64-requires
-nearest-u64-to-f64-requires c κs = search needs
-
-nearest-u64-to-f64-requires-2 : tie.Need-nearest-u64-to-f64-requires-2
-nearest-u64-to-f64-requires-2 c κs = search needs
-
 returns : tie.Need-returns
 unfolding rateOf ofBits
 returns c = rw (c .before .nearest-u64-to-f64 .ensures, c .nearest-u64-to-f642 .ensures)
 
 pub rate-spec : {M : Type 1} → statement M
-rate-spec = tie.close (tie.spec nearest-u64-to-f64-requires nearest-u64-to-f64-requires-2 returns)
+rate-spec = tie.close (tie.spec (λ c κs. search needs) (λ c κs. search needs) returns)

@@ -21,15 +21,6 @@ module _ (top : Float) (steps set n : ℕ) where
   missing true e h = rw (le-ltb set steps (omega arith))
   missing false e h = refl
 
-steps-requires : tie.Need-steps-requires
-steps-requires c κs = search needs
-
-add-rate : tie.Need-add-rate
-add-rate c = search needs
-
-rate-requires : tie.Need-rate-requires
-rate-requires c κs = search needs
-
 returns : tie.Need-returns
 returns c =
     let s = c .before .before in
@@ -44,4 +35,4 @@ returns-2 c =
     missing (a .max-rate) (stepsOf (a .max-rate)) (a .set) (s .steps .result) (bankOk (a .max-rate)) (c .before .steps .ensures) (c .if1 .left)
 
 pub set-rate-spec : {M : Type 1} → statement M
-set-rate-spec = tie.close (tie.spec steps-requires add-rate rate-requires returns returns-2)
+set-rate-spec = tie.close (tie.spec (λ c κs. search needs) (λ c. search needs) (λ c κs. search needs) returns returns-2)

@@ -5,9 +5,6 @@ use lib.Ieee.{ofBits}
 use Rattle.bank_choice.proofs.rates.steps.Statement.{statement}
 use Rattle.bank_choice.proofs.rates.steps.Tie as tie
 
-within-requires : tie.Need-within-requires
-within-requires c κs = search needs
-
 sets-requires : tie.Need-sets-requires
 unfolding ofBits
 sets-requires c κs = sym (c .before .within .ensures) ∙ c .if1 .taken
@@ -21,4 +18,4 @@ unfolding ofBits
 returns-2 c = rw (← c .before .within .ensures, c .if1 .left)
 
 pub steps-spec : {M : Type 1} → statement M
-steps-spec = tie.close (tie.spec within-requires sets-requires returns returns-2)
+steps-spec = tie.close (tie.spec (λ c κs. search needs) sets-requires returns returns-2)

@@ -15,19 +15,10 @@ slower-requires c κs = omega (arith, least (c .args .max-rate))
 guess-requires : tie.Need-guess-requires
 guess-requires c κs = omega (arith, least (c .before .before .args .max-rate))
 
-down-requires : tie.Need-down-requires
-down-requires c κs = search needs
-
-up-requires : tie.Need-up-requires
-up-requires c κs = search needs
-
-returns : tie.Need-returns
-returns c = search needs
-
 returns-2 : tie.Need-returns-2
 returns-2 c =
     let a = c .before .before .args in
     found (slowerOf (a .max-rate) (a .steps) (a .r)) (a .steps) 0 (omega arith) (λ j h. absurd (omega arith)) (λ h. sym (c .before .slower .ensures) ∙ c .if1 .left)
 
 pub among-spec : {M : Type 1} → statement M
-among-spec = tie.close (tie.spec slower-requires guess-requires down-requires up-requires returns returns-2)
+among-spec = tie.close (tie.spec slower-requires guess-requires (λ c κs. search needs) (λ c κs. search needs) (λ c. search needs) returns-2)

@@ -12,18 +12,6 @@ use Rattle.bank_read.proofs.Tables.{table-is}
 use Rattle.bank_read.proofs.lent.table_read.Statement.{statement}
 use Rattle.bank_read.proofs.lent.table_read.Tie as tie
 
-chosen-requires : tie.Need-chosen-requires
-chosen-requires c κs = search needs
-
-taps-requires : tie.Need-taps-requires
-taps-requires c κs = search needs
-
-phases-requires : tie.Need-phases-requires
-phases-requires c κs = search needs
-
-read-requires : tie.Need-read-requires
-read-requires c κs = search needs
-
 picked : (tight : Bool) (a b : List Float) → length a ≡ setLength → length b ≡ setLength → length (pickSlice tight a b) ≡ setLength
 picked true a b p q = p
 picked false a b p q = q
@@ -38,4 +26,4 @@ returns c =
 
 pub table-read-spec : {M : Type 1} → statement M
 table-read-spec =
-    tie.close (tie.spec chosen-requires taps-requires phases-requires read-requires returns)
+    tie.close (tie.spec (λ c κs. search needs) (λ c κs. search needs) (λ c κs. search needs) (λ c κs. search needs) returns)

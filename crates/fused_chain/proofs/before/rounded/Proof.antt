@@ -24,9 +24,6 @@ float-to-bits-n c = number c
 add-n : tie.Need-add-n
 add-n c = omega (arith, half-fits (s c) (add-fits binary64 _ _) (number c))
 
-is-plain-requires : tie.Need-is-plain-requires
-is-plain-requires c κs = search needs
-
 float-from-bits-near : tie.Need-float-from-bits-near
 float-from-bits-near c = let b = c .before .before in plain-no-nan (s b) (add-fits binary64 _ _) (number b) (c .before .is-plain .ensures (c .if1 .taken))
 
@@ -43,4 +40,4 @@ returns-2 : tie.Need-returns-2
 returns-2 c = λ h. absurd (false≢true h)
 
 pub rounded-spec : {M : Type 1} → statement M
-rounded-spec = tie.close (tie.spec float-to-bits-n add-n is-plain-requires float-from-bits-near returns returns-2)
+rounded-spec = tie.close (tie.spec float-to-bits-n add-n (λ c κs. search needs) float-from-bits-near returns returns-2)

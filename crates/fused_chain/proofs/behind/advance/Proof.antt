@@ -4,30 +4,6 @@ use Rattle.fused_chain.proofs.Four.{advanced}
 use Rattle.fused_chain.proofs.behind.advance.Statement.{statement}
 use Rattle.fused_chain.proofs.behind.advance.Tie as tie
 
-both-requires : tie.Need-both-requires
-both-requires c κs = search needs
-
-both-requires-2 : tie.Need-both-requires-2
-both-requires-2 c κs = search needs
-
-both-requires-3 : tie.Need-both-requires-3
-both-requires-3 c κs = search needs
-
-both-requires-4 : tie.Need-both-requires-4
-both-requires-4 c κs = search needs
-
-both-requires-5 : tie.Need-both-requires-5
-both-requires-5 c κs = search needs
-
-both-requires-6 : tie.Need-both-requires-6
-both-requires-6 c κs = search needs
-
-both-requires-7 : tie.Need-both-requires-7
-both-requires-7 c κs = search needs
-
-both-requires-8 : tie.Need-both-requires-8
-both-requires-8 c κs = search needs
-
 returns : tie.Need-returns
 returns c =
     let b7 = c .before in
@@ -43,4 +19,4 @@ returns c =
     (b1 .both .ensures) (b2 .both2 .ensures) (b3 .both3 .ensures) (b4 .both4 .ensures) (b5 .both5 .ensures) (b6 .both6 .ensures) (b7 .both7 .ensures) (c .both8 .ensures)
 
 pub advance-spec : {M : Type 1} → statement M
-advance-spec = tie.close (tie.spec both-requires both-requires-2 both-requires-3 both-requires-4 both-requires-5 both-requires-6 both-requires-7 both-requires-8 returns)
+advance-spec = tie.close (tie.spec (λ c κs. search needs) (λ c κs. search needs) (λ c κs. search needs) (λ c κs. search needs) (λ c κs. search needs) (λ c κs. search needs) (λ c κs. search needs) (λ c κs. search needs) returns)

@@ -24,9 +24,6 @@ room c =
     let held = fits-widens x (c .before .pre) in
     omega (arith, toBits-lt binary64 x held, no-nan-rest binary64 (toBits binary64 x) (value-bits binary64 x held (number c)))
 
-no-bias-requires : tie.Need-no-bias-requires
-no-bias-requires c κs = search needs
-
 returns : tie.Need-returns
 returns c = λ h. absurd (c .no-bias .ensures h)
 
@@ -36,23 +33,14 @@ float-to-bits-h c = number c
 add-h : tie.Need-add-h
 add-h c = omega (arith, room c)
 
-no-bias-requires-2 : tie.Need-no-bias-requires-2
-no-bias-requires-2 c κs = search needs
-
 returns-2 : tie.Need-returns-2
 returns-2 c = λ h. absurd (c .no-bias2 .ensures h)
-
-no-bias-requires-3 : tie.Need-no-bias-requires-3
-no-bias-requires-3 c κs = search needs
 
 returns-3 : tie.Need-returns-3
 returns-3 c = λ h. absurd (c .no-bias3 .ensures h)
 
 ends-of-requires : tie.Need-ends-of-requires
 ends-of-requires c κs = (omega (arith, room (c .before .before)), c .before .if2 .left, c .if3 .left)
-
-both-requires : tie.Need-both-requires
-both-requires c κs = search needs
 
 returns-4 : tie.Need-returns-4
 returns-4 c =
@@ -65,16 +53,4 @@ returns-4 c =
 
 pub biased-spec : {M : Type 1} → statement M
 biased-spec =
-    tie.close
-    (tie.spec
-    no-bias-requires
-    returns
-    float-to-bits-h
-    add-h
-    no-bias-requires-2
-    returns-2
-    no-bias-requires-3
-    returns-3
-    ends-of-requires
-    both-requires
-    returns-4)
+    tie.close (tie.spec (λ c κs. search needs) returns float-to-bits-h add-h (λ c κs. search needs) returns-2 (λ c κs. search needs) returns-3 ends-of-requires (λ c κs. search needs) returns-4)

@@ -4,26 +4,11 @@ use Rattle.biased.proofs.Frames.{bias-number, near-number, far-number, frame-pl
 use Rattle.fused_chain.proofs.bias.ends_of.Statement.{statement}
 use Rattle.fused_chain.proofs.bias.ends_of.Tie as tie
 
-add-big : tie.Need-add-big
-add-big c = search needs
-
-mul-big : tie.Need-mul-big
-mul-big c = search needs
-
-sub-bias : tie.Need-sub-bias
-sub-bias c = search needs
-
 float-from-bits-bias : tie.Need-float-from-bits-bias
 float-from-bits-bias c = bias-number (c .args .h) (c .pre .1) (c .pre .2)
 
-sub-near : tie.Need-sub-near
-sub-near c = search needs
-
 float-from-bits-near : tie.Need-float-from-bits-near
 float-from-bits-near c = near-number (c .args .h) (c .pre .1) (c .pre .2)
-
-add-far : tie.Need-add-far
-add-far c = search needs
 
 float-from-bits-far : tie.Need-float-from-bits-far
 float-from-bits-far c = far-number (c .args .h) (c .pre .1) (c .pre .2)
@@ -35,4 +20,4 @@ returns-2 : tie.Need-returns-2
 returns-2 c = let b = c .before in frame-minus (b .args .h) (b .pre .1) (b .pre .2) (c .if1 .left) (b .pre .0)
 
 pub ends-of-spec : {M : Type 1} → statement M
-ends-of-spec = tie.close (tie.spec add-big mul-big sub-bias float-from-bits-bias sub-near float-from-bits-near add-far float-from-bits-far returns returns-2)
+ends-of-spec = tie.close (tie.spec (λ c. search needs) (λ c. search needs) (λ c. search needs) float-from-bits-bias (λ c. search needs) float-from-bits-near (λ c. search needs) float-from-bits-far returns returns-2)

@@ -7,15 +7,6 @@ use Rattle.rounding.proofs.Own.{narrowed-own}
 use Rattle.fused_chain.proofs.single.any_step.Statement.{statement}
 use Rattle.fused_chain.proofs.single.any_step.Tie as tie
 
-narrow-requires : tie.Need-narrow-requires
-narrow-requires c κs = search needs
-
-fused32-requires : tie.Need-fused32-requires
-fused32-requires c κs = search needs
-
-f32-to-f64-with-nan-requires : tie.Need-f32-to-f64-with-nan-requires
-f32-to-f64-with-nan-requires c κs = search needs
-
 returns : tie.Need-returns
 returns c =
     let f = c .before in
@@ -24,4 +15,4 @@ returns c =
     c .f32-to-f64-with-nan .ensures ∙ f .fused32 .ensures ∙ ap (fused binary32 (b .args .x) (b .args .c)) (n .narrow .ensures ∙ narrowed-own (b .args .sum) (b .pre))
 
 pub any-step-spec : {M : Type 1} → statement M
-any-step-spec = tie.close (tie.spec narrow-requires fused32-requires f32-to-f64-with-nan-requires returns)
+any-step-spec = tie.close (tie.spec (λ c κs. search needs) (λ c κs. search needs) (λ c κs. search needs) returns)

@@ -19,11 +19,5 @@ returns c =
     let a = b .args in
     zero-step (a .x) (a .c) (a .sum) (a .s) (held-x b) (held-c b) (b .pre .held) (b .pre .is) (c .if1 .taken)
 
-any-step-requires : tie.Need-any-step-requires
-any-step-requires c κs = search needs
-
-returns-2 : tie.Need-returns-2
-returns-2 c = search needs
-
 pub rare-step-spec : {M : Type 1} → statement M
-rare-step-spec = tie.close (tie.spec returns any-step-requires returns-2)
+rare-step-spec = tie.close (tie.spec returns (λ c κs. search needs) (λ c. search needs))

@@ -32,35 +32,17 @@ s c = let a = c .before .before .before .before .before .args in add binary64 (m
 number : (c : tie.Else2) → T (not (isNan (s c)))
 number c = differs-no-nan (s c) (c .if2 .left)
 
-are-numbers-requires : tie.Need-are-numbers-requires
-are-numbers-requires c κs = search needs
-
-any-step-requires : tie.Need-any-step-requires
-any-step-requires c κs = search needs
-
-returns : tie.Need-returns
-returns c = search needs
-
 float-to-float-s : tie.Need-float-to-float-s
 float-to-float-s c = let b = c .before .before .before in widens (b .args .x) (held-x b) (both (c .before) .first)
 
 float-to-float-s-2 : tie.Need-float-to-float-s-2
 float-to-float-s-2 c = let b = c .before .before .before .before in widens (b .args .c) (held-c b) (both (c .before .before) .second)
 
-any-step-requires-2 : tie.Need-any-step-requires-2
-any-step-requires-2 c κs = search needs
-
-returns-2 : tie.Need-returns-2
-returns-2 c = search needs
-
 float-to-bits-n : tie.Need-float-to-bits-n
 float-to-bits-n c = number c
 
 add-n : tie.Need-add-n
 add-n c = omega (arith, half-fits (s c) (add-fits binary64 _ _) (number c))
-
-is-plain-requires : tie.Need-is-plain-requires
-is-plain-requires c κs = search needs
 
 float-from-bits-result : tie.Need-float-from-bits-result
 float-from-bits-result c = let e = c .before .before in plain-no-nan (s e) (add-fits binary64 _ _) (number e) (c .before .is-plain .ensures (c .if3 .taken))
@@ -72,27 +54,6 @@ returns-3 c =
     let a = b .args in
     plain-step (a .x) (a .c) (a .sum) (s e) (held-x b) (held-c b) (b .pre) refl (number e) (c .before .is-plain .ensures (c .if3 .taken))
 
-rare-step-requires : tie.Need-rare-step-requires
-rare-step-requires c κs = search needs
-
-returns-4 : tie.Need-returns-4
-returns-4 c = search needs
-
 pub step-spec : {M : Type 1} → statement M
 step-spec =
-    tie.close
-    (tie.spec
-    are-numbers-requires
-    any-step-requires
-    returns
-    float-to-float-s
-    float-to-float-s-2
-    any-step-requires-2
-    returns-2
-    float-to-bits-n
-    add-n
-    is-plain-requires
-    float-from-bits-result
-    returns-3
-    rare-step-requires
-    returns-4)
+    tie.close (tie.spec (λ c κs. search needs) (λ c κs. search needs) (λ c. search needs) float-to-float-s float-to-float-s-2 (λ c κs. search needs) (λ c. search needs) float-to-bits-n add-n (λ c κs. search needs) float-from-bits-result returns-3 (λ c κs. search needs) (λ c. search needs))

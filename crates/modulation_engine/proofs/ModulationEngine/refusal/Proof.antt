@@ -4,15 +4,6 @@ use Rattle.modulation_engine.specs.Engine.{verdict}
 use Rattle.modulation_engine.proofs.ModulationEngine.refusal.Statement.{statement}
 use Rattle.modulation_engine.proofs.ModulationEngine.refusal.Tie as tie
 
-sample-rate-ok-requires : tie.Need-sample-rate-ok-requires
-sample-rate-ok-requires c κs = search needs
-
-both-requires : tie.Need-both-requires
-both-requires c κs = search needs
-
-valid-requires : tie.Need-valid-requires
-valid-requires c κs = search needs
-
 returns : tie.Need-returns
 unfolding verdict
 returns c = let t = c .before .before in rw (← t .before .before .sample-rate-ok .ensures, ← t .before .both .ensures, t .if1 .taken, ← c .before .valid .ensures, c .if2 .taken)
@@ -26,4 +17,4 @@ unfolding verdict
 returns-3 c = rw (← c .before .before .sample-rate-ok .ensures, ← c .before .both .ensures, c .if1 .left)
 
 pub refusal-spec : {M : Type 1} → statement M
-refusal-spec = tie.close (tie.spec sample-rate-ok-requires both-requires valid-requires returns returns-2 returns-3)
+refusal-spec = tie.close (tie.spec (λ c κs. search needs) (λ c κs. search needs) (λ c κs. search needs) returns returns-2 returns-3)

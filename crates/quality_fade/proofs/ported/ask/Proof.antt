@@ -4,17 +4,11 @@ use mathlib.Core.Path.{sym, _∙_}
 use Rattle.quality_fade.proofs.ported.ask.Statement.{statement}
 use Rattle.quality_fade.proofs.ported.ask.Tie as tie
 
-same-requires : tie.Need-same-requires
-same-requires c κs = search needs
-
 returns : tie.Need-returns
 returns c = rw (sym (c .before .same .ensures) ∙ c .if1 .taken)
-
-left-requires : tie.Need-left-requires
-left-requires c κs = search needs
 
 returns-2 : tie.Need-returns-2
 returns-2 c = rw (sym (c .before .before .same .ensures) ∙ c .before .if1 .left) (c .left .ensures)
 
 pub ask-spec : {M : Type 1} → statement M
-ask-spec = tie.close (tie.spec same-requires returns left-requires returns-2)
+ask-spec = tie.close (tie.spec (λ c κs. search needs) returns (λ c κs. search needs) returns-2)

@@ -4,9 +4,6 @@ use mathlib.Core.Path.{sym, _∙_}
 use Rattle.quality_fade.proofs.ported.plain.Statement.{statement}
 use Rattle.quality_fade.proofs.ported.plain.Tie as tie
 
-same-requires : tie.Need-same-requires
-same-requires c κs = search needs
-
 returns : tie.Need-returns
 returns c = rw (sym (c .before .same .ensures) ∙ c .if1 .taken)
 
@@ -14,4 +11,4 @@ returns-2 : tie.Need-returns-2
 returns-2 c = rw (sym (c .before .before .same .ensures) ∙ c .before .if1 .left)
 
 pub plain-spec : {M : Type 1} → statement M
-plain-spec = tie.close (tie.spec same-requires returns returns-2)
+plain-spec = tie.close (tie.spec (λ c κs. search needs) returns returns-2)

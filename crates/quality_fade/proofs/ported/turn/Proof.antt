@@ -8,12 +8,6 @@ use borrow.Author.Tests.{le-leb, lt-leb}
 use Rattle.quality_fade.proofs.ported.turn.Statement.{statement}
 use Rattle.quality_fade.proofs.ported.turn.Tie as tie
 
-plain-requires : tie.Need-plain-requires
-plain-requires c κs = search needs
-
-left-requires : tie.Need-left-requires
-left-requires c κs = search needs
-
 returns : tie.Need-returns
 returns c = rw (sym (c .before .before .plain .ensures) ∙ c .before .if1 .taken) (rw (c .left .ensures))
 
@@ -24,9 +18,6 @@ add-weight c =
     let below : s .place < s .length = e .before .before .pre (sym (e .before .plain .ensures) ∙ e .if1 .left) in
     omega (arith, c .struct-known .given)
 
-left-requires-2 : tie.Need-left-requires-2
-left-requires-2 c κs = search needs
-
 returns-2 : tie.Need-returns-2
 returns-2 c =
     let j = c .before in
@@ -36,4 +27,4 @@ returns-2 c =
 
 pub turn-spec : {M : Type 1} → statement M
 turn-spec =
-    tie.close (tie.spec plain-requires left-requires returns add-weight left-requires-2 returns-2)
+    tie.close (tie.spec (λ c κs. search needs) (λ c κs. search needs) returns add-weight (λ c κs. search needs) returns-2)

@@ -5,12 +5,6 @@ use Rattle.quality_variable_delay.proofs.Lent.{bank-due}
 use Rattle.quality_variable_delay.proofs.calls.due.Statement.{statement}
 use Rattle.quality_variable_delay.proofs.calls.due.Tie as tie
 
-bank-length-requires : tie.Need-bank-length-requires
-bank-length-requires c κs = search needs
-
-refusal-requires : tie.Need-refusal-requires
-refusal-requires c κs = search needs
-
 returns : tie.Need-returns
 returns c =
     let b = c .before in
@@ -18,4 +12,4 @@ returns c =
     c .refusal .ensures ∙ bank-due (b .bank-length .result) (a .lent) (a .max-rate) (a .state) (a .len) (a .input) (a .delay) (a .playback-rate) (b .bank-length .ensures)
 
 pub due-spec : {M : Type 1} → statement M
-due-spec = tie.close (tie.spec bank-length-requires refusal-requires returns)
+due-spec = tie.close (tie.spec (λ c κs. search needs) (λ c κs. search needs) returns)

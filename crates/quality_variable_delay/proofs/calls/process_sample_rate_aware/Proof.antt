@@ -7,12 +7,6 @@ use Rattle.quality_variable_delay.proofs.Refused.{not-processed, same-r
 use Rattle.quality_variable_delay.proofs.calls.process_sample_rate_aware.Statement.{statement}
 use Rattle.quality_variable_delay.proofs.calls.process_sample_rate_aware.Tie as tie
 
-tested-requires : tie.Need-tested-requires
-tested-requires c κs = search needs
-
-answered-f32-requires : tie.Need-answered-f32-requires
-answered-f32-requires c κs = search needs
-
 returns : tie.Need-returns
 returns c =
     let d = c .before .before in
@@ -24,9 +18,6 @@ returns c =
 accepted-requires : tie.Need-accepted-requires
 accepted-requires c κs = let e = c .before in sym (e .before .tested .ensures) ∙ e .if1 .left
 
-same-length : tie.Need-same-length
-same-length c = search needs
-
 returns-2 : tie.Need-returns-2
 returns-2 c =
     let k = c .before .before in
@@ -36,11 +27,4 @@ returns-2 c =
 
 pub process-sample-rate-aware-spec : {M : Type 1} → statement M
 process-sample-rate-aware-spec =
-    tie.close
-    (tie.spec
-    tested-requires
-    answered-f32-requires
-    returns
-    accepted-requires
-    same-length
-    returns-2)
+    tie.close (tie.spec (λ c κs. search needs) (λ c κs. search needs) returns accepted-requires (λ c. search needs) returns-2)

@@ -4,17 +4,11 @@ use mathlib.Core.Path.{sym}
 use Rattle.quality_variable_delay.proofs.calls.tested.Statement.{statement}
 use Rattle.quality_variable_delay.proofs.calls.tested.Tie as tie
 
-served-requires : tie.Need-served-requires
-served-requires c κs = search needs
-
 returns : tie.Need-returns
 returns c = sym (c .before .served .ensures (c .if1 .taken))
-
-due-requires : tie.Need-due-requires
-due-requires c κs = search needs
 
 returns-2 : tie.Need-returns-2
 returns-2 c = c .due .ensures
 
 pub tested-spec : {M : Type 1} → statement M
-tested-spec = tie.close (tie.spec served-requires returns due-requires returns-2)
+tested-spec = tie.close (tie.spec (λ c κs. search needs) returns (λ c κs. search needs) returns-2)

@@ -3,14 +3,8 @@ use borrow.Author.Needs.{needs}
 use Rattle.quality_variable_delay.proofs.opening.renew.Statement.{statement}
 use Rattle.quality_variable_delay.proofs.opening.renew.Tie as tie
 
-fading-requires : tie.Need-fading-requires
-fading-requires c κs = search needs
-
-reset-requires : tie.Need-reset-requires
-reset-requires c κs = search needs
-
 returns : tie.Need-returns
 returns c = rw (c .reset .ensures, c .before .fading .ensures)
 
 pub renew-spec : {M : Type 1} → statement M
-renew-spec = tie.close (tie.spec fading-requires reset-requires returns)
+renew-spec = tie.close (tie.spec (λ c κs. search needs) (λ c κs. search needs) returns)

@@ -7,20 +7,8 @@ use Rattle.quality_variable_delay.proofs.Refused.{not-opened}
 use Rattle.quality_variable_delay.proofs.opening.reset.Statement.{statement}
 use Rattle.quality_variable_delay.proofs.opening.reset.Tie as tie
 
-reset-refusal-requires : tie.Need-reset-refusal-requires
-reset-refusal-requires c κs = search needs
-
 returns : tie.Need-returns
 returns c = let e = c .before .reset-refusal .ensures in (not-opened _ e (c .if1 .taken) _, not-cleared _ e (c .if1 .taken) _)
-
-clear-f32-requires : tie.Need-clear-f32-requires
-clear-f32-requires c κs = search needs
-
-renew-requires : tie.Need-renew-requires
-renew-requires c κs = search needs
-
-same-length : tie.Need-same-length
-same-length c = search needs
 
 returns-2 : tie.Need-returns-2
 returns-2 c =
@@ -30,4 +18,4 @@ returns-2 c =
     (rw (none, c .renew .ensures), rw none (cleared .clear-f32 .ensures))
 
 pub reset-spec : {M : Type 1} → statement M
-reset-spec = tie.close (tie.spec reset-refusal-requires returns clear-f32-requires renew-requires same-length returns-2)
+reset-spec = tie.close (tie.spec (λ c κs. search needs) returns (λ c κs. search needs) (λ c κs. search needs) (λ c. search needs) returns-2)

@@ -11,27 +11,6 @@ use Rattle.quality_variable_delay.specs.State.{fadePart}
 use Rattle.quality_variable_delay.proofs.opening.reset_refusal.Statement.{statement}
 use Rattle.quality_variable_delay.proofs.opening.reset_refusal.Tie as tie
 
-length-for-requires : tie.Need-length-for-requires
-length-for-requires c κs = search needs
-
-length-ok-requires : tie.Need-length-ok-requires
-length-ok-requires c κs = search needs
-
-both-requires : tie.Need-both-requires
-both-requires c κs = search needs
-
-fading-requires : tie.Need-fading-requires
-fading-requires c κs = search needs
-
-place-ok-requires : tie.Need-place-ok-requires
-place-ok-requires c κs = search needs
-
-both-requires-2 : tie.Need-both-requires-2
-both-requires-2 c κs = search needs
-
-first-requires : tie.Need-first-requires
-first-requires c κs = search needs
-
 returns : tie.Need-returns
 returns c =
     let third = c .before in
@@ -49,13 +28,4 @@ returns c =
 
 pub reset-refusal-spec : {M : Type 1} → statement M
 reset-refusal-spec =
-    tie.close
-    (tie.spec
-    length-for-requires
-    length-ok-requires
-    both-requires
-    fading-requires
-    place-ok-requires
-    both-requires-2
-    first-requires
-    returns)
+    tie.close (tie.spec (λ c κs. search needs) (λ c κs. search needs) (λ c κs. search needs) (λ c κs. search needs) (λ c κs. search needs) (λ c κs. search needs) (λ c κs. search needs) returns)

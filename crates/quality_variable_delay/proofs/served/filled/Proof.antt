@@ -6,12 +6,6 @@ use Rattle.variable_delay_f32.proofs.Passing as passing
 use Rattle.quality_variable_delay.proofs.served.filled.Statement.{statement}
 use Rattle.quality_variable_delay.proofs.served.filled.Tie as tie
 
-length-for-requires : tie.Need-length-for-requires
-length-for-requires c κs = search needs
-
-bank-length-requires : tie.Need-bank-length-requires
-bank-length-requires c κs = search needs
-
 returns : tie.Need-returns
 returns c =
     let fits = c .before in
@@ -33,4 +27,4 @@ returns-4 : tie.Need-returns-4
 returns-4 c = λ h. absurd (false≢true h)
 
 pub filled-spec : {M : Type 1} → statement M
-filled-spec = tie.close (tie.spec length-for-requires bank-length-requires returns returns-2 returns-3 returns-4)
+filled-spec = tie.close (tie.spec (λ c κs. search needs) (λ c κs. search needs) returns returns-2 returns-3 returns-4)

@@ -8,24 +8,6 @@ use Rattle.quality_variable_delay.proofs.Passing.{none-due}
 use Rattle.quality_variable_delay.proofs.served.served.Statement.{statement}
 use Rattle.quality_variable_delay.proofs.served.served.Tie as tie
 
-length-ok-requires : tie.Need-length-ok-requires
-length-ok-requires c κs = search needs
-
-fading-requires : tie.Need-fading-requires
-fading-requires c κs = search needs
-
-place-ok-requires : tie.Need-place-ok-requires
-place-ok-requires c κs = search needs
-
-is-finite-f32-requires : tie.Need-is-finite-f32-requires
-is-finite-f32-requires c κs = search needs
-
-is-number-requires : tie.Need-is-number-requires
-is-number-requires c κs = search needs
-
-filled-requires : tie.Need-filled-requires
-filled-requires c κs = search needs
-
 returns : tie.Need-returns
 unfolding ofBits
 returns c =
@@ -75,19 +57,4 @@ returns-8 c = λ h. absurd (false≢true h)
 
 pub served-spec : {M : Type 1} → statement M
 served-spec =
-    tie.close
-    (tie.spec
-    length-ok-requires
-    fading-requires
-    place-ok-requires
-    is-finite-f32-requires
-    is-number-requires
-    filled-requires
-    returns
-    returns-2
-    returns-3
-    returns-4
-    returns-5
-    returns-6
-    returns-7
-    returns-8)
+    tie.close (tie.spec (λ c κs. search needs) (λ c κs. search needs) (λ c κs. search needs) (λ c κs. search needs) (λ c κs. search needs) (λ c κs. search needs) returns returns-2 returns-3 returns-4 returns-5 returns-6 returns-7 returns-8)

@@ -23,12 +23,6 @@ passed c = let a = c .args in taken (bankOk (a .max-rate)) (eqb (length (now (a 
 store-requires : tie.Need-store-requires
 store-requires c κs = let t = passed (c .before .before .before) in (room t, ring-some t)
 
-fading-requires : tie.Need-fading-requires
-fading-requires c κs = search needs
-
-step-requires : tie.Need-step-requires
-step-requires c κs = search needs
-
 add-output : tie.Need-add-output
 add-output c = omega (arith, room (passed (c .before .before .before .before .before .before .before .before .before .before)))
 
@@ -42,12 +36,6 @@ output-requires c κs =
 after-requires : tie.Need-after-requires
 after-requires c κs = room (passed (c .before .before .before .before .before .before .before .before .before .before .before))
 
-answered-f32-requires : tie.Need-answered-f32-requires
-answered-f32-requires c κs = search needs
-
-same-length : tie.Need-same-length
-same-length c = search needs
-
 returns : tie.Need-returns
 returns c =
     let o = c .before .before in
@@ -59,14 +47,4 @@ returns c =
 
 pub accepted-spec : {M : Type 1} → statement M
 accepted-spec =
-    tie.close
-    (tie.spec
-    store-requires
-    fading-requires
-    step-requires
-    add-output
-    output-requires
-    after-requires
-    answered-f32-requires
-    same-length
-    returns)
+    tie.close (tie.spec store-requires (λ c κs. search needs) (λ c κs. search needs) add-output output-requires after-requires (λ c κs. search needs) (λ c. search needs) returns)

@@ -10,18 +10,6 @@ use Rattle.bank_read.proofs.Bank.{bank-read}
 use Rattle.quality_variable_delay.proofs.turns.output.Statement.{statement}
 use Rattle.quality_variable_delay.proofs.turns.output.Tie as tie
 
-choose-requires : tie.Need-choose-requires
-choose-requires c κs = search needs
-
-read-requires : tie.Need-read-requires
-read-requires c κs = search needs
-
-read-requires-2 : tie.Need-read-requires-2
-read-requires-2 c κs = search needs
-
-mix-requires : tie.Need-mix-requires
-mix-requires c κs = search needs
-
 -- a quality's reading by the choice that was made
 chosen : (c : tie.After-choose) (q : QualityMode) → let a = c .before .before .before .before .before .args in
     readOf (c .choose .result) q (now (a .sets)) (now (a .source)) (a .count) (a .position) ≡ bankAt (now (a .sets)) (a .max-rate) (a .rate) q (now (a .source)) (a .count) (a .position)
@@ -39,9 +27,6 @@ returns c =
     let t = h .before .before .before .before .before .args .turn in
     rw (h .before .if1 .taken) (rw (c .mix .ensures, second .read2 .ensures ∙ chosen h (t .to), first .read .ensures ∙ chosen h (t .from)))
 
-sample-requires : tie.Need-sample-requires
-sample-requires c κs = search needs
-
 returns-2 : tie.Need-returns-2
 returns-2 c =
     let s = c .before .before .before .before .before in
@@ -51,12 +36,4 @@ returns-2 c =
 
 pub output-spec : {M : Type 1} → statement M
 output-spec =
-    tie.close
-    (tie.spec
-    choose-requires
-    read-requires
-    read-requires-2
-    mix-requires
-    returns
-    sample-requires
-    returns-2)
+    tie.close (tie.spec (λ c κs. search needs) (λ c κs. search needs) (λ c κs. search needs) (λ c κs. search needs) returns (λ c κs. search needs) returns-2)

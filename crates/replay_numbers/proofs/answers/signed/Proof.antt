@@ -40,12 +40,6 @@ sub-result-2 c =
 cast-result-2 : tie.Need-cast-result-2
 cast-result-2 c = above (c .before .args .n) (c .before .fits .n) (c .if1 .left)
 
-returns : tie.Need-returns
-returns c = search needs
-
-returns-2 : tie.Need-returns-2
-returns-2 c = search needs
-
 pub signed-spec : {M : Type 1} → statement M
 signed-spec =
-    tie.close (tie.spec sub-result cast-result sub-result-2 cast-result-2 returns returns-2)
+    tie.close (tie.spec sub-result cast-result sub-result-2 cast-result-2 (λ c. search needs) (λ c. search needs))

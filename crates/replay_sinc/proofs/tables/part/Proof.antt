@@ -9,23 +9,8 @@ use Rattle.replay_sinc.proofs.tables.part.Tie as tie
 short : (taps phases : ℕ) → taps ≤ 128 → phases ≤ 4096 → (phases + 1) * taps ≤ 2 ^ 20
 short taps phases t p = let l : phases + 1 ≤ 4097 = omega (arith, p) in omega (arith, mul-le-mul l t)
 
-returns : tie.Need-returns
-returns c = search needs
-
-returns-2 : tie.Need-returns-2
-returns-2 c = search needs
-
-add-need : tie.Need-add-need
-add-need c = search needs
-
 mul-need : tie.Need-mul-need
 mul-need c = let a = c .before .before .args in omega (arith, short (a .taps) (a .phases) (omega (arith, c .before .if1 .left)) (omega (arith, c .if2 .left)))
 
-within-requires : tie.Need-within-requires
-within-requires c κs = search needs
-
-returns-3 : tie.Need-returns-3
-returns-3 c = search needs
-
 pub part-spec : {M : Type 1} → statement M
-part-spec = tie.close (tie.spec returns returns-2 add-need mul-need within-requires returns-3)
+part-spec = tie.close (tie.spec (λ c. search needs) (λ c. search needs) (λ c. search needs) mul-need (λ c κs. search needs) (λ c. search needs))

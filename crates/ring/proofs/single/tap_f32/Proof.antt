@@ -28,18 +28,9 @@ returns-2 : tie.Need-returns-2
 unfolding ofBits
 returns-2 c = held.ahead _ _ _ (word (c .before .before .before)) (c .before .if1 .left) (c .if2 .taken)
 
-sub-if3 : tie.Need-sub-if3
-sub-if3 c = search needs
-
-sub-if3-2 : tie.Need-sub-if3-2
-sub-if3-2 c = search needs
-
 returns-3 : tie.Need-returns-3
 unfolding ofBits
 returns-3 c = held.gone _ _ _ (word (c .before .before .before .before)) (c .before .before .if1 .left) (c .before .if2 .left) (c .if3 .taken)
-
-place-requires : tie.Need-place-requires
-place-requires c κs = search needs
 
 inside : (c : tie.After-place) → c .place .result < length (now (c .before .before .before .before .before .args .source))
 inside c = held.place-inside _ _ (omega arith) (c .place .ensures)
@@ -56,4 +47,4 @@ returns-4 c =
     held.kept _ _ _ (word (t .before .before .before .before)) (t .before .before .if1 .left) (t .before .if2 .left) (t .if3 .left) (c .before .place .ensures)
 
 pub tap-f32-spec : {M : Type 1} → statement M
-tap-f32-spec = tie.close (tie.spec returns cast-k returns-2 sub-if3 sub-if3-2 returns-3 place-requires mul-result shared-slice-read-result returns-4)
+tap-f32-spec = tie.close (tie.spec returns cast-k returns-2 (λ c. search needs) (λ c. search needs) returns-3 (λ c κs. search needs) mul-result shared-slice-read-result returns-4)

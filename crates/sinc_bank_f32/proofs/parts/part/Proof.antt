@@ -44,12 +44,6 @@ ends c =
       small = omega (arith, c .end .ensures, w .1);
     }
 
-start-requires : tie.Need-start-requires
-start-requires c κs = search needs
-
-end-requires : tie.Need-end-requires
-end-requires c κs = search needs
-
 mul-result : tie.Need-mul-result
 mul-result c = let x = ends (c .before) in omega (arith, x .order, x .small)
 
@@ -69,30 +63,9 @@ returns c =
     let a = t .before .before .before .args in
     rw (eq-eqb (length (now (a .set))) setLength (c .before .if1 .taken), x .start-is, x .end-is) (part-is (a .quality) (now (a .set)))
 
-sub-result-2 : tie.Need-sub-result-2
-sub-result-2 c = search needs
-
-part-result-start-2 : tie.Need-part-result-start-2
-part-result-start-2 c = search needs
-
-part-result-end-2 : tie.Need-part-result-end-2
-part-result-end-2 c = search needs
-
 returns-2 : tie.Need-returns-2
 returns-2 c = let a = c .before .before .before .before .before .args in rw (ne-eqb (length (now (a .set))) setLength (λ z. omega (arith, z, c .before .if1 .left)))
 
 pub part-spec : {M : Type 1} → statement M
 part-spec =
-    tie.close
-    (tie.spec
-    start-requires
-    end-requires
-    mul-result
-    sub-result
-    part-result-start
-    part-result-end
-    returns
-    sub-result-2
-    part-result-start-2
-    part-result-end-2
-    returns-2)
+    tie.close (tie.spec (λ c κs. search needs) (λ c κs. search needs) mul-result sub-result part-result-start part-result-end returns (λ c. search needs) (λ c. search needs) (λ c. search needs) returns-2)

@@ -16,15 +16,6 @@ use Rattle.sinc_read.proofs.Ways as ways
 use Rattle.sinc_read.proofs.kernel.at.Statement.{statement}
 use Rattle.sinc_read.proofs.kernel.at.Tie as tie
 
-phase-at-requires : tie.Need-phase-at-requires
-phase-at-requires c κs = search needs
-
-first-tap-requires : tie.Need-first-tap-requires
-first-tap-requires c κs = search needs
-
-run-start-requires : tie.Need-run-start-requires
-run-start-requires c κs = search needs
-
 -- nothing is refused
 ok : (c : tie.After-run-start) → let a = c .before .before .before .before .before .args in Readable (a .taps) (a .phases) (length (now (a .table))) (a .position)
 ok c = let s = c .before .before .before .before .before in readable (s .args .taps) (s .args .phases) (length (now (s .args .table))) (s .args .position) (s .pre)
@@ -61,4 +52,4 @@ returns-2 c =
     ways.one-by-one (ok r) (now (a .table)) (now (a .source)) (a .count) (r .before .before .phase-at .ensures) (first r) (c .one-by-one .ensures)
 
 pub at-spec : {M : Type 1} → statement M
-at-spec = tie.close (tie.spec phase-at-requires first-tap-requires run-start-requires held-requires one-by-one-requires returns returns-2)
+at-spec = tie.close (tie.spec (λ c κs. search needs) (λ c κs. search needs) (λ c κs. search needs) held-requires one-by-one-requires returns returns-2)

@@ -5,12 +5,6 @@ use Rattle.sinc_read.proofs.Accepted.{beyond, within}
 use Rattle.sinc_read.proofs.kernel.refusal.Statement.{statement}
 use Rattle.sinc_read.proofs.kernel.refusal.Tie as tie
 
-position-ok-requires : tie.Need-position-ok-requires
-position-ok-requires c κs = search needs
-
-table-refusal-requires : tie.Need-table-refusal-requires
-table-refusal-requires c κs = search needs
-
 returns : tie.Need-returns
 returns c =
     let a = c .before .before .before .args in
@@ -20,4 +14,4 @@ returns-2 : tie.Need-returns-2
 returns-2 c = let a = c .before .before .args in beyond (a .taps) (a .phases) (a .len) (a .position) (sym (c .before .position-ok .ensures) ∙ c .if1 .left)
 
 pub refusal-spec : {M : Type 1} → statement M
-refusal-spec = tie.close (tie.spec position-ok-requires table-refusal-requires returns returns-2)
+refusal-spec = tie.close (tie.spec (λ c κs. search needs) (λ c κs. search needs) returns returns-2)

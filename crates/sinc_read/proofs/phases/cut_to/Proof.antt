@@ -31,9 +31,6 @@ below c =
     let a = c .before .before .before in
     under (a .args .top) (a .args .x) _ (value (a .args .top) (a .pre)) (c .before .before .if1 .taken) (c .if2 .taken)
 
-floor-requires : tie.Need-floor-requires
-floor-requires c κs = search needs
-
 -- the floor, as the code holds it
 word : (c : tie.After-floor) → let a = c .before .before .before .before .args in toZ w64 (ofZ w64 (c .floor .result)) ≡ pos (cutTo (a .top) (a .x))
 word c =
@@ -59,4 +56,4 @@ unfolding ofBits
 returns-3 c = low (c .before .args .top) (c .before .args .x) (c .if1 .left)
 
 pub cut-to-spec : {M : Type 1} → statement M
-cut-to-spec = tie.close (tie.spec int-to-float-if2 floor-requires cast-result returns returns-2 returns-3)
+cut-to-spec = tie.close (tie.spec int-to-float-if2 (λ c κs. search needs) cast-result returns returns-2 returns-3)

@@ -16,21 +16,12 @@ use Rattle.sinc_read.proofs.Accepted.{Aimed, aimed}
 use Rattle.sinc_read.proofs.phases.first_tap.Statement.{statement}
 use Rattle.sinc_read.proofs.phases.first_tap.Tie as tie
 
-taps-in-range-requires : tie.Need-taps-in-range-requires
-taps-in-range-requires c κs = search needs
-
-floor-requires : tie.Need-floor-requires
-floor-requires c κs = search needs
-
 -- what the test says
 ranges : (c : tie.Then1) → let a = c .before .before .args in Aimed (a .position) (a .taps)
 ranges c = aimed _ _ (sym (c .before .taps-in-range .ensures) ∙ c .if1 .taken)
 
 sub-result : tie.Need-sub-result
 sub-result c = let r = ranges (c .before) in omega (arith, r .least)
-
-cast-result : tie.Need-cast-result
-cast-result c = search needs
 
 -- the first tap, as the machine has it
 exact : (c : tie.After-floor) → let a = c .before .before .before .args in toZ w64 (ofZ w64 (c .floor .result)) -ℤ toZ w64 (a .taps / 2 - 1) ≡ firstTap (a .position) (a .taps)
@@ -54,4 +45,4 @@ returns-2 : tie.Need-returns-2
 returns-2 c = rw (← c .before .taps-in-range .ensures, c .if1 .left)
 
 pub first-tap-spec : {M : Type 1} → statement M
-first-tap-spec = tie.close (tie.spec taps-in-range-requires floor-requires sub-result cast-result sub-result-2 returns returns-2)
+first-tap-spec = tie.close (tie.spec (λ c κs. search needs) (λ c κs. search needs) sub-result (λ c. search needs) sub-result-2 returns returns-2)

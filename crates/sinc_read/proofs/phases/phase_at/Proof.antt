@@ -16,15 +16,9 @@ use Rattle.sinc_read.proofs.Between.{Fine, fine}
 use Rattle.sinc_read.proofs.phases.phase_at.Statement.{statement}
 use Rattle.sinc_read.proofs.phases.phase_at.Tie as tie
 
-phases-in-range-requires : tie.Need-phases-in-range-requires
-phases-in-range-requires c κs = search needs
-
 -- what the test says
 ranges : (c : tie.Then1) → let a = c .before .before .args in Fine (a .position) (a .phases)
 ranges c = fine _ _ (sym (c .before .phases-in-range .ensures) ∙ c .if1 .taken)
-
-fraction-requires : tie.Need-fraction-requires
-fraction-requires c κs = search needs
 
 int-to-float-x : tie.Need-int-to-float-x
 unfolding inFloat
@@ -61,4 +55,4 @@ unfolding ofBits
 returns-2 c = rw (← c .before .phases-in-range .ensures, c .if1 .left)
 
 pub phase-at-spec : {M : Type 1} → statement M
-phase-at-spec = tie.close (tie.spec phases-in-range-requires fraction-requires int-to-float-x sub-cut-to cut-to-requires cast-t11 int-to-float-t7 returns returns-2)
+phase-at-spec = tie.close (tie.spec (λ c κs. search needs) (λ c κs. search needs) int-to-float-x sub-cut-to cut-to-requires cast-t11 int-to-float-t7 returns returns-2)

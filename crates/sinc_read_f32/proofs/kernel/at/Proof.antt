@@ -17,18 +17,6 @@ use Rattle.sinc_read_f32.proofs.Ways as ways
 use Rattle.sinc_read_f32.proofs.kernel.at.Statement.{statement}
 use Rattle.sinc_read_f32.proofs.kernel.at.Tie as tie
 
-phase-at-requires : tie.Need-phase-at-requires
-phase-at-requires c κs = search needs
-
-narrow-requires : tie.Need-narrow-requires
-narrow-requires c κs = search needs
-
-first-tap-requires : tie.Need-first-tap-requires
-first-tap-requires c κs = search needs
-
-run-start-requires : tie.Need-run-start-requires
-run-start-requires c κs = search needs
-
 abbrev begun : tie.After-run-start → tie.Start
 begun c = c .before .before .before .before .before .before
 
@@ -70,4 +58,4 @@ returns-2 c =
     ways.scattered (ok r) (now (a .table)) (now (a .source)) (a .count) (n .before .phase-at .ensures) (n .narrow .ensures) (first r) (c .scattered .ensures)
 
 pub at-spec : {M : Type 1} → statement M
-at-spec = tie.close (tie.spec phase-at-requires narrow-requires first-tap-requires run-start-requires held-requires scattered-requires returns returns-2)
+at-spec = tie.close (tie.spec (λ c κs. search needs) (λ c κs. search needs) (λ c κs. search needs) (λ c κs. search needs) held-requires scattered-requires returns returns-2)

@@ -7,12 +7,6 @@ use Rattle.sinc_read_f32.proofs.Answered.{read-is, not-read}
 use Rattle.sinc_read_f32.proofs.kernel.read.Statement.{statement}
 use Rattle.sinc_read_f32.proofs.kernel.read.Tie as tie
 
-refusal-requires : tie.Need-refusal-requires
-refusal-requires c κs = search needs
-
-at-requires : tie.Need-at-requires
-at-requires c κs = search needs
-
 returns : tie.Need-returns
 returns c =
     let i = c .before in
@@ -26,4 +20,4 @@ returns-2 c =
     not-read (now (a .table)) (a .taps) (a .phases) (now (a .source)) (a .count) (a .position) (λ z. c .if1 .left (c .before .refusal .ensures ∙ z))
 
 pub read-spec : {M : Type 1} → statement M
-read-spec = tie.close (tie.spec refusal-requires at-requires returns returns-2)
+read-spec = tie.close (tie.spec (λ c κs. search needs) (λ c κs. search needs) returns returns-2)

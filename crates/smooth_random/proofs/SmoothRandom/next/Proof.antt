@@ -9,24 +9,12 @@ use borrow.Author.Needs.{needs}
 use Rattle.smooth_random.proofs.SmoothRandom.next.Statement.{statement}
 use Rattle.smooth_random.proofs.SmoothRandom.next.Tie as tie
 
-refusal-requires : tie.Need-refusal-requires
-refusal-requires c κs = search needs
-
 refused : (k : ℕ) (r : SmoothRandom) (rate-hz sample-rate : Float) → (k ≡ 0 → ⊥) → record { random = r; value = zer; refusal = k } ≡ answer k r rate-hz sample-rate
 refused zero r rate-hz sample-rate h = absurd (h refl)
 refused (suc k) r rate-hz sample-rate h = refl
 
 returns : tie.Need-returns
 returns c = rw (← c .before .refusal .ensures) (refused _ _ _ _ (c .if1 .taken))
-
-value-requires : tie.Need-value-requires
-value-requires c κs = search needs
-
-advance-requires : tie.Need-advance-requires
-advance-requires c κs = search needs
-
-turn-requires : tie.Need-turn-requires
-turn-requires c κs = search needs
 
 returns-2 : tie.Need-returns-2
 unfolding settled
@@ -44,12 +32,4 @@ returns-3 c =
 
 pub next-spec : {M : Type 1} → statement M
 next-spec =
-    tie.close
-    (tie.spec
-    refusal-requires
-    returns
-    value-requires
-    advance-requires
-    turn-requires
-    returns-2
-    returns-3)
+    tie.close (tie.spec (λ c κs. search needs) returns (λ c κs. search needs) (λ c κs. search needs) (λ c κs. search needs) returns-2 returns-3)

@@ -4,15 +4,6 @@ use borrow.Author.Needs.{needs}
 use Rattle.smooth_random.proofs.SmoothRandom.reset.Statement.{statement}
 use Rattle.smooth_random.proofs.SmoothRandom.reset.Tie as tie
 
-random-bipolar-requires : tie.Need-random-bipolar-requires
-random-bipolar-requires c κs = search needs
-
-random-bipolar-requires-2 : tie.Need-random-bipolar-requires-2
-random-bipolar-requires-2 c κs = search needs
-
-random-segment-rate-scale-requires : tie.Need-random-segment-rate-scale-requires
-random-segment-rate-scale-requires c κs = search needs
-
 returns : tie.Need-returns
 unfolding started
 returns c =
@@ -20,9 +11,4 @@ returns c =
 
 pub reset-spec : {M : Type 1} → statement M
 reset-spec =
-    tie.close
-    (tie.spec
-    random-bipolar-requires
-    random-bipolar-requires-2
-    random-segment-rate-scale-requires
-    returns)
+    tie.close (tie.spec (λ c κs. search needs) (λ c κs. search needs) (λ c κs. search needs) returns)

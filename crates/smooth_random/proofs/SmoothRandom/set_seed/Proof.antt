@@ -4,17 +4,11 @@ use borrow.Author.Needs.{needs}
 use Rattle.smooth_random.proofs.SmoothRandom.set_seed.Statement.{statement}
 use Rattle.smooth_random.proofs.SmoothRandom.set_seed.Tie as tie
 
-normalized-seed-requires : tie.Need-normalized-seed-requires
-normalized-seed-requires c κs = search needs
-
 returns : tie.Need-returns
 returns c = rw (← c .before .before .normalized-seed .ensures, eq-eqb _ _ (c .if1 .taken))
-
-reset-requires : tie.Need-reset-requires
-reset-requires c κs = search needs
 
 returns-2 : tie.Need-returns-2
 returns-2 c = let test = c .before in rw (c .reset .ensures, ← test .before .before .normalized-seed .ensures, ne-eqb _ _ (test .if1 .left))
 
 pub set-seed-spec : {M : Type 1} → statement M
-set-seed-spec = tie.close (tie.spec normalized-seed-requires returns reset-requires returns-2)
+set-seed-spec = tie.close (tie.spec (λ c κs. search needs) returns (λ c κs. search needs) returns-2)

@@ -4,15 +4,9 @@ use borrow.Author.Needs.{needs}
 use Rattle.smooth_random.proofs.SmoothRandom.turn.Statement.{statement}
 use Rattle.smooth_random.proofs.SmoothRandom.turn.Tie as tie
 
-random-bipolar-requires : tie.Need-random-bipolar-requires
-random-bipolar-requires c κs = search needs
-
-random-segment-rate-scale-requires : tie.Need-random-segment-rate-scale-requires
-random-segment-rate-scale-requires c κs = search needs
-
 returns : tie.Need-returns
 unfolding turned
 returns c = rw (c .before .before .random-segment-rate-scale .ensures, c .before .before .before .before .random-bipolar .ensures)
 
 pub turn-spec : {M : Type 1} → statement M
-turn-spec = tie.close (tie.spec random-bipolar-requires random-segment-rate-scale-requires returns)
+turn-spec = tie.close (tie.spec (λ c κs. search needs) (λ c κs. search needs) returns)

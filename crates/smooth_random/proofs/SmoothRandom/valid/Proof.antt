@@ -4,33 +4,6 @@ use borrow.Author.Needs.{needs}
 use Rattle.smooth_random.proofs.SmoothRandom.valid.Statement.{statement}
 use Rattle.smooth_random.proofs.SmoothRandom.valid.Tie as tie
 
-both-requires : tie.Need-both-requires
-both-requires c κs = search needs
-
-within-requires : tie.Need-within-requires
-within-requires c κs = search needs
-
-within-requires-2 : tie.Need-within-requires-2
-within-requires-2 c κs = search needs
-
-both-requires-2 : tie.Need-both-requires-2
-both-requires-2 c κs = search needs
-
-within-requires-3 : tie.Need-within-requires-3
-within-requires-3 c κs = search needs
-
-both-requires-3 : tie.Need-both-requires-3
-both-requires-3 c κs = search needs
-
-both-requires-4 : tie.Need-both-requires-4
-both-requires-4 c κs = search needs
-
-both-requires-5 : tie.Need-both-requires-5
-both-requires-5 c κs = search needs
-
-both-requires-6 : tie.Need-both-requires-6
-both-requires-6 c κs = search needs
-
 returns : tie.Need-returns
 unfolding validOf
 returns c =
@@ -50,15 +23,4 @@ returns c =
 
 pub valid-spec : {M : Type 1} → statement M
 valid-spec =
-    tie.close
-    (tie.spec
-    both-requires
-    within-requires
-    within-requires-2
-    both-requires-2
-    within-requires-3
-    both-requires-3
-    both-requires-4
-    both-requires-5
-    both-requires-6
-    returns)
+    tie.close (tie.spec (λ c κs. search needs) (λ c κs. search needs) (λ c κs. search needs) (λ c κs. search needs) (λ c κs. search needs) (λ c κs. search needs) (λ c κs. search needs) (λ c κs. search needs) (λ c κs. search needs) returns)

@@ -4,12 +4,9 @@ use Rattle.smooth_random.specs.Drift.{quinticOf, valueAt}
 use Rattle.smooth_random.proofs.SmoothRandom.value.Statement.{statement}
 use Rattle.smooth_random.proofs.SmoothRandom.value.Tie as tie
 
-clamp-requires : tie.Need-clamp-requires
-clamp-requires c κs = search needs
-
 returns : tie.Need-returns
 unfolding valueAt quinticOf
 returns c = rw (c .before .before .clamp .ensures)
 
 pub value-spec : {M : Type 1} → statement M
-value-spec = tie.close (tie.spec clamp-requires returns)
+value-spec = tie.close (tie.spec (λ c κs. search needs) returns)

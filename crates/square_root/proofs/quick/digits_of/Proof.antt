@@ -17,14 +17,8 @@ low c = and-mask (c .before .args .bits) 52
 odd : (c : tie.Else1) → bitAnd (c .before .args .bits / 2 ^ 52 + 1) 1 ≡ (c .before .args .bits / 2 ^ 52 + 1) % 2
 odd c = and-mask (c .before .args .bits / 2 ^ 52 + 1) 1
 
-returns : tie.Need-returns
-returns c = search needs
-
 add-d : tie.Need-add-d
 add-d c = omega (arith, low c)
-
-add-odd : tie.Need-add-odd
-add-odd c = search needs
 
 add-v : tie.Need-add-v
 add-v c = omega (arith, odd c)
@@ -44,12 +38,6 @@ add-guess c = omega (arith, low c, odd c)
 float-from-bits-guess-2 : tie.Need-float-from-bits-guess-2
 float-from-bits-guess-2 c = rest-no-nan binary64 _ (omega (arith, low c, odd c))
 
-guess-requires : tie.Need-guess-requires
-guess-requires c κs = search needs
-
-nearest-requires : tie.Need-nearest-requires
-nearest-requires c κs = search needs
-
 returns-2 : tie.Need-returns-2
 returns-2 c = λ some.
     let e = c .before .before in
@@ -60,17 +48,4 @@ returns-2 c = λ some.
 
 pub digits-of-spec : {M : Type 1} → statement M
 digits-of-spec =
-    tie.close
-    (tie.spec
-    returns
-    add-d
-    add-odd
-    add-v
-    add-v-2
-    shl-nearest
-    float-from-bits-guess
-    add-guess
-    float-from-bits-guess-2
-    guess-requires
-    nearest-requires
-    returns-2)
+    tie.close (tie.spec (λ c. search needs) add-d (λ c. search needs) add-v add-v-2 shl-nearest float-from-bits-guess add-guess float-from-bits-guess-2 (λ c κs. search needs) (λ c κs. search needs) returns-2)

@@ -24,9 +24,6 @@ add-y c = omega (arith, low c)
 mul-rest : tie.Need-mul-rest
 mul-rest c = omega (arith, low c)
 
-sub-rest : tie.Need-sub-rest
-sub-rest c = search needs
-
 rest-requires : tie.Need-rest-requires
 rest-requires c κs = omega (arith, low c)
 
@@ -38,9 +35,6 @@ add-if2 c = omega (arith, low (c .before))
 
 mul-digit : tie.Need-mul-digit
 mul-digit c = omega (arith, low (c .before .before))
-
-digit-requires : tie.Need-digit-requires
-digit-requires c κs = search needs
 
 one : (c : tie.After-digit) → c .digit .result ≤ 1
 one c = le-trans (le-of-eq (c .digit .ensures)) (digit-le (leb (8 * (bitAnd (toBits binary64 (c .before .before .before .before .args .g)) 0xf_ffff_ffff_ffff + 2 ^ 52)) (c .before .before .rest .result)))
@@ -55,26 +49,6 @@ returns c = λ _.
     let y = bitAnd (toBits binary64 (t .before .args .g)) 0xf_ffff_ffff_ffff + 2 ^ 52 in
     nearest-is (t .before .args .c) y (r .rest .result) (c .digit .result) (omega arith) (omega (arith, low t)) (r .rest .ensures (omega (arith, low t))) (c .before .if2 .taken) (c .digit .ensures)
 
-returns-2 : tie.Need-returns-2
-returns-2 c = search needs
-
-returns-3 : tie.Need-returns-3
-returns-3 c = search needs
-
 pub nearest-spec : {M : Type 1} → statement M
 nearest-spec =
-    tie.close
-    (tie.spec
-    float-to-bits-y
-    add-y
-    mul-rest
-    sub-rest
-    rest-requires
-    mul-if2
-    add-if2
-    mul-digit
-    digit-requires
-    add-result
-    returns
-    returns-2
-    returns-3)
+    tie.close (tie.spec float-to-bits-y add-y mul-rest (λ c. search needs) rest-requires mul-if2 add-if2 mul-digit (λ c κs. search needs) add-result returns (λ c. search needs) (λ c. search needs))

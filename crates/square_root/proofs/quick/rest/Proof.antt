@@ -17,23 +17,14 @@ low c = omega (arith, and-mask (c .args .s) 27)
 mul-wrapping-sub-u64 : tie.Need-mul-wrapping-sub-u64
 mul-wrapping-sub-u64 c = omega (arith, product-le (high c) (high c))
 
-wrapping-sub-u64-requires : tie.Need-wrapping-sub-u64-requires
-wrapping-sub-u64-requires c κs = search needs
-
 mul-wrapping-sub-u64-2 : tie.Need-mul-wrapping-sub-u64-2
 mul-wrapping-sub-u64-2 c = omega (arith, product-le (high (c .before)) (low (c .before)))
 
 mul-wrapping-sub-u64-3 : tie.Need-mul-wrapping-sub-u64-3
 mul-wrapping-sub-u64-3 c = omega (arith, product-le (high (c .before)) (low (c .before)))
 
-wrapping-sub-u64-requires-2 : tie.Need-wrapping-sub-u64-requires-2
-wrapping-sub-u64-requires-2 c κs = search needs
-
 mul-wrapping-sub-u64-4 : tie.Need-mul-wrapping-sub-u64-4
 mul-wrapping-sub-u64-4 c = omega (arith, product-le (low (c .before .before)) (low (c .before .before)))
-
-wrapping-sub-u64-requires-3 : tie.Need-wrapping-sub-u64-requires-3
-wrapping-sub-u64-requires-3 c κs = search needs
 
 returns : tie.Need-returns
 returns c = λ R.
@@ -47,23 +38,6 @@ returns c = λ R.
     let whole : h * 2 ^ 27 + l ≡ s = omega (arith, and-mask s 27) in
     sym (ap (λ (x : ℕ). x * x + w .wrapping-sub-u643 .result) whole) ∙ rest-is (a .args .c) h l (u .wrapping-sub-u64 .result) (v .wrapping-sub-u642 .result) (w .wrapping-sub-u643 .result) (high a) (low a) (u .wrapping-sub-u64 .ensures) (v .wrapping-sub-u642 .ensures) (w .wrapping-sub-u643 .ensures) (c .before .if1 .taken) (c .if2 .taken) R
 
-returns-2 : tie.Need-returns-2
-returns-2 c = search needs
-
-returns-3 : tie.Need-returns-3
-returns-3 c = search needs
-
 pub rest-spec : {M : Type 1} → statement M
 rest-spec =
-    tie.close
-    (tie.spec
-    mul-wrapping-sub-u64
-    wrapping-sub-u64-requires
-    mul-wrapping-sub-u64-2
-    mul-wrapping-sub-u64-3
-    wrapping-sub-u64-requires-2
-    mul-wrapping-sub-u64-4
-    wrapping-sub-u64-requires-3
-    returns
-    returns-2
-    returns-3)
+    tie.close (tie.spec mul-wrapping-sub-u64 (λ c κs. search needs) mul-wrapping-sub-u64-2 mul-wrapping-sub-u64-3 (λ c κs. search needs) mul-wrapping-sub-u64-4 (λ c κs. search needs) returns (λ c. search needs) (λ c. search needs))

@@ -7,12 +7,6 @@ use Rattle.variable_delay_f32.proofs.Passing.{none-due}
 use Rattle.variable_delay_f32.proofs.served.served.Statement.{statement}
 use Rattle.variable_delay_f32.proofs.served.served.Tie as tie
 
-is-finite-f32-requires : tie.Need-is-finite-f32-requires
-is-finite-f32-requires c κs = search needs
-
-length-for-requires : tie.Need-length-for-requires
-length-for-requires c κs = search needs
-
 returns : tie.Need-returns
 unfolding ofBits
 returns c =
@@ -50,15 +44,4 @@ returns-8 c = λ h. absurd (false≢true h)
 
 pub served-spec : {M : Type 1} → statement M
 served-spec =
-    tie.close
-    (tie.spec
-    is-finite-f32-requires
-    length-for-requires
-    returns
-    returns-2
-    returns-3
-    returns-4
-    returns-5
-    returns-6
-    returns-7
-    returns-8)
+    tie.close (tie.spec (λ c κs. search needs) (λ c κs. search needs) returns returns-2 returns-3 returns-4 returns-5 returns-6 returns-7 returns-8)
