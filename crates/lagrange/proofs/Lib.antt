@@ -1,2 +1,4 @@
 pub mod Nodes
 pub mod Ranges
+pub mod Eights
+pub mod Blocks

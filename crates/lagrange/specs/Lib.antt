@@ -1,2 +1,3 @@
 pub mod Kernel
+pub mod Eights
 pub mod Formula

@@ -10,8 +10,8 @@ use mir.ValLaws.{toZ-ofZ}
 use Rattle.ring.specs.Taps.{tapOf}
 use Rattle.integer_part.proofs.Signed.{sum-fits}
 use Rattle.integer_part.proofs.Shifted.{small}
-use Rattle.lagrange.proofs.tap_after.Statement.{statement}
-use Rattle.lagrange.proofs.tap_after.Tie as tie
+use Rattle.lagrange.proofs.sums.tap_after.Statement.{statement}
+use Rattle.lagrange.proofs.sums.tap_after.Tie as tie
 
 both : (c : tie.After-shared-slice-known) → let s = c .before in toZ w64 (ofZ w64 (s .args .base)) +ℤ toZ w64 (s .args .k) ≡ s .args .base +ℤ pos (s .args .k)
 both c = let s = c .before in rw (toZ-ofZ w64 (s .args .base) (s .fits .base), small (s .args .k) (omega arith))
