@@ -17,39 +17,27 @@ use steps::slow;
 use taps::one_by_one;
 use taps::side_by_side;
 
-// The reading at a position in range.
-fn at(source: &[f64], count: u64, position: f64) -> f64
-    requires { ⌜ positionOk position ≡ true ⌝ }
-    ensures { λ r. ⌜ r ≡ farrowAt (now (source .entry)) count position ⌝ }
-{
-    let i = integer_part::floor(position);
-    over(
-        sums(one_by_one(source, count, i)),
-        integer_part::fraction(position),
-    )
-}
-
-// The reading at a position; zero outside the positions' range. The quick way is a reader's: where the eight taps are held side by side they are read without a test each,
-// and `over`'s two ways stand here, since a function that takes the sums copies them where it may hand them on.
+// The reading at a position; zero outside the positions' range. Where the eight taps are held side by side they are read without a test each, and `over`'s two ways stand here, since
+// a function that takes the sums copies them where it may hand them on.
 pub fn read(source: &[f64], count: u64, position: f64) -> f64
     ensures { λ r. ⌜ r ≡ readOf (now (source .entry)) count position ⌝ }
 {
     if ring::position_ok(position) {
-        let first = integer_part::floor(position) - 3;
-        let s = ring::run_start(source.len(), count, first, 8);
-        let p = s.place;
-        if s.held {
+        let i = integer_part::floor(position);
+        let mu = integer_part::fraction(position);
+        let run = ring::run_start(source.len(), count, i - 3, 8);
+        let p = run.place;
+        if run.held {
             if p + 8 <= source.len() {
-                let mu = integer_part::fraction(position);
-                let powers = sums(side_by_side(source, p));
-                let r = quick(powers, mu);
+                let s = sums(side_by_side(source, p));
+                let r = quick(s, mu);
                 if magnitude::is_finite(r) {
                     return r;
                 }
-                return slow(powers, mu);
+                return slow(s, mu);
             }
         }
-        return at(source, count, position);
+        return over(sums(one_by_one(source, count, i)), mu);
     }
     0.0
 }
@@ -59,7 +47,7 @@ pub fn sample(source: &[f64], count: u64, position: f64) -> Answer
     ensures { λ r. ⌜ r ≡ answerOf (cond (positionOk position) 0 1) (readOf (now (source .entry)) count position) ⌝ }
 {
     if ring::position_ok(position) {
-        answer::answered(0, at(source, count, position))
+        answer::answered(0, read(source, count, position))
     } else {
         answer::answered(1, 0.0)
     }
