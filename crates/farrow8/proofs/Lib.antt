@@ -1,3 +1,3 @@
 pub mod Basis
-pub mod Steps
+pub mod Horner
 pub mod Ways

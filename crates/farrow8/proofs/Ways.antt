@@ -1,4 +1,4 @@
--- Both ways of a reading, taps one by one and taps side by side, are the definition's, at the integer part z and its float i that the code holds. Assumes nothing.
+-- Both ways of a reading, taps one by one and taps side by side, are the definition's, at the integer part z and the fraction mu that the code holds. Assumes nothing.
 use mathlib.Core.Path.{_≡_, sym, _∙_, ap}
 use mathlib.Core.Bool.{true}
 use mathlib.Core.List.{List, [], _∷_}
@@ -8,7 +8,7 @@ use native.Mathlib.Omega.{arith}
 use lib.Dec.{lit<}
 use lib.IntN.{ℤ, pos, negsuc, _+ℤ_, _-ℤ_, +ℤ-idr, +ℤ-assoc, -ℤ-+ℤ-cancel}
 use lib.ListN.{length, getD}
-use lib.Ieee.{Float, nan, binary64, sub, ofInt}
+use lib.Ieee.{Float, nan}
 use Rattle.integer_part.specs.Parts.{floorOf, fractionOf}
 use Rattle.ring.specs.Taps.{tapOf}
 use Rattle.ring.specs.Places.{startOf}
@@ -16,10 +16,10 @@ use Rattle.ring.specs.declared.Start.{Start}
 use Rattle.ring.proofs.Run.{straight}
 use Rattle.farrow8.specs.Kernel.{polynomialOf, tapsAt, farrowAt}
 
-module _ (xs : List Float) (count : ℕ) (p : Float) (z : ℤ) (whole : z ≡ floorOf p) (i : Float) (float : i ≡ ofInt binary64 z) where
-  pub one-by-one : {r : Float} → r ≡ polynomialOf (tapsAt xs count z) (sub binary64 p i) → r ≡ farrowAt xs count p
-  unfolding farrowAt fractionOf
-  one-by-one e = e ∙ rw (float, whole)
+module _ (xs : List Float) (count : ℕ) (p : Float) (z : ℤ) (whole : z ≡ floorOf p) {mu : Float} (fraction : mu ≡ fractionOf p) where
+  pub one-by-one : {r : Float} → r ≡ polynomialOf (tapsAt xs count z) mu → r ≡ farrowAt xs count p
+  unfolding farrowAt
+  one-by-one e = e ∙ rw (fraction, whole)
 
   module _ (s : Start) (start : s ≡ startOf (length xs) count (z -ℤ pos 3) 8) (all : s .held ≡ true) (fits : s .place + 8 ≤ length xs) where
     tap : (k : ℕ) → k < 8 → {j : ℤ} → z -ℤ pos 3 +ℤ pos k ≡ j → getD xs (s .place + k) nan ≡ tapOf xs count j
@@ -38,7 +38,7 @@ module _ (xs : List Float) (count : ℕ) (p : Float) (z : ℤ) (whole : z ≡ fl
           tap 7 (lit< tt) (+ℤ-assoc z (negsuc 2) (pos 7)),
         )
 
-    pub side-by-side : {r : Float} {x : List Float} → r ≡ polynomialOf x (sub binary64 p i)
+    pub side-by-side : {r : Float} {x : List Float} → r ≡ polynomialOf x mu
         → x ≡ (getD xs (s .place) nan ∷ getD xs (s .place + 1) nan ∷ getD xs (s .place + 2) nan ∷ getD xs (s .place + 3) nan ∷ getD xs (s .place + 4) nan ∷ getD xs (s .place + 5) nan ∷ getD xs (s .place + 6) nan ∷ getD xs (s .place + 7) nan ∷ [])
         → r ≡ farrowAt xs count p
-    side-by-side e f = one-by-one (e ∙ ap (λ (x : List Float). polynomialOf x (sub binary64 p i)) (f ∙ same))
+    side-by-side e f = one-by-one (e ∙ ap (λ (x : List Float). polynomialOf x mu) (f ∙ same))

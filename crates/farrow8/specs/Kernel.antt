@@ -11,7 +11,7 @@ use Rattle.ring.specs.Taps.{tapOf}
 use Rattle.ring.specs.Places.{positionOk}
 use Rattle.integer_part.specs.Parts.{floorOf, fractionOf}
 use Rattle.farrow8.specs.Table.{quotients, columnIn}
-use Rattle.farrow8.specs.declared.Powers.{Powers}
+use Rattle.farrow8.specs.declared.powers.Powers.{Powers}
 
 -- one product of 000's `dot!`
 abbrev pub term : List Float → List Float → ℕ → Float

@@ -6,16 +6,17 @@ use lib.Ieee.{Float, binary64, add, sub, mul, le, fits}
 use lib.Ieee.Scale.{finite}
 use Rattle.rounding.specs.Operations.{fused}
 use Rattle.near_fused.specs.Parts.{high, sized, Inside}
+use Rattle.near_fused.proofs.Enough.{enough}
 use Rattle.near_fused.proofs.Error.{total}
 use Rattle.near_fused.proofs.Finite.{add-finite, sub-finite, mul-finite}
 use Rattle.near_fused.proofs.Law.{law}
 use Rattle.near_fused.proofs.Made.{unit, step}
-use Rattle.near_fused.proofs.Margin.{part, least, margin-value, margin-least, first-most, second-most}
+use Rattle.near_fused.proofs.Margin.{least, margin-value, margin-least, first-most, second-most}
 use Rattle.near_fused.proofs.Split.{split}
 use Rattle.near_fused.proofs.Sure.{pl, u, hi, lo}
 use Rattle.near_fused.proofs.Tests.{inside-size}
 
-module _ (v mu c : Float) (hv : T (fits binary64 v)) (hm : T (fits binary64 mu)) (hc : T (fits binary64 c)) (i : Inside mu) where
+module _ (v mu c : Float) (hv : T (fits binary64 v)) (hm : T (fits binary64 mu)) (hc : T (fits binary64 c)) (i : Inside mu) (part : Float) where
   abbrev vh : Float
   vh = high v
 
@@ -56,14 +57,14 @@ module _ (v mu c : Float) (hv : T (fits binary64 v)) (hm : T (fits binary64 mu))
     pub fv : T (finite v)
     fv = sub-finite v vh (mul-finite (sub binary64 v vh) mu (parts .1) .0) .0
 
-    pub answer : T (le (add binary64 s H) (add binary64 s L)) → add binary64 s H ≡ fused binary64 v mu c
-    answer test =
+    pub answer : T (le (add binary64 s H) (add binary64 s L)) → T (enough part) → add binary64 s H ≡ fused binary64 v mu c
+    answer test en =
         let X = split v hv fv in
         let R = split mu hm fm in
         let C = split c hc fc in
         let A = X .q * 2 ^ X .k in
         let B = C .q * 2 ^ C .k in
-        let P = margin-least (sized v) (sized c) A B (X .size) (C .size) (fue .1) in
+        let P = margin-least part en (sized v) (sized c) A B (X .size) (C .size) (fue .1) in
         law (unit _ P) v mu c vh mh e
-        (step _ P v mu c e X R C (inside-size mu fm i) (first-most (sized v) (sized c) A B (X .size) (C .size) (fue .1) (X .q) (X .k) refl (X .digits)) (second-most (sized v) (sized c) A B (X .size) (C .size) (fue .1) (C .q) (C .k) refl (C .digits)) hc (margin-value (sized v) (sized c) A B (X .size) (C .size) (fue .1)) fp)
+        (step _ P v mu c e X R C (inside-size mu fm i) (first-most part en (sized v) (sized c) A B (X .size) (C .size) (fue .1) (X .q) (X .k) refl (X .digits)) (second-most part en (sized v) (sized c) A B (X .size) (C .size) (fue .1) (C .q) (C .k) refl (C .digits)) hc (margin-value part en (sized v) (sized c) A B (X .size) (C .size) (fue .1)) fp)
         fv fm fc real test

@@ -15,7 +15,9 @@ pub mod Sure
 pub mod Low
 pub mod Law
 pub mod Split
+pub mod Enough
 pub mod Margin
+pub mod Rests
 pub mod Upper
 pub mod Tests
 pub mod Made

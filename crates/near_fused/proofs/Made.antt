@@ -19,7 +19,8 @@ use Rattle.near_fused.specs.Parts.{high}
 use Rattle.near_fused.proofs.Near.{Unit, Near}
 use Rattle.near_fused.proofs.Split.{Split}
 use Rattle.near_fused.proofs.Product.{Factors}
-use Rattle.near_fused.proofs.Upper.{cut, rests, cut-le, rest-same, rests-le, product-near}
+use Rattle.near_fused.proofs.Rests.{cut, rests, cut-le, rest-same, rests-le}
+use Rattle.near_fused.proofs.Upper.{product-near}
 use Rattle.near_fused.proofs.Sure.{Step}
 
 deep : (E : ℕ) → 2 ^ 114 ≤ E → 2 ^ 1074 * 2048 ≤ E * 2 ^ 1020

@@ -1,9 +1,9 @@
--- The margin (|v| + |c|) * 2 ^ -70 + 2 ^ -960, in floats: not below 2 ^ -960, and |v| and |c| are at most 2 ^ 72 of it. Units are 2 ^ -1074. Assumes nothing.
+-- The margin (|v| + |c|) * part + 2 ^ -960, in floats, for a part that is enough: not below 2 ^ -960, and |v| and |c| are at most 2 ^ 72 of it. Units are 2 ^ -1074. Assumes nothing.
 use mathlib.Core.Path.{_≡_, refl, sym, ap}
 use mathlib.Core.Logic.{_⊎_, inl, inr}
 use mathlib.Core.Bool.{false}
-use Prim.Native.Nat.{ℕ, _+_, _*_, _^_, _≤_, _<_}
-use native.Mathlib.Nat.{le-trans, le-of-eq, le-add-left, le-add-right, le-of-mul-le-mul-right, mul-assoc, mul-pos, mul-le-mul-right, eq-zero-or-pos}
+use Prim.Native.Nat.{ℕ, zero, suc, _+_, _*_, _^_, _≤_, _<_}
+use native.Mathlib.Nat.{le-trans, le-of-eq, le-add-left, le-add-right, le-of-mul-le-mul-right, mul-assoc, mul-pos, zero-mul, mul-le-mul-left, mul-le-mul-right, eq-zero-or-pos}
 use native.Mathlib.Omega.{arith}
 use lib.Dec.{T, lit≤, lit<}
 use lib.Pow.{pow-pos}
@@ -15,20 +15,14 @@ use Rattle.rounding.proofs.Products.{mul-value}
 use Rattle.rounding.proofs.Whole.{places, v-ge, rounded-value}
 use Rattle.fraction.proofs.Same.{ring}
 use Rattle.fraction.proofs.Units.{Part, Near, near-part}
+use Rattle.near_fused.proofs.Enough.{enough, Share, share}
 use Rattle.near_fused.proofs.Few.{rounded, near-hi, few-below}
 use Rattle.near_fused.proofs.Larger.{unders}
 use Rattle.near_fused.proofs.Finite.{add-finite, mul-finite}
 
--- 2 ^ -70 and 2 ^ -960
-abbrev pub part : Float
-part = ofBits binary64 0x3b90_0000_0000_0000
-
+-- 2 ^ -960
 abbrev pub least : Float
 least = ofBits binary64 0x03f0_0000_0000_0000
-
-part-value : HasValue part false 1 (2 ^ 70)
-unfolding ofBits
-part-value = (refl, refl)
 
 least-value : HasValue least false (1 * 2 ^ 114) (2 ^ 1074)
 unfolding ofBits
@@ -48,15 +42,23 @@ sum-of x y A B h k f =
     let e = plus binary64 x y A B (2 ^ 1074) (pow-pos 1074) h k in
     rw e (rounded-value binary64 (A + B) false (unders false (A + B) (rw e at f)))
 
--- m * 2 ^ -70 rounded, times 2 ^ 71, and 2 ^ 71 more, is no less than m
-scaled : (M t S : ℕ) → 0 < t → 0 < S → (w : ℕ) → Part (2 ^ 53) w (M * 1 * t) (t * S) ⊎ Near w (M * 1 * t) (t * S) 0 → M ≤ (w + 1) * (S * 2)
-scaled M t S T P w (inl h) = le-of-mul-le-mul-right {k = t} (simp ring (omega (arith, simp ring at (twice (M * 1 * t) (w * (t * S)) (h .below))))) T
+-- n / d rounded, times 2 d, and 2 d more, is no less than n
+scaled : (n t d : ℕ) → 0 < t → (w : ℕ) → Part (2 ^ 53) w (n * t) (t * d) ⊎ Near w (n * t) (t * d) 0 → n ≤ (w + 1) * (d * 2)
+scaled n t d T w (inl h) = le-of-mul-le-mul-right {k = t} (simp ring (omega (arith, simp ring at (twice (n * t) (w * (t * d)) (h .below))))) T
   where
     twice : (n x : ℕ) → 2 ^ 53 * n ≤ 2 ^ 53 * x + n → n ≤ x * 2
     twice n x h = omega arith
-scaled M t S T P w (inr h) = le-of-mul-le-mul-right {k = t} (simp ring (omega (arith, simp ring at (h .below)))) T
+scaled n t d T w (inr h) = le-of-mul-le-mul-right {k = t} (simp ring (omega (arith, simp ring at (h .below)))) T
 
-module _ (x y : Float) (A B : ℕ) (X : HasValue x false A (2 ^ 1074)) (Y : HasValue y false B (2 ^ 1074)) where
+-- so for a share n / d of M that is M / S or more, M is at most 2 S of it, and 2 S more
+shared : (M n d S w : ℕ) → 0 < d → d ≤ n * S → M * n ≤ (w + 1) * (d * 2) → M ≤ (w + 1) * (S * 2)
+shared M zero d S w D h l = absurd (omega (arith, zero-mul S))
+shared M (suc n) d S w D h l = le-of-mul-le-mul-right {k = suc n} (le-trans l (le-trans (mul-le-mul-left (w + 1) (mul-le-mul-right 2 h)) (le-of-eq (turned (w + 1) (suc n) S)))) (omega arith)
+  where
+    turned : (z n S : ℕ) → z * (n * S * 2) ≡ z * (S * 2) * n
+    turned z n S = simp ring (omega arith)
+
+module _ (part : Float) (en : T (enough part)) (x y : Float) (A B : ℕ) (X : HasValue x false A (2 ^ 1074)) (Y : HasValue y false B (2 ^ 1074)) where
   abbrev m : Float
   m = add binary64 x y
 
@@ -70,8 +72,11 @@ module _ (x y : Float) (A B : ℕ) (X : HasValue x false A (2 ^ 1074)) (Y : HasV
     abbrev M : ℕ
     M = rounded (A + B)
 
+    abbrev P : Share part
+    P = share part en
+
     abbrev W : ℕ
-    W = grid binary64 (M * 1) (2 ^ 1074 * 2 ^ 70)
+    W = grid binary64 (M * P .n) (2 ^ 1074 * P .d)
 
     abbrev pub E : ℕ
     E = rounded (W + 1 * 2 ^ 114)
@@ -81,8 +86,8 @@ module _ (x y : Float) (A B : ℕ) (X : HasValue x false A (2 ^ 1074)) (Y : HasV
 
     scaled-value : HasValue (mul binary64 m part) false W (2 ^ 1074)
     scaled-value =
-        let r = mul-value binary64 m part false false M 1 (2 ^ 1074) (2 ^ 70) (pow-pos 1074) (pow-pos 70) m-value part-value in
-        rw r (round-val binary64 (M * 1) (2 ^ 1074 * 2 ^ 70) (round-under binary64 (M * 1) (2 ^ 1074 * 2 ^ 70) (rw r at f1)))
+        let r = mul-value binary64 m part false false M (P .n) (2 ^ 1074) (P .d) (pow-pos 1074) (P .some) m-value (P .value) in
+        rw r (round-val binary64 (M * P .n) (2 ^ 1074 * P .d) (round-under binary64 (M * P .n) (2 ^ 1074 * P .d) (rw r at f1)))
 
     pub margin-value : HasValue e false E (2 ^ 1074)
     margin-value = sum-of (mul binary64 m part) least W (1 * 2 ^ 114) scaled-value least-value f
@@ -92,7 +97,7 @@ module _ (x y : Float) (A B : ℕ) (X : HasValue x false A (2 ^ 1074)) (Y : HasV
 
     M-most : M ≤ E * 2 ^ 72
     M-most =
-        let a : M ≤ (W + 1) * 2 ^ 71 = scaled M (2 ^ 1074) (2 ^ 70) (pow-pos 1074) (pow-pos 70) W (near-part 53 (M * 1 * 2 ^ 1074) (2 ^ 1074 * 2 ^ 70) (lit< tt) (mul-pos (pow-pos 1074) (pow-pos 70))) in
+        let a : M ≤ (W + 1) * 2 ^ 71 = shared M (P .n) (P .d) (2 ^ 70) W (P .some) (P .most) (scaled (M * P .n) (2 ^ 1074) (P .d) (pow-pos 1074) W (near-part 53 (M * P .n * 2 ^ 1074) (2 ^ 1074 * P .d) (lit< tt) (mul-pos (pow-pos 1074) (P .some)))) in
         let b = half (W + 1 * 2 ^ 114) (lt-add W) in
         le-trans a (le-trans (mul-le-mul-right (2 ^ 71) (fewer W (1 * 2 ^ 114) (E * 2) (lit≤ tt) b)) (le-of-eq (mul-assoc E 2 (2 ^ 71))))
       where

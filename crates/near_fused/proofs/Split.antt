@@ -1,4 +1,4 @@
--- A float without the lower 27 of its digits, and without its sign, read off its pattern. Assumes nothing.
+-- A float without its lower digits, and without its sign, read off its pattern. Assumes nothing.
 use mathlib.Core.Path.{_≡_, sym, ap, _∙_, subst}
 use mathlib.Core.Bool.{Bool, true, false, cond}
 use Prim.Native.Nat.{ℕ, _+_, _-_, _*_, _/_, _%_, _^_, _≤_, _<_}
@@ -11,7 +11,7 @@ use lib.Ieee.Bits.{ofBits-toBits, toBits-lt}
 use lib.Ieee.Exact.{HasValue, units-val}
 use lib.Ieee.Scale.{finite, overflow}
 use Rattle.rounding.proofs.Patterns.{sign-rest, finite-rest, unpacked}
-use Rattle.near_fused.specs.Parts.{high, sized}
+use Rattle.near_fused.specs.Parts.{lower, high, sized}
 
 -- x, what is left of it, and its size, in units of 2 ^ -1074
 pub record Split (x : Float) : Type 0 where
@@ -22,7 +22,7 @@ pub record Split (x : Float) : Type 0 where
   pub normal : 0 < k → 2 ^ 52 ≤ q
   pub under : q * 2 ^ k < overflow binary64
   pub value : HasValue x sign (q * 2 ^ k) (2 ^ 1074)
-  pub upper : HasValue (high x) sign (q / 2 ^ 27 * 2 ^ 27 * 2 ^ k) (2 ^ 1074)
+  pub upper : HasValue (high x) sign (q / 2 ^ lower * 2 ^ lower * 2 ^ k) (2 ^ 1074)
   pub size : HasValue (sized x) false (q * 2 ^ k) (2 ^ 1074)
 
 -- the digits and the place under a pattern's field
@@ -53,17 +53,17 @@ split x held f =
     }
   where
     cut : (n r : ℕ) (b : Bool) → n ≡ cond b (2 ^ 63) 0 + r → r < 0x7ff0_0000_0000_0000 → ((d : ℕ) → d < 2 ^ 53 → d * 2 ^ (r / 2 ^ 52 - 1) < overflow binary64)
-        → HasValue (ofBits binary64 (n / 2 ^ 27 * 2 ^ 27)) b ((r - (r / 2 ^ 52 - 1) * 2 ^ 52) / 2 ^ 27 * 2 ^ 27 * 2 ^ (r / 2 ^ 52 - 1)) (2 ^ 1074)
+        → HasValue (ofBits binary64 (n / 2 ^ lower * 2 ^ lower)) b ((r - (r / 2 ^ 52 - 1) * 2 ^ 52) / 2 ^ lower * 2 ^ lower * 2 ^ (r / 2 ^ 52 - 1)) (2 ^ 1074)
     cut n r b w F O =
-        let t = r / 2 ^ 27 * 2 ^ 27 in
+        let t = r / 2 ^ lower * 2 ^ lower in
         let G : t < 0x7ff0_0000_0000_0000 = omega arith in
         let kk : t / 2 ^ 52 - 1 ≡ r / 2 ^ 52 - 1 = omega arith in
-        let qq : t - (t / 2 ^ 52 - 1) * 2 ^ 52 ≡ (r - (r / 2 ^ 52 - 1) * 2 ^ 52) / 2 ^ 27 * 2 ^ 27 = omega arith in
-        let D : (r - (r / 2 ^ 52 - 1) * 2 ^ 52) / 2 ^ 27 * 2 ^ 27 < 2 ^ 53 = omega arith in
-        let reads : ofBits binary64 (n / 2 ^ 27 * 2 ^ 27) ≡ units binary64 b ((r - (r / 2 ^ 52 - 1) * 2 ^ 52) / 2 ^ 27 * 2 ^ 27) (r / 2 ^ 52 - 1) =
-        ap (ofBits binary64) (moved n r b w) ∙ unpacked binary64 b t G ∙ ap (λ (z : ℕ). units binary64 b z (t / 2 ^ 52 - 1)) qq ∙ ap (λ (z : ℕ). units binary64 b ((r - (r / 2 ^ 52 - 1) * 2 ^ 52) / 2 ^ 27 * 2 ^ 27) z) kk in
-        rw reads (units-val binary64 b ((r - (r / 2 ^ 52 - 1) * 2 ^ 52) / 2 ^ 27 * 2 ^ 27) (r / 2 ^ 52 - 1) (O ((r - (r / 2 ^ 52 - 1) * 2 ^ 52) / 2 ^ 27 * 2 ^ 27) D))
+        let qq : t - (t / 2 ^ 52 - 1) * 2 ^ 52 ≡ (r - (r / 2 ^ 52 - 1) * 2 ^ 52) / 2 ^ lower * 2 ^ lower = omega arith in
+        let D : (r - (r / 2 ^ 52 - 1) * 2 ^ 52) / 2 ^ lower * 2 ^ lower < 2 ^ 53 = omega arith in
+        let reads : ofBits binary64 (n / 2 ^ lower * 2 ^ lower) ≡ units binary64 b ((r - (r / 2 ^ 52 - 1) * 2 ^ 52) / 2 ^ lower * 2 ^ lower) (r / 2 ^ 52 - 1) =
+        ap (ofBits binary64) (moved n r b w) ∙ unpacked binary64 b t G ∙ ap (λ (z : ℕ). units binary64 b z (t / 2 ^ 52 - 1)) qq ∙ ap (λ (z : ℕ). units binary64 b ((r - (r / 2 ^ 52 - 1) * 2 ^ 52) / 2 ^ lower * 2 ^ lower) z) kk in
+        rw reads (units-val binary64 b ((r - (r / 2 ^ 52 - 1) * 2 ^ 52) / 2 ^ lower * 2 ^ lower) (r / 2 ^ 52 - 1) (O ((r - (r / 2 ^ 52 - 1) * 2 ^ 52) / 2 ^ lower * 2 ^ lower) D))
       where
-        moved : (n r : ℕ) (b : Bool) → n ≡ cond b (2 ^ 63) 0 + r → n / 2 ^ 27 * 2 ^ 27 ≡ cond b (2 ^ 63) 0 + r / 2 ^ 27 * 2 ^ 27
+        moved : (n r : ℕ) (b : Bool) → n ≡ cond b (2 ^ 63) 0 + r → n / 2 ^ lower * 2 ^ lower ≡ cond b (2 ^ 63) 0 + r / 2 ^ lower * 2 ^ lower
         moved n r true w = omega arith
         moved n r false w = omega arith

@@ -13,9 +13,9 @@ use Rattle.fraction.specs.Fraction.{Within, nil}
 use Rattle.fraction.specs.Value.{val}
 use Rattle.fraction.proofs.Compare.{side, le-is}
 use Rattle.fraction.proofs.Value.{val-pos}
-use Rattle.near_fused.specs.Parts.{Ordered, Inside}
+use Rattle.near_fused.specs.Parts.{lower, top, Ordered, Inside}
 
-moved : (n r : ℕ) (b : Bool) → n ≡ cond b (2 ^ 63) 0 + r → n / 2 ^ 27 * 2 ^ 27 ≡ cond b (2 ^ 63) 0 + r / 2 ^ 27 * 2 ^ 27
+moved : (n r : ℕ) (b : Bool) → n ≡ cond b (2 ^ 63) 0 + r → n / 2 ^ lower * 2 ^ lower ≡ cond b (2 ^ 63) 0 + r / 2 ^ lower * 2 ^ lower
 moved n r true w = omega arith
 moved n r false w = omega arith
 
@@ -29,15 +29,15 @@ module _ (x : Float) (h : T (fits binary64 x)) (k : T (not (isNan x))) where
   rest : n % 2 ^ 63 ≤ 0x7ff0_0000_0000_0000
   rest = no-nan-rest binary64 n (value-bits binary64 x h k)
 
-  pub cut-word : n / 2 ^ 27 * 2 ^ 27 % 2 ^ 64 ≡ n / 2 ^ 27 * 2 ^ 27
+  pub cut-word : n / 2 ^ lower * 2 ^ lower % 2 ^ 64 ≡ n / 2 ^ lower * 2 ^ lower
   cut-word = let w = word in omega arith
 
-  pub cut-no-nan : T (not (nanBits binary64 (n / 2 ^ 27 * 2 ^ 27 % 2 ^ 64)))
-  cut-no-nan = rest-no-nan binary64 (n / 2 ^ 27 * 2 ^ 27 % 2 ^ 64) (rw cut-word (lower n (n % 2 ^ 63) (leb (2 ^ 63) n) (sign-rest binary64 n word) rest))
+  pub cut-no-nan : T (not (nanBits binary64 (n / 2 ^ lower * 2 ^ lower % 2 ^ 64)))
+  cut-no-nan = rest-no-nan binary64 (n / 2 ^ lower * 2 ^ lower % 2 ^ 64) (rw cut-word (beneath n (n % 2 ^ 63) (leb (2 ^ 63) n) (sign-rest binary64 n word) rest))
     where
-      lower : (n r : ℕ) (b : Bool) → n ≡ cond b (2 ^ 63) 0 + r → r ≤ 0x7ff0_0000_0000_0000 → n / 2 ^ 27 * 2 ^ 27 % 2 ^ 63 ≤ 0x7ff0_0000_0000_0000
-      lower n r b w h =
-          let t = r / 2 ^ 27 * 2 ^ 27 in
+      beneath : (n r : ℕ) (b : Bool) → n ≡ cond b (2 ^ 63) 0 + r → r ≤ 0x7ff0_0000_0000_0000 → n / 2 ^ lower * 2 ^ lower % 2 ^ 63 ≤ 0x7ff0_0000_0000_0000
+      beneath n r b w h =
+          let t = r / 2 ^ lower * 2 ^ lower in
           let k : t ≤ r = omega arith in
           le-trans (le-of-eq (ap (λ (z : ℕ). z % 2 ^ 63) (moved n r b w) ∙ rest-is binary64 b t (omega arith))) (omega arith)
 
@@ -66,13 +66,12 @@ lt-ordered (fin s m i) (fin t n d) e = record { first = tt; second = tt }
 
 -- a number from 0 to 1 is finite, and at most 1
 pub inside-no-nan : (x : Float) → Inside x → T (not (isNan x))
-inside-no-nan x h = le-ordered x (ofBits binary64 0x3ff0_0000_0000_0000) (h .high) .first
+inside-no-nan x h = le-ordered x top (h .high) .first
 
 pub inside-size : (x : Float) → T (finite x) → Inside x → Within 1 1 (val x) nil
 unfolding ofBits
 inside-size x f h =
-    let one = ofBits binary64 0x3ff0_0000_0000_0000 in
     let zero = ofBits binary64 0 in
-    let a = leb→le (side (val x) (val one)) (side (val one) (val x)) (subst T (sym (sym (le-is x one f tt) ∙ h .high)) tt) in
+    let a = leb→le (side (val x) (val top)) (side (val top) (val x)) (subst T (sym (sym (le-is x top f tt) ∙ h .high)) tt) in
     let b = leb→le (side (val zero) (val x)) (side (val x) (val zero)) (subst T (sym (sym (le-is zero x tt f) ∙ h .low)) tt) in
     record { left = val-pos x; right = lit< tt; above = omega (arith, val-pos x); below = omega (arith, val-pos x) }

@@ -1,8 +1,8 @@
--- The product of two upper parts: 26 digits each, so that it is exact, or smaller than every unit. And what a float leaves beside its upper part. Assumes nothing.
-use mathlib.Core.Path.{_≡_, sym, ap, _∙_, subst}
+-- The product of two upper parts: 26 digits each, so that it is exact, or smaller than every unit. Assumes nothing.
+use mathlib.Core.Path.{_≡_, sym, ap, _∙_}
 use mathlib.Core.Logic.{inl, inr}
-use Prim.Native.Nat.{ℕ, zero, suc, _+_, _-_, _*_, _/_, _%_, _^_, _≤_, _<_}
-use native.Mathlib.Nat.{le-trans, le-of-eq, le-of-lt, lt-of-le-of-lt, mul-pos, mul-assoc, mul-le-mul, mul-le-mul-right, mul-le-mul-left, le-of-mul-le-mul-right, mul-mul-mul-comm, mul-lt-mul-of-pos-right, add-mul, div-add-mod'}
+use Prim.Native.Nat.{ℕ, _+_, _-_, _*_, _/_, _^_, _≤_, _<_}
+use native.Mathlib.Nat.{le-trans, le-of-eq, le-of-lt, lt-of-le-of-lt, mul-pos, mul-assoc, mul-le-mul, mul-le-mul-right, mul-le-mul-left, le-of-mul-le-mul-right, mul-mul-mul-comm, mul-lt-mul-of-pos-right}
 use native.Mathlib.Omega.{arith}
 use lib.Dec.{T, lit≤, lit<}
 use lib.Pow.{pow-add, pow-pos, pow-mono}
@@ -13,64 +13,27 @@ use lib.Ieee.Scale.{finite}
 use Rattle.rounding.proofs.Orders.{lt-or-ge}
 use Rattle.rounding.proofs.Products.{mul-value}
 use Rattle.rounding.proofs.Values.{value-finite}
-use Rattle.fraction.specs.Fraction.{plus, times, opp, Same, Within}
+use Rattle.fraction.specs.Fraction.{times, Same, Within}
 use Rattle.fraction.specs.Value.{signed, val}
-use Rattle.fraction.proofs.Same.{same-sym, same-trans, times-same, plus-same, opp-same}
+use Rattle.fraction.proofs.Same.{same-sym, same-trans, times-same}
 use Rattle.fraction.proofs.Within.{from, rescale, same-within}
 use Rattle.fraction.proofs.Value.{value-is}
 use Rattle.fraction.proofs.Product.{mag-signed}
 use Rattle.fraction.proofs.Operations.{product-same, mul-rounded}
 use Rattle.fraction.proofs.Near.{rounded-absolute}
-use Rattle.near_fused.proofs.Larger.{up}
-use Rattle.near_fused.specs.Parts.{high}
+use Rattle.near_fused.specs.Parts.{lower, high}
 use Rattle.near_fused.proofs.Split.{Split}
-use Rattle.near_fused.proofs.Product.{rest}
+use Rattle.near_fused.proofs.Rests.{cut, cut-le}
 
--- ---- what is left
-module _ (x : Float) (S : Split x) where
-  abbrev pub cut : ℕ
-  cut = S .q / 2 ^ 27 * 2 ^ 27 * 2 ^ S .k
-
-  abbrev pub rests : ℕ
-  rests = S .q % 2 ^ 27 * 2 ^ S .k
-
-  whole : S .q * 2 ^ S .k ≡ cut + rests
-  whole = ap (λ (z : ℕ). z * 2 ^ S .k) (sym (div-add-mod' (S .q) (2 ^ 27))) ∙ add-mul (S .q / 2 ^ 27 * 2 ^ 27) (S .q % 2 ^ 27) (2 ^ S .k)
-
-  pub cut-le : cut ≤ S .q * 2 ^ S .k
-  cut-le = mul-le-mul-right (2 ^ S .k) (lower (S .q))
-    where
-      lower : (q : ℕ) → q / 2 ^ 27 * 2 ^ 27 ≤ q
-      lower q = omega arith
-
-  pub rest-same : Same (signed (S .sign) rests (2 ^ 1074)) (rest x (high x))
-  rest-same =
-      same-trans (subst (λ (z : ℕ). Same (signed (S .sign) rests (2 ^ 1074)) (plus (signed (S .sign) z (2 ^ 1074)) (opp (signed (S .sign) cut (2 ^ 1074))))) (sym whole) (up (S .sign) rests cut (2 ^ 1074) (pow-pos 1074)))
-      (plus-same (same-sym (value-is x (S .sign) (S .q * 2 ^ S .k) (2 ^ 1074) (pow-pos 1074) (S .value) .same)) (opp-same (same-sym (value-is (high x) (S .sign) cut (2 ^ 1074) (pow-pos 1074) (S .upper) .same))))
-
-  pub rests-le : rests * 2 ^ 25 ≤ S .q * 2 ^ S .k + 2 ^ 52
-  rests-le = go (S .k) (S .normal)
-    where
-      go : (k : ℕ) → (0 < k → 2 ^ 52 ≤ S .q) → S .q % 2 ^ 27 * 2 ^ k * 2 ^ 25 ≤ S .q * 2 ^ k + 2 ^ 52
-      go zero n = omega arith
-      go (suc k) n = grown (S .q) (2 ^ suc k) (n (omega arith))
-        where
-          grown : (q t : ℕ) → 2 ^ 52 ≤ q → q % 2 ^ 27 * t * 2 ^ 25 ≤ q * t + 2 ^ 52
-          grown q t h =
-              let a : q % 2 ^ 27 * 2 ^ 25 ≤ q = omega arith in
-              let b = mul-le-mul-right t a in
-              omega arith
-
--- ---- the product
 module _ (x y : Float) (S : Split x) (R : Split y) (one : cut y R ≤ 2 ^ 1074) (real : T (finite (mul binary64 (high x) (high y)))) where
   abbrev g : ℕ
-  g = S .q / 2 ^ 27
+  g = S .q / 2 ^ lower
 
   abbrev h : ℕ
-  h = R .q / 2 ^ 27
+  h = R .q / 2 ^ lower
 
   abbrev i : ℕ
-  i = 27 + S .k + (27 + R .k)
+  i = lower + S .k + (lower + R .k)
 
   abbrev A : ℕ
   A = cut x S
@@ -81,15 +44,15 @@ module _ (x y : Float) (S : Split x) (R : Split y) (one : cut y R ≤ 2 ^ 1074) 
   small : g * h < 2 ^ 52
   small = lt-of-le-of-lt (mul-le-mul-left g (le-of-lt (few (R .q) (R .digits)))) (mul-lt-mul-of-pos-right (few (S .q) (S .digits)) (pow-pos 26))
     where
-      few : (q : ℕ) → q < 2 ^ 53 → q / 2 ^ 27 < 2 ^ 26
+      few : (q : ℕ) → q < 2 ^ 53 → q / 2 ^ lower < 2 ^ 26
       few q h = omega arith
 
   shape : A * B ≡ g * h * 2 ^ i
   shape =
-      ap (λ (z : ℕ). z * B) (mul-assoc g (2 ^ 27) (2 ^ S .k) ∙ ap (λ (z : ℕ). g * z) (sym (pow-add 2 27 (S .k))))
-      ∙ ap (λ (z : ℕ). g * 2 ^ (27 + S .k) * z) (mul-assoc h (2 ^ 27) (2 ^ R .k) ∙ ap (λ (z : ℕ). h * z) (sym (pow-add 2 27 (R .k))))
-      ∙ mul-mul-mul-comm g (2 ^ (27 + S .k)) h (2 ^ (27 + R .k))
-      ∙ ap (λ (z : ℕ). g * h * z) (sym (pow-add 2 (27 + S .k) (27 + R .k)))
+      ap (λ (z : ℕ). z * B) (mul-assoc g (2 ^ lower) (2 ^ S .k) ∙ ap (λ (z : ℕ). g * z) (sym (pow-add 2 lower (S .k))))
+      ∙ ap (λ (z : ℕ). g * 2 ^ (lower + S .k) * z) (mul-assoc h (2 ^ lower) (2 ^ R .k) ∙ ap (λ (z : ℕ). h * z) (sym (pow-add 2 lower (R .k))))
+      ∙ mul-mul-mul-comm g (2 ^ (lower + S .k)) h (2 ^ (lower + R .k))
+      ∙ ap (λ (z : ℕ). g * h * z) (sym (pow-add 2 (lower + S .k) (lower + R .k)))
 
   times-is : Same (signed (unlike (S .sign) (R .sign)) (A * B) (2 ^ 1074 * 2 ^ 1074)) (times (val (high x)) (val (high y)))
   times-is =

@@ -1,4 +1,4 @@
--- `near_fused::near_fused` meets its contract: by the law of the step. Assumes nothing.
+-- `near_fused::near_fused` meets its contract: by the law of the step. That the code's share of the terms makes margin enough is computed (the last `tt`). Assumes nothing.
 use borrow.Author.Needs.{needs}
 use mathlib.Core.Path.{_≡_, sym, subst}
 use lib.Dec.{T}
@@ -29,6 +29,7 @@ size-requires-2 : tie.Need-size-requires-2
 size-requires-2 c κs = numbers (c .before .before .before) .second
 
 returns : tie.Need-returns
+unfolding ofBits
 returns c =
     let t = c .before .before .before .before .before in
     let s = t .before .before .before .before in
@@ -37,7 +38,7 @@ returns c =
     let m = subst T (sym (s .good .1 .0 .1)) tt in
     let a = subst T (sym (s .good .1 .1 .0 .1)) tt in
     rw (c .before .before .before .high2 .ensures, c .before .before .before .before .high .ensures, c .before .before .size .ensures, c .before .size2 .ensures)
-    (record { factor = λ f. fv (s .args .v) (s .args .mu) (s .args .c) v m a (within t) f; is = λ f. answer (s .args .v) (s .args .mu) (s .args .c) v m a (within t) f (subst T (sym e) tt) })
+    (record { factor = λ f. fv (s .args .v) (s .args .mu) (s .args .c) v m a (within t) _ f; is = λ f. answer (s .args .v) (s .args .mu) (s .args .c) v m a (within t) _ f (subst T (sym e) tt) tt })
 
 returns-2 : tie.Need-returns-2
 unfolding div ofBits

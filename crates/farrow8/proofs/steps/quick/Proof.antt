@@ -1,10 +1,10 @@
--- `farrow8::quick` meets its contract: what is finite at the end was sure at every step. Assumes nothing.
+-- `farrow8::steps::quick` meets its contract: what is finite at the end was sure at every step. Assumes nothing.
 use borrow.Author.Needs.{needs}
 use mathlib.Core.Path.{_≡_, _∙_, ap}
 use lib.Ieee.{Float}
 use Rattle.farrow8.specs.Kernel.{step}
-use Rattle.farrow8.proofs.quick.Statement.{statement}
-use Rattle.farrow8.proofs.quick.Tie as tie
+use Rattle.farrow8.proofs.steps.quick.Statement.{statement}
+use Rattle.farrow8.proofs.steps.quick.Tie as tie
 
 returns : tie.Need-returns
 returns c = λ f7.

@@ -1,11 +1,11 @@
--- `farrow8::sums` meets its contract: the constant's columns are the quotients', as computed. Assumes nothing.
+-- `farrow8::powers::sums` meets its contract: the constant's columns are the quotients', as computed. Assumes nothing.
 use borrow.Author.Needs.{needs}
 use mathlib.Core.Path.{_≡_, refl, _∙_, ap}
 use lib.Ieee.{div, ofInt, ofBits}
 use Rattle.farrow8.specs.Table.{quotients, columnIn}
 use Rattle.farrow8.specs.Kernel.{dotOf}
-use Rattle.farrow8.proofs.sums.Statement.{statement}
-use Rattle.farrow8.proofs.sums.Tie as tie
+use Rattle.farrow8.proofs.powers.sums.Statement.{statement}
+use Rattle.farrow8.proofs.powers.sums.Tie as tie
 
 power-2 : (c : tie.After-column) → c .column .result ≡ columnIn quotients 2
 unfolding quotients div ofInt ofBits

@@ -1,10 +1,10 @@
--- `farrow8::slow` meets its contract: seven fused steps. Assumes nothing.
+-- `farrow8::steps::slow` meets its contract: seven fused steps. Assumes nothing.
 use borrow.Author.Needs.{needs}
 use mathlib.Core.Path.{_≡_, _∙_, ap}
 use lib.Ieee.{Float}
 use Rattle.farrow8.specs.Kernel.{step}
-use Rattle.farrow8.proofs.slow.Statement.{statement}
-use Rattle.farrow8.proofs.slow.Tie as tie
+use Rattle.farrow8.proofs.steps.slow.Statement.{statement}
+use Rattle.farrow8.proofs.steps.slow.Tie as tie
 
 returns : tie.Need-returns
 returns c =

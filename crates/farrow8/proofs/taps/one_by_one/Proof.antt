@@ -1,4 +1,4 @@
--- `farrow8::one_by_one` meets its contract: the indices fit, and each tap is the definition's. Assumes nothing.
+-- `farrow8::taps::one_by_one` meets its contract: the indices fit, and each tap is the definition's. Assumes nothing.
 use borrow.Author.Needs.{needs}
 use mathlib.Core.Path.{_≡_}
 use native.Mathlib.Omega.{arith}
@@ -10,8 +10,8 @@ use mir.Syntax.{w64}
 use mir.Val.{toZ, ofZ, SFits}
 use mir.ValLaws.{toZ-ofZ}
 use Rattle.integer_part.proofs.Signed.{sum-fits}
-use Rattle.farrow8.proofs.one_by_one.Statement.{statement}
-use Rattle.farrow8.proofs.one_by_one.Tie as tie
+use Rattle.farrow8.proofs.taps.one_by_one.Statement.{statement}
+use Rattle.farrow8.proofs.taps.one_by_one.Tie as tie
 
 -- the index, as the code holds it
 word : (c : tie.Start) → toZ w64 (ofZ w64 (c .args .i)) ≡ c .args .i
