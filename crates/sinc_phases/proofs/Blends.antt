@@ -22,8 +22,8 @@ use Rattle.magnitude.specs.Bounds.{AtMost}
 use Rattle.magnitude.proofs.Between.{at-most-mono, at-most-finite, between-at-most}
 use Rattle.magnitude.proofs.Rounded.{whole-at-most}
 use Rattle.magnitude.proofs.Whole.{whole-value, whole-difference, whole-product}
-use Rattle.sinc_read.proofs.Cuts.{held}
-use Rattle.sinc_read.specs.Phases.{num, cutTo, phasePosition, phaseOf, blendOf}
+use Rattle.sinc_phases.proofs.Cuts.{held}
+use Rattle.sinc_phases.specs.Phases.{num, cutTo, phasePosition, phaseOf, blendOf}
 
 abbrev one : Float
 one = fin false 1 (pos 0)

@@ -1,12 +1,17 @@
-// K3. Where a position falls: the first tap, and the place between the rows of a table. The reading of f32 tables uses both.
+// K3. Where a position falls: the first tap, and the place between the rows of a table. Tables of both widths use both.
 ghost use mathlib.Core.Path.{_≡_};
 ghost use mathlib.Core.Bool.{_&&_, cond};
 ghost use Prim.Native.Nat.{_^_, _≤_};
 ghost use lib.IntN.{pos};
 ghost use Rattle.ring.specs.Places.{positionOk};
 ghost use Rattle.sinc_settings.specs.Ranges.{tapsOk, phasesOk};
-ghost use Rattle.sinc_read.specs.Phases.{cutTo, phaseAt, firstTap};
-use crate::Phase;
+ghost use Rattle.sinc_phases.specs.Phases.{cutTo, phaseAt, firstTap};
+
+// 000's `phase0` and `blend`.
+pub struct Phase {
+    pub phase: usize,
+    pub blend: f64,
+}
 
 // 000's `(x.floor() as usize).min(top)`.
 fn cut_to(x: f64, top: u64) -> u64

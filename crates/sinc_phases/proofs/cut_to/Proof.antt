@@ -1,4 +1,4 @@
--- `sinc_read::phases::cut_to` meets its contract: its three ways are the laws of `Cuts`. Assumes nothing.
+-- `sinc_phases::cut_to` meets its contract: its three ways are the laws of `Cuts`. Assumes nothing.
 use borrow.Author.Needs.{needs}
 use mathlib.Core.Path.{_≡_, sym, _∙_, ap, subst}
 use mathlib.Core.Bool.{false}
@@ -13,10 +13,10 @@ use mir.Syntax.{w64}
 use mir.Val.{Fits, toZ, ofZ}
 use mir.ValLaws.{toZ-ofZ}
 use Rattle.magnitude.proofs.Whole.{whole-value}
-use Rattle.sinc_read.specs.Phases.{num, cutTo}
-use Rattle.sinc_read.proofs.Cuts.{Under, under, whole, over, low, held}
-use Rattle.sinc_read.proofs.phases.cut_to.Statement.{statement}
-use Rattle.sinc_read.proofs.phases.cut_to.Tie as tie
+use Rattle.sinc_phases.specs.Phases.{num, cutTo}
+use Rattle.sinc_phases.proofs.Cuts.{Under, under, whole, over, low, held}
+use Rattle.sinc_phases.proofs.cut_to.Statement.{statement}
+use Rattle.sinc_phases.proofs.cut_to.Tie as tie
 
 value : (n : ℕ) → n ≤ 2 ^ 53 → HasValue (num n) false n 1
 value n h = whole-value binary64 (pos n) h

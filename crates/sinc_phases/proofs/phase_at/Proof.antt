@@ -1,4 +1,4 @@
--- `sinc_read::phases::phase_at` meets its contract: by the test of the ranges, and each step's `ensures` in turn; what is cast is small. Assumes nothing.
+-- `sinc_phases::phase_at` meets its contract: by the test of the ranges, and each step's `ensures` in turn; what is cast is small. Assumes nothing.
 use borrow.Author.Needs.{needs}
 use mathlib.Core.Path.{_≡_, sym, _∙_}
 use Prim.Native.Nat.{_-_, _^_, _≤_}
@@ -11,10 +11,10 @@ use mir.Syntax.{w64}
 use mir.Val.{toZ}
 use mir.ValLaws.{toZ-ofZ}
 use Rattle.integer_part.proofs.Step.{in-float}
-use Rattle.sinc_read.proofs.Cuts.{held}
-use Rattle.sinc_read.proofs.Between.{Fine, fine}
-use Rattle.sinc_read.proofs.phases.phase_at.Statement.{statement}
-use Rattle.sinc_read.proofs.phases.phase_at.Tie as tie
+use Rattle.sinc_phases.proofs.Cuts.{held}
+use Rattle.sinc_phases.proofs.Between.{Fine, fine}
+use Rattle.sinc_phases.proofs.phase_at.Statement.{statement}
+use Rattle.sinc_phases.proofs.phase_at.Tie as tie
 
 -- what the test says
 ranges : (c : tie.Then1) → let a = c .before .before .args in Fine (a .position) (a .phases)

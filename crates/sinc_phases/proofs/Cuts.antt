@@ -12,7 +12,7 @@ use lib.Ieee.Fits.{down-pos}
 use lib.Ieee.Exact.{HasValue}
 use Rattle.answer.specs.Answers.{zero-f}
 use Rattle.integer_part.specs.Parts.{floorOf}
-use Rattle.sinc_read.specs.Phases.{cutTo}
+use Rattle.sinc_phases.specs.Phases.{cutTo}
 
 no : {A : Type 0} → _≡_ {A = Bool} true false → A
 no h = absurd (true≢false h)

@@ -9,7 +9,7 @@ use Rattle.answer.specs.Answers.{zero-f}
 use Rattle.integer_part.specs.Parts.{floorOf, fractionOf}
 use Rattle.ring.specs.Places.{positionOk}
 use Rattle.sinc_settings.specs.Ranges.{phasesOk}
-use Rattle.sinc_read.specs.declared.Phase.{Phase}
+use Rattle.sinc_phases.specs.declared.Phase.{Phase}
 
 abbrev pub num : ℕ → Float
 num n = ofInt binary64 (pos n)

@@ -14,8 +14,8 @@ use Rattle.ring.specs.Places.{positionOk}
 use Rattle.ring.proofs.Positions.{position-at-most}
 use Rattle.sinc_settings.specs.Ranges.{phasesOk}
 use Rattle.sinc_settings.specs.Refusals.{tableLength}
-use Rattle.sinc_read.specs.Phases.{phasePosition, phaseOf}
-use Rattle.sinc_read.proofs.Cuts.{held}
+use Rattle.sinc_phases.specs.Phases.{phasePosition, phaseOf}
+use Rattle.sinc_phases.proofs.Cuts.{held}
 
 pub record Fine (p : Float) (phases : ℕ) : Type 0 where
   pub least : 2 ≤ phases

@@ -1,4 +1,4 @@
--- `sinc_read::phases::first_tap` meets its contract: in range the difference stays in an `i64`. Assumes nothing.
+-- `sinc_phases::first_tap` meets its contract: in range the difference stays in an `i64`. Assumes nothing.
 use borrow.Author.Needs.{needs}
 use mathlib.Core.Path.{_≡_, sym, _∙_, subst}
 use Prim.Native.Nat.{_-_, _/_, _^_}
@@ -11,10 +11,10 @@ use mir.ValLaws.{toZ-ofZ}
 use Rattle.integer_part.specs.Parts.{floorOf}
 use Rattle.integer_part.proofs.Floors.{floor-mag}
 use Rattle.integer_part.proofs.Shifted.{small, minus-fits}
-use Rattle.sinc_read.specs.Phases.{firstTap}
-use Rattle.sinc_read.proofs.Accepted.{Aimed, aimed}
-use Rattle.sinc_read.proofs.phases.first_tap.Statement.{statement}
-use Rattle.sinc_read.proofs.phases.first_tap.Tie as tie
+use Rattle.sinc_phases.specs.Phases.{firstTap}
+use Rattle.sinc_phases.proofs.Aimed.{Aimed, aimed}
+use Rattle.sinc_phases.proofs.first_tap.Statement.{statement}
+use Rattle.sinc_phases.proofs.first_tap.Tie as tie
 
 -- what the test says
 ranges : (c : tie.Then1) → let a = c .before .before .args in Aimed (a .position) (a .taps)

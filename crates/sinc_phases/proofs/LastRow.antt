@@ -11,8 +11,8 @@ use lib.Ieee.Fits.{down-pos}
 use lib.Ieee.Exact.{HasValue}
 use Rattle.integer_part.specs.Parts.{floorOf, fractionOf}
 use Rattle.magnitude.proofs.Whole.{whole-value, whole-product}
-use Rattle.sinc_read.proofs.Blends.{whole-apart}
-use Rattle.sinc_read.specs.Phases.{num, cutTo, phasePosition, phaseOf, blendOf}
+use Rattle.sinc_phases.proofs.Blends.{whole-apart}
+use Rattle.sinc_phases.specs.Phases.{num, cutTo, phasePosition, phaseOf, blendOf}
 
 -- a whole number at or above the top is cut to it
 whole-cut : (top n : ℕ) (x : Float) → HasValue x false n 1 → top ≤ n → cutTo top x ≡ top
