@@ -1,9 +1,5 @@
-pub mod Nested
-pub mod Horner
-pub mod Squares
-pub mod CosineNear
-pub mod SineNear
 pub mod PowerNear
+pub mod Quotient
 pub mod Guessing
 pub mod Remaining
 pub mod Turns

@@ -17,10 +17,11 @@ use Rattle.fraction.proofs.Value.{val-pos, is-val}
 use Rattle.fraction.proofs.Exact.{add-is, sub-is}
 use Rattle.fraction.proofs.Grid.{grid-of}
 use Rattle.fraction.proofs.Compare.{is-below, not-below}
-use Rattle.elementary.specs.Horner.{powerNear}
-use Rattle.elementary.specs.Answers.{atMost, one, two, half, powerAt}
+use Rattle.polynomials.specs.Horner.{powerNear}
+use Rattle.polynomials.specs.Range.{atMost}
+use Rattle.elementary.specs.Answers.{one, two, half, powerAt}
 use Rattle.elementary.specs.Close.{Part, powerFraction, PowerClose}
-use Rattle.elementary.proofs.Squares.{at-most-finite}
+use Rattle.polynomials.proofs.Squares.{at-most-finite}
 use Rattle.elementary.proofs.PowerNear.{power-tight, as-it-is, doubled, halved}
 use Rattle.elementary.proofs.Picked.{clash}
 
