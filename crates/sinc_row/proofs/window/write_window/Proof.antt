@@ -1,4 +1,4 @@
--- `sinc_row::write_window` meets its contract, by its test. Assumes nothing.
+-- `sinc_row::window::write_window` meets its contract, by its test. Assumes nothing.
 use borrow.Author.Needs.{needs}
 use borrow.Author.Tests.{not-true, not-false}
 use mathlib.Core.Path.{_≡_, sym, _∙_}
@@ -7,8 +7,8 @@ use lib.ListN.{length}
 use denote.Ref.{now}
 use Rattle.sinc_row.specs.Row.{windowReady}
 use Rattle.sinc_row.proofs.Ready.{window-ready}
-use Rattle.sinc_row.proofs.write_window.Statement.{statement}
-use Rattle.sinc_row.proofs.write_window.Tie as tie
+use Rattle.sinc_row.proofs.window.write_window.Statement.{statement}
+use Rattle.sinc_row.proofs.window.write_window.Tie as tie
 
 returns : tie.Need-returns
 returns c = rw (← c .before .window-ready .ensures, not-true (c .before .window-ready .result) (c .if1 .taken))

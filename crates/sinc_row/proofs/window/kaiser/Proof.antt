@@ -1,4 +1,4 @@
--- `sinc_row::kaiser` meets its contract: the counts are floats exactly, and each step's answer is the definition's. Assumes nothing.
+-- `sinc_row::window::kaiser` meets its contract: the counts are floats exactly, and each step's answer is the definition's. Assumes nothing.
 use borrow.Author.Needs.{needs}
 use Prim.Native.Nat.{_-_}
 use native.Mathlib.Omega.{arith}
@@ -6,8 +6,8 @@ use lib.Ieee.{ofBits}
 use Rattle.sinc_settings.proofs.Accepted.{Counts, counts, accepted}
 use Rattle.sinc_row.specs.Coefficient.{windowOf}
 use Rattle.sinc_row.proofs.Distance.{exact}
-use Rattle.sinc_row.proofs.kaiser.Statement.{statement}
-use Rattle.sinc_row.proofs.kaiser.Tie as tie
+use Rattle.sinc_row.proofs.window.kaiser.Statement.{statement}
+use Rattle.sinc_row.proofs.window.kaiser.Tie as tie
 
 inside : (c : tie.Start) → Counts (c .args .settings .taps) (c .args .settings .phases)
 inside c = counts _ _ (accepted (c .args .settings) (c .pre .0) .counted)

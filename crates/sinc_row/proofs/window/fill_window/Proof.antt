@@ -1,4 +1,4 @@
--- `sinc_row::fill_window` meets its contract: the window is written up to tap k. Assumes nothing.
+-- `sinc_row::window::fill_window` meets its contract: the window is written up to tap k. Assumes nothing.
 use borrow.Author.Needs.{needs, scaled-fits}
 use mathlib.Core.Path.{_≡_, refl}
 use Prim.Native.Nat.{_-_, _≤_}
@@ -8,8 +8,8 @@ use denote.Ref.{now}
 use Rattle.loops.specs.Loops.{listOf}
 use Rattle.loops.proofs.Lists.{nothing, written, whole}
 use Rattle.sinc_row.specs.Coefficient.{windowOf}
-use Rattle.sinc_row.proofs.fill_window.Statement.{statement}
-use Rattle.sinc_row.proofs.fill_window.Tie as tie
+use Rattle.sinc_row.proofs.window.fill_window.Statement.{statement}
+use Rattle.sinc_row.proofs.window.fill_window.Tie as tie
 
 abbrev Inv-loop : tie.InvT-loop
 Inv-loop window₀ settings denom k₀ window k = (length window ≡ length window₀) × (k ≤ length window) × (take k window ≡ listOf (windowOf settings) k)

@@ -1,7 +1,7 @@
--- `sinc_row::window_ready` meets its contract, by the test of the settings. Assumes nothing.
+-- `sinc_row::window::window_ready` meets its contract, by the test of the settings. Assumes nothing.
 use borrow.Author.Needs.{needs}
-use Rattle.sinc_row.proofs.window_ready.Statement.{statement}
-use Rattle.sinc_row.proofs.window_ready.Tie as tie
+use Rattle.sinc_row.proofs.window.window_ready.Statement.{statement}
+use Rattle.sinc_row.proofs.window.window_ready.Tie as tie
 
 returns : tie.Need-returns
 returns c = let t = c .before in rw (← t .before .settings-ok .ensures, t .if1 .taken)
