@@ -3,7 +3,7 @@
 use mathlib.Core.Path.{_≡_, refl, sym, _∙_, subst}
 use mathlib.Core.Bool.{true, false, not}
 use Prim.Native.Nat.{ℕ, suc, _+_, _-_, _*_, _^_, _≤_, _<_}
-use native.Mathlib.Nat.{mul-pos, mul-one, zero-add, pow-suc}
+use native.Mathlib.Nat.{mul-one, zero-add, pow-suc}
 use native.Mathlib.Omega.{arith}
 use lib.IntN.{pos, negsuc}
 use lib.Dec.{T, lit≤, lit<}
@@ -13,11 +13,11 @@ use lib.Ieee.Fits.{down-pos, add-fits}
 use lib.Ieee.Exact.{HasValue}
 use Rattle.rounding.proofs.Values.{fits-parts}
 use Rattle.rounding.proofs.Units.{bits-units}
-use Rattle.fraction.specs.Fraction.{Frac, frac, nil, plus, times, Same, Within, Mag}
+use Rattle.fraction.specs.Fraction.{Frac, frac, nil, plus, times, Same, Within}
 use Rattle.fraction.specs.Value.{val, Rounds}
-use Rattle.fraction.proofs.Same.{sums, same-refl, same-sym, plus-comm, times-comm, times-one}
-use Rattle.fraction.proofs.Within.{flip, chain, from, to, rescale, same-within, within-plus, beside}
-use Rattle.fraction.proofs.Product.{within-times, within-times-at, mag-times}
+use Rattle.fraction.proofs.Same.{same-refl, plus-comm}
+use Rattle.fraction.proofs.Within.{chain, from, to, rescale, same-within, within-plus, beside}
+use Rattle.fraction.proofs.Product.{mag-times}
 use Rattle.fraction.proofs.Value.{is-val, is-near}
 use Rattle.fraction.proofs.Near.{add-approx, mul-approx}
 use Rattle.polynomials.specs.Range.{atMost}

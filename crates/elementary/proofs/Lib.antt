@@ -5,6 +5,7 @@ pub mod Remaining
 pub mod Turns
 pub mod Moved
 pub mod Picked
+pub mod Ones
 pub mod Shifted
 pub mod Range
 pub mod Worked

@@ -1,8 +1,8 @@
 -- The whole part of a float, held to a top: above the top it is the top, between 0 and the top its floor, below 0 nothing. Assumes nothing.
 use mathlib.Core.Path.{_≡_, refl, sym, _∙_, ap, subst}
 use mathlib.Core.Bool.{Bool, true, false, true≢false}
-use Prim.Native.Nat.{ℕ, _+_, _*_, _/_, _^_, _<_, _≤_}
-use native.Mathlib.Nat.{mul-one, mul-comm, mul-right-comm, mul-le-mul-right, le-of-mul-le-mul-right, lt-of-mul-lt-mul-right, le-trans, le-of-lt, min-eq-left, min-eq-right, min-le-right, zero-div, div-le-of-le-mul, le-div-iff-mul-le}
+use Prim.Native.Nat.{ℕ, _*_, _/_, _^_, _<_, _≤_}
+use native.Mathlib.Nat.{mul-one, mul-comm, mul-right-comm, le-of-mul-le-mul-right, lt-of-mul-lt-mul-right, le-trans, le-of-lt, min-eq-left, min-eq-right, min-le-right, zero-div, div-le-of-le-mul, le-div-iff-mul-le}
 use native.Mathlib.Omega.{arith}
 use borrow.Author.Tests.{ltb-true, ltb-false}
 use lib.Dec.{lit≤}

@@ -2,10 +2,10 @@
 use borrow.Author.Needs.{needs}
 use mathlib.Core.Path.{sym, subst}
 use mathlib.Core.Bool.{not}
-use Prim.Native.Nat.{_+_, _%_, _^_, _-_, _<_, _≤_}
+use Prim.Native.Nat.{_+_, _^_, _-_, _<_}
 use native.Mathlib.Omega.{arith}
-use lib.Dec.{T, leb}
-use lib.Ieee.{binary32, binary64, fits, isNan, toBits, lt, add}
+use lib.Dec.{T}
+use lib.Ieee.{binary64, isNan, toBits, lt, add}
 use lib.Ieee.Bits.{toBits-lt}
 use Rattle.rounding.proofs.Comparing.{differs-no-nan}
 use Rattle.rounding.proofs.Patterns.{no-nan-rest, value-bits}

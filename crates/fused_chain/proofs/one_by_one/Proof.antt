@@ -4,7 +4,6 @@ use mathlib.Core.Path.{refl, subst}
 use Prim.Native.Nat.{_-_, _≤_}
 use native.Mathlib.Nat.{le-refl}
 use native.Mathlib.Omega.{arith}
-use lib.Ieee.{Float}
 use denote.Ref.{now}
 use Rattle.fused_chain.specs.Blocks.{Carries}
 use Rattle.fused_chain.proofs.Carrying.{stay, on, once}

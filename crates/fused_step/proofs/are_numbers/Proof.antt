@@ -1,6 +1,6 @@
 -- `fused_step::are_numbers` meets its contract: one of the two comparisons holds. Assumes nothing.
-use mathlib.Core.Path.{_≡_, ap, sym}
-use mathlib.Core.Bool.{Bool, true, false, _||_}
+use mathlib.Core.Path.{ap, sym}
+use mathlib.Core.Bool.{Bool, _||_}
 use lib.Ieee.{le}
 use Rattle.fused_step.proofs.Compared.{less-numbers, at-most-numbers}
 use Rattle.fused_step.proofs.are_numbers.Statement.{statement}

@@ -1,7 +1,7 @@
 -- `fused_step::is_plain` meets its contract: each test is one of a plain pattern's three parts. Assumes nothing.
 use mathlib.Core.Path.{_≡_, ap, sym, _∙_}
 use mathlib.Core.Bool.{Bool, not, _&&_, false≢true}
-use Prim.Native.Nat.{ℕ, _-_, _^_, _≤_}
+use Prim.Native.Nat.{ℕ, _-_, _^_}
 use native.Mathlib.Omega.{arith}
 use lib.Dec.{ltb}
 use lib.Bits.{bitAnd, and-mask}

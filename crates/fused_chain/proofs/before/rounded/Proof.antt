@@ -1,6 +1,6 @@
 -- `fused_chain::before::rounded` meets its contract: the quick way of a step. Assumes nothing.
 use borrow.Author.Needs.{needs}
-use mathlib.Core.Path.{refl, ap, subst}
+use mathlib.Core.Path.{ap}
 use mathlib.Core.Bool.{not, false≢true}
 use native.Mathlib.Omega.{arith}
 use lib.Dec.{T}

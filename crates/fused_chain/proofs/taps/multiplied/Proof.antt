@@ -2,7 +2,7 @@
 use borrow.Author.Needs.{needs}
 use borrow.Author.Tests.{not-false}
 use mathlib.Core.Path.{_≡_}
-use mathlib.Core.Bool.{Bool, true, false≢true}
+use mathlib.Core.Bool.{true, false≢true}
 use Rattle.fused_chain.proofs.Finite.{self-finite, four-finite}
 use Rattle.biased.proofs.Tested.{first-of, second-of}
 use Rattle.fused_chain.proofs.Four.{renamed}
