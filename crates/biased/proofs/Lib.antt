@@ -4,3 +4,4 @@ pub mod Inside
 pub mod Taking
 pub mod Steps
 pub mod Frames
+pub mod Tested

@@ -1,14 +1,11 @@
-pub mod Nested
-pub mod Horner
-pub mod Squares
-pub mod CosineNear
-pub mod SineNear
 pub mod PowerNear
+pub mod Quotient
 pub mod Guessing
 pub mod Remaining
 pub mod Turns
 pub mod Moved
 pub mod Picked
+pub mod Ones
 pub mod Shifted
 pub mod Range
 pub mod Worked

@@ -11,9 +11,9 @@ use Rattle.fraction.specs.Value.{val}
 use Rattle.fraction.proofs.Value.{val-pos}
 use Rattle.fraction.proofs.Compare.{is-below, not-below}
 use Rattle.elementary.specs.Reduction.{H}
-use Rattle.elementary.specs.Answers.{atMost}
+use Rattle.polynomials.specs.Range.{atMost}
 use Rattle.elementary.specs.Steps.{eighth, eighthBack, Guess, left, Rest}
-use Rattle.elementary.proofs.Guessing.{guess-of}
+use Rattle.elementary.proofs.Quotient.{guess-of}
 use Rattle.elementary.proofs.Turns.{Halves, leftP, leftN}
 
 -- ---- the guess stands

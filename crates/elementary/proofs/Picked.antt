@@ -14,16 +14,17 @@ use Rattle.fraction.specs.Value.{val, Rounds, nearestTo}
 use Rattle.fraction.proofs.Same.{opp-same}
 use Rattle.fraction.proofs.Within.{to, rescale}
 use Rattle.fraction.proofs.Value.{val-pos, neg-near}
-use Rattle.elementary.specs.Taylor.{sineFraction}
-use Rattle.elementary.specs.Horner.{sineNear, cosineNear}
+use Rattle.polynomials.specs.Taylor.{sineFraction}
+use Rattle.polynomials.specs.Horner.{sineNear, cosineNear}
 use Rattle.elementary.specs.Reduction.{pick, fourth, turns, remainder, reduced}
-use Rattle.elementary.specs.Answers.{atMost, sineAt, cosineAt}
+use Rattle.polynomials.specs.Range.{atMost}
+use Rattle.elementary.specs.Answers.{sineAt, cosineAt}
 use Rattle.elementary.specs.Close.{pickFraction, Far, SineClose, CosineClose}
 use Rattle.elementary.specs.Steps.{Settled}
-use Rattle.elementary.proofs.Nested.{alternating-same}
-use Rattle.elementary.proofs.Squares.{at-most-size}
-use Rattle.elementary.proofs.SineNear.{sine-close}
-use Rattle.elementary.proofs.CosineNear.{cosine-close}
+use Rattle.polynomials.proofs.Nested.{alternating-same}
+use Rattle.polynomials.proofs.Squares.{at-most-size}
+use Rattle.polynomials.proofs.SineNear.{sine-close}
+use Rattle.polynomials.proofs.CosineNear.{cosine-close}
 
 pub clash : (a : Bool) → T a → T (not a) → ⊥
 clash true h k = k

@@ -13,13 +13,13 @@ use Rattle.fraction.proofs.Within.{from, to, rescale, beside}
 use Rattle.fraction.proofs.Product.{mag-times}
 use Rattle.fraction.proofs.Value.{is-near}
 use Rattle.fraction.proofs.Near.{mul-approx}
-use Rattle.elementary.specs.Taylor.{factorial, power}
-use Rattle.elementary.specs.Horner.{ln2, powerSteps, powerNear}
+use Rattle.polynomials.specs.Taylor.{factorial, power}
+use Rattle.polynomials.specs.Horner.{ln2, powerSteps, powerNear}
 use Rattle.elementary.specs.Answers.{two, half}
 use Rattle.elementary.specs.Close.{Part, powerFraction}
-use Rattle.elementary.proofs.Nested.{nested, rises}
-use Rattle.elementary.proofs.Horner.{g, cost, last, horner-near, nested-mag}
-use Rattle.elementary.proofs.CosineNear.{once}
+use Rattle.polynomials.proofs.Nested.{nested, rises}
+use Rattle.polynomials.proofs.Horner.{g, cost, last, horner-near, nested-mag}
+use Rattle.polynomials.proofs.CosineNear.{once}
 
 one-on : (n : ℕ) → 2 * factorial n ≤ factorial (1 + n) * 2
 unfolding factorial

@@ -12,7 +12,8 @@ use Rattle.fraction.specs.Fraction.{Frac, frac}
 use Rattle.fraction.specs.Value.{signed}
 use Rattle.fraction.proofs.Compare.{side, le-is}
 use Rattle.elementary.specs.declared.Answer.the-variants.{Value, Refused}
-use Rattle.elementary.specs.Answers.{refusalOf, orZero, atMost, sineAt, cosineAt, powerAt, sineOf, cosineOf, exp2Of}
+use Rattle.polynomials.specs.Range.{atMost}
+use Rattle.elementary.specs.Answers.{refusalOf, orZero, sineAt, cosineAt, powerAt, sineOf, cosineOf, exp2Of}
 use Rattle.elementary.specs.Close.{Each}
 
 both : (a b c d m n : ℕ) → (a ≤ b → c ≤ d → m ≤ n) → (m ≤ n → (a ≤ b) × (c ≤ d)) → leb a b && leb c d ≡ leb m n

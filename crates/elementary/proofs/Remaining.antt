@@ -20,7 +20,7 @@ use Rattle.fraction.proofs.Exact.{sub-is, mul-is}
 use Rattle.fraction.proofs.Nearest.{nearest-same, add-nearest}
 use Rattle.fraction.proofs.Grid.{grid-of}
 use Rattle.elementary.specs.Reduction.{H}
-use Rattle.elementary.specs.Answers.{atMost}
+use Rattle.polynomials.specs.Range.{atMost}
 use Rattle.elementary.specs.Steps.{highPart, lowPart, Guess, left, Rest}
 
 abbrev pub count : ℕ → Float

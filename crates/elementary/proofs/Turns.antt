@@ -16,7 +16,7 @@ use Rattle.fraction.proofs.Operations.{less}
 use Rattle.fraction.proofs.Nearest.{nearest-same}
 use Rattle.fraction.proofs.Whole.{rep-less}
 use Rattle.elementary.specs.Reduction.{H, floorOf, turns, remainder, reduced, fourth}
-use Rattle.elementary.specs.Answers.{atMost}
+use Rattle.polynomials.specs.Range.{atMost}
 use Rattle.elementary.specs.Steps.{left, Rest, Settled}
 
 -- ---- a floor: (p - n) / d + 256 lies from j to j + 1

@@ -6,7 +6,7 @@ use lib.IntN.{pos, negsuc}
 use lib.Ieee.{fin, nan, inf, binary64, round, ofBits, lt, neg, add, sub, mul}
 use Rattle.fraction.specs.Value.{val}
 use Rattle.elementary.specs.declared.Answer.the-variants.{Value}
-use Rattle.elementary.specs.Horner.{reciprocal, ln2}
+use Rattle.polynomials.specs.Horner.{reciprocal, ln2}
 use Rattle.elementary.specs.Reduction.{H}
 use Rattle.elementary.specs.Answers.{refusalOf, one, two, half, sineOf, cosineOf, exp2Of}
 use Rattle.elementary.specs.Steps.{inverse, highPart, lowPart, eighth}

@@ -1,12 +1,12 @@
 -- E2 to E4. The three functions for every argument: a value, or a refusal by number. Definitions only.
-use mathlib.Core.Bool.{Bool, false, cond}
-use Prim.Native.Nat.{ℕ, _+_, _*_, _%_}
+use mathlib.Core.Bool.{false, cond}
+use Prim.Native.Nat.{ℕ, _+_, _%_}
 use lib.IntN.{pos, negsuc}
-use lib.Dec.{leb}
-use lib.Ieee.{Float, nan, inf, fin, binary64, up, down, neg, add, sub, mul, lt, ofBits}
+use lib.Ieee.{Float, fin, binary64, neg, add, sub, mul, lt, ofBits}
 use Rattle.elementary.specs.declared.Answer.{Answer}
 use Rattle.elementary.specs.declared.Answer.the-variants.{Value, Refused}
-use Rattle.elementary.specs.Horner.{sineNear, cosineNear, powerNear}
+use Rattle.polynomials.specs.Horner.{sineNear, cosineNear, powerNear}
+use Rattle.polynomials.specs.Range.{atMost}
 use Rattle.elementary.specs.Reduction.{turns, reduced, fourth, pick}
 
 -- C4. The refusal's number, 0 for none.
@@ -18,12 +18,6 @@ refusalOf (Refused n) = n
 abbrev pub orZero : Answer → Float
 orZero (Value v) = v
 orZero (Refused n) = ofBits binary64 0
-
--- a number of magnitude at most b
-abbrev pub atMost : ℕ → Float → Bool
-atMost b nan = false
-atMost b (inf s) = false
-atMost b (fin s m e) = leb (m * up e) (b * down e)
 
 unfoldable pub sineAt : Float → Float
 unfolding sineNear pick fourth turns reduced

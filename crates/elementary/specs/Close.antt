@@ -9,10 +9,11 @@ use Rattle.fraction.specs.Fraction.{Frac, frac, plus, times, opp, Within}
 use Rattle.fraction.specs.Value.{val, Is, Rounds}
 use Rattle.elementary.specs.declared.Answer.{Answer}
 use Rattle.elementary.specs.declared.Answer.the-variants.{Value}
-use Rattle.elementary.specs.Taylor.{sineFraction, cosineFraction, expFraction}
-use Rattle.elementary.specs.Horner.{ln2}
+use Rattle.polynomials.specs.Taylor.{sineFraction, cosineFraction, expFraction}
+use Rattle.polynomials.specs.Horner.{ln2}
 use Rattle.elementary.specs.Reduction.{turns, fourth, remainder, reduced}
-use Rattle.elementary.specs.Answers.{atMost, half}
+use Rattle.polynomials.specs.Range.{atMost}
+use Rattle.elementary.specs.Answers.{half}
 
 -- what `pick` picks, of the fractions
 abbrev pub pickFraction : ℕ → Frac → Frac

@@ -1,5 +1,3 @@
-pub mod Taylor
-pub mod Horner
 pub mod Reduction
 pub mod Answers
 pub mod Close

@@ -6,7 +6,7 @@ use lib.Dec.{leb}
 use lib.Ieee.{Float, binary64, neg}
 use Rattle.fraction.specs.Fraction.{Frac, frac, plus, times, opp, over, whole}
 use Rattle.fraction.specs.Value.{val, nearestTo}
-use Rattle.elementary.specs.Horner.{sineNear, cosineNear}
+use Rattle.polynomials.specs.Horner.{sineNear, cosineNear}
 
 -- the value of 3FF921FB54442D18
 abbrev pub H : Frac

@@ -8,7 +8,7 @@ use lib.Ieee.{Float, fin, binary64}
 use Rattle.fraction.specs.Fraction.{Frac, frac, plus, times, opp, Within}
 use Rattle.fraction.specs.Value.{val, Is, nearestTo}
 use Rattle.elementary.specs.Reduction.{H, turns, remainder, reduced, fourth}
-use Rattle.elementary.specs.Answers.{atMost}
+use Rattle.polynomials.specs.Range.{atMost}
 
 -- next to 1 / H
 abbrev pub inverse : Float

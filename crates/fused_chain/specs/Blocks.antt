@@ -1,11 +1,10 @@
 -- What the parts of a run of taps ask of each other: a run from one turn to another, and four turns at once. Definitions only.
 use mathlib.Core.Path.{_≡_}
-use mathlib.Core.Bool.{true}
 use mathlib.Core.List.{List}
 use Prim.Native.Nat.{ℕ, _+_, _≤_}
 use lib.Dec.{T}
 use lib.ListN.{length, getD}
-use lib.Ieee.{Float, nan, binary32, binary64, add, mul, fits, lt}
+use lib.Ieee.{Float, nan, binary32, binary64, mul, fits}
 use lib.Ieee.Scale.{finite}
 use Rattle.fused_chain.specs.Chain.{coefficientOf, chainOf}
 
@@ -49,16 +48,3 @@ pub record Multiplied (xs row0 row1 : List Float) (blend : Float) (k : ℕ) (a b
   pub third : TapProduct xs row0 row1 blend (k + 2) c
   pub fourth : TapProduct xs row0 row1 blend (k + 3) d
   pub bounded : FiniteFour a b c d
-
--- x + sum lies between low and high.
-pub record Between (low high x sum : Float) : Type 0 where
-  pub lower : lt low (add binary64 x sum) ≡ true
-  pub upper : lt (add binary64 x sum) high ≡ true
-
--- Four sums, one behind the other, that all lie between low and high; r is the last.
-pub record Advanced (low high sum a b c d r : Float) : Type 0 where
-  pub first : Between low high a sum
-  pub second : Between low high b (add binary64 a sum)
-  pub third : Between low high c (add binary64 b (add binary64 a sum))
-  pub fourth : Between low high d (add binary64 c (add binary64 b (add binary64 a sum)))
-  pub is : r ≡ add binary64 d (add binary64 c (add binary64 b (add binary64 a sum)))

@@ -1,4 +1,3 @@
 pub mod Chain
-pub mod Steps
 pub mod Blocks
 pub mod Rounding

@@ -6,9 +6,9 @@ ghost use lib.Ieee.Scale.{finite};
 ghost use Rattle.fused_chain.specs.Blocks.{Ready, Runs, FiniteFour};
 ghost use Rattle.fused_chain.specs.Rounding.{Nearest, FourNearest};
 use crate::Run;
-use crate::single::is_plain;
 use crate::taps::Moved;
 use crate::taps::multiplied;
+use fused_step::is_plain;
 
 // p + sum, rounded once to an f32, where the f64 sum is plain.
 fn rounded(p: f64, sum: f64) -> Moved

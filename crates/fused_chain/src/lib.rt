@@ -1,8 +1,6 @@
 // 000's f32 loop over a run of taps: a chain of fused steps, each rounded once, one behind the other.
 mod before; // before the run's middle
 mod behind; // behind it
-mod bias;
-mod single; // one tap
 mod taps; // four at once
 
 ghost use mathlib.Core.Path.{_≡_};
@@ -12,8 +10,8 @@ ghost use Rattle.fused_chain.specs.Chain.{chainOf, runLength};
 ghost use Rattle.fused_chain.specs.Blocks.{Ready, Carries};
 use before::plain_run;
 use behind::biased_run;
+use fused_step::step;
 use narrowing::narrow;
-use single::step;
 
 fn least(a: usize, b: usize) -> usize
     ensures { λ r. ⌜ r ≡ min a b ⌝ }

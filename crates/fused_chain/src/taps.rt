@@ -5,9 +5,9 @@ ghost use Prim.Native.Nat.{_+_, _≤_, _<_};
 ghost use lib.ListN.{length, getD};
 ghost use lib.Ieee.{nan};
 ghost use Rattle.fused_chain.specs.Chain.{coefficientOf};
-ghost use Rattle.fused_chain.specs.Steps.{Numbers};
+ghost use Rattle.fused_step.specs.Steps.{Numbers};
 ghost use Rattle.fused_chain.specs.Blocks.{Product, Multiplied};
-use crate::single::are_numbers;
+use fused_step::are_numbers;
 
 // A sample and its coefficient.
 pub(crate) struct Tap {

@@ -1,11 +1,11 @@
--- A number against a whole number that is given as n less 3 * 2 ^ 51, and a whole number through a float and back. Assumes nothing.
+-- A number against a whole number that is given as n less another, and a whole number through a float and back. Assumes nothing.
 use mathlib.Core.Path.{_≡_, refl, sym, ap, _∙_}
 use mathlib.Core.Bool.{Bool, true, false, cond, not, true≢false}
 use Prim.Native.Nat.{ℕ, suc, _+_, _-_, _*_, _^_, _≤_, _<_}
 use native.Mathlib.Nat.{add-mul, lt-of-mul-lt-mul-right, mul-lt-mul-of-pos-right}
 use native.Mathlib.Omega.{arith}
 use borrow.Author.Tests.{ltb-true, ltb-false}
-use lib.Dec.{T, ltb, lit≤}
+use lib.Dec.{T, ltb}
 use lib.IntN.{ℤ, pos, negsuc, natAbs, subℕ}
 use lib.Signed.{nonNeg, mag}
 use lib.Ieee.{Float, nan, inf, fin, binary64, lt, ofInt, inSigned, toSigned}
@@ -17,9 +17,6 @@ use Rattle.magnitude.proofs.Whole.{whole-value}
 use Rattle.interval.proofs.Signed.{ring, gain, loss, strictly, of-strictly}
 use Rattle.integer_part.proofs.Step.{in-float}
 use Rattle.integer_part.proofs.Floors.{posPart, negPart}
-
-abbrev pub big : ℕ
-big = 6755399441055744
 
 -- ---- a whole number and its parts
 pub parts : (z : ℤ) → (posPart z ≤ natAbs z) × (negPart z ≤ natAbs z)
@@ -54,8 +51,8 @@ whole (fin false n d) (pos k) v = record { number = tt; gains = omega (arith, v 
 whole (fin true n d) (negsuc k) v = record { number = tt; gains = omega arith; loses = omega (arith, v .1) }
 whole (fin false n d) (negsuc k) v = absurd (true≢false (sym (v .0)))
 
--- x below z, over the denominators d and c, where z is n less 3 * 2 ^ 51
-module _ (g l d g' l' c p q n : ℕ) (G : g' ≡ p * c) (L : l' ≡ q * c) (e : p + big ≡ n + q) (C : 0 < c) where
+-- x below z, over the denominators d and c, where z is n less big
+module _ (big g l d g' l' c p q n : ℕ) (G : g' ≡ p * c) (L : l' ≡ q * c) (e : p + big ≡ n + q) (C : 0 < c) where
   scaled : p * d + big * d ≡ n * d + q * d
   scaled = sym (add-mul p big d) ∙ ap (λ (z : ℕ). z * d) e ∙ add-mul n q d
 
@@ -67,7 +64,7 @@ module _ (g l d g' l' c p q n : ℕ) (G : g' ≡ p * c) (L : l' ≡ q * c) (e : 
   back : g + big * d < n * d + l → g * c + l' * d < g' * d + l * c
   back h = let k : g + q * d < p * d + l = omega (arith, scaled) in rw (G, L) (simp ring (simp ring at (mul-lt-mul-of-pos-right k C)))
 
-module _ (x : Float) (ok : T (finite x)) (n : ℕ) (N : n ≤ 2 ^ 53) where
+module _ (big : ℕ) (B : big ≤ 2 ^ 53) (x : Float) (ok : T (finite x)) (n : ℕ) (N : n ≤ 2 ^ 53) where
   abbrev z : ℤ
   z = subℕ n big
 
@@ -75,13 +72,13 @@ module _ (x : Float) (ok : T (finite x)) (n : ℕ) (N : n ≤ 2 ^ 53) where
   y = ofInt binary64 z
 
   beside : Whole y z
-  beside = whole y z (whole-value binary64 z (abs-less n big (2 ^ 53) N (lit≤ tt)))
+  beside = whole y z (whole-value binary64 z (abs-less n big (2 ^ 53) N B))
 
   pub below : T (lt x y) → gain x + big * den x < n * den x + loss x
-  below h = across (gain x) (loss x) (den x) (gain y) (loss y) (den y) (posPart z) (negPart z) n (beside .gains) (beside .loses) (parts-less n big) (den-pos y) (strictly x y ok (beside .number) h)
+  below h = across big (gain x) (loss x) (den x) (gain y) (loss y) (den y) (posPart z) (negPart z) n (beside .gains) (beside .loses) (parts-less n big) (den-pos y) (strictly x y ok (beside .number) h)
 
   pub is-below : gain x + big * den x < n * den x + loss x → T (lt x y)
-  is-below h = of-strictly x y ok (beside .number) (back (gain x) (loss x) (den x) (gain y) (loss y) (den y) (posPart z) (negPart z) n (beside .gains) (beside .loses) (parts-less n big) (den-pos y) h)
+  is-below h = of-strictly x y ok (beside .number) (back big (gain x) (loss x) (den x) (gain y) (loss y) (den y) (posPart z) (negPart z) n (beside .gains) (beside .loses) (parts-less n big) (den-pos y) h)
 
 -- ---- a whole number as a float, cast back
 pub cast-back : (z : ℤ) → mag z ≤ 2 ^ 52 → T (inSigned binary64 63 (ofInt binary64 z)) × (toSigned 63 (ofInt binary64 z) ≡ z)

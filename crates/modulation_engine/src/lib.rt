@@ -1,8 +1,9 @@
 // M1, M2. 001's ModulationEngine: two phases, each with a generator of its own, opened, its sample rate, its seed or its whole course set anew.
 // A state goes in by value and comes back; each method refuses a state that is out of range, and nothing has changed then.
+mod state; // which states are valid, and the refusal that is due
+
 ghost use mathlib.Core.Path.{_≡_};
-ghost use mathlib.Core.Bool.{_&&_};
-ghost use Rattle.modulation_engine.specs.Engine.{phasesOk, validEngine, verdict, openedBy, openedOf, setSampleRateOf, setSeedOf, resetOf};
+ghost use Rattle.modulation_engine.specs.Engine.{openedBy, openedOf, setSampleRateOf, setSeedOf, resetOf};
 use oscillator_ranges as ranges;
 use smooth_random::SmoothRandom;
 
@@ -18,12 +19,6 @@ pub struct ModulationEngine {
 pub enum Opened {
     Engine(ModulationEngine),
     Refused(u8),
-}
-
-fn both(a: bool, b: bool) -> bool
-    ensures { λ r. ⌜ r ≡ (a && b) ⌝ }
-{
-    if a { b } else { false }
 }
 
 // The engine where no refusal is due (0), else the refusal.
@@ -93,35 +88,5 @@ impl ModulationEngine {
         self.wow_drift = wow;
         self.flutter_drift = flutter;
         handed_back(refusal, self)
-    }
-
-    // G8. Both phases in their range.
-    pub fn phases_ok(self) -> bool
-        ensures { λ r. ⌜ r ≡ phasesOk self ⌝ }
-    {
-        both(
-            ranges::cycle_ok(self.wow_phase),
-            ranges::cycle_ok(self.flutter_phase),
-        )
-    }
-
-    // G8. Every field in its range but the sample rate, which is a setting.
-    pub fn valid(self) -> bool
-        ensures { λ r. ⌜ r ≡ validEngine self ⌝ }
-    {
-        let wow = self.wow_drift;
-        let flutter = self.flutter_drift;
-        both(self.phases_ok(), both(wow.valid(), flutter.valid()))
-    }
-
-    // N1, N3, N9. 0, or the number of the lowest refusal that is due, where `arguments` says whether what was handed in with the state is in range.
-    fn refusal(self, arguments: bool) -> u8
-        ensures { λ r. ⌜ r ≡ verdict arguments self ⌝ }
-    {
-        if both(ranges::sample_rate_ok(self.sample_rate), arguments) {
-            if self.valid() { 0 } else { 3 }
-        } else {
-            1
-        }
     }
 }

@@ -1,39 +1,17 @@
--- What is known where no refusal is due: the counts, the table's length and the position; and where the taps and the position alone are in range. Assumes nothing.
+-- What is known where no refusal is due: the counts, the table's length and the position. Assumes nothing.
 use mathlib.Core.Path.{_≡_, refl, _∙_, ap}
 use mathlib.Core.Bool.{Bool, true, false, _&&_, and-true, and-false}
-use Prim.Native.Nat.{ℕ, _^_, _≤_}
+use Prim.Native.Nat.{ℕ}
 use native.Mathlib.Omega.{arith}
 use borrow.Author.Tests.{eqb-true}
-use denote.Floats.{passes}
-use lib.Dec.{eqb, leb, leb→le}
+use lib.Dec.{eqb}
 use lib.Ieee.{Float}
-use lib.Ieee.Bits.{is-true}
-use lib.Ieee.Fits.{and-l, and-r}
-use Rattle.magnitude.specs.Bounds.{AtMost}
 use Rattle.ring.specs.Places.{positionOk}
-use Rattle.ring.proofs.Positions.{position-at-most}
 use Rattle.answer.specs.Refusals.{firstOf}
 use Rattle.sinc_settings.specs.Ranges.{tapsOk, phasesOk}
 use Rattle.sinc_settings.specs.Refusals.{tableLength, tableVerdict}
 use Rattle.sinc_read.specs.Reading.{sampleVerdict}
 
--- ---- the taps and the position
-pub record Aimed (p : Float) (taps : ℕ) : Type 0 where
-  pub least : 4 ≤ taps
-  pub most : taps ≤ 128
-  pub near : AtMost (2 ^ 36) p
-
-pub aimed : (p : Float) (taps : ℕ) → tapsOk taps && positionOk p ≡ true → Aimed p taps
-aimed p taps h =
-    let t = passes (tapsOk taps && positionOk p) h in
-    let r = and-l (leb 4 taps && leb taps 128) _ (and-l (tapsOk taps) (positionOk p) t) in
-    record {
-      least = leb→le 4 taps (and-l (leb 4 taps) (leb taps 128) r);
-      most = leb→le taps 128 (and-r (leb 4 taps) (leb taps 128) r);
-      near = position-at-most p (is-true _ (and-r (tapsOk taps) (positionOk p) t));
-    }
-
--- ---- all that a reading asks
 pub record Readable (taps phases len : ℕ) (p : Float) : Type 0 where
   pub counted : tapsOk taps && phasesOk phases ≡ true
   pub here : positionOk p ≡ true

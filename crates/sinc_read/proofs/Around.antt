@@ -11,7 +11,7 @@ use Rattle.loops.specs.Loops.{fold}
 use Rattle.loops.proofs.Folds.{same, split}
 use Rattle.ring.proofs.Run.{on, round}
 use Rattle.sinc_read.specs.Sums.{tapTurn, runTurn}
-use Rattle.sinc_read.proofs.Between.{next-row}
+use Rattle.sinc_phases.proofs.Between.{next-row}
 
 module _ (table : List Float) (taps phase : ℕ) (blend : Float) (xs : List Float) (place : ℕ) (inside : place < length xs) where
   abbrev row : ℕ

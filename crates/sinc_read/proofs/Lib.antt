@@ -1,9 +1,5 @@
-pub mod Cuts
-pub mod Between
 pub mod Accepted
 pub mod Around
 pub mod Ways
 pub mod Given
 pub mod Answered
-pub mod Blends
-pub mod LastRow

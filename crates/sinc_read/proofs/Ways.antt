@@ -26,12 +26,12 @@ use Rattle.ring.proofs.Positions.{position-at-most}
 use Rattle.ring.proofs.Run as run
 use Rattle.sinc_settings.specs.Ranges.{tapsOk, phasesOk}
 use Rattle.sinc_settings.proofs.Accepted.{Counts, counts}
-use Rattle.sinc_read.specs.declared.Phase.{Phase}
-use Rattle.sinc_read.specs.Phases.{phaseOf, blendOf, phaseAt, firstTap}
+use Rattle.sinc_phases.specs.declared.Phase.{Phase}
+use Rattle.sinc_phases.specs.Phases.{phaseOf, blendOf, phaseAt, firstTap}
 use Rattle.sinc_read.specs.Sums.{tapTurn}
 use Rattle.sinc_read.specs.Reading.{sincAt}
 use Rattle.sinc_read.proofs.Accepted.{Readable}
-use Rattle.sinc_read.proofs.Between.{next-phase, two-rows}
+use Rattle.sinc_phases.proofs.Between.{next-phase, two-rows}
 
 module _ {taps phases len : ℕ} {p : Float} (ok : Readable taps phases len p) where
   counted : Counts taps phases

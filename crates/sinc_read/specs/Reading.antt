@@ -13,7 +13,7 @@ use Rattle.ring.specs.Taps.{tapOf}
 use Rattle.ring.specs.Places.{positionOk}
 use Rattle.sinc_settings.specs.Ranges.{tapsOk, phasesOk}
 use Rattle.sinc_settings.specs.Refusals.{tableLength, tableVerdict}
-use Rattle.sinc_read.specs.Phases.{phaseOf, blendOf, firstTap}
+use Rattle.sinc_phases.specs.Phases.{phaseOf, blendOf, firstTap}
 use Rattle.sinc_read.specs.Sums.{tapTurn}
 
 -- `sum += source.at(start + k as i64) * coefficient` for every tap k, from 0.0 on

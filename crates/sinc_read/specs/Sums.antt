@@ -3,7 +3,7 @@ use Prim.Native.Nat.{ℕ, _+_}
 use mathlib.Core.List.{List}
 use lib.ListN.{getD}
 use lib.Ieee.{Float, nan, binary64, add, sub, mul}
-use Rattle.sinc_read.specs.Phases.{coefficientAt}
+use Rattle.sinc_phases.specs.Phases.{coefficientAt}
 
 -- `sum += x * coefficient`, x the sample of tap k
 abbrev pub tapTurn : (ℕ → Float) → List Float → Float → ℕ → ℕ → ℕ → Float → Float

@@ -3,11 +3,11 @@ ghost use mathlib.Core.Path.{_≡_};
 ghost use lib.ListN.{length};
 ghost use Rattle.answer.specs.Answers.{answerOf};
 ghost use Rattle.sinc_read.specs.Reading.{sincAt, readOf, sampleVerdict};
-use crate::first_tap;
 use crate::held;
 use crate::one_by_one;
-use crate::phase_at;
 use answer::Answer;
+use sinc_phases::first_tap;
+use sinc_phases::phase_at;
 
 // N1, N2. The refusal that is due, or 0: the taps, the phases and the position in range, then the table's length. Both widths.
 pub fn refusal(taps: usize, phases: usize, len: usize, position: f64) -> u8

@@ -1,12 +1,9 @@
-// 000's WindowedSinc as a kernel: a table that a caller lends, read over a slice, a count and a position. Here is the sum over the taps, which the modules call.
+// 000's WindowedSinc as a kernel: a table that a caller lends, read over a slice, a count and a position. Here is the sum over the taps, which the module calls.
 mod kernel; // what is read and what is refused
-mod phases; // where a position falls: both widths
 
 pub use kernel::read;
 pub use kernel::refusal;
 pub use kernel::sample;
-pub use phases::first_tap;
-pub use phases::phase_at;
 ghost use mathlib.Core.Path.{_≡_};
 ghost use Prim.Native.Nat.{_+_, _*_, _^_, _≤_, _<_, _%_};
 ghost use lib.IntN.{pos, _+ℤ_};
@@ -17,12 +14,6 @@ ghost use Rattle.answer.specs.Answers.{zero-f};
 ghost use Rattle.loops.specs.Loops.{fold};
 ghost use Rattle.ring.specs.Taps.{tapOf};
 ghost use Rattle.sinc_read.specs.Sums.{runTurn, tapTurn};
-
-// 000's `phase0` and `blend`.
-pub struct Phase {
-    pub phase: usize,
-    pub blend: f64,
-}
 
 // n turns over samples side by side, from a sum on. Nothing is tested, divided or wrapped for each tap.
 fn run<'a>(

@@ -15,7 +15,7 @@ use Rattle.loops.proofs.Scratch.{front-again}
 use Rattle.rounding.proofs.Sums.{zero-bits}
 use Rattle.ring.proofs.Run.{on, round}
 use Rattle.fused_chain.specs.Chain.{turnOf, chainOf, runLength}
-use Rattle.sinc_read.proofs.Between.{next-row}
+use Rattle.sinc_phases.proofs.Between.{next-row}
 use Rattle.sinc_read_f32.specs.Sums.{tapTurn, runTurn}
 
 -- ---- one chain, over rows that are the table from two places on

@@ -15,8 +15,8 @@ use Rattle.ring.specs.Taps.{tapOf}
 use Rattle.ring.specs.Places.{startOf}
 use Rattle.ring.specs.declared.Start.{Start}
 use Rattle.ring.proofs.Run as run
-use Rattle.sinc_read.specs.declared.Phase.{Phase}
-use Rattle.sinc_read.specs.Phases.{blendOf, phaseAt, firstTap}
+use Rattle.sinc_phases.specs.declared.Phase.{Phase}
+use Rattle.sinc_phases.specs.Phases.{blendOf, phaseAt, firstTap}
 use Rattle.sinc_read.proofs.Accepted.{Readable}
 use Rattle.sinc_read.proofs.Ways.{phase-is, blend-is}
 use Rattle.sinc_read_f32.specs.Sums.{tapTurn}

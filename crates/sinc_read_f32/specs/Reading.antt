@@ -12,7 +12,7 @@ use Rattle.rounding.specs.Operations.{narrowed}
 use Rattle.ring.specs.Taps.{tapOf}
 use Rattle.ring.specs.Places.{positionOk}
 use Rattle.sinc_settings.specs.Refusals.{tableVerdict}
-use Rattle.sinc_read.specs.Phases.{phaseOf, blendOf, firstTap}
+use Rattle.sinc_phases.specs.Phases.{phaseOf, blendOf, firstTap}
 use Rattle.sinc_read_f32.specs.Sums.{tapTurn}
 
 -- `sum = source.at_f32(start + k as i64).mul_add(coefficient, sum)` for every tap k, from 0.0 on

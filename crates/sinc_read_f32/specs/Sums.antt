@@ -5,7 +5,7 @@ use lib.ListN.{getD}
 use lib.Ieee.{Float, nan, binary32}
 use Rattle.rounding.specs.Operations.{fused}
 use Rattle.fused_chain.specs.Chain.{coefficientOf}
-use Rattle.sinc_read.specs.Phases.{coefficientAt}
+use Rattle.sinc_phases.specs.Phases.{coefficientAt}
 
 -- `sum = x.mul_add(coefficient, sum)`, x the sample of tap k
 abbrev pub tapTurn : (ℕ → Float) → List Float → Float → ℕ → ℕ → ℕ → Float → Float

@@ -20,10 +20,10 @@ fn at<'a>(
     requires { ⌜ sampleVerdict taps phases (length (now table)) position ≡ 0 ⌝ }
     ensures { λ r. ⌜ r ≡ sincF32At (now (table .entry)) taps phases (now (source .entry)) count position ⌝ }
 {
-    let between = sinc_read::phase_at(position, phases);
+    let between = sinc_phases::phase_at(position, phases);
     let phase = between.phase;
     let blend = narrowing::narrow(between.blend);
-    let first = sinc_read::first_tap(position, taps);
+    let first = sinc_phases::first_tap(position, taps);
     let start = ring::run_start(source.len(), count, first, taps as u64);
     let place = start.place;
     if start.held {

@@ -14,7 +14,7 @@ use Rattle.magnitude.specs.Bounds.{AtMost}
 use Rattle.magnitude.proofs.Rounded.{whole-at-most}
 use Rattle.magnitude.proofs.Operations.{sub-at-most, mul-at-most, scale-at-most, div-at-most}
 use Rattle.magnitude.proofs.Whole.{whole-value, whole-difference, whole-quotient}
-use Rattle.elementary.specs.Answers.{atMost}
+use Rattle.polynomials.specs.Range.{atMost}
 use Rattle.sinc_settings.specs.declared.Settings.{Settings}
 use Rattle.sinc_settings.specs.Ranges.{settingsOk, one-f, two-f}
 use Rattle.sinc_settings.proofs.Accepted.{Counts, counts, accepted}

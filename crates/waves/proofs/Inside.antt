@@ -12,7 +12,8 @@ use Rattle.magnitude.proofs.Between.{at-most-mono, within-at-most}
 use Rattle.magnitude.proofs.Operations.{mul-at-most, div-at-most}
 use Rattle.order.specs.Choice.{larger}
 use Rattle.order.proofs.Choices.{chosen-keeps}
-use Rattle.elementary.specs.Answers.{atMost, cosineAt, powerAt, cosineOf, exp2Of}
+use Rattle.polynomials.specs.Range.{atMost}
+use Rattle.elementary.specs.Answers.{cosineAt, powerAt, cosineOf, exp2Of}
 use Rattle.oscillator_ranges.specs.Constants.{zero, one, three, five, octave}
 use Rattle.oscillator_ranges.specs.Ranges.{rateOk, phaseOk, depthOk}
 use Rattle.waves.specs.Waves.{cos, pow2, speedDelta}

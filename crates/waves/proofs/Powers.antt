@@ -12,10 +12,11 @@ use Rattle.magnitude.specs.Bounds.{AtMost}
 use Rattle.magnitude.proofs.Between.{at-most-mono}
 use Rattle.magnitude.proofs.Rounded.{round-at-most}
 use Rattle.magnitude.proofs.Operations.{add-at-most, sub-at-most, mul-at-most}
-use Rattle.elementary.specs.Taylor.{factorial}
-use Rattle.elementary.specs.Horner.{reciprocal, horner, ln2, powerNear}
+use Rattle.polynomials.specs.Taylor.{factorial}
+use Rattle.polynomials.specs.Horner.{reciprocal, horner, ln2, powerNear}
 use Rattle.elementary.specs.Answers as answers
-use Rattle.elementary.specs.Answers.{atMost, powerAt, exp2Of}
+use Rattle.polynomials.specs.Range.{atMost}
+use Rattle.elementary.specs.Answers.{powerAt, exp2Of}
 use Rattle.elementary.specs.declared.Answer.the-variants.{Value, Refused}
 use Rattle.waves.specs.Waves.{valueOf, pow2}
 

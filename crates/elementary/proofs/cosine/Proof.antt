@@ -3,7 +3,8 @@ use borrow.Author.Needs.{needs}
 use mathlib.Core.Path.{_≡_, sym, _∙_, subst}
 use lib.Dec.{T}
 use lib.Ieee.{ofBits}
-use Rattle.elementary.specs.Answers.{atMost, cosineAt, cosineOf}
+use Rattle.polynomials.specs.Range.{atMost}
+use Rattle.elementary.specs.Answers.{cosineAt, cosineOf}
 use Rattle.elementary.proofs.Range.{inside-is, given, refused}
 use Rattle.elementary.proofs.cosine.Statement.{statement}
 use Rattle.elementary.proofs.cosine.Tie as tie

@@ -3,7 +3,8 @@ use borrow.Author.Needs.{needs}
 use mathlib.Core.Path.{_≡_, sym, _∙_, subst}
 use lib.Dec.{T}
 use lib.Ieee.{ofBits}
-use Rattle.elementary.specs.Answers.{atMost, powerAt, exp2Of}
+use Rattle.polynomials.specs.Range.{atMost}
+use Rattle.elementary.specs.Answers.{powerAt, exp2Of}
 use Rattle.elementary.proofs.Range.{inside-is, given, refused}
 use Rattle.elementary.proofs.exp2.Statement.{statement}
 use Rattle.elementary.proofs.exp2.Tie as tie

@@ -3,7 +3,8 @@ use borrow.Author.Needs.{needs}
 use mathlib.Core.Path.{_≡_, sym, _∙_, subst}
 use lib.Dec.{T}
 use lib.Ieee.{ofBits}
-use Rattle.elementary.specs.Answers.{atMost, sineAt, sineOf}
+use Rattle.polynomials.specs.Range.{atMost}
+use Rattle.elementary.specs.Answers.{sineAt, sineOf}
 use Rattle.elementary.proofs.Range.{inside-is, given, refused}
 use Rattle.elementary.proofs.sine.Statement.{statement}
 use Rattle.elementary.proofs.sine.Tie as tie

@@ -4,7 +4,6 @@ use mathlib.Core.Path.{refl, subst}
 use Prim.Native.Nat.{_-_, _≤_}
 use native.Mathlib.Nat.{le-refl}
 use native.Mathlib.Omega.{arith}
-use lib.Ieee.{Float}
 use denote.Ref.{now}
 use Rattle.fused_chain.specs.Blocks.{Carries}
 use Rattle.fused_chain.proofs.Carrying.{stay, on, once}
@@ -42,7 +41,7 @@ shared-slice-read-step-2 : tie.Need-shared-slice-read-step-2 Inv-loop μ-loop
 shared-slice-read-step-2 c = omega arith
 
 step-requires : tie.Need-step-requires Inv-loop μ-loop
-step-requires c κs = c .before .before .before .before .loop .inv .2 .held
+step-requires c κs = search needs
 
 add-k : tie.Need-add-k Inv-loop μ-loop
 add-k c = omega arith
@@ -54,7 +53,7 @@ loop-again : tie.Need-loop-again Inv-loop μ-loop
 loop-again c =
     let l = c .before .before .before .before .before in
     let a = l .before .before .before .before .args in
-    (omega arith, omega arith, on (now (a .xs)) (now (a .row0)) (now (a .row1)) (a .blend) (l .loop .inv .2) (once (now (a .xs)) (now (a .row0)) (now (a .row1)) (a .blend) (l .loop .k) _ (l .loop .held) (c .step .result) refl (c .step .ensures)))
+    (omega arith, omega arith, on (now (a .xs)) (now (a .row0)) (now (a .row1)) (a .blend) (l .loop .inv .2) (once (now (a .xs)) (now (a .row0)) (now (a .row1)) (a .blend) (l .loop .k) _ (l .loop .held) (c .step .result) refl (c .step .ensures (l .loop .inv .2 .held))))
 
 returns : tie.Need-returns Inv-loop μ-loop
 returns c =

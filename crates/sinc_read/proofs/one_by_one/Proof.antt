@@ -14,7 +14,7 @@ use Rattle.loops.specs.Loops.{fold}
 use Rattle.loops.proofs.Folds.{none, turn}
 use Rattle.ring.specs.Taps.{tapOf}
 use Rattle.sinc_read.specs.Sums.{tapTurn}
-use Rattle.sinc_read.proofs.Between.{next-row}
+use Rattle.sinc_phases.proofs.Between.{next-row}
 use Rattle.sinc_read.proofs.one_by_one.Statement.{statement}
 use Rattle.sinc_read.proofs.one_by_one.Tie as tie
 

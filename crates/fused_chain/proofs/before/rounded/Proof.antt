@@ -1,14 +1,14 @@
 -- `fused_chain::before::rounded` meets its contract: the quick way of a step. Assumes nothing.
 use borrow.Author.Needs.{needs}
-use mathlib.Core.Path.{refl, ap, subst}
+use mathlib.Core.Path.{ap}
 use mathlib.Core.Bool.{not, false≢true}
 use native.Mathlib.Omega.{arith}
 use lib.Dec.{T}
 use lib.Ieee.{Float, binary64, isNan, add}
 use lib.Ieee.Fits.{add-fits}
-use Rattle.fused_chain.proofs.Cut.{half-fits, plain-no-nan, plain-finite}
+use Rattle.fused_step.proofs.Cut.{half-fits, plain-no-nan, plain-finite}
 use Rattle.fused_chain.proofs.Finite.{add-number}
-use Rattle.fused_chain.proofs.Steps.{plain-step}
+use Rattle.fused_step.proofs.Steps.{plain-step}
 use Rattle.fused_chain.proofs.before.rounded.Statement.{statement}
 use Rattle.fused_chain.proofs.before.rounded.Tie as tie
 
@@ -25,12 +25,12 @@ add-n : tie.Need-add-n
 add-n c = omega (arith, half-fits (s c) (add-fits binary64 _ _) (number c))
 
 float-from-bits-near : tie.Need-float-from-bits-near
-float-from-bits-near c = let b = c .before .before in plain-no-nan (s b) (add-fits binary64 _ _) (number b) (c .before .is-plain .ensures (c .if1 .taken))
+float-from-bits-near c = let b = c .before .before in plain-no-nan (s b) (add-fits binary64 _ _) (number b) (c .before .is-plain .ensures .1 (c .if1 .taken))
 
 returns : tie.Need-returns
 returns c =
     let b = c .before .before in
-    let plain = c .before .is-plain .ensures (c .if1 .taken) in
+    let plain = c .before .is-plain .ensures .1 (c .if1 .taken) in
     λ h. record {
       bounded = plain-finite (s b) (add-fits binary64 _ _) (number b) plain;
       is = λ x d p held. plain-step x d (b .args .sum) (s b) (p .sample) (p .coefficient) held (ap (λ (z : Float). add binary64 z (b .args .sum)) (p .is)) (number b) plain;

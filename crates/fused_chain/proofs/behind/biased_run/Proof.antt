@@ -1,11 +1,11 @@
 -- `fused_chain::behind::biased_run` meets its contract: the biased sum stands for the chain's sum. Assumes nothing.
 use borrow.Author.Needs.{needs}
 use borrow.Author.Tests.{not-false}
-use mathlib.Core.Path.{_≡_}
 use Prim.Native.Nat.{_-_, _≤_}
 use native.Mathlib.Nat.{le-refl}
 use native.Mathlib.Omega.{arith}
 use denote.Ref.{now}
+use Rattle.biased.proofs.Tested.{first-of, second-of}
 use Rattle.fused_chain.proofs.Carrying.{stay}
 use Rattle.fused_chain.proofs.Four.{Stands, four, ended}
 use Rattle.fused_chain.proofs.behind.biased_run.Statement.{statement}
@@ -17,8 +17,8 @@ Inv-loop xs row0 row1 blend from to sum bias low high held₀ k₀ held k = (fro
 abbrev μ-loop : tie.MeasureT-loop
 μ-loop xs row0 row1 blend from to sum bias low high held₀ k₀ held k = to - k
 
-biased-requires : tie.Need-biased-requires Inv-loop μ-loop
-biased-requires c κs = c .before .before .before .pre .held
+with-bias-requires : tie.Need-with-bias-requires Inv-loop μ-loop
+with-bias-requires c κs = search needs
 
 returns : tie.Need-returns Inv-loop μ-loop
 returns c =
@@ -31,7 +31,7 @@ loop-holds c =
     let r = c .before .before in
     let b = r .before .before .before .before in
     let a = b .args in
-    (le-refl (a .from), b .pre .order, (a .sum, r .biased .ensures (not-false (r .biased .result .fine) (c .if1 .left)), stay (now (a .xs)) (now (a .row0)) (now (a .row1)) (a .blend) (a .from) (a .sum) (b .pre .held)))
+    (le-refl (a .from), b .pre .order, (a .sum, r .with-bias .ensures (b .pre .held) (not-false (r .with-bias .result .fine) (c .if1 .left)), stay (now (a .xs)) (now (a .row0)) (now (a .row1)) (a .blend) (a .from) (a .sum) (b .pre .held)))
 
 sub-loop : tie.Need-sub-loop Inv-loop μ-loop
 sub-loop c = omega arith
@@ -49,7 +49,7 @@ returns-2 c =
     let l = c .before .before .before .before .before in
     let r = l .before .before .before in
     let a = r .before .before .before .before .args in
-    let t = r .biased .result in
+    let t = r .with-bias .result in
     ended (now (a .xs)) (now (a .row0)) (now (a .row1)) (a .blend) (t .bias) (t .low) (t .high) (a .from) (a .to) (a .sum) (l .loop .k) (l .loop .held) (l .loop .inv .0) (l .loop .inv .1) (l .loop .inv .2)
 
 add-k : tie.Need-add-k Inv-loop μ-loop
@@ -60,14 +60,17 @@ loop-less c = omega arith
 
 loop-again : tie.Need-loop-again Inv-loop μ-loop
 loop-again c =
-    let v = c .before .before in
+    let w = c .before in
+    let v = w .before in
     let m = v .before in
     let l = m .before .before in
     let r = l .before .before .before in
     let a = r .before .before .before .before .args in
-    let t = r .biased .result in
+    let t = r .with-bias .result in
     let p = m .multiplied .result in
-    let (fine, moved) = v .advance .ensures (not-false (v .advance .result .fine) (c .if2 .left)) in (
+    let all = not-false (w .both .result) (c .if2 .left) in
+    let fine = first-of (w .both .result) (p .fine) (v .advance .result .fine) (w .both .ensures) all in
+    let moved = v .advance .ensures .1 .1 (second-of (w .both .result) (p .fine) (v .advance .result .fine) (w .both .ensures) all) in (
       omega arith,
       omega arith,
       four (now (a .xs)) (now (a .row0)) (now (a .row1)) (a .blend) (t .bias) (t .low) (t .high) (a .from) (a .sum) (l .loop .k) (l .loop .held) (p .a) (p .b) (p .c) (p .d) (v .advance .result .sum) (m .multiplied .ensures fine) moved (l .loop .inv .2),
@@ -78,7 +81,7 @@ returns-3 c =
     let l = c .before in
     let r = l .before .before .before in
     let a = r .before .before .before .before .args in
-    let t = r .biased .result in
+    let t = r .with-bias .result in
     ended (now (a .xs)) (now (a .row0)) (now (a .row1)) (a .blend) (t .bias) (t .low) (t .high) (a .from) (a .to) (a .sum) (l .loop .k) (l .loop .held) (l .loop .inv .0) (l .loop .inv .1) (l .loop .inv .2)
 
 pub biased-run-spec : {M : Type 1} → statement M
@@ -87,12 +90,13 @@ biased-run-spec =
     (tie.spec
     Inv-loop
     μ-loop
-    biased-requires
+    with-bias-requires
     returns
     loop-holds
     sub-loop
     multiplied-requires
     advance-requires
+    (λ c κs. search needs)
     returns-2
     add-k
     loop-less

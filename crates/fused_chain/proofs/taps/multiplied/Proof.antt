@@ -2,9 +2,10 @@
 use borrow.Author.Needs.{needs}
 use borrow.Author.Tests.{not-false}
 use mathlib.Core.Path.{_≡_}
-use mathlib.Core.Bool.{Bool, true, false≢true}
+use mathlib.Core.Bool.{true, false≢true}
 use Rattle.fused_chain.proofs.Finite.{self-finite, four-finite}
-use Rattle.fused_chain.proofs.Four.{first-of, second-of, renamed}
+use Rattle.biased.proofs.Tested.{first-of, second-of}
+use Rattle.fused_chain.proofs.Four.{renamed}
 use Rattle.fused_chain.proofs.taps.multiplied.Statement.{statement}
 use Rattle.fused_chain.proofs.taps.multiplied.Tie as tie
 
@@ -30,7 +31,7 @@ multiply-requires c κs =
     let b = c .before .before .before .before .before in
     let n2 = b .before in
     let n1 = n2 .before in
-    n1 .are-numbers .ensures (first-of (b .both .result) (n1 .are-numbers .result) (n2 .are-numbers2 .result) (b .both .ensures) (left c))
+    n1 .are-numbers .ensures .1 (first-of (b .both .result) (n1 .are-numbers .result) (n2 .are-numbers2 .result) (b .both .ensures) (left c))
 
 multiply-requires-2 : tie.Need-multiply-requires-2
 multiply-requires-2 c κs =
@@ -38,7 +39,7 @@ multiply-requires-2 c κs =
     let b = e .before .before .before .before .before in
     let n2 = b .before in
     let n1 = n2 .before in
-    n2 .are-numbers2 .ensures (second-of (b .both .result) (n1 .are-numbers .result) (n2 .are-numbers2 .result) (b .both .ensures) (left e))
+    n2 .are-numbers2 .ensures .1 (second-of (b .both .result) (n1 .are-numbers .result) (n2 .are-numbers2 .result) (b .both .ensures) (left e))
 
 multiply-requires-3 : tie.Need-multiply-requires-3
 multiply-requires-3 c κs =
@@ -46,7 +47,7 @@ multiply-requires-3 c κs =
     let b = e .before .before in
     let n4 = b .before in
     let n3 = n4 .before in
-    n3 .are-numbers3 .ensures (first-of (b .both2 .result) (n3 .are-numbers3 .result) (n4 .are-numbers4 .result) (b .both2 .ensures) (right e))
+    n3 .are-numbers3 .ensures .1 (first-of (b .both2 .result) (n3 .are-numbers3 .result) (n4 .are-numbers4 .result) (b .both2 .ensures) (right e))
 
 multiply-requires-4 : tie.Need-multiply-requires-4
 multiply-requires-4 c κs =
@@ -54,7 +55,7 @@ multiply-requires-4 c κs =
     let b = e .before .before in
     let n4 = b .before in
     let n3 = n4 .before in
-    n4 .are-numbers4 .ensures (second-of (b .both2 .result) (n3 .are-numbers3 .result) (n4 .are-numbers4 .result) (b .both2 .ensures) (right e))
+    n4 .are-numbers4 .ensures .1 (second-of (b .both2 .result) (n3 .are-numbers3 .result) (n4 .are-numbers4 .result) (b .both2 .ensures) (right e))
 
 returns-2 : tie.Need-returns-2
 returns-2 c =

@@ -2,7 +2,7 @@
 use mathlib.Core.Path.{refl, sym, subst}
 use lib.Dec.{T}
 use lib.Ieee.{binary32, fits}
-use Rattle.fused_chain.proofs.Compared.{widens}
+use Rattle.fused_step.proofs.Compared.{widens}
 use Rattle.fused_chain.proofs.taps.multiply.Statement.{statement}
 use Rattle.fused_chain.proofs.taps.multiply.Tie as tie
 

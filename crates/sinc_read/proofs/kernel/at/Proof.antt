@@ -10,7 +10,7 @@ use mir.Val.{toZ, ofZ}
 use mir.ValLaws.{toZ-ofZ}
 use denote.Ref.{now}
 use Rattle.ring.proofs.Run as run
-use Rattle.sinc_read.specs.Phases.{firstTap}
+use Rattle.sinc_phases.specs.Phases.{firstTap}
 use Rattle.sinc_read.proofs.Accepted.{Readable, readable}
 use Rattle.sinc_read.proofs.Ways as ways
 use Rattle.sinc_read.proofs.kernel.at.Statement.{statement}

@@ -1,0 +1,4 @@
+pub mod Compared
+pub mod Halves
+pub mod Cut
+pub mod Steps

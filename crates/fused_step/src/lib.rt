@@ -1,0 +1,71 @@
+// K4. One tap of 000's f32 loop: a fused step from an f64 that holds an f32 to another, quick where the f64 sum is plain.
+ghost use mathlib.Core.Path.{_≡_};
+ghost use mathlib.Core.Bool.{true};
+ghost use lib.Dec.{T};
+ghost use lib.Ieee.{binary32, binary64, add, mul, fits};
+ghost use Rattle.rounding.specs.Operations.{fused};
+ghost use Rattle.fused_step.specs.Steps.{Numbers, Plain, inOrder, plain};
+use fused32::fused32;
+use narrowing::narrow;
+
+// Whether neither is a NaN: one comparison of the two tells.
+pub fn are_numbers(x: f32, c: f32) -> bool
+    ensures { λ r. ⌜ r ≡ inOrder x c ⌝ }
+    ensures { λ r. ⌜ (r ≡ true → Numbers x c) ⌝ }
+{
+    if x < c { true } else { x >= c }
+}
+
+// From an f64's pattern with half an f32's last digit added: whether the f64 has an exponent's field of 897 to 1149, so that its size is a normal f32's, and was no
+// midpoint of two f32.
+pub fn is_plain(n: u64) -> bool
+    ensures { λ r. ⌜ r ≡ plain n ⌝ }
+    ensures { λ r. ⌜ (r ≡ true → Plain n) ⌝ }
+{
+    if n & 0x1fff_ffff == 0 {
+        return false;
+    }
+    let m = n & 0x7fff_ffff_ffff_ffff;
+    if m < 0x3810_0000_1000_0000 {
+        return false;
+    }
+    m < 0x47e0_0000_1000_0000
+}
+
+// The step by the fused step itself.
+fn any_step(x: f32, c: f32, sum: f64) -> f64
+    ensures { λ r. ⌜ (T (fits binary32 sum) → r ≡ fused binary32 x c sum) ⌝ }
+{
+    std::num::f32_to_f64_with_nan(fused32(x, c, narrow(sum)))
+}
+
+// A step whose f64 sum s is not plain. A zero is exact, and stays as it is, sign included: silence is not slow.
+fn rare_step(x: f32, c: f32, sum: f64, s: f64) -> f64
+    requires { ⌜ s ≡ add binary64 (mul binary64 x c) sum ⌝ }
+    ensures { λ r. ⌜ (T (fits binary32 sum) → r ≡ fused binary32 x c sum) ⌝ }
+{
+    if s == 0.0 {
+        return s;
+    }
+    any_step(x, c, sum)
+}
+
+// x * c + sum rounded once to an f32. The sum is an f32 all along, held as an f64, so that no step widens or narrows it.
+// The product is exact in f64. Where the sum is plain, half of the last digit that an f32 keeps is added to its pattern and what an f32 lacks is
+// cut off: a carry moves up into the exponent's field. No tie is met there, so this is the nearest.
+pub fn step(x: f32, c: f32, sum: f64) -> f64
+    ensures { λ r. ⌜ (T (fits binary32 sum) → r ≡ fused binary32 x c sum) ⌝ }
+{
+    if !are_numbers(x, c) {
+        return any_step(x, c, sum);
+    }
+    let s = (x as f64) * (c as f64) + sum;
+    if s != s {
+        return any_step(x, c, sum);
+    }
+    let n: u64 = f64::to_bits(s) + 0x1000_0000;
+    if is_plain(n) {
+        return f64::from_bits(n & 0xffff_ffff_e000_0000);
+    }
+    rare_step(x, c, sum, s)
+}

@@ -1,0 +1,44 @@
+// G8, N1, N3, N9. Which states are valid, and the refusal that is due.
+ghost use mathlib.Core.Path.{_≡_};
+ghost use mathlib.Core.Bool.{_&&_};
+ghost use Rattle.modulation_engine.specs.Engine.{phasesOk, validEngine, verdict};
+use crate::ModulationEngine;
+use oscillator_ranges as ranges;
+
+fn both(a: bool, b: bool) -> bool
+    ensures { λ r. ⌜ r ≡ (a && b) ⌝ }
+{
+    if a { b } else { false }
+}
+
+impl ModulationEngine {
+    // G8. Both phases in their range.
+    pub fn phases_ok(self) -> bool
+        ensures { λ r. ⌜ r ≡ phasesOk self ⌝ }
+    {
+        both(
+            ranges::cycle_ok(self.wow_phase),
+            ranges::cycle_ok(self.flutter_phase),
+        )
+    }
+
+    // G8. Every field in its range but the sample rate, which is a setting.
+    pub fn valid(self) -> bool
+        ensures { λ r. ⌜ r ≡ validEngine self ⌝ }
+    {
+        let wow = self.wow_drift;
+        let flutter = self.flutter_drift;
+        both(self.phases_ok(), both(wow.valid(), flutter.valid()))
+    }
+
+    // N1, N3, N9. 0, or the number of the lowest refusal that is due, where `arguments` says whether what was handed in with the state is in range.
+    pub(crate) fn refusal(self, arguments: bool) -> u8
+        ensures { λ r. ⌜ r ≡ verdict arguments self ⌝ }
+    {
+        if both(ranges::sample_rate_ok(self.sample_rate), arguments) {
+            if self.valid() { 0 } else { 3 }
+        } else {
+            1
+        }
+    }
+}

@@ -1,0 +1,5 @@
+pub mod Nested
+pub mod Horner
+pub mod Squares
+pub mod CosineNear
+pub mod SineNear

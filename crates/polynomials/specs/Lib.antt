@@ -1,0 +1,3 @@
+pub mod Taylor
+pub mod Horner
+pub mod Range

@@ -1,0 +1,11 @@
+-- Which numbers a function takes. Definitions only.
+use mathlib.Core.Bool.{Bool, false}
+use Prim.Native.Nat.{ℕ, _*_}
+use lib.Dec.{leb}
+use lib.Ieee.{Float, nan, inf, fin, up, down}
+
+-- a number of magnitude at most b
+abbrev pub atMost : ℕ → Float → Bool
+atMost b nan = false
+atMost b (inf s) = false
+atMost b (fin s m e) = leb (m * up e) (b * down e)

@@ -1,0 +1,5 @@
+pub mod Cuts
+pub mod Between
+pub mod Aimed
+pub mod Blends
+pub mod LastRow
