@@ -8,3 +8,4 @@ pub mod Cutting
 pub mod Staying
 pub mod Greatest
 pub mod Meaning
+pub mod Calls

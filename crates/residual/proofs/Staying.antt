@@ -26,7 +26,7 @@ pub sum-one : (r : Report) (d : ℕ) → sumOf (one r d) ≡ sumOf r + d * d
 unfolding one
 sum-one r d = omega arith
 
-number-one : (r : Report) (d : ℕ) → one r d .number ≡ r .number + 1
+pub number-one : (r : Report) (d : ℕ) → one r d .number ≡ r .number + 1
 unfolding one
 number-one r d = refl
 

@@ -1,13 +1,14 @@
 // W13. The residual of two stretches in whole numbers, over many calls, all exact: how many samples were compared, the largest absolute difference, where it stands first, and the sum of the
 // squared differences.
 mod checks; // which refusal is due
-mod tally; // the counting
+mod steps; // the counting
+mod tally; // a report on plain numbers
 
 ghost use mathlib.Core.Path.{_≡_};
 ghost use Rattle.residual.specs.Report.{emptyReport};
 ghost use Rattle.residual.specs.Refusals.{comparedOf};
 use checks::due;
-use tally::counted;
+use steps::counted;
 
 // Where the largest difference stands first, counted from the first sample compared, over all calls; an empty report has no such place.
 pub enum Place {

@@ -1,4 +1,4 @@
--- `residual::tally::counted` meets its contract: an accepted call has room, and counting on numbers agrees with carrying the report on. Assumes nothing.
+-- `residual::steps::counted` meets its contract: an accepted call has room, and counting on numbers agrees with carrying the report on. Assumes nothing.
 use mathlib.Core.Path.{_≡_, sym, ap, _∙_, subst}
 use mathlib.Core.List.{List, foldl}
 use Prim.Native.Nat.{_<_, _^_}
@@ -9,8 +9,8 @@ use Rattle.residual.specs.Report.{differences, carried}
 use Rattle.residual.specs.Tallies.{toldOf, stepOf, Ready}
 use Rattle.residual.proofs.Valid.{accepted, ready}
 use Rattle.residual.proofs.Agreeing.{fit, same-fold}
-use Rattle.residual.proofs.tally.counted.Statement.{statement}
-use Rattle.residual.proofs.tally.counted.Tie as tie
+use Rattle.residual.proofs.steps.counted.Statement.{statement}
+use Rattle.residual.proofs.steps.counted.Tie as tie
 
 low-fits : (c : tie.After-taken) → c .before .args .report .low < 2 ^ 64
 low-fits c = omega (arith, c .before .good .0)

@@ -1,4 +1,4 @@
--- `residual::tally::distance` meets its contract: the words are read back, and a negative difference is turned round. Assumes nothing.
+-- `residual::steps::distance` meets its contract: the words are read back, and a negative difference is turned round. Assumes nothing.
 use mathlib.Core.Path.{_≡_, sym, ap, _∙_, subst}
 use Prim.Native.Nat.{ℕ, _<_, _^_}
 use lib.IntN.{ℤ, pos, natAbs, _-ℤ_}
@@ -8,8 +8,8 @@ use mir.Syntax.{w32}
 use mir.Val.{SFits, toZ, ofZ}
 use mir.ValLaws.{toZ-ofZ}
 use Rattle.residual.proofs.Signs.{fits-24, below-24, small-fits, turned, castable, not-below}
-use Rattle.residual.proofs.tally.distance.Statement.{statement}
-use Rattle.residual.proofs.tally.distance.Tie as tie
+use Rattle.residual.proofs.steps.distance.Statement.{statement}
+use Rattle.residual.proofs.steps.distance.Tie as tie
 
 -- the difference as the code works it out, and as it holds it
 abbrev worked : tie.Start → ℤ

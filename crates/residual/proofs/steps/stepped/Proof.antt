@@ -1,4 +1,4 @@
--- `residual::tally::stepped` meets its contract: before each turn the differences passed are counted. Assumes nothing.
+-- `residual::steps::stepped` meets its contract: before each turn the differences passed are counted. Assumes nothing.
 use borrow.Author.Needs.{needs}
 use Prim.Native.Nat.{_≤_, _-_}
 use mathlib.Core.Path.{_≡_, refl, ap, _∙_, subst}
@@ -16,8 +16,8 @@ use Rattle.residual.specs.Tallies.{stepOf}
 use Rattle.residual.proofs.Signs.{fits-24, below-24}
 use Rattle.residual.proofs.Stretches.{at-24, word-24}
 use Rattle.residual.proofs.Counting.{room-for-one, one-turn, all-turns}
-use Rattle.residual.proofs.tally.stepped.Statement.{statement}
-use Rattle.residual.proofs.tally.stepped.Tie as tie
+use Rattle.residual.proofs.steps.stepped.Statement.{statement}
+use Rattle.residual.proofs.steps.stepped.Tie as tie
 
 abbrev Inv-loop : tie.InvT-loop
 Inv-loop a b now₀ i₀ now i = (i ≤ length a) × (now ≡ foldl stepOf now₀ (take i (differences a b)))
