@@ -1,0 +1,19 @@
+-- W13. A `placed` that is neither 0 nor 1 is refused by 3, whatever the other numbers are. Assumes nothing.
+use mathlib.Core.Path.{_≡_, refl, sym, _∙_}
+use mathlib.Core.Bool.{Bool, true, false, _&&_}
+use Prim.Native.Nat.{ℕ, _-_, _^_, _≤_, _<_}
+use native.Mathlib.Omega.{arith}
+use borrow.Author.Tests.{ne-eqb, ltb-true}
+use Rattle.residual.specs.Refusals.{reportOk}
+use Rattle.residual.proofs.Valid.{Valid, valid}
+use Rattle.fugnadri_residual.specs.Words.{reportFrom}
+
+pub odd-refused : (n l p k h w : ℕ) → 1 < p → reportOk (reportFrom n l p k h w) ≡ false
+odd-refused n l p k h w o = go (reportOk (reportFrom n l p k h w)) refl
+  where
+    go : (t : Bool) → reportOk (reportFrom n l p k h w) ≡ t → t ≡ false
+    go false e = refl
+    go true e =
+        let v = valid (reportFrom n l p k h w) e in
+        let q = rw (ne-eqb p 0 (λ z. omega arith), ne-eqb p 1 (λ z. omega arith)) at (v .placed) in
+        absurd (omega (arith, v .few, ltb-true (2 ^ 64 - 1) n q))

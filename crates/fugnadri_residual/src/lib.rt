@@ -1,0 +1,80 @@
+// W13. The static library's export of the residual: numbers pass through pointers, a slice as a pointer and a length. No enum, no struct. It is total, and its contract is that of
+// `residual::compare`.
+ghost use mathlib.Core.Path.{_≡_};
+ghost use Rattle.fugnadri_residual.specs.Words.{placeFrom, comparedFrom, refusalOf, numberLeft, largestLeft, placedOf, placedLeft, indexOr, placeLeft, highLeft, lowLeft};
+use residual::Compared;
+use residual::Place;
+use residual::Report;
+
+fn place_from(placed: u8, index: u64) -> Place
+    ensures { λ r. ⌜ r ≡ placeFrom placed index ⌝ }
+{
+    if placed == 0 {
+        return Place::Nowhere;
+    }
+    if placed == 1 {
+        return Place::At(index);
+    }
+    Place::At(0xFFFF_FFFF_FFFF_FFFF)
+}
+
+fn placed_of(p: Place) -> u8
+    ensures { λ r. ⌜ r ≡ placedOf p ⌝ }
+{
+    match p {
+        Place::Nowhere => 0,
+        Place::At(_) => 1,
+    }
+}
+
+fn index_or(p: Place, index: u64) -> u64
+    ensures { λ r. ⌜ r ≡ indexOr p index ⌝ }
+{
+    match p {
+        Place::Nowhere => index,
+        Place::At(k) => k,
+    }
+}
+
+// The report's six numbers go in and, where the call is not refused, come out carried on. The refusal's number is returned, 0 for none.
+#[no_mangle]
+pub extern "C" fn fugnadri_residual_compare(
+    number: &mut u64,
+    largest: &mut u32,
+    placed: &mut u8,
+    place: &mut u64,
+    high: &mut u64,
+    low: &mut u64,
+    a: &[i32],
+    b: &[i32],
+) -> u8
+    ensures { λ r. ⌜ r ≡ refusalOf (comparedFrom (now (number .entry)) (now (largest .entry)) (now (placed .entry)) (now (place .entry)) (now (high .entry)) (now (low .entry)) (now (a .entry)) (now (b .entry))) ⌝ }
+    ensures { λ r. ⌜ now (number .exit) ≡ numberLeft (comparedFrom (now (number .entry)) (now (largest .entry)) (now (placed .entry)) (now (place .entry)) (now (high .entry)) (now (low .entry)) (now (a .entry)) (now (b .entry))) (now (number .entry)) ⌝ }
+    ensures { λ r. ⌜ now (largest .exit) ≡ largestLeft (comparedFrom (now (number .entry)) (now (largest .entry)) (now (placed .entry)) (now (place .entry)) (now (high .entry)) (now (low .entry)) (now (a .entry)) (now (b .entry))) (now (largest .entry)) ⌝ }
+    ensures { λ r. ⌜ now (placed .exit) ≡ placedLeft (comparedFrom (now (number .entry)) (now (largest .entry)) (now (placed .entry)) (now (place .entry)) (now (high .entry)) (now (low .entry)) (now (a .entry)) (now (b .entry))) (now (placed .entry)) ⌝ }
+    ensures { λ r. ⌜ now (place .exit) ≡ placeLeft (comparedFrom (now (number .entry)) (now (largest .entry)) (now (placed .entry)) (now (place .entry)) (now (high .entry)) (now (low .entry)) (now (a .entry)) (now (b .entry))) (now (place .entry)) ⌝ }
+    ensures { λ r. ⌜ now (high .exit) ≡ highLeft (comparedFrom (now (number .entry)) (now (largest .entry)) (now (placed .entry)) (now (place .entry)) (now (high .entry)) (now (low .entry)) (now (a .entry)) (now (b .entry))) (now (high .entry)) ⌝ }
+    ensures { λ r. ⌜ now (low .exit) ≡ lowLeft (comparedFrom (now (number .entry)) (now (largest .entry)) (now (placed .entry)) (now (place .entry)) (now (high .entry)) (now (low .entry)) (now (a .entry)) (now (b .entry))) (now (low .entry)) ⌝ }
+{
+    let report = Report {
+        number: *number,
+        largest: *largest,
+        place: place_from(*placed, *place),
+        high: *high,
+        low: *low,
+    };
+    let c = residual::compare(report, a, b);
+    match c {
+        Compared::Refused(no) => no,
+        Compared::Carried(r) => {
+            let p = r.place;
+            *number = r.number;
+            *largest = r.largest;
+            *placed = placed_of(p);
+            *place = index_or(p, *place);
+            *high = r.high;
+            *low = r.low;
+            0
+        }
+    }
+}

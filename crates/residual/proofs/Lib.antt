@@ -1,0 +1,11 @@
+pub mod Signs
+pub mod Halves
+pub mod Stretches
+pub mod Counting
+pub mod Valid
+pub mod Agreeing
+pub mod Cutting
+pub mod Staying
+pub mod Greatest
+pub mod Meaning
+pub mod Calls

@@ -1,0 +1,90 @@
+-- Stretches of 24-bit values and their differences, element by element: what a loop over an index asks. Assumes nothing.
+use mathlib.Core.Path.{_≡_, refl, sym, ap, _∙_}
+use mathlib.Core.Bool.{Bool, true, false, _&&_}
+use mathlib.Core.List.{List, [], _∷_, _++_}
+use Prim.Native.Nat.{ℕ, zero, suc, _+_, _^_, _≤_, _<_}
+use native.Mathlib.Nat.{le-of-suc-le-suc}
+use native.Mathlib.Numerals.{add-one}
+use native.Mathlib.Omega.{arith}
+use lib.IntN.{ℤ, pos}
+use lib.ListN.{length, getD, take}
+use lib.Seq.{take-suc, take-all}
+use mir.Syntax.{w32}
+use mir.Val.{toZ, ofZ}
+use mir.ValLaws.{toZ-ofZ}
+use Rattle.residual.specs.Report.{difference, differences}
+use Rattle.residual.specs.Refusals.{in24, all24}
+use Rattle.residual.proofs.Signs.{below-24, fits-24}
+
+-- ---- both of two tests
+pub left-true : (a b : Bool) → (a && b) ≡ true → a ≡ true
+left-true true b h = refl
+left-true false b h = h
+
+pub right-true : (a b : Bool) → (a && b) ≡ true → b ≡ true
+right-true true b h = h
+right-true false true h = refl
+right-true false false h = h
+
+-- ---- every value of a stretch
+all-more : (xs : List ℤ) (x : ℤ) → all24 (xs ++ (x ∷ [])) ≡ (all24 xs && in24 x)
+unfolding all24
+all-more [] x = and-true (in24 x)
+  where
+    and-true : (b : Bool) → (b && true) ≡ b
+    and-true true = refl
+    and-true false = refl
+all-more (y ∷ xs) x = ap (λ (b : Bool). in24 y && b) (all-more xs x) ∙ assoc (in24 y) (all24 xs) (in24 x)
+  where
+    assoc : (a b t : Bool) → (a && (b && t)) ≡ ((a && b) && t)
+    assoc true b t = refl
+    assoc false b t = refl
+
+pub none-24 : (xs : List ℤ) → true ≡ all24 (take 0 xs)
+unfolding all24
+none-24 xs = refl
+
+pub one-24 : (xs : List ℤ) (i : ℕ) {ok more : Bool} → i < length xs → ok ≡ all24 (take i xs) → more ≡ (ok && in24 (getD xs i (pos 0))) → more ≡ all24 (take (i + 1) xs)
+one-24 xs i h p q = q ∙ rw (p, add-one i, take-suc xs i (pos 0) h, all-more (take i xs) (getD xs i (pos 0)))
+
+pub at-24 : (xs : List ℤ) (i : ℕ) → i < length xs → all24 xs ≡ true → in24 (getD xs i (pos 0)) ≡ true
+unfolding all24
+at-24 [] i h t = absurd (omega arith)
+at-24 (x ∷ xs) zero h t = left-true (in24 x) (all24 xs) t
+at-24 (x ∷ xs) (suc i) h t = at-24 xs i (le-of-suc-le-suc h) (right-true (in24 x) (all24 xs) t)
+
+-- a value that the code holds as the word w
+pub word-24 : (x : ℤ) → in24 x ≡ true → in24 (toZ w32 (ofZ w32 x)) ≡ true
+word-24 x h = ap in24 (toZ-ofZ w32 x (fits-24 x h)) ∙ h
+
+-- ---- the differences
+pub length-differences : (xs ys : List ℤ) → length xs ≡ length ys → length (differences xs ys) ≡ length xs
+unfolding differences
+length-differences [] ys e = refl
+length-differences (x ∷ xs) [] e = absurd (omega arith)
+length-differences (x ∷ xs) (y ∷ ys) e = ap suc (length-differences xs ys (omega arith))
+
+pub at-difference : (xs ys : List ℤ) (i : ℕ) → length xs ≡ length ys → i < length xs → getD (differences xs ys) i 0 ≡ difference (getD xs i (pos 0)) (getD ys i (pos 0))
+unfolding differences
+at-difference [] ys i e h = absurd (omega arith)
+at-difference (x ∷ xs) [] i e h = absurd (omega arith)
+at-difference (x ∷ xs) (y ∷ ys) zero e h = refl
+at-difference (x ∷ xs) (y ∷ ys) (suc i) e h = at-difference xs ys i (omega arith) (le-of-suc-le-suc h)
+
+-- each below 2^24
+pub data Small : List ℕ → Type 0 where
+  none : Small []
+  more : {d : ℕ} {ds : List ℕ} → d < 2 ^ 24 → Small ds → Small (d ∷ ds)
+
+pub small-differences : (xs ys : List ℤ) → all24 xs ≡ true → all24 ys ≡ true → Small (differences xs ys)
+unfolding differences all24
+small-differences [] ys p q = none
+small-differences (x ∷ xs) [] p q = none
+small-differences (x ∷ xs) (y ∷ ys) p q =
+    more (below-24 x y (left-true (in24 x) (all24 xs) p) (left-true (in24 y) (all24 ys) q)) (small-differences xs ys (right-true (in24 x) (all24 xs) p) (right-true (in24 y) (all24 ys) q))
+
+pub small-take : (ds : List ℕ) (i : ℕ) → Small ds → Small (take i ds)
+small-take [] zero s = none
+small-take [] (suc i) s = none
+small-take (d ∷ ds) zero s = none
+small-take (d ∷ ds) (suc i) (more h s) = more h (small-take ds i s)

@@ -1,0 +1,17 @@
+-- `residual::checks::at_least` meets its contract: a high half above 0 alone exceeds every word. Assumes nothing.
+use mathlib.Core.Path.{_≡_, sym}
+use Prim.Native.Nat.{_+_, _*_}
+use native.Mathlib.Omega.{arith}
+use borrow.Author.Tests.{le-leb}
+use Rattle.residual.proofs.Halves.{low-alone}
+use Rattle.residual.proofs.checks.at_least.Statement.{statement}
+use Rattle.residual.proofs.checks.at_least.Tie as tie
+
+returns : tie.Need-returns
+returns c = let a = c .before .args in sym (le-leb (a .square) (a .high * 18446744073709551616 + a .low) (omega arith))
+
+returns-2 : tie.Need-returns-2
+returns-2 c = low-alone (c .before .args .high) (c .before .args .low) (c .before .args .square) (c .if1 .left)
+
+pub at-least-spec : {M : Type 1} → statement M
+at-least-spec = tie.close (tie.spec returns returns-2)

@@ -1,0 +1,66 @@
+-- W13. The report of two equal-length stretches of whole samples: item by item, over many calls, and all at once. Definitions only.
+use Prim.Native.Nat.{ℕ, zero, suc, _+_, _*_, _^_, _/_, _%_, max}
+use mathlib.Core.Bool.{Bool, cond, _||_}
+use mathlib.Core.List.{List, [], _∷_, foldl}
+use lib.Dec.{ltb, eqb}
+use lib.IntN.{ℤ, natAbs, _-ℤ_}
+use lib.ListN.{length}
+use Rattle.residual.specs.declared.Report.{Report}
+use Rattle.residual.specs.declared.Place.{Place}
+use Rattle.residual.specs.declared.Place.the-variants.{Nowhere, At}
+
+-- The absolute difference of two samples, and of two stretches item by item.
+abbrev pub difference : ℤ → ℤ → ℕ
+difference x y = natAbs (x -ℤ y)
+
+unfoldable pub differences : List ℤ → List ℤ → List ℕ
+differences [] ys = []
+differences (x ∷ xs) [] = []
+differences (x ∷ xs) (y ∷ ys) = difference x y ∷ differences xs ys
+
+-- An empty report has number zero and no place.
+abbrev pub emptyReport : Report
+emptyReport = record { number = 0; largest = 0; place = Nowhere; high = 0; low = 0 }
+
+-- The sum exceeds 64 bits and is handed out as two halves.
+abbrev pub sumOf : Report → ℕ
+sumOf r = r .high * 2 ^ 64 + r .low
+
+-- The first difference of all, or one above the largest so far.
+abbrev pub newer : Report → ℕ → Bool
+newer r d = eqb (r .number) 0 || ltb (r .largest) d
+
+-- One difference more. A place counts from the first sample compared, over all calls.
+unfoldable pub one : Report → ℕ → Report
+one r d = record {
+  number = r .number + 1;
+  largest = cond (newer r d) d (r .largest);
+  place = cond (newer r d) (At (r .number)) (r .place);
+  high = (sumOf r + d * d) / 2 ^ 64;
+  low = (sumOf r + d * d) % 2 ^ 64;
+}
+
+-- A report carried on over two stretches.
+unfoldable pub carried : Report → List ℤ → List ℤ → Report
+carried r xs ys = foldl one r (differences xs ys)
+
+-- ---- what a report says, with nothing run: of all differences the number, the greatest, the index at which it stands first, and the sum of the squares
+unfoldable pub greatest : List ℕ → ℕ
+greatest [] = 0
+greatest (d ∷ ds) = max d (greatest ds)
+
+unfoldable pub firstAt : ℕ → List ℕ → ℕ
+firstAt g [] = 0
+firstAt g (d ∷ ds) = cond (eqb d g) 0 (suc (firstAt g ds))
+
+unfoldable pub squares : List ℕ → ℕ
+squares [] = 0
+squares (d ∷ ds) = d * d + squares ds
+
+-- no place where nothing was compared
+unfoldable pub placeOf : List ℕ → Place
+placeOf [] = Nowhere
+placeOf (d ∷ ds) = At (firstAt (greatest (d ∷ ds)) (d ∷ ds))
+
+unfoldable pub reportOf : List ℕ → Report
+reportOf ds = record { number = length ds; largest = greatest ds; place = placeOf ds; high = squares ds / 2 ^ 64; low = squares ds % 2 ^ 64 }

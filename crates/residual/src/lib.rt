@@ -1,0 +1,54 @@
+// W13. The residual of two stretches in whole numbers, over many calls, all exact: how many samples were compared, the largest absolute difference, where it stands first, and the sum of the
+// squared differences.
+mod checks; // which refusal is due
+mod steps; // the counting
+mod tally; // a report on plain numbers
+
+ghost use mathlib.Core.Path.{_≡_};
+ghost use Rattle.residual.specs.Report.{emptyReport};
+ghost use Rattle.residual.specs.Refusals.{comparedOf};
+use checks::due;
+use steps::counted;
+
+// Where the largest difference stands first, counted from the first sample compared, over all calls; an empty report has no such place.
+pub enum Place {
+    Nowhere,
+    At(u64),
+}
+
+// The sum is high * 2^64 + low.
+pub struct Report {
+    pub number: u64,
+    pub largest: u32,
+    pub place: Place,
+    pub high: u64,
+    pub low: u64,
+}
+
+pub enum Compared {
+    Carried(Report),
+    Refused(u8),
+}
+
+pub fn empty() -> Report
+    ensures { λ r. ⌜ r ≡ emptyReport ⌝ }
+{
+    Report {
+        number: 0,
+        largest: 0,
+        place: Place::Nowhere,
+        high: 0,
+        low: 0,
+    }
+}
+
+// Refuses by 1, 2, 3 or 8, or carries the report on over two stretches.
+pub fn compare(report: Report, a: &[i32], b: &[i32]) -> Compared
+    ensures { λ r. ⌜ r ≡ comparedOf report (now (a .entry)) (now (b .entry)) ⌝ }
+{
+    let no = due(report, a, b);
+    if no != 0 {
+        return Compared::Refused(no);
+    }
+    Compared::Carried(counted(report, a, b))
+}

@@ -1,0 +1,80 @@
+// W13. The counting: a difference, what it adds, and a stretch of them.
+ghost use mathlib.Core.Path.{_≡_};
+ghost use mathlib.Core.Bool.{cond, true};
+ghost use mathlib.Core.List.{foldl};
+ghost use Prim.Native.Nat.{_<_, _^_};
+ghost use lib.Dec.{ltb};
+ghost use Rattle.residual.specs.Report.{difference, differences, carried};
+ghost use Rattle.residual.specs.Refusals.{in24, verdict};
+ghost use Rattle.residual.specs.Tallies.{stepOf, Room, Ready};
+use crate::Report;
+use crate::tally::Tally;
+use crate::tally::taken;
+use crate::tally::told;
+
+fn distance(x: i32, y: i32) -> u32
+    requires { ⌜ (in24 x ≡ true) × (in24 y ≡ true) ⌝ }
+    ensures { λ r. ⌜ r ≡ difference x y ⌝ }
+{
+    let d = x - y;
+    if d < 0 { (0 - d) as u32 } else { d as u32 }
+}
+
+fn chosen(test: bool, a: u64, b: u64) -> u64
+    ensures { λ r. ⌜ r ≡ cond test a b ⌝ }
+{
+    if test { a } else { b }
+}
+
+fn chosen_u32(test: bool, a: u32, b: u32) -> u32
+    ensures { λ r. ⌜ r ≡ cond test a b ⌝ }
+{
+    if test { a } else { b }
+}
+
+// What is carried into the high half: the low half has wrapped where it comes out below what was added.
+fn carry(low: u64, added: u64) -> u64
+    ensures { λ r. ⌜ r ≡ cond (ltb low added) 1 0 ⌝ }
+{
+    if low < added { 1 } else { 0 }
+}
+
+// One difference more.
+fn step(t: Tally, d: u32) -> Tally
+    requires { ⌜ Room t 1 × (d < 2 ^ 24) ⌝ }
+    ensures { λ r. ⌜ r ≡ stepOf t d ⌝ }
+{
+    let square = d as u64 * d as u64;
+    let low = std::num::wrapping_add_u64(t.low, square);
+    let high = t.high + carry(low, square);
+    let number = t.number + 1;
+    let above = t.largest < d;
+    Tally {
+        number: number,
+        largest: chosen_u32(above, d, t.largest),
+        index: chosen(above, t.number, t.index),
+        high: high,
+        low: low,
+    }
+}
+
+fn stepped(t: Tally, a: &[i32], b: &[i32]) -> Tally
+    requires { ⌜ Ready t (now a) (now b) ⌝ }
+    ensures { λ r. ⌜ r ≡ foldl stepOf t (differences (now (a .entry)) (now (b .entry))) ⌝ }
+{
+    let mut now = t;
+    let mut i: usize = 0;
+    while i < a.len() {
+        now = step(now, distance(a[i], b[i]));
+        i += 1;
+    }
+    now
+}
+
+// What a call that is not refused adds.
+pub(crate) fn counted(report: Report, a: &[i32], b: &[i32]) -> Report
+    requires { ⌜ verdict report (now a) (now b) ≡ 0 ⌝ }
+    ensures { λ r. ⌜ r ≡ carried report (now (a .entry)) (now (b .entry)) ⌝ }
+{
+    told(stepped(taken(report), a, b))
+}
