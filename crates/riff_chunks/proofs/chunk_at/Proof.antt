@@ -1,0 +1,10 @@
+-- `riff_chunks::chunk_at` meets its contract: what the calls ensure, put together. Assumes nothing.
+use borrow.Author.Needs.{needs}
+use Rattle.riff_chunks.proofs.chunk_at.Statement.{statement}
+use Rattle.riff_chunks.proofs.chunk_at.Tie as tie
+
+returns : tie.Need-returns
+returns c = rw (c .before .low-first-u32 .ensures, c .low-first-u322 .ensures)
+
+pub chunk-at-spec : {M : Type 1} → statement M
+chunk-at-spec = tie.close (tie.spec (λ c κs. search needs) (λ c. search needs) (λ c κs. search needs) (λ c. search needs) (λ c. search needs) returns)

@@ -1,0 +1,10 @@
+-- `riff_chunks::noted` meets its contract: what the calls ensure, put together. Assumes nothing.
+use borrow.Author.Needs.{needs}
+use Rattle.riff_chunks.proofs.noted.Statement.{statement}
+use Rattle.riff_chunks.proofs.noted.Tie as tie
+
+returns : tie.Need-returns
+returns c = rw (c .before .before .first-of .ensures, c .before .first-of2 .ensures, c .either .ensures)
+
+pub noted-spec : {M : Type 1} → statement M
+noted-spec = tie.close (tie.spec (λ c κs. search needs) (λ c κs. search needs) (λ c κs. search needs) returns)

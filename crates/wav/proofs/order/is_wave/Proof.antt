@@ -1,0 +1,12 @@
+-- `wav::order::is_wave` meets its contract: what the calls ensure, put together. Assumes nothing.
+use borrow.Author.Needs.{needs}
+use Rattle.wav.specs.Wave.{isWave}
+use Rattle.wav.proofs.order.is_wave.Statement.{statement}
+use Rattle.wav.proofs.order.is_wave.Tie as tie
+
+returns : tie.Need-returns
+unfolding isWave
+returns c = cc
+
+pub is-wave-spec : {M : Type 1} → statement M
+is-wave-spec = tie.close (tie.spec (λ c κs. search needs) (λ c κs. search needs) (λ c κs. search needs) (λ c κs. search needs) (λ c κs. search needs) (λ c κs. search needs) returns)

@@ -1,0 +1,10 @@
+-- `wav::order::within` meets its contract: what the calls ensure, put together. Assumes nothing.
+use borrow.Author.Needs.{needs}
+use Rattle.wav.proofs.order.within.Statement.{statement}
+use Rattle.wav.proofs.order.within.Tie as tie
+
+returns : tie.Need-returns
+returns c = cc
+
+pub within-spec : {M : Type 1} → statement M
+within-spec = tie.close (tie.spec (λ c κs. search needs) (λ c. search needs) (λ c. search needs) (λ c κs. search needs) returns)

@@ -1,0 +1,66 @@
+-- W1. A RIFF WAVE file: which refusal is due, and where no one is, the part that holds samples and what they are. Definitions only.
+use Prim.Native.Nat.{ℕ, zero, suc, _+_}
+use mathlib.Core.Bool.{Bool, cond, not, _&&_}
+use mathlib.Core.List.{List}
+use lib.Dec.{eqb, leb}
+use lib.ListN.{length, take, drop}
+use Rattle.riff_chunks.specs.declared.Walked.{Walked}
+use Rattle.riff_chunks.specs.Walk.{walkOf}
+use Rattle.wav.specs.declared.Found.{Found}
+use Rattle.wav.specs.declared.Found.the-variants as found
+use Rattle.wav.specs.declared.Wave.{Wave}
+use Rattle.wav.specs.Format.{number, tag, channels, rate, bits, kindOf, formatOk}
+
+-- `RIFF` and `WAVE`
+abbrev pub riffId : ℕ
+riffId = 0x4646_4952
+
+abbrev pub waveId : ℕ
+waveId = 0x4556_4157
+
+-- The RIFF size counts from place 8 on, and bounds the walk.
+abbrev pub riffSize : List ℕ → ℕ
+riffSize b = number 4 b 4
+
+abbrev pub walkIn : List ℕ → Walked
+walkIn b = walkOf b (8 + riffSize b)
+
+-- A part of a file: as much of it as the file has.
+abbrev pub partOf : List ℕ → ℕ → ℕ → List ℕ
+partOf b start size = take size (drop start b)
+
+-- The body of the first `fmt `.
+abbrev pub fmtOf : List ℕ → List ℕ
+fmtOf b = partOf b (walkIn b .fmt .body) (walkIn b .fmt .size)
+
+-- 9. RIFF WAVE, with a RIFF size of at least 4.
+unfoldable pub isWave : List ℕ → Bool
+isWave b = leb 12 (length b) && (eqb (number 4 b 0) riffId && (eqb (number 4 b 8) waveId && leb 4 (riffSize b)))
+
+-- 10. Neither the RIFF nor a walked chunk runs past its end: the file's, the RIFF's.
+abbrev pub within : List ℕ → Bool
+within b = leb (8 + riffSize b) (length b) && not (walkIn b .overruns)
+
+-- 9 to 13, in that order. 11: no `fmt ` up to the first `data`; 12: no `data`.
+abbrev pub firstOf : Bool → Bool → Bool → Bool → Bool → ℕ
+firstOf t9 t10 t11 t12 t13 = cond t9 (cond t10 (cond t11 (cond t12 (cond t13 0 13) 12) 11) 10) 9
+
+abbrev pub verdict : List ℕ → ℕ
+verdict b = firstOf (isWave b) (within b) (walkIn b .fmt .found) (walkIn b .samples .found) (formatOk (fmtOf b) (walkIn b .fmt .size) (walkIn b .samples .size))
+
+abbrev pub waveIn : List ℕ → Wave
+waveIn b =
+    record {
+      kind = kindOf (tag (fmtOf b)) (bits (fmtOf b));
+      channels = channels (fmtOf b);
+      rate = rate (fmtOf b);
+      start = walkIn b .samples .body;
+      length = walkIn b .samples .size;
+    }
+
+abbrev pub foundBy : ℕ → Wave → Found
+foundBy zero w = found.Wave w
+foundBy (suc k) w = found.Refused (suc k)
+
+abbrev pub foundIn : List ℕ → Found
+foundIn b = foundBy (verdict b) (waveIn b)

@@ -1,0 +1,52 @@
+// W1. The first tests of a file, and the order of the refusals 9 to 13.
+ghost use mathlib.Core.Path.{_≡_};
+ghost use mathlib.Core.Bool.{not, _&&_};
+ghost use Prim.Native.Nat.{_+_};
+ghost use lib.Dec.{leb};
+ghost use lib.ListN.{length};
+ghost use Rattle.wav.specs.Wave.{firstOf, isWave, riffSize};
+use crate::format::both;
+use word_bytes::low_first_u32;
+
+// 9. `RIFF`, `WAVE` and a RIFF size that holds the latter.
+pub fn is_wave(file: &[u8]) -> bool
+    ensures { λ r. ⌜ r ≡ isWave (now (file .entry)) ⌝ }
+{
+    both(
+        file.len() >= 12,
+        both(
+            low_first_u32(file, 0) == 0x4646_4952,
+            both(
+                low_first_u32(file, 8) == 0x4556_4157,
+                low_first_u32(file, 4) >= 4,
+            ),
+        ),
+    )
+}
+
+// 10. The RIFF counts as a chunk.
+pub fn within(file: &[u8], overruns: bool) -> bool
+    ensures { λ r. ⌜ r ≡ leb (8 + riffSize (now (file .entry))) (length (now (file .entry))) && not overruns ⌝ }
+{
+    let end = 8 + low_first_u32(file, 4) as usize;
+    both(end <= file.len(), !overruns)
+}
+
+// The lowest number whose test fails; 0 where all pass.
+pub fn first(t9: bool, t10: bool, t11: bool, t12: bool, t13: bool) -> u8
+    ensures { λ r. ⌜ r ≡ firstOf t9 t10 t11 t12 t13 ⌝ }
+{
+    if t9 {
+        if t10 {
+            if t11 {
+                if t12 { if t13 { 0 } else { 13 } } else { 12 }
+            } else {
+                11
+            }
+        } else {
+            10
+        }
+    } else {
+        9
+    }
+}
