@@ -15,7 +15,8 @@ use Rattle.loops.specs.Loops.{fold}
 use Rattle.loops.proofs.Folds.{none, turn}
 use Rattle.magnitude.proofs.Whole.{whole-value, whole-difference}
 use Rattle.lagrange.specs.Kernel.{num, one-f, factor}
-use Rattle.lagrange.specs.Eights.{Nodes, Weights, eight, aboveOf, belowOf, gapIn, laneOf, turned, passed}
+use Rattle.lagrange_factors.specs.Lanes.{eight, aboveOf, belowOf, gapIn, laneOf, turned, passed}
+use Rattle.lagrange.specs.Eights.{Nodes, Weights}
 
 -- ---- a lane of eight
 pub lane : (f : ℕ → Float) (k : ℕ) → k < 8 → getD (eight f) k nan ≡ f k

@@ -1,15 +1,8 @@
 // The weights of eight nodes at once, the factors in 000's order.
 ghost use mathlib.Core.Path.{_≡_};
 ghost use Prim.Native.Nat.{_+_, _*_, _≤_, _<_, min};
-ghost use lib.Ieee.{binary64, sub};
 ghost use Rattle.lagrange.specs.Kernel.{num};
-ghost use Rattle.lagrange.specs.Eights.{Nodes, Weights, passed};
-use crate::pairs::above;
-use crate::pairs::below;
-use crate::pairs::first_pair;
-use crate::pairs::fourth_pair;
-use crate::pairs::second_pair;
-use crate::pairs::third_pair;
+ghost use Rattle.lagrange.specs.Eights.{Nodes, Weights};
 
 fn number(n: u64) -> f64
     requires { ⌜ n ≤ 24 ⌝ }
@@ -40,39 +33,21 @@ fn among(w: [f64; 8], own: [f64; 8], first: u64, local: f64, pairs: u64) -> [f64
     requires { ⌜ (first ≤ 16) × (1 ≤ pairs) × Nodes first own × Weights local first first w ⌝ }
     ensures { λ r. ⌜ Weights local first (first + 2 * min pairs 4) r ⌝ }
 {
-    let up = above(own);
-    let down = below(own);
-    let w2 = first_pair(w, up, down, local - own[0], local - own[1]);
+    let up = lagrange_factors::above(own);
+    let down = lagrange_factors::below(own);
+    let w2 = lagrange_factors::first_pair(w, up, down, local - own[0], local - own[1]);
     if pairs <= 1 {
         return w2;
     }
-    let w4 = second_pair(w2, up, down, local - own[2], local - own[3]);
+    let w4 = lagrange_factors::second_pair(w2, up, down, local - own[2], local - own[3]);
     if pairs <= 2 {
         return w4;
     }
-    let w6 = third_pair(w4, up, down, local - own[4], local - own[5]);
+    let w6 = lagrange_factors::third_pair(w4, up, down, local - own[4], local - own[5]);
     if pairs <= 3 {
         return w6;
     }
-    fourth_pair(w6, up, down, local - own[6], local - own[7])
-}
-
-// The factors of two other nodes.
-fn pass(w: [f64; 8], own: [f64; 8], local: f64, other: f64, next: f64) -> [f64; 8]
-    ensures { λ r. ⌜ r ≡ passed own other next (sub binary64 local other) (sub binary64 local next) w ⌝ }
-{
-    let a = local - other;
-    let b = local - next;
-    [
-        w[0] * (a / (own[0] - other)) * (b / (own[0] - next)),
-        w[1] * (a / (own[1] - other)) * (b / (own[1] - next)),
-        w[2] * (a / (own[2] - other)) * (b / (own[2] - next)),
-        w[3] * (a / (own[3] - other)) * (b / (own[3] - next)),
-        w[4] * (a / (own[4] - other)) * (b / (own[4] - next)),
-        w[5] * (a / (own[5] - other)) * (b / (own[5] - next)),
-        w[6] * (a / (own[6] - other)) * (b / (own[6] - next)),
-        w[7] * (a / (own[7] - other)) * (b / (own[7] - next)),
-    ]
+    lagrange_factors::fourth_pair(w6, up, down, local - own[6], local - own[7])
 }
 
 // The factors of the pairs of nodes before pair f, where the eight begin.
@@ -83,7 +58,7 @@ fn nodes_before(own: [f64; 8], f: u64, local: f64) -> [f64; 8]
     let mut w = [1.0; 8];
     let mut h: u64 = 0;
     while h < f {
-        let v = pass(w, own, local, number(2 * h), number(2 * h + 1));
+        let v = lagrange_factors::pass(w, own, local, number(2 * h), number(2 * h + 1));
         w = v;
         h += 1;
     }
@@ -98,7 +73,7 @@ fn nodes_behind(w: [f64; 8], own: [f64; 8], f: u64, local: f64, pairs: u64) -> [
     let mut w = w;
     let mut h: u64 = f + 4;
     while h < pairs {
-        let v = pass(w, own, local, number(2 * h), number(2 * h + 1));
+        let v = lagrange_factors::pass(w, own, local, number(2 * h), number(2 * h + 1));
         w = v;
         h += 1;
     }
@@ -106,7 +81,7 @@ fn nodes_behind(w: [f64; 8], own: [f64; 8], f: u64, local: f64, pairs: u64) -> [
 }
 
 // The weights of the eight nodes from pair f on, among 2 * pairs of them.
-pub fn weights(f: u64, local: f64, pairs: u64) -> [f64; 8]
+pub(crate) fn weights(f: u64, local: f64, pairs: u64) -> [f64; 8]
     requires { ⌜ (f < pairs) × (pairs ≤ 8) ⌝ }
     ensures { λ r. ⌜ Weights local (2 * f) (2 * pairs) r ⌝ }
 {

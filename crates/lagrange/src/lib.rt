@@ -1,6 +1,5 @@
 // 000's Lagrange<TAPS>, over a slice, a count, a position and the taps as a number.
 mod lanes; // the weights, eight at a time
-mod pairs; // their factors at two nodes
 mod sums; // the sum over the taps
 
 ghost use mathlib.Core.Path.{_≡_};

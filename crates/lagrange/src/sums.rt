@@ -104,7 +104,7 @@ fn block(
 }
 
 // The outer loop.
-pub fn sum(source: &[f64], count: u64, base: i64, local: f64, pairs: u64) -> f64
+pub(crate) fn sum(source: &[f64], count: u64, base: i64, local: f64, pairs: u64) -> f64
     requires { ⌜ (mag base ≤ 2 ^ 37) × (1 ≤ pairs) × (pairs ≤ 8) ⌝ }
     ensures { λ r. ⌜ r ≡ fold (turnOf (now (source .entry)) count base local (2 * pairs)) zero-f (2 * pairs) ⌝ }
 {

@@ -1,9 +1,10 @@
-// Two turns of 000's inner loop for the weights of eight nodes, at two of these nodes. The differences of two nodes are worked out, not written as constants: the compiler would make
+// Two turns of 000's inner loop for the weights of eight nodes at once. The differences of two nodes are worked out, not written as constants: the compiler would make
 // a division by a power of two a product, and no longer take two lanes at a time.
 ghost use mathlib.Core.Path.{_≡_};
-ghost use Rattle.lagrange.specs.Eights.{aboveOf, belowOf, turned};
+ghost use lib.Ieee.{binary64, sub};
+ghost use Rattle.lagrange_factors.specs.Lanes.{aboveOf, belowOf, turned, passed};
 
-// How far the nodes lie above the first, and the first above them.
+// K7. How far the nodes lie above the first, and the first above them.
 pub fn above(own: [f64; 8]) -> [f64; 8]
     ensures { λ r. ⌜ r ≡ aboveOf own ⌝ }
 {
@@ -34,6 +35,7 @@ pub fn below(own: [f64; 8]) -> [f64; 8]
     ]
 }
 
+// At the first two of the eight nodes, and so on; a and b are the position less each. A weight's own node is skipped.
 pub fn first_pair(w: [f64; 8], up: [f64; 8], down: [f64; 8], a: f64, b: f64) -> [f64; 8]
     ensures { λ r. ⌜ r ≡ turned up down a b 0 w ⌝ }
 {
@@ -91,5 +93,23 @@ pub fn fourth_pair(w: [f64; 8], up: [f64; 8], down: [f64; 8], a: f64, b: f64) ->
         w[5] * (a / down[1]) * (b / down[2]),
         w[6] * (b / down[1]),
         w[7] * (a / up[1]),
+    ]
+}
+
+// The factors of two other nodes.
+pub fn pass(w: [f64; 8], own: [f64; 8], local: f64, other: f64, next: f64) -> [f64; 8]
+    ensures { λ r. ⌜ r ≡ passed own other next (sub binary64 local other) (sub binary64 local next) w ⌝ }
+{
+    let a = local - other;
+    let b = local - next;
+    [
+        w[0] * (a / (own[0] - other)) * (b / (own[0] - next)),
+        w[1] * (a / (own[1] - other)) * (b / (own[1] - next)),
+        w[2] * (a / (own[2] - other)) * (b / (own[2] - next)),
+        w[3] * (a / (own[3] - other)) * (b / (own[3] - next)),
+        w[4] * (a / (own[4] - other)) * (b / (own[4] - next)),
+        w[5] * (a / (own[5] - other)) * (b / (own[5] - next)),
+        w[6] * (a / (own[6] - other)) * (b / (own[6] - next)),
+        w[7] * (a / (own[7] - other)) * (b / (own[7] - next)),
     ]
 }
