@@ -3,7 +3,7 @@ ghost use mathlib.Core.Path.{_≡_};
 ghost use mathlib.Core.Bool.{true};
 ghost use Prim.Native.Nat.{ℕ, _+_, _*_, _/_, _%_, _^_, _≤_, _<_};
 ghost use Rattle.fused64.specs.Word.{Heads, Headed, Tells, Cutoff, Placed, Joined, Beside, Quick};
-use crate::wide::columns;
+use crate::products::columns;
 
 // Sign and field, the field less 768: of all that are in reach, below 512.
 fn head(bits: u64) -> u64

@@ -5,16 +5,16 @@ use lib.Dec.{T}
 use lib.Ieee.{Float, binary64, add, sub, mul, le, fits}
 use lib.Ieee.Scale.{finite}
 use Rattle.rounding.specs.Operations.{fused}
-use Rattle.near_fused.specs.Parts.{high, sized, Inside}
+use Rattle.near_fused.specs.Parts.{high, sized}
+use Rattle.near_fused.specs.Step.{total, least}
 use Rattle.near_fused.proofs.Enough.{enough}
-use Rattle.near_fused.proofs.Error.{total}
 use Rattle.near_fused.proofs.Finite.{add-finite, sub-finite, mul-finite}
 use Rattle.near_fused.proofs.Law.{law}
 use Rattle.near_fused.proofs.Made.{unit, step}
-use Rattle.near_fused.proofs.Margin.{least, margin-value, margin-least, first-most, second-most}
+use Rattle.near_fused.proofs.Margin.{margin-value, margin-least, first-most, second-most}
 use Rattle.near_fused.proofs.Split.{split}
 use Rattle.near_fused.proofs.Sure.{pl, u, hi, lo}
-use Rattle.near_fused.proofs.Tests.{inside-size}
+use Rattle.near_fused.proofs.Tests.{Inside, inside-size}
 
 module _ (v mu c : Float) (hv : T (fits binary64 v)) (hm : T (fits binary64 mu)) (hc : T (fits binary64 c)) (i : Inside mu) (part : Float) where
   abbrev vh : Float

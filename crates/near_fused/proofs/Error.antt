@@ -10,6 +10,7 @@ use Rattle.fraction.proofs.Same.{same-refl, same-sym, same-trans, plus-same, op
 use Rattle.fraction.proofs.Within.{flip, to, from}
 use Rattle.fraction.proofs.Value.{val-pos}
 use Rattle.fraction.proofs.Operations.{add-rounded}
+use Rattle.near_fused.specs.Step.{total, left}
 use Rattle.near_fused.proofs.Short.{units-of, short-exact}
 use Rattle.near_fused.proofs.TwoSum.{sub-rounded, two-sum}
 use Rattle.near_fused.proofs.Ring.{apart, crossed, folded}
@@ -17,23 +18,17 @@ use Rattle.near_fused.proofs.Near.{Unit, Near, near-same, near-chain, n
 use Rattle.near_fused.proofs.Finite.{add-finite, sub-finite}
 
 module _ (p c : Float) where
-  abbrev pub total : Float
-  total = add binary64 p c
-
   abbrev pub z : Float
-  z = sub binary64 total p
+  z = sub binary64 (total p c) p
 
   abbrev pub d : Float
-  d = sub binary64 total z
+  d = sub binary64 (total p c) z
 
   abbrev pub e1 : Float
   e1 = sub binary64 p d
 
   abbrev pub e2 : Float
   e2 = sub binary64 c z
-
-  abbrev pub left : Float
-  left = add binary64 e1 e2
 
 module _ (U : Unit) (p c : Float) (fp : T (fits binary64 p)) (fc : T (fits binary64 c)) (P : Near U (2 ^ 83 + 1) (val p) nil) (C : Near U (2 ^ 83) (val c) nil) (real : T (finite (left p c))) where
   abbrev s : Float

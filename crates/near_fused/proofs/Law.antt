@@ -18,7 +18,7 @@ use Rattle.near_fused.proofs.Ends.{ziv}
 use Rattle.near_fused.proofs.Mono.{AtMost, at-most-trans}
 use Rattle.near_fused.proofs.Sides.{over, under, not-both}
 use Rattle.near_fused.proofs.Finite.{add-finite}
-use Rattle.near_fused.proofs.Error.{total}
+use Rattle.near_fused.specs.Step.{total}
 use Rattle.near_fused.proofs.Low.{fused-rounded, finite-low, zero-same, zero-too}
 use Rattle.near_fused.proofs.Sure.{Step, p, u, hi, lo, end-near, upper-near, lower-end-near, end-size, margin-size}
 

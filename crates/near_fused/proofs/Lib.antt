@@ -22,3 +22,4 @@ pub mod Upper
 pub mod Tests
 pub mod Made
 pub mod Answer
+pub mod Equals

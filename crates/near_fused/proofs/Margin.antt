@@ -15,14 +15,11 @@ use Rattle.rounding.proofs.Products.{mul-value}
 use Rattle.rounding.proofs.Whole.{places, v-ge, rounded-value}
 use Rattle.fraction.proofs.Same.{ring}
 use Rattle.fraction.proofs.Units.{Part, Near, near-part}
+use Rattle.near_fused.specs.Step.{least}
 use Rattle.near_fused.proofs.Enough.{enough, Share, share}
 use Rattle.near_fused.proofs.Few.{rounded, near-hi, few-below}
 use Rattle.near_fused.proofs.Larger.{unders}
 use Rattle.near_fused.proofs.Finite.{add-finite, mul-finite}
-
--- 2 ^ -960
-abbrev pub least : Float
-least = ofBits binary64 0x03f0_0000_0000_0000
 
 least-value : HasValue least false (1 * 2 ^ 114) (2 ^ 1074)
 unfolding ofBits

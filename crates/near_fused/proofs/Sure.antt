@@ -13,12 +13,13 @@ use Rattle.fraction.proofs.Within.{to, from, weaken, within-opp}
 use Rattle.fraction.proofs.Product.{mag-times, mag-signed}
 use Rattle.fraction.proofs.Value.{val-pos}
 use Rattle.fraction.proofs.Operations.{add-rounded}
+use Rattle.near_fused.specs.Step.{total, left}
 use Rattle.near_fused.proofs.TwoSum.{sub-rounded}
 use Rattle.near_fused.proofs.Ring.{restored, plus-assoc, split-product}
 use Rattle.near_fused.proofs.Near.{Unit, Near, near-same, near-chain, near-plus, near-two, near-of, near-rounds}
 use Rattle.near_fused.proofs.Finite.{add-finite}
 use Rattle.near_fused.proofs.Product.{Factors, wanted, lower-near, lower-size}
-use Rattle.near_fused.proofs.Error.{total, left, left-near, left-size, total-size}
+use Rattle.near_fused.proofs.Error.{left-near, left-size, total-size}
 
 -- s + (((x - s) + w) + e) is (x + w) + e
 gathered : (s x w e : Frac) → 0 < s .d → 0 < x .d → 0 < w .d → 0 < e .d → Same (plus s (plus (plus (plus x (opp s)) w) e)) (plus (plus x w) e)

@@ -1,6 +1,6 @@
 -- What the patterns and the tests of the step know. Assumes nothing.
-use mathlib.Core.Path.{_≡_, sym, ap, _∙_, subst}
-use mathlib.Core.Bool.{Bool, true, false, not, cond}
+use mathlib.Core.Path.{_≡_, refl, sym, ap, _∙_, subst}
+use mathlib.Core.Bool.{Bool, true, false, not, cond, false≢true}
 use Prim.Native.Nat.{ℕ, _+_, _*_, _/_, _%_, _^_, _≤_, _<_}
 use native.Mathlib.Nat.{le-trans, le-of-eq}
 use native.Mathlib.Omega.{arith}
@@ -13,7 +13,18 @@ use Rattle.fraction.specs.Fraction.{Within, nil}
 use Rattle.fraction.specs.Value.{val}
 use Rattle.fraction.proofs.Compare.{side, le-is}
 use Rattle.fraction.proofs.Value.{val-pos}
-use Rattle.near_fused.specs.Parts.{lower, top, Ordered, Inside}
+use Rattle.near_fused.specs.Parts.{lower, top}
+use Rattle.near_fused.specs.Step.{insideOf, orderedOf}
+
+-- two numbers, or infinities
+pub record Ordered (x y : Float) : Type 0 where
+  pub first : T (not (isNan x))
+  pub second : T (not (isNan y))
+
+-- from 0 to 1
+pub record Inside (mu : Float) : Type 0 where
+  pub low : le (ofBits binary64 0) mu ≡ true
+  pub high : le mu top ≡ true
 
 moved : (n r : ℕ) (b : Bool) → n ≡ cond b (2 ^ 63) 0 + r → n / 2 ^ lower * 2 ^ lower ≡ cond b (2 ^ 63) 0 + r / 2 ^ lower * 2 ^ lower
 moved n r true w = omega arith
@@ -63,6 +74,20 @@ lt-ordered (fin s m d) (inf t) e = record { first = tt; second = tt }
 lt-ordered nan (fin t n d) e = absurd (subst T (sym e) tt)
 lt-ordered (inf s) (fin t n d) e = record { first = tt; second = tt }
 lt-ordered (fin s m i) (fin t n d) e = record { first = tt; second = tt }
+
+pub ordered-is : (x y : Float) → orderedOf x y ≡ true → Ordered x y
+ordered-is x y e = go (le x y) refl e
+  where
+    go : (b : Bool) → le x y ≡ b → cond b true (lt y x) ≡ true → Ordered x y
+    go true h e = le-ordered x y h
+    go false h e = lt-ordered x y e
+
+pub inside-is : (x : Float) → insideOf x ≡ true → Inside x
+inside-is x e = go (le x top) refl e
+  where
+    go : (b : Bool) → le x top ≡ b → cond b (le (ofBits binary64 0) x) false ≡ true → Inside x
+    go true h e = record { low = e; high = h }
+    go false h e = absurd (false≢true e)
 
 -- a number from 0 to 1 is finite, and at most 1
 pub inside-no-nan : (x : Float) → Inside x → T (not (isNan x))

@@ -1,9 +1,10 @@
 // K4. The fused multiply and add of f64 by floats, for a factor from 0 to 1: two ends, the exact sum between them, rounded. Where they round alike, that is the answer; else there is none.
 ghost use mathlib.Core.Path.{_≡_};
-ghost use mathlib.Core.Bool.{true, not};
+ghost use mathlib.Core.Bool.{not};
 ghost use lib.Dec.{T};
-ghost use lib.Ieee.{isNan};
-ghost use Rattle.near_fused.specs.Parts.{high as highOf, sized, Ordered, Inside, Sure};
+ghost use lib.Ieee.{nan, isNan};
+ghost use Rattle.near_fused.specs.Parts.{high as highOf, sized, Sure};
+ghost use Rattle.near_fused.specs.Step.{orderedOf, insideOf, nearOf};
 
 // The upper 26 digits: the product of two such numbers is exact.
 fn high(x: f64) -> f64
@@ -22,26 +23,27 @@ fn size(x: f64) -> f64
 
 // Neither is a NaN, which has no pattern.
 fn ordered(x: f64, y: f64) -> bool
-    ensures { λ r. ⌜ (r ≡ true → Ordered x y) ⌝ }
+    ensures { λ r. ⌜ r ≡ orderedOf x y ⌝ }
 {
-    if x <= y {
-        return true;
-    }
-    y < x
+    if x <= y { true } else { y < x }
 }
 
 fn inside(mu: f64) -> bool
-    ensures { λ r. ⌜ (r ≡ true → Inside mu) ⌝ }
+    ensures { λ r. ⌜ r ≡ insideOf mu ⌝ }
 {
-    if mu <= 1.0 {
-        return 0.0 <= mu;
-    }
-    false
+    if mu <= 1.0 { 0.0 <= mu } else { false }
+}
+
+fn none() -> f64
+    ensures { λ r. ⌜ r ≡ nan ⌝ }
+{
+    0.0 / 0.0
 }
 
 // v * mu + c, rounded once, or a NaN. p and s are the greater parts of the product and of the sum; what s lost of p + c is told exactly (a two-sum), the rest of the product nearly;
 // and a 2^70th part of the terms is more than all errors together.
 pub fn near_fused(v: f64, mu: f64, c: f64) -> f64
+    ensures { λ r. ⌜ r ≡ nearOf v mu c ⌝ }
     ensures { λ r. ⌜ Sure v mu c r ⌝ }
 {
     if inside(mu) {
@@ -60,7 +62,9 @@ pub fn near_fused(v: f64, mu: f64, c: f64) -> f64
             if r <= s + (u - e) {
                 return r;
             }
+            return none();
         }
+        return none();
     }
-    0.0 / 0.0
+    none()
 }

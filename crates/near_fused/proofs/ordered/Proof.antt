@@ -1,13 +1,12 @@
 -- `near_fused::ordered` meets its contract. Assumes nothing.
-use Rattle.near_fused.proofs.Tests.{le-ordered, lt-ordered}
 use Rattle.near_fused.proofs.ordered.Statement.{statement}
 use Rattle.near_fused.proofs.ordered.Tie as tie
 
 returns : tie.Need-returns
-returns c = λ _. le-ordered (c .before .args .x) (c .before .args .y) (c .if1 .taken)
+returns c = rw (c .if1 .taken)
 
 returns-2 : tie.Need-returns-2
-returns-2 c = λ e. lt-ordered (c .before .args .x) (c .before .args .y) e
+returns-2 c = rw (c .if1 .left)
 
 pub ordered-spec : {M : Type 1} → statement M
 ordered-spec = tie.close (tie.spec returns returns-2)
