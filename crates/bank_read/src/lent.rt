@@ -30,7 +30,7 @@ fn table_read<'a>(
     sinc_read_f32::read(table, taps, phases, source, count, position)
 }
 
-// The quality's tables in both sets.
+// The quality's tables in both sets, at once.
 fn both_read<'a>(
     safe: &'a [f32],
     tighter: &'a [f32],
@@ -38,7 +38,11 @@ fn both_read<'a>(
     source: &'a [f32],
     count: u64,
     position: f64,
-) -> Pair {
+) -> Pair
+    requires { ⌜ (length (now safe) ≡ setLength) × (length (now tighter) ≡ setLength) × (positionOk position ≡ true) ⌝ }
+    ensures { λ r. ⌜ r .a ≡ tableAt quality (now (safe .entry)) (now (source .entry)) count position ⌝ }
+    ensures { λ r. ⌜ r .b ≡ tableAt quality (now (tighter .entry)) (now (source .entry)) count position ⌝ }
+{
     let a = sinc_bank_f32::chosen(safe, tighter, false, quality);
     let b = sinc_bank_f32::chosen(safe, tighter, true, quality);
     let taps = quality_mode::taps(quality);
