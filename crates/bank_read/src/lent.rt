@@ -8,6 +8,7 @@ ghost use Rattle.sinc_bank_f32.specs.Sets.{setLength};
 ghost use Rattle.sinc_bank_f32.specs.Parts.{pickSlice};
 ghost use Rattle.bank_read.specs.Bank.{setAt, tableAt, blended, tablesAt, setsOk};
 use bank_choice::Choice;
+use fused_chain::Pair;
 use quality_mode::QualityMode;
 
 // The quality's table in the tighter set, or in the safe one.
@@ -29,6 +30,26 @@ fn table_read<'a>(
     sinc_read_f32::read(table, taps, phases, source, count, position)
 }
 
+// The quality's tables in both sets, at once.
+fn both_read<'a>(
+    safe: &'a [f32],
+    tighter: &'a [f32],
+    quality: QualityMode,
+    source: &'a [f32],
+    count: u64,
+    position: f64,
+) -> Pair
+    requires { ⌜ (length (now safe) ≡ setLength) × (length (now tighter) ≡ setLength) × (positionOk position ≡ true) ⌝ }
+    ensures { λ r. ⌜ r .a ≡ tableAt quality (now (safe .entry)) (now (source .entry)) count position ⌝ }
+    ensures { λ r. ⌜ r .b ≡ tableAt quality (now (tighter .entry)) (now (source .entry)) count position ⌝ }
+{
+    let a = sinc_bank_f32::chosen(safe, tighter, false, quality);
+    let b = sinc_bank_f32::chosen(safe, tighter, true, quality);
+    let taps = quality_mode::taps(quality);
+    let phases = quality_mode::phases(quality);
+    sinc_read_f32::read_pair(a, b, taps, phases, source, count, position)
+}
+
 // One set's reading, or both, blended.
 fn blend_read<'a>(
     safe: &'a [f32],
@@ -46,11 +67,12 @@ fn blend_read<'a>(
     if which == 1 {
         return table_read(safe, tighter, true, quality, source, count, position);
     }
-    let a = table_read(safe, tighter, false, quality, source, count, position);
     if which == 0 {
-        return a;
+        return table_read(safe, tighter, false, quality, source, count, position);
     }
-    let b = table_read(safe, tighter, true, quality, source, count, position);
+    let read = both_read(safe, tighter, quality, source, count, position);
+    let a = read.a;
+    let b = read.b;
     a + (b - a) * blend
 }
 

@@ -30,7 +30,7 @@ fn rounded(p: f64, sum: f64) -> Moved
     }
 }
 
-fn four_rounded(a: f64, b: f64, c: f64, d: f64, sum: f64) -> Moved
+pub(crate) fn four_rounded(a: f64, b: f64, c: f64, d: f64, sum: f64) -> Moved
     requires { ⌜ FiniteFour a b c d ⌝ ∗ ⌜ T (finite sum) ⌝ }
     ensures { λ r. ⌜ (r .fine ≡ true → FourNearest a b c d sum (r .sum)) ⌝ }
 {

@@ -1,8 +1,12 @@
 // 000's f32 loop over a run of taps: a chain of fused steps, each rounded once, one behind the other.
+mod abreast; // two runs at once
 mod before; // before the run's middle
 mod behind; // behind it
+mod pair; // two chains at once
 mod taps; // four at once
 
+pub use pair::Pair;
+pub use pair::chains;
 ghost use mathlib.Core.Path.{_≡_};
 ghost use Prim.Native.Nat.{_+_, _≤_, _<_, min};
 ghost use lib.ListN.{length};

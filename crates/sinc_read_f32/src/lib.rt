@@ -1,9 +1,12 @@
 // 000's WindowedSincF32 as a kernel: a table of f32 that a caller lends, read over a slice of f32, a count and a position. Here is the sum over the taps, as
 // chains over samples that lie side by side, which the module calls.
+mod abreast; // two chains over taps that are all held
 mod kernel; // what is read and what is refused
+mod pair; // what two tables read at once
 
 pub use kernel::read;
 pub use kernel::sample;
+pub use pair::read_pair;
 ghost use mathlib.Core.Path.{_≡_};
 ghost use Prim.Native.Nat.{_+_, _*_, _%_, _^_, _≤_, _<_};
 ghost use lib.IntN.{pos, _+ℤ_};

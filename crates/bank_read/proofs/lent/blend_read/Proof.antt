@@ -8,13 +8,12 @@ returns : tie.Need-returns
 returns c = rw (c .before .if1 .taken) (c .table-read .ensures)
 
 returns-2 : tie.Need-returns-2
-returns-2 c = rw (c .if2 .taken) (c .before .table-read2 .ensures)
+returns-2 c = rw (c .before .if2 .taken) (c .table-read2 .ensures)
 
 returns-3 : tie.Need-returns-3
 returns-3 c =
     let other = c .before in
-    let first = other .before in
-    rw (c .table-read3 .ensures, first .table-read2 .ensures) (both-read _ _ _ _ (first .before .if1 .left) (other .if2 .left))
+    rw (c .both-read .ensures .1, c .both-read .ensures .0) (both-read _ _ _ _ (other .before .if1 .left) (other .if2 .left))
 
 pub blend-read-spec : {M : Type 1} → statement M
 blend-read-spec =
