@@ -1,11 +1,11 @@
 -- W13. A `placed` that is neither 0 nor 1 is refused by 3, whatever the other numbers are. Assumes nothing.
-use mathlib.Core.Path.{_≡_, refl, sym, _∙_}
-use mathlib.Core.Bool.{Bool, true, false, _&&_}
-use Prim.Native.Nat.{ℕ, _-_, _^_, _≤_, _<_}
+use mathlib.Core.Path.{_≡_, refl}
+use mathlib.Core.Bool.{Bool, true, false}
+use Prim.Native.Nat.{ℕ, _-_, _^_, _<_}
 use native.Mathlib.Omega.{arith}
 use borrow.Author.Tests.{ne-eqb, ltb-true}
 use Rattle.residual.specs.Refusals.{reportOk}
-use Rattle.residual.proofs.Valid.{Valid, valid}
+use Rattle.residual.proofs.Valid.{valid}
 use Rattle.fugnadri_residual.specs.Words.{reportFrom}
 
 pub odd-refused : (n l p k h w : ℕ) → 1 < p → reportOk (reportFrom n l p k h w) ≡ false

@@ -2,7 +2,7 @@
 use mathlib.Core.Path.{_≡_, refl, sym, ap, _∙_}
 use mathlib.Core.Bool.{Bool, true, false, cond}
 use mathlib.Core.List.{List, [], _∷_, foldl}
-use Prim.Native.Nat.{ℕ, zero, suc, _+_, _*_, _≤_, _<_}
+use Prim.Native.Nat.{ℕ, zero, suc, _*_, _≤_, _<_}
 use native.Mathlib.Nat.{mul-le-mul}
 use native.Mathlib.Omega.{arith}
 use borrow.Author.Tests.{eq-eqb, ne-eqb, eqb-true, ltb-true, lt-ltb}
@@ -10,8 +10,7 @@ use lib.Dec.{ltb}
 use Rattle.residual.specs.declared.Report.{Report}
 use Rattle.residual.specs.declared.Place.{Place}
 use Rattle.residual.specs.declared.Place.the-variants.{Nowhere, At}
-use Rattle.residual.specs.declared.tally.Tally.{Tally}
-use Rattle.residual.specs.Report.{sumOf, one}
+use Rattle.residual.specs.Report.{one}
 use Rattle.residual.specs.Refusals.{placeOk}
 use Rattle.residual.specs.Tallies.{indexOf, tallyOf, toldOf, stepOf}
 use Rattle.residual.proofs.Valid.{Valid}

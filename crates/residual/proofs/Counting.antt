@@ -1,9 +1,9 @@
 -- Counting difference by difference: there is room for each, and the turns of a loop over an index make the fold. Assumes nothing.
-use mathlib.Core.Path.{_≡_, refl, sym, ap, _∙_, subst}
+use mathlib.Core.Path.{_≡_, sym, ap, _∙_, subst}
 use mathlib.Core.Bool.{cond}
-use mathlib.Core.List.{List, [], _∷_, _++_, foldl, foldl-append}
-use Prim.Native.Nat.{ℕ, zero, suc, _+_, _*_, _^_, _%_, _≤_, _<_}
-use native.Mathlib.Nat.{add-mul, one-mul, zero-add}
+use mathlib.Core.List.{List, [], _∷_, foldl, foldl-append}
+use Prim.Native.Nat.{ℕ, suc, _+_, _*_, _^_, _%_, _≤_, _<_}
+use native.Mathlib.Nat.{zero-add}
 use native.Mathlib.Numerals.{add-one}
 use native.Mathlib.Omega.{arith}
 use lib.Dec.{ltb}
@@ -12,7 +12,7 @@ use lib.ListN.{length, getD, take}
 use lib.Seq.{take-suc, take-all, length-take-le}
 use Rattle.residual.specs.declared.tally.Tally.{Tally}
 use Rattle.residual.specs.Report.{difference, differences}
-use Rattle.residual.specs.Tallies.{stepOf, tallied, Room, Ready}
+use Rattle.residual.specs.Tallies.{stepOf, Room, Ready}
 use Rattle.residual.proofs.Halves.{square-below, high-half, low-half}
 use Rattle.residual.proofs.Stretches.{Small, none, more, small-differences, small-take, length-differences, at-difference}
 

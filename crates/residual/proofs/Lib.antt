@@ -1,3 +1,4 @@
+pub mod Both
 pub mod Signs
 pub mod Halves
 pub mod Stretches

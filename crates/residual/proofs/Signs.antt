@@ -1,7 +1,7 @@
 -- The difference of two 24-bit values: it fits an `i32`, also turned round where it is negative, and its size is below 2^24. Assumes nothing.
-use mathlib.Core.Path.{_≡_, refl, sym, ap, _∙_, subst}
-use mathlib.Core.Bool.{Bool, true, false, _&&_, cond}
-use Prim.Native.Nat.{ℕ, zero, suc, _+_, _-_, _^_, _≤_, _<_}
+use mathlib.Core.Path.{_≡_, subst}
+use mathlib.Core.Bool.{Bool, true, false, cond}
+use Prim.Native.Nat.{ℕ, zero, suc, _-_, _^_, _≤_, _<_}
 use native.Mathlib.Omega.{arith}
 use borrow.Author.Tests.{ltb-true, leb-true}
 use lib.Dec.{T, ltb, leb}
@@ -10,14 +10,11 @@ use lib.Signed.{mag, ltZ, nonNeg}
 use mir.Syntax.{w32}
 use mir.Val.{Fits, SFits}
 use Rattle.residual.specs.Refusals.{in24}
-
-first-true : (a b : Bool) → (a && b) ≡ true → a ≡ true
-first-true true b h = refl
-first-true false b h = h
+use Rattle.residual.proofs.Both.{left-true}
 
 pub mag-24 : (x : ℤ) → in24 x ≡ true → mag x < 2 ^ 23
 mag-24 (pos n) h = omega (arith, leb-true n 8388607 h)
-mag-24 (negsuc n) h = omega (arith, leb-true n 8388607 (first-true (leb n 8388607) true h))
+mag-24 (negsuc n) h = omega (arith, leb-true n 8388607 (left-true (leb n 8388607) true h))
 
 pub fits-24 : (x : ℤ) → in24 x ≡ true → SFits w32 x
 fits-24 x h = record { sfits = omega (arith, mag-24 x h) }

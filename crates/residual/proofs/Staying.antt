@@ -1,18 +1,18 @@
 -- W13. A report of our own making is never refused by 3: the empty one is in range, and a call that is not refused keeps a report in range. Assumes nothing.
-use mathlib.Core.Path.{_≡_, refl, sym, ap, _∙_, subst}
-use mathlib.Core.Bool.{Bool, true, false, cond}
+use mathlib.Core.Path.{_≡_, refl}
+use mathlib.Core.Bool.{Bool, true, false}
 use mathlib.Core.List.{List, [], _∷_, foldl}
-use Prim.Native.Nat.{ℕ, zero, suc, _+_, _*_, _^_, _/_, _%_, _≤_, _<_}
-use native.Mathlib.Nat.{mul-le-mul, mul-le-mul-left, add-mul, one-mul, le-trans, le-refl}
+use Prim.Native.Nat.{ℕ, _+_, _*_, _^_, _≤_, _<_}
+use native.Mathlib.Nat.{mul-le-mul, mul-le-mul-left, add-mul, one-mul}
 use native.Mathlib.Omega.{arith}
 use borrow.Author.Tests.{eq-eqb, ne-eqb, ltb-true, ltb-false, lt-ltb}
 use lib.Dec.{ltb}
 use lib.IntN.{ℤ}
 use lib.ListN.{length}
 use Rattle.residual.specs.declared.Report.{Report}
-use Rattle.residual.specs.declared.Place.the-variants.{Nowhere, At}
+use Rattle.residual.specs.declared.Place.the-variants.{At}
 use Rattle.residual.specs.Report.{differences, emptyReport, sumOf, newer, one, carried}
-use Rattle.residual.specs.Refusals.{placeOk, reportOk, verdict}
+use Rattle.residual.specs.Refusals.{reportOk, verdict}
 use Rattle.residual.proofs.Stretches.{Small, none, more, small-differences, length-differences}
 use Rattle.residual.proofs.Valid.{Valid, valid-ok, accepted}
 use Rattle.residual.proofs.Agreeing.{Fit, nothing, something, fit}

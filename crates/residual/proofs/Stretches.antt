@@ -1,44 +1,27 @@
 -- Stretches of 24-bit values and their differences, element by element: what a loop over an index asks. Assumes nothing.
-use mathlib.Core.Path.{_≡_, refl, sym, ap, _∙_}
-use mathlib.Core.Bool.{Bool, true, false, _&&_}
+use mathlib.Core.Path.{_≡_, refl, ap, _∙_}
+use mathlib.Core.Bool.{Bool, true, _&&_}
 use mathlib.Core.List.{List, [], _∷_, _++_}
-use Prim.Native.Nat.{ℕ, zero, suc, _+_, _^_, _≤_, _<_}
+use Prim.Native.Nat.{ℕ, zero, suc, _+_, _^_, _<_}
 use native.Mathlib.Nat.{le-of-suc-le-suc}
 use native.Mathlib.Numerals.{add-one}
 use native.Mathlib.Omega.{arith}
 use lib.IntN.{ℤ, pos}
 use lib.ListN.{length, getD, take}
-use lib.Seq.{take-suc, take-all}
+use lib.Seq.{take-suc}
 use mir.Syntax.{w32}
 use mir.Val.{toZ, ofZ}
 use mir.ValLaws.{toZ-ofZ}
 use Rattle.residual.specs.Report.{difference, differences}
 use Rattle.residual.specs.Refusals.{in24, all24}
+use Rattle.residual.proofs.Both.{left-true, right-true, and-true, and-assoc}
 use Rattle.residual.proofs.Signs.{below-24, fits-24}
-
--- ---- both of two tests
-pub left-true : (a b : Bool) → (a && b) ≡ true → a ≡ true
-left-true true b h = refl
-left-true false b h = h
-
-pub right-true : (a b : Bool) → (a && b) ≡ true → b ≡ true
-right-true true b h = h
-right-true false true h = refl
-right-true false false h = h
 
 -- ---- every value of a stretch
 all-more : (xs : List ℤ) (x : ℤ) → all24 (xs ++ (x ∷ [])) ≡ (all24 xs && in24 x)
 unfolding all24
 all-more [] x = and-true (in24 x)
-  where
-    and-true : (b : Bool) → (b && true) ≡ b
-    and-true true = refl
-    and-true false = refl
-all-more (y ∷ xs) x = ap (λ (b : Bool). in24 y && b) (all-more xs x) ∙ assoc (in24 y) (all24 xs) (in24 x)
-  where
-    assoc : (a b t : Bool) → (a && (b && t)) ≡ ((a && b) && t)
-    assoc true b t = refl
-    assoc false b t = refl
+all-more (y ∷ xs) x = ap (λ (b : Bool). in24 y && b) (all-more xs x) ∙ and-assoc (in24 y) (all24 xs) (in24 x)
 
 pub none-24 : (xs : List ℤ) → true ≡ all24 (take 0 xs)
 unfolding all24

@@ -1,8 +1,8 @@
 -- W13. What a report that is not refused by 3 is, and what a call that is not refused knows. Assumes nothing.
-use mathlib.Core.Path.{_≡_, refl, sym, ap, _∙_}
+use mathlib.Core.Path.{_≡_, refl, _∙_}
 use mathlib.Core.Bool.{Bool, true, false, _&&_}
 use mathlib.Core.List.{List}
-use Prim.Native.Nat.{ℕ, _+_, _-_, _*_, _^_, _≤_, _<_}
+use Prim.Native.Nat.{_+_, _-_, _*_, _^_, _≤_, _<_}
 use native.Mathlib.Nat.{le-trans, mul-le-mul-left, le-of-lt}
 use native.Mathlib.Omega.{arith}
 use borrow.Author.Tests.{leb-true, eqb-true, le-leb, lt-leb}
@@ -13,9 +13,9 @@ use Rattle.answer.proofs.Passed.{passed}
 use Rattle.residual.specs.declared.Report.{Report}
 use Rattle.residual.specs.Report.{sumOf}
 use Rattle.residual.specs.Refusals.{all24, placeOk, sumOk, reportOk, verdict}
-use Rattle.residual.specs.Tallies.{tallyOf, Room, Ready}
+use Rattle.residual.specs.Tallies.{tallyOf, Ready}
+use Rattle.residual.proofs.Both.{left-true, right-true, both-true}
 use Rattle.residual.proofs.Halves.{square-below}
-use Rattle.residual.proofs.Stretches.{left-true, right-true}
 
 pub record Valid (r : Report) : Type 0 where
   pub few : r .number ≤ 2 ^ 36
@@ -23,9 +23,6 @@ pub record Valid (r : Report) : Type 0 where
   pub placed : placeOk (r .place) (r .number) ≡ true
   pub least : r .largest * r .largest ≤ sumOf r
   pub most : sumOf r ≤ r .number * (r .largest * r .largest)
-
-both-true : {a b : Bool} → a ≡ true → b ≡ true → (a && b) ≡ true
-both-true p q = rw (p, q)
 
 pub valid : (r : Report) → reportOk r ≡ true → Valid r
 unfolding reportOk

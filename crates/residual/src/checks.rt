@@ -3,7 +3,7 @@ ghost use mathlib.Core.Path.{_≡_};
 ghost use mathlib.Core.Bool.{_&&_};
 ghost use Prim.Native.Nat.{_+_, _*_, _^_, _<_, _≤_};
 ghost use lib.Dec.{leb};
-ghost use Rattle.residual.specs.Refusals.{in24, all24, placeOk, sumOk, reportOk, verdict};
+ghost use Rattle.residual.specs.Refusals.{in24, all24, placeOk, reportOk, verdict};
 use crate::Place;
 use crate::Report;
 

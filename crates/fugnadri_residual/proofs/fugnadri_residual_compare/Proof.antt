@@ -1,7 +1,6 @@
 -- `fugnadri_residual::fugnadri_residual_compare` meets its contract: what the call ensures, by its two cases. Assumes nothing.
 use borrow.Author.Needs.{needs}
 use mathlib.Core.Path.{_≡_, sym, ap, _∙_}
-use Rattle.residual.specs.declared.Report.{Report}
 use Rattle.residual.specs.declared.Place.{Place}
 use Rattle.residual.specs.declared.Compared.{Compared}
 use Rattle.residual.specs.Refusals.{comparedOf}

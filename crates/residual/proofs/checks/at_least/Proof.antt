@@ -1,5 +1,5 @@
 -- `residual::checks::at_least` meets its contract: a high half above 0 alone exceeds every word. Assumes nothing.
-use mathlib.Core.Path.{_≡_, sym}
+use mathlib.Core.Path.{sym}
 use Prim.Native.Nat.{_+_, _*_}
 use native.Mathlib.Omega.{arith}
 use borrow.Author.Tests.{le-leb}

@@ -1,5 +1,5 @@
 -- `residual::checks::due` meets its contract: what each test ensures, in the order of 01. Assumes nothing.
-use mathlib.Core.Path.{_≡_, _∙_}
+use mathlib.Core.Path.{_∙_}
 use Rattle.residual.specs.Refusals.{verdict}
 use Rattle.residual.proofs.checks.due.Statement.{statement}
 use Rattle.residual.proofs.checks.due.Tie as tie

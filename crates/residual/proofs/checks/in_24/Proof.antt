@@ -1,6 +1,5 @@
 -- `residual::checks::in_24` meets its contract: a 32-bit value is read back from its word. Assumes nothing.
-use mathlib.Core.Path.{_≡_, ap, _∙_}
-use lib.IntN.{ℤ}
+use mathlib.Core.Path.{ap, _∙_}
 use mir.Syntax.{w32}
 use mir.ValLaws.{toZ-ofZ}
 use Rattle.residual.specs.Refusals.{in24}

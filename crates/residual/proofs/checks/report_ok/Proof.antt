@@ -1,6 +1,6 @@
 -- `residual::checks::report_ok` meets its contract: by the first two tests, then the place's and the sum's. Assumes nothing.
 use borrow.Author.Needs.{needs}
-use mathlib.Core.Path.{_≡_, _∙_}
+use mathlib.Core.Path.{_∙_}
 use native.Mathlib.Omega.{arith}
 use Rattle.residual.proofs.Halves.{square-below}
 use Rattle.residual.proofs.Valid.{too-many, too-large, in-range}

@@ -1,6 +1,6 @@
 -- `residual::steps::counted` meets its contract: an accepted call has room, and counting on numbers agrees with carrying the report on. Assumes nothing.
-use mathlib.Core.Path.{_≡_, sym, ap, _∙_, subst}
-use mathlib.Core.List.{List, foldl}
+use mathlib.Core.Path.{sym, ap, _∙_, subst}
+use mathlib.Core.List.{foldl}
 use Prim.Native.Nat.{_<_, _^_}
 use native.Mathlib.Omega.{arith}
 use denote.Ref.{now}

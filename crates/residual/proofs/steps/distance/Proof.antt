@@ -5,9 +5,9 @@ use lib.IntN.{ℤ, pos, natAbs, _-ℤ_}
 use lib.Signed.{ltZ}
 use mathlib.Core.Bool.{true}
 use mir.Syntax.{w32}
-use mir.Val.{SFits, toZ, ofZ}
+use mir.Val.{toZ, ofZ}
 use mir.ValLaws.{toZ-ofZ}
-use Rattle.residual.proofs.Signs.{fits-24, below-24, small-fits, turned, castable, not-below}
+use Rattle.residual.proofs.Signs.{below-24, small-fits, turned, castable, not-below}
 use Rattle.residual.proofs.steps.distance.Statement.{statement}
 use Rattle.residual.proofs.steps.distance.Tie as tie
 

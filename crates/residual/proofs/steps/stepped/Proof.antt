@@ -1,13 +1,13 @@
 -- `residual::steps::stepped` meets its contract: before each turn the differences passed are counted. Assumes nothing.
 use borrow.Author.Needs.{needs}
 use Prim.Native.Nat.{_≤_, _-_}
-use mathlib.Core.Path.{_≡_, refl, ap, _∙_, subst}
+use mathlib.Core.Path.{_≡_, refl, _∙_}
+use mathlib.Core.Bool.{true}
 use mathlib.Core.List.{foldl}
 use native.Mathlib.Omega.{arith}
 use lib.IntN.{ℤ, pos}
 use lib.ListN.{length, take, getD}
 use mir.Syntax.{w32}
-use mir.Val.{toZ, ofZ}
 use mir.ValLaws.{toZ-ofZ}
 use denote.Ref.{now}
 use Rattle.residual.specs.Report.{difference, differences}
@@ -28,42 +28,37 @@ abbrev μ-loop : tie.MeasureT-loop
 loop-holds : tie.Need-loop-holds Inv-loop μ-loop
 loop-holds c = (omega arith, refl)
 
-mul-distance-2 : tie.Need-mul-distance-2 Inv-loop μ-loop
-mul-distance-2 c = search needs
+-- the two values at the index
+abbrev in-a : tie.In-loop Inv-loop μ-loop → ℤ
+in-a c = getD (now (c .before .before .args .a)) (c .before .loop .i) (pos 0)
 
-shared-slice-copy-out-distance-2 : tie.Need-shared-slice-copy-out-distance-2 Inv-loop μ-loop
-shared-slice-copy-out-distance-2 c = omega (arith, c .before .before .before .pre .long)
+abbrev in-b : tie.In-loop Inv-loop μ-loop → ℤ
+in-b c = getD (now (c .before .before .args .b)) (c .before .loop .i) (pos 0)
+
+left-24 : (c : tie.In-loop Inv-loop μ-loop) → in24 (in-a c) ≡ true
+left-24 c = at-24 (now (c .before .before .args .a)) (c .before .loop .i) (omega arith) (c .before .before .pre .left)
+
+right-24 : (c : tie.In-loop Inv-loop μ-loop) → in24 (in-b c) ≡ true
+right-24 c = at-24 (now (c .before .before .args .b)) (c .before .loop .i) (omega (arith, c .before .before .pre .long)) (c .before .before .pre .right)
 
 distance-requires : tie.Need-distance-requires Inv-loop μ-loop
-distance-requires c κs =
-    let s = c .before .before .before .before in
-    let i = c .before .before .before .loop .i in (
-      word-24 (getD (now (s .args .a)) i (pos 0)) (at-24 (now (s .args .a)) i (omega arith) (s .pre .left)),
-      word-24 (getD (now (s .args .b)) i (pos 0)) (at-24 (now (s .args .b)) i (omega (arith, s .pre .long)) (s .pre .right)),
-    )
+distance-requires c κs = let l = c .before .before in (word-24 (in-a l) (left-24 l), word-24 (in-b l) (right-24 l))
 
--- the difference at the index, read back from the words
-found : (c : tie.After-distance Inv-loop μ-loop) →
-    let s = c .before .before .before .before .before in
-    let i = c .before .before .before .before .loop .i in
-    c .distance .result ≡ difference (getD (now (s .args .a)) i (pos 0)) (getD (now (s .args .b)) i (pos 0))
+-- the difference there, read back from the words
+found : (c : tie.After-distance Inv-loop μ-loop) → c .distance .result ≡ difference (in-a (c .before .before .before)) (in-b (c .before .before .before))
 found c =
-    let s = c .before .before .before .before .before in
-    let i = c .before .before .before .before .loop .i in
-    let p = at-24 (now (s .args .a)) i (omega arith) (s .pre .left) in
-    let q = at-24 (now (s .args .b)) i (omega (arith, s .pre .long)) (s .pre .right) in
-    c .distance .ensures ∙ rw (toZ-ofZ w32 (getD (now (s .args .a)) i (pos 0)) (fits-24 (getD (now (s .args .a)) i (pos 0)) p), toZ-ofZ w32 (getD (now (s .args .b)) i (pos 0)) (fits-24 (getD (now (s .args .b)) i (pos 0)) q))
+    let l = c .before .before .before in
+    c .distance .ensures ∙ rw (toZ-ofZ w32 (in-a l) (fits-24 (in-a l) (left-24 l)), toZ-ofZ w32 (in-b l) (fits-24 (in-b l) (right-24 l)))
 
 step-requires : tie.Need-step-requires Inv-loop μ-loop
 step-requires c κs =
-    let s = c .before .before .before .before .before in
-    let i = c .before .before .before .before .loop .i in
-    (room-for-one i (s .pre) (omega arith) (c .before .before .before .before .loop .inv .1), rw (found c) (below-24 (getD (now (s .args .a)) i (pos 0)) (getD (now (s .args .b)) i (pos 0)) (at-24 (now (s .args .a)) i (omega arith) (s .pre .left)) (at-24 (now (s .args .b)) i (omega (arith, s .pre .long)) (s .pre .right))))
+    let l = c .before .before .before in
+    (room-for-one (l .before .loop .i) (l .before .before .pre) (omega arith) (l .before .loop .inv .1), rw (found c) (below-24 (in-a l) (in-b l) (left-24 l) (right-24 l)))
 
 loop-again : tie.Need-loop-again Inv-loop μ-loop
 loop-again c =
-    let i = c .before .before .before .before .before .loop .i in
-    (omega arith, one-turn i (c .before .before .before .before .before .before .pre) (omega arith) (c .before .distance .result) (c .before .before .before .before .before .loop .inv .1) (found (c .before)) (c .step .ensures))
+    let l = c .before .before .before .before in
+    (omega arith, one-turn (l .before .loop .i) (l .before .before .pre) (omega arith) (c .before .distance .result) (l .before .loop .inv .1) (found (c .before)) (c .step .ensures))
 
 returns : tie.Need-returns Inv-loop μ-loop
 returns c = all-turns (c .before .loop .i) (c .before .before .pre) (omega arith) (c .before .loop .inv .1)
@@ -71,4 +66,4 @@ returns c = all-turns (c .before .loop .i) (c .before .before .pre) (omega arith
 pub stepped-spec : {M : Type 1} → statement M
 stepped-spec =
     tie.close
-    (tie.spec Inv-loop μ-loop loop-holds (λ c. search needs) (λ c. omega arith) mul-distance-2 shared-slice-copy-out-distance-2 distance-requires step-requires (λ c. omega arith) (λ c. omega arith) loop-again returns)
+    (tie.spec Inv-loop μ-loop loop-holds (λ c. search needs) (λ c. omega arith) (λ c. search needs) (λ c. omega (arith, c .before .before .before .pre .long)) distance-requires step-requires (λ c. omega arith) (λ c. omega arith) loop-again returns)
