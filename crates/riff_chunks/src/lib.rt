@@ -2,11 +2,14 @@
 // Any bytes and any end are taken: bytes that the file does not have count as 0.
 ghost use mathlib.Core.Path.{_≡_};
 ghost use Prim.Native.Nat.{_+_, _-_, _<_};
-ghost use mathlib.Core.Bool.{false, _||_};
 ghost use Rattle.word_bytes.specs.Bytes.{bytesValue};
-ghost use Rattle.riff_chunks.specs.Chunks.{chunkAt, nowhere};
-ghost use Rattle.riff_chunks.specs.Walk.{walkOf, leftAfter, orElse, spotIf};
-ghost use Rattle.riff_chunks.specs.Walk.{noted as Walk·noted};
+ghost use Rattle.riff_chunks.specs.Chunks.{chunkAt};
+ghost use Rattle.riff_chunks.specs.Walk.{walkOf, leftAfter};
+
+mod spots;
+
+use spots::noted;
+use spots::unseen;
 use word_bytes::low_first_u32;
 
 pub struct Chunk {
@@ -49,26 +52,6 @@ fn behind_start(end: usize) -> usize
     if end < 12 { 0 } else { end - 12 }
 }
 
-fn unseen() -> Walked
-    ensures { λ r. ⌜ r ≡ record { overruns = false; fmt = nowhere; samples = nowhere } ⌝ }
-{
-    let fmt = Spot {
-        found: false,
-        body: 0,
-        size: 0,
-    };
-    let samples = Spot {
-        found: false,
-        body: 0,
-        size: 0,
-    };
-    Walked {
-        overruns: false,
-        fmt: fmt,
-        samples: samples,
-    }
-}
-
 fn chunk_at(file: &[u8], at: usize) -> Chunk
     requires { ⌜ at + 8 < 0x1_0000_0000_0000_0000 ⌝ }
     ensures { λ r. ⌜ r ≡ chunkAt bytesValue (now (file .entry)) at ⌝ }
@@ -94,43 +77,4 @@ fn left_after(c: Chunk, room: usize) -> usize
     }
     let rest = room - c.size;
     if rest == 0 { 0 } else { rest - c.size % 2 }
-}
-
-fn noted(seen: Walked, c: Chunk, over: bool) -> Walked
-    ensures { λ r. ⌜ r ≡ Walk·noted seen c over ⌝ }
-{
-    let fmt = first_of(seen.fmt, 0x2074_6d66, c);
-    let samples = first_of(seen.samples, 0x6174_6164, c);
-    Walked {
-        overruns: either(seen.overruns, over),
-        fmt: fmt,
-        samples: samples,
-    }
-}
-
-fn either(a: bool, b: bool) -> bool
-    ensures { λ r. ⌜ r ≡ a || b ⌝ }
-{
-    if a { true } else { b }
-}
-
-// The spot that was found before, else the chunk's where it is the one looked for.
-fn first_of(before: Spot, id: u32, c: Chunk) -> Spot
-    ensures { λ r. ⌜ r ≡ orElse before (spotIf id c) ⌝ }
-{
-    if before.found {
-        return before;
-    }
-    if c.id == id {
-        return Spot {
-            found: true,
-            body: c.body,
-            size: c.size,
-        };
-    }
-    Spot {
-        found: false,
-        body: 0,
-        size: 0,
-    }
 }

@@ -2,7 +2,6 @@
 ghost use mathlib.Core.Path.{_≡_};
 ghost use mathlib.Core.Bool.{_&&_, _||_};
 ghost use Rattle.wav.specs.Format.{listed, kindOf, wholeFrames, formatOk};
-ghost use Rattle.wav.specs.Format.{tag as Format·tag};
 use crate::SampleKind;
 use short_words::two;
 

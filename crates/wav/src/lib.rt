@@ -1,7 +1,5 @@
 // W1. RIFF WAVE, the published layout: the part of a file that holds samples and what they are, or a refusal by number.
 ghost use mathlib.Core.Path.{_≡_};
-ghost use mathlib.Core.Bool.{_&&_, _||_};
-ghost use lib.ListN.{take, drop};
 ghost use Rattle.wav.specs.Wave.{foundIn, partOf};
 
 mod format;

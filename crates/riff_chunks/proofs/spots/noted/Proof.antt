@@ -1,7 +1,7 @@
--- `riff_chunks::noted` meets its contract: what the calls ensure, put together. Assumes nothing.
+-- `riff_chunks::spots::noted` meets its contract: what the calls ensure, put together. Assumes nothing.
 use borrow.Author.Needs.{needs}
-use Rattle.riff_chunks.proofs.noted.Statement.{statement}
-use Rattle.riff_chunks.proofs.noted.Tie as tie
+use Rattle.riff_chunks.proofs.spots.noted.Statement.{statement}
+use Rattle.riff_chunks.proofs.spots.noted.Tie as tie
 
 returns : tie.Need-returns
 returns c = rw (c .before .before .first-of .ensures, c .before .first-of2 .ensures, c .either .ensures)

@@ -1,8 +1,8 @@
--- `riff_chunks::first_of` meets its contract, by its three cases. Assumes nothing.
+-- `riff_chunks::spots::first_of` meets its contract, by its three cases. Assumes nothing.
 use borrow.Author.Needs.{needs}
 use borrow.Author.Tests.{eq-eqb, ne-eqb}
-use Rattle.riff_chunks.proofs.first_of.Statement.{statement}
-use Rattle.riff_chunks.proofs.first_of.Tie as tie
+use Rattle.riff_chunks.proofs.spots.first_of.Statement.{statement}
+use Rattle.riff_chunks.proofs.spots.first_of.Tie as tie
 
 returns-2 : tie.Need-returns-2
 returns-2 c = simp (c .before .before .if1 .left, eq-eqb _ _ (c .if2 .taken))

@@ -1,0 +1,69 @@
+// W1. What was seen of the chunks: whether one ran past the end, and where the first `fmt ` and the first `data` stand.
+ghost use mathlib.Core.Path.{_≡_};
+ghost use mathlib.Core.Bool.{false, _||_};
+ghost use Rattle.riff_chunks.specs.Chunks.{nowhere};
+ghost use Rattle.riff_chunks.specs.Walk.{orElse, spotIf};
+ghost use Rattle.riff_chunks.specs.Walk.{noted as Walk·noted};
+use crate::Chunk;
+use crate::Spot;
+use crate::Walked;
+
+pub fn unseen() -> Walked
+    ensures { λ r. ⌜ r ≡ record { overruns = false; fmt = nowhere; samples = nowhere } ⌝ }
+{
+    let fmt = Spot {
+        found: false,
+        body: 0,
+        size: 0,
+    };
+    let samples = Spot {
+        found: false,
+        body: 0,
+        size: 0,
+    };
+    Walked {
+        overruns: false,
+        fmt: fmt,
+        samples: samples,
+    }
+}
+
+// One chunk more.
+pub fn noted(seen: Walked, c: Chunk, over: bool) -> Walked
+    ensures { λ r. ⌜ r ≡ Walk·noted seen c over ⌝ }
+{
+    let fmt = first_of(seen.fmt, 0x2074_6d66, c);
+    let samples = first_of(seen.samples, 0x6174_6164, c);
+    Walked {
+        overruns: either(seen.overruns, over),
+        fmt: fmt,
+        samples: samples,
+    }
+}
+
+fn either(a: bool, b: bool) -> bool
+    ensures { λ r. ⌜ r ≡ a || b ⌝ }
+{
+    if a { true } else { b }
+}
+
+// The spot that was found before, else the chunk's where it is the one looked for.
+fn first_of(before: Spot, id: u32, c: Chunk) -> Spot
+    ensures { λ r. ⌜ r ≡ orElse before (spotIf id c) ⌝ }
+{
+    if before.found {
+        return before;
+    }
+    if c.id == id {
+        return Spot {
+            found: true,
+            body: c.body,
+            size: c.size,
+        };
+    }
+    Spot {
+        found: false,
+        body: 0,
+        size: 0,
+    }
+}

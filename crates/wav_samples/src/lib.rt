@@ -1,0 +1,42 @@
+// W1. The samples of a WAVE file's part: one by its place, or one channel's, frame by frame, into a lent slice.
+ghost use mathlib.Core.Path.{_≡_};
+ghost use lib.Ieee.{binary32, binary64};
+ghost use Rattle.wav_samples.specs.Samples.{sampleOf};
+
+pub mod filling;
+
+use short_words::three;
+use short_words::two;
+use wav::SampleKind;
+use word_bytes::low_first_u32;
+
+// The sample whose first byte stands at a place of the part.
+pub fn sample(kind: SampleKind, part: &[u8], at: usize) -> f64
+    ensures { λ r. ⌜ r ≡ sampleOf binary64 kind (now (part .entry)) at ⌝ }
+{
+    match kind {
+        SampleKind::Pcm16 => whole_samples::pcm16(two(part, at)),
+        SampleKind::Pcm24 => whole_samples::pcm24(three(part, at)),
+        SampleKind::Float32 => widen(patterns::float_of_f32(low_first_u32(part, at))),
+    }
+}
+
+pub fn sample_f32(kind: SampleKind, part: &[u8], at: usize) -> f32
+    ensures { λ r. ⌜ r ≡ sampleOf binary32 kind (now (part .entry)) at ⌝ }
+{
+    match kind {
+        SampleKind::Pcm16 => whole_samples::pcm16_f32(two(part, at)),
+        SampleKind::Pcm24 => whole_samples::pcm24_f32(three(part, at)),
+        SampleKind::Float32 => patterns::float_of_f32(low_first_u32(part, at)),
+    }
+}
+
+// An f32 as an f64: the same number, or the NaN.
+fn widen(x: f32) -> f64
+    ensures { λ r. ⌜ r ≡ x ⌝ }
+{
+    if x != x {
+        return 0.0 / 0.0;
+    }
+    x as f64
+}
