@@ -3,7 +3,6 @@
 ghost use mathlib.Core.Path.{_≡_};
 ghost use Rattle.quality_codes.specs.Codes.{stateOf};
 ghost use Rattle.quality_codes.specs.Calls.{calledOf, ringCalled};
-use quality_codes::Coded;
 
 #[no_mangle]
 pub extern "C" fn fugnadri_quality_process<'a>(
@@ -30,7 +29,7 @@ pub extern "C" fn fugnadri_quality_process<'a>(
     ensures { λ r. ⌜ now («crossfade_position» .exit) ≡ (calledOf (now (sets .entry)) «max_rate» (stateOf maximum margin (now (accepted .entry)) (now (current .entry)) (now (target .entry)) (now («crossfade_position» .entry)) «crossfade_samples») (now (ring .entry)) input delay quality «max_rate») .state .place ⌝ }
     ensures { λ r. ⌜ now (ring .exit) ≡ ringCalled (now (sets .entry)) «max_rate» (stateOf maximum margin (now (accepted .entry)) (now (current .entry)) (now (target .entry)) (now («crossfade_position» .entry)) «crossfade_samples») (now (ring .entry)) input delay quality «max_rate» ⌝ }
 {
-    fugnadri_quality_process_rate_aware(
+    quality_codes::call_through(
         maximum,
         margin,
         accepted,
@@ -75,30 +74,21 @@ pub extern "C" fn fugnadri_quality_process_rate_aware<'a>(
     ensures { λ r. ⌜ now («crossfade_position» .exit) ≡ (calledOf (now (sets .entry)) «max_rate» (stateOf maximum margin (now (accepted .entry)) (now (current .entry)) (now (target .entry)) (now («crossfade_position» .entry)) «crossfade_samples») (now (ring .entry)) input delay quality «playback_rate») .state .place ⌝ }
     ensures { λ r. ⌜ now (ring .exit) ≡ ringCalled (now (sets .entry)) «max_rate» (stateOf maximum margin (now (accepted .entry)) (now (current .entry)) (now (target .entry)) (now («crossfade_position» .entry)) «crossfade_samples») (now (ring .entry)) input delay quality «playback_rate» ⌝ }
 {
-    let state = Coded {
-        maximum: maximum,
-        margin: margin,
-        accepted: *accepted,
-        current: *current,
-        target: *target,
-        place: *crossfade_position,
-        crossfade: crossfade_samples,
-    };
-    let c = quality_codes::call(
-        state,
-        &mut ring[..],
+    quality_codes::call_at_once(
+        maximum,
+        margin,
+        accepted,
+        current,
+        target,
+        crossfade_position,
+        crossfade_samples,
+        ring,
         sets,
         max_rate,
         input,
         delay,
         quality,
         playback_rate,
-    );
-    let after = c.state;
-    *accepted = after.accepted;
-    *current = after.current;
-    *target = after.target;
-    *crossfade_position = after.place;
-    *sample = c.sample;
-    c.number
+        sample,
+    )
 }

@@ -4,7 +4,7 @@ use Rattle.fugnadri_bank.proofs.quality.fugnadri_quality_process.Statem
 use Rattle.fugnadri_bank.proofs.quality.fugnadri_quality_process.Tie as tie
 
 returns : tie.Need-returns
-returns c = c .before .before .fugnadri-quality-process-rate-aware .ensures
+returns c = c .before .before .call-through .ensures
 
 pub fugnadri-quality-process-spec : {M : Type 1} → statement M
 fugnadri-quality-process-spec = tie.close (tie.spec (λ c κs. search needs) (λ c. search needs) returns)

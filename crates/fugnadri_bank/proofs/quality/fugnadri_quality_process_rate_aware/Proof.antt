@@ -1,13 +1,10 @@
--- `fugnadri_bank::quality::fugnadri_quality_process_rate_aware` meets its contract: what the call gives, part by part. Assumes nothing.
+-- `fugnadri_bank::quality::fugnadri_quality_process_rate_aware` meets its contract: it is the call. Assumes nothing.
 use borrow.Author.Needs.{needs}
-use mathlib.Core.Path.{sym, _∙_, ap}
 use Rattle.fugnadri_bank.proofs.quality.fugnadri_quality_process_rate_aware.Statement.{statement}
 use Rattle.fugnadri_bank.proofs.quality.fugnadri_quality_process_rate_aware.Tie as tie
 
 returns : tie.Need-returns
-returns c =
-    let e = c .before .before .before .call .ensures in
-    (ap (λ p. p .number) (e .0), (ap (λ p. p .sample) (e .0), (ap (λ p. p .state .accepted) (e .0), (ap (λ p. p .state .current) (e .0), (ap (λ p. p .state .target) (e .0), (ap (λ p. p .state .place) (e .0), e .1))))))
+returns c = c .before .before .call-at-once .ensures
 
 pub fugnadri-quality-process-rate-aware-spec : {M : Type 1} → statement M
-fugnadri-quality-process-rate-aware-spec = tie.close (tie.spec (λ c κs. tt) (λ c. search needs) returns)
+fugnadri-quality-process-rate-aware-spec = tie.close (tie.spec (λ c κs. search needs) (λ c. search needs) returns)

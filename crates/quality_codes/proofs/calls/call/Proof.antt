@@ -1,4 +1,4 @@
--- `quality_codes::call` meets its contract: by the test of the numbers: the reader's call, taken apart, or a refusal that leaves all. Assumes nothing.
+-- `quality_codes::calls::call` meets its contract: by the test of the numbers: the reader's call, taken apart, or a refusal that leaves all. Assumes nothing.
 use borrow.Author.Needs.{needs}
 use mathlib.Core.Path.{_≡_, sym, _∙_, ap}
 use mathlib.Core.Bool.{Bool, true, false, _&&_}
@@ -6,8 +6,8 @@ use lib.Ieee.{ofBits}
 use Rattle.quality_codes.specs.Codes.{codeOk, fieldsOk, oddNumber}
 use Rattle.quality_codes.specs.Calls.{takenApart, openedApart, refusedBy}
 use Rattle.quality_codes.proofs.Told.{served, not-served, ring-served, ring-not-served}
-use Rattle.quality_codes.proofs.call.Statement.{statement}
-use Rattle.quality_codes.proofs.call.Tie as tie
+use Rattle.quality_codes.proofs.calls.call.Statement.{statement}
+use Rattle.quality_codes.proofs.calls.call.Tie as tie
 
 returns : tie.Need-returns
 returns c =

@@ -1,6 +1,6 @@
--- `quality_codes::apart` meets its contract: its parts, one after the other. Assumes nothing.
-use Rattle.quality_codes.proofs.apart.Statement.{statement}
-use Rattle.quality_codes.proofs.apart.Tie as tie
+-- `quality_codes::calls::apart` meets its contract: its parts, one after the other. Assumes nothing.
+use Rattle.quality_codes.proofs.calls.apart.Statement.{statement}
+use Rattle.quality_codes.proofs.calls.apart.Tie as tie
 
 returns : tie.Need-returns
 returns c = rw (c .value-f32 .ensures, c .before .number-f32 .ensures, c .before .before .encode .ensures)

@@ -1,10 +1,10 @@
--- `quality_codes::opened_apart` meets its contract: by the two cases; the literal 0.0 is +0.0. Assumes nothing.
+-- `quality_codes::renewing::opened_apart` meets its contract: by the two cases; the literal 0.0 is +0.0. Assumes nothing.
 use borrow.Author.Needs.{needs}
 use mathlib.Core.Path.{sym, ap}
 use lib.Ieee.{ofBits}
 use Rattle.quality_codes.specs.Calls.{openedApart}
-use Rattle.quality_codes.proofs.opened_apart.Statement.{statement}
-use Rattle.quality_codes.proofs.opened_apart.Tie as tie
+use Rattle.quality_codes.proofs.renewing.opened_apart.Statement.{statement}
+use Rattle.quality_codes.proofs.renewing.opened_apart.Tie as tie
 
 returns : tie.Need-returns
 unfolding ofBits

@@ -1,0 +1,50 @@
+-- `quality_codes::draft::call_at_once` meets its contract: a call that is plain in Draft by the law of `Drafted`, any other by `call_through`. Assumes nothing.
+use borrow.Author.Needs.{needs}
+use mathlib.Core.Path.{_≡_, sym, _∙_, ap}
+use mathlib.Core.Bool.{true}
+use Prim.Native.Nat.{_-_, _%_, _^_, _<_}
+use native.Mathlib.Omega.{arith}
+use lib.Bits.{bitAnd}
+use lib.ListN.{length}
+use denote.Ref.{now}
+use Rattle.ring.specs.Places.{positionOk}
+use Rattle.variable_delay.specs.Reader.{positionOf}
+use Rattle.quality_variable_delay.specs.Bank.{dueOf}
+use Rattle.quality_codes.specs.Codes.{decoded, stateOf}
+use Rattle.quality_codes.proofs.Drafted.{ready, called, left}
+use Rattle.quality_codes.proofs.draft.call_at_once.Statement.{statement}
+use Rattle.quality_codes.proofs.draft.call_at_once.Tie as tie
+
+abbrev start : tie.Then1 → tie.Start
+start c = c .before .before .before .before .before .before .before .before
+
+-- the tests passed
+told : (c : tie.Then1) → let a = start c .args in
+    (now (a .current) ≡ 0) × (now (a .target) ≡ 0) × (a .quality ≡ 0) × (dueOf (length (now (a .sets))) (a .top) (decoded (stateOf (a .maximum) (a .margin) (now (a .accepted)) (now (a .current)) (now (a .target)) (now (a .place)) (a .crossfade))) (length (now (a .ring))) (a .input) (a .delay) (a .rate) ≡ 0)
+told c = c .before .plain .ensures (c .if1 .taken)
+
+asked : (c : tie.Then1) → let a = start c .args in
+    (now (a .accepted) < 2 ^ 36) × (0 < length (now (a .ring))) × (bitAnd (now (a .accepted)) (length (now (a .ring)) - 1) ≡ now (a .accepted) % length (now (a .ring))) × (positionOk (positionOf (now (a .accepted)) (a .delay)) ≡ true)
+asked c = let a = start c .args in ready (length (now (a .sets))) (a .top) (a .maximum) (a .margin) (now (a .accepted)) (now (a .current)) (now (a .target)) (now (a .place)) (a .crossfade) (length (now (a .ring))) (a .input) (a .delay) (a .rate) (told c .3)
+
+read-requires : tie.Need-read-requires
+read-requires c κs = asked (c .before)
+
+add-accepted : tie.Need-add-accepted
+add-accepted c = omega (arith, asked (c .before .before .before .before) .0)
+
+returns : tie.Need-returns
+returns c =
+    let r = c .before .before in
+    let t = r .before .before in
+    let a = start t .args in
+    let p = told t in
+    let e =
+    called (now (a .sets)) (a .top) (a .maximum) (a .margin) (now (a .accepted)) (now (a .current)) (now (a .target)) (now (a .place)) (a .crossfade) (now (a .ring)) (a .input) (a .delay) (a .quality) (a .rate) (p .0) (p .1) (p .2) (p .3) in
+    let l =
+    left (now (a .sets)) (a .top) (a .maximum) (a .margin) (now (a .accepted)) (now (a .current)) (now (a .target)) (now (a .place)) (a .crossfade) (now (a .ring)) (a .input) (a .delay) (a .quality) (a .rate) (p .0) (p .1) (p .2) (p .3) in
+    (ap (λ v. v .number) (sym e), (r .read .ensures .0 ∙ ap (λ v. v .sample) (sym e), (ap (λ v. v .state .accepted) (sym e), (ap (λ v. v .state .current) (sym e), (ap (λ v. v .state .target) (sym e), (ap (λ v. v .state .place) (sym e), r .read .ensures .1 ∙ sym l))))))
+
+pub call-at-once-spec : {M : Type 1} → statement M
+call-at-once-spec =
+    tie.close (tie.spec (λ c κs. search needs) read-requires add-accepted (λ c. search needs) returns (λ c κs. search needs) (λ c. search needs) (λ c. search needs))

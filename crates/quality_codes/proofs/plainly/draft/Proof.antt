@@ -1,0 +1,16 @@
+-- `quality_codes::plainly::draft` meets its contract: its tests, one after the other. Assumes nothing.
+use mathlib.Core.Bool.{false≢true}
+use borrow.Author.Tests.{leb-true}
+use Rattle.quality_codes.proofs.plainly.draft.Statement.{statement}
+use Rattle.quality_codes.proofs.plainly.draft.Tie as tie
+
+returns : tie.Need-returns
+returns c =
+    let asked = c .before in
+    let target = asked .before in
+    let current = target .before in
+    λ h. (current .if1 .taken, target .if2 .taken, asked .if3 .taken, c .if4 .taken, leb-true _ _ h)
+
+pub draft-spec : {M : Type 1} → statement M
+draft-spec =
+    tie.close (tie.spec returns (λ c h. absurd (false≢true h)) (λ c h. absurd (false≢true h)) (λ c h. absurd (false≢true h)) (λ c h. absurd (false≢true h)))

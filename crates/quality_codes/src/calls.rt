@@ -1,0 +1,61 @@
+// A quality reader's call on plain numbers.
+ghost use mathlib.Core.Path.{_≡_};
+ghost use Rattle.quality_codes.specs.Calls.{takenApart, calledOf, ringCalled};
+use super::Called;
+use super::Coded;
+use super::codes::both;
+use super::codes::decode;
+use super::codes::encode;
+use super::codes::fields_ok;
+use super::codes::mode;
+use super::odd;
+use quality_variable_delay::ProcessedQ;
+
+fn apart(p: ProcessedQ) -> Called
+    ensures { λ r. ⌜ r ≡ takenApart p ⌝ }
+{
+    let d = p.state;
+    let a = p.answer;
+    Called {
+        state: encode(d),
+        number: doors::number_f32(a),
+        sample: doors::value_f32(a),
+    }
+}
+
+pub fn call<'a>(
+    state: Coded,
+    ring: &mut [f32],
+    sets: &'a [f32],
+    top: f64,
+    input: f32,
+    delay: f64,
+    quality: u8,
+    rate: f64,
+) -> Called
+    ensures { λ r. ⌜ r ≡ calledOf (now (sets .entry)) top state (now (ring .entry)) input delay quality rate ⌝ }
+    ensures { λ r. ⌜ now (ring .exit) ≡ ringCalled (now (sets .entry)) top state (now (ring .entry)) input delay quality rate ⌝ }
+{
+    let d = decode(state);
+    let asked = quality <= 3;
+    if both(asked, fields_ok(state)) {
+        let q = mode(quality);
+        let p = quality_variable_delay::process_sample_rate_aware(
+            d,
+            &mut ring[..],
+            sets,
+            top,
+            input,
+            delay,
+            q,
+            rate,
+        );
+        return apart(p);
+    }
+    let v = quality_variable_delay::due(d, sets.len(), top, ring.len(), input, delay, rate);
+    Called {
+        state: state,
+        number: odd(asked, v),
+        sample: 0.0,
+    }
+}
