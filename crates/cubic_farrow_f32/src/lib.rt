@@ -6,20 +6,23 @@ ghost use lib.IntN.{pos, _+ℤ_, _-ℤ_};
 ghost use lib.ListN.{length, getD};
 ghost use lib.Signed.{mag};
 ghost use lib.Ieee.{binary32, nan};
+ghost use Rattle.magnitude.specs.Bounds.{AtMost};
+ghost use Rattle.rounding.specs.Operations.{narrowed};
 ghost use Rattle.ring.specs.Taps.{tapOf};
 ghost use Rattle.ring.specs.Places.{positionOk};
 ghost use Rattle.cubic_farrow.specs.Cubic.{weighed};
 ghost use Rattle.cubic_farrow_f32.specs.Draft.{draftAt, readOf};
 
-// Lagrange basis for nodes -1, 0, 1, 2, every step rounded to f32.
+// Lagrange basis for nodes -1, 0, 1, 2, every step rounded to f32. As cubic_farrow's: the signs of c0 and c2 stand outside, where they are exact.
 fn weigh(mu: f32, xm1: f32, x0: f32, x1: f32, x2: f32) -> f32
     ensures { λ r. ⌜ r ≡ weighed binary32 mu xm1 x0 x1 x2 ⌝ }
 {
-    let c0 = -mu * (mu - 1.0) * (mu - 2.0) / 6.0;
+    let middle = (mu + 1.0) * mu;
+    let c0 = mu * (mu - 1.0) * (mu - 2.0) / 6.0;
     let c1 = (mu + 1.0) * (mu - 1.0) * (mu - 2.0) / 2.0;
-    let c2 = -(mu + 1.0) * mu * (mu - 2.0) / 2.0;
-    let c3 = (mu + 1.0) * mu * (mu - 1.0) / 6.0;
-    xm1 * c0 + x0 * c1 + x1 * c2 + x2 * c3
+    let c2 = middle * (mu - 2.0) / 2.0;
+    let c3 = middle * (mu - 1.0) / 6.0;
+    -(xm1 * c0) + x0 * c1 - x1 * c2 + x2 * c3
 }
 
 // The four taps from a place on, side by side.
@@ -42,30 +45,45 @@ fn one_by_one(source: &[f32], count: u64, i: i64, mu: f32) -> f32
     weigh(mu, xm1, x0, x1, x2)
 }
 
-// The reading at a position in range. Where the four taps are held side by side they are read without a test each.
+// A number as the nearest f32. A fraction is most often a normal f32: its digits are rounded in the pattern, as narrowing does, and no sign is joined.
+fn single(x: f64) -> f32
+    requires { ⌜ AtMost 1 x ⌝ }
+    ensures { λ r. ⌜ r ≡ narrowed x ⌝ }
+{
+    let b: u64 = f64::to_bits(x);
+    if b >= 0x3810_0000_0000_0000 {
+        if b < 0x47f0_0000_0000_0000 {
+            let r = (b - 0x3800_0000_0000_0000 + (0x0fff_ffff + ((b >> 29) & 1))) >> 29;
+            return f32::from_bits(r as u32);
+        }
+    }
+    narrowing::narrow(x)
+}
+
+// The reading at a position in range.
 fn at(source: &[f32], count: u64, position: f64) -> f32
     requires { ⌜ positionOk position ≡ true ⌝ }
     ensures { λ r. ⌜ r ≡ draftAt (now (source .entry)) count position ⌝ }
 {
     let i = integer_part::floor(position);
     let mu = narrowing::narrow(position - (i as f64));
-    let s = ring::run_start(source.len(), count, i - 1, 4);
-    let p = s.place;
-    if s.held {
-        if p + 4 <= source.len() {
-            return side_by_side(source, p, mu);
-        }
-    }
     one_by_one(source, count, i, mu)
 }
 
-// The reading at a position; zero outside the positions' range.
+// The reading at a position; zero outside the positions' range. Where the four taps are held side by side they are read without a test each.
 pub fn read(source: &[f32], count: u64, position: f64) -> f32
     ensures { λ r. ⌜ r ≡ readOf (now (source .entry)) count position ⌝ }
 {
     if ring::position_ok(position) {
-        at(source, count, position)
-    } else {
-        0.0
+        let first = integer_part::floor(position) - 1;
+        let s = ring::run_start(source.len(), count, first, 4);
+        let p = s.place;
+        if s.held {
+            if p + 4 <= source.len() {
+                return side_by_side(source, p, single(integer_part::fraction(position)));
+            }
+        }
+        return at(source, count, position);
     }
+    0.0
 }

@@ -1,25 +1,18 @@
--- `cubic_farrow_f32::at` meets its contract: each way is the definition's, by `Ways`, and the indices fit since a position in range has a small integer part.
--- Assumes nothing.
+-- `cubic_farrow_f32::at` meets its contract by `Ways`: a position in range has a small integer part. Assumes nothing.
 use borrow.Author.Needs.{needs}
 use mathlib.Core.Path.{_≡_, _∙_}
-use Prim.Native.Nat.{_^_, _<_, _≤_}
+use Prim.Native.Nat.{_^_, _≤_}
 use native.Mathlib.Nat.{le-trans}
-use native.Mathlib.Omega.{arith}
 use lib.Dec.{lit<, lit≤}
-use lib.IntN.{ℤ, pos, negsuc, _-ℤ_}
-use lib.ListN.{length}
+use lib.IntN.{ℤ}
 use lib.Signed.{mag}
 use mir.Syntax.{w64}
 use mir.Val.{toZ, ofZ}
 use mir.ValLaws.{toZ-ofZ}
-use denote.Ref.{now}
 use Rattle.integer_part.specs.Parts.{floorOf}
 use Rattle.integer_part.proofs.Floors.{floor-mag}
 use Rattle.integer_part.proofs.Step.{in-float}
-use Rattle.integer_part.proofs.Signed.{sum-fits}
-use Rattle.ring.specs.Places.{startOf}
 use Rattle.ring.proofs.Positions.{position-at-most}
-use Rattle.ring.proofs.Run.{inside}
 use Rattle.cubic_farrow_f32.proofs.Ways as ways
 use Rattle.cubic_farrow_f32.proofs.at.Statement.{statement}
 use Rattle.cubic_farrow_f32.proofs.at.Tie as tie
@@ -37,34 +30,14 @@ small c = rw (whole c) (floor-mag (2 ^ 36) _ (lit< tt) (position-at-most _ (c .b
 int-to-float-narrow : tie.Need-int-to-float-narrow
 int-to-float-narrow c = in-float (Z (c .before)) (le-trans (small (c .before)) (lit≤ tt))
 
-sub-run-start : tie.Need-sub-run-start
-sub-run-start c = sum-fits (Z (c .before .before)) (negsuc 0) (omega (arith, small (c .before .before)))
-
--- where the run starts
-start : (c : tie.After-run-start) → let a = c .before .before .before .before .before .args in c .run-start .result ≡ startOf (length (now (a .source))) (a .count) (Z (c .before .before .before) -ℤ pos 1) 4
-start c = rw (toZ-ofZ w64 _ (sub-run-start (c .before))) at (c .run-start .ensures)
-
-add-if2 : tie.Need-add-if2
-add-if2 c =
-    let r = c .before in
-    let a = r .before .before .before .before .before .args in
-    omega (arith, inside (now (a .source)) (a .count) 4 (Z (r .before .before .before) -ℤ pos 1) (r .run-start .result) (start r) (c .if1 .taken) (lit< tt))
+one-by-one-requires : tie.Need-one-by-one-requires
+one-by-one-requires c κs = small (c .before .before)
 
 returns : tie.Need-returns
 returns c =
-    let r = c .before .before .before in
-    let n = r .before in
-    let z = n .before .before in
-    ways.side-by-side _ _ _ (Z z) (whole z) (n .narrow .result) (n .narrow .ensures) (r .run-start .result) (start r) (c .before .before .if1 .taken) (c .before .if2 .taken) (c .side-by-side .ensures)
-
-one-by-one-requires : tie.Need-one-by-one-requires
-one-by-one-requires c κs = small (c .before .before .before .before)
-
-returns-2 : tie.Need-returns-2
-returns-2 c =
-    let n = c .before .before .before in
+    let n = c .before in
     let z = n .before .before in
     ways.one-by-one _ _ _ (Z z) (whole z) (n .narrow .result) (n .narrow .ensures) (c .one-by-one .ensures)
 
 pub at-spec : {M : Type 1} → statement M
-at-spec = tie.close (tie.spec (λ c κs. search needs) int-to-float-narrow (λ c κs. search needs) sub-run-start (λ c κs. search needs) add-if2 (λ c κs. search needs) returns one-by-one-requires returns-2)
+at-spec = tie.close (tie.spec (λ c κs. search needs) int-to-float-narrow (λ c κs. search needs) one-by-one-requires returns)
