@@ -1,8 +1,8 @@
-//! Finds the five static libraries: in the folder that FUGNADRI_LIB names (a whole path), or in ../target/staticlib.
+//! Finds the static libraries: in the folder that FUGNADRI_LIB names (a whole path), or in ../target/staticlib.
 
 use std::{env, path::PathBuf, process::exit};
 
-const LIBRARIES: [&str; 5] = ["fugnadri_bank", "fugnadri_tables", "fugnadri_wander", "fugnadri_numbers", "fugnadri"];
+const LIBRARIES: [&str; 7] = ["fugnadri_wav", "fugnadri_residual", "fugnadri_bank", "fugnadri_tables", "fugnadri_wander", "fugnadri_numbers", "fugnadri"];
 
 fn main() {
     println!("cargo:rerun-if-env-changed=FUGNADRI_LIB");

@@ -1,6 +1,7 @@
 /* fugnadri.h: every function that Fugnadri's static libraries export, for C.
  *
- * Libraries (x86-64, System V calls): libfugnadri.a, libfugnadri_wander.a, libfugnadri_numbers.a, libfugnadri_tables.a, libfugnadri_bank.a;
+ * Libraries (x86-64, System V calls): libfugnadri.a, libfugnadri_wander.a, libfugnadri_numbers.a, libfugnadri_tables.a, libfugnadri_bank.a,
+ * libfugnadri_wav.a, libfugnadri_residual.a;
  * `rt staticlib NAME` makes each. They want `memset` and nothing else of a C library, allocate nothing, keep nothing between calls and may be called by
  * any thread that owns what it lends.
  *
@@ -182,6 +183,25 @@ uint8_t fugnadri_quality_reset(size_t maximum, size_t margin, uint64_t *accepted
  * forgets the quality that it asked for. */
 uint8_t fugnadri_quality_process(size_t maximum, size_t margin, uint64_t *accepted, uint8_t *current, uint8_t *target, uint32_t *crossfade_position, uint32_t crossfade_samples, float *ring, size_t ring_len, const float *sets, size_t sets_len, double max_rate, float input, double delay, uint8_t quality, float *sample);
 uint8_t fugnadri_quality_process_rate_aware(size_t maximum, size_t margin, uint64_t *accepted, uint8_t *current, uint8_t *target, uint32_t *crossfade_position, uint32_t crossfade_samples, float *ring, size_t ring_len, const float *sets, size_t sets_len, double max_rate, float input, double delay, uint8_t quality, double playback_rate, float *sample);
+
+/* ---- libfugnadri_wav.a: RIFF WAVE files ----------------------------------------------------------------------------------------------------
+ *
+ * A file that lies in memory: `*start` and `*length` are the bytes of its first `data`, `*kind` is 0 for PCM of 16 bits, 1 for PCM of 24, 2 for IEEE
+ * float of 32; zeros where it is refused, by 9 not RIFF WAVE or a RIFF size under 4, 10 a chunk runs past the end, 11 no `fmt ` before the first
+ * `data`, 12 no `data`, 13 another kind, or sizes that do not agree. */
+uint8_t fugnadri_wav_read(const uint8_t *file, size_t file_len, uint8_t *kind, uint8_t *channels, uint32_t *rate, size_t *start, size_t *length);
+
+/* One channel, counted from 0, of a part: PCM as whole multiples of 2^-15 or 2^-23, float as it is. `out` has an element for each frame. Refused by 1
+ * (kind, channels, channel) or 2 (broken frames, or another number of them), and then nothing is written. */
+uint8_t fugnadri_wav_samples(uint8_t kind, uint8_t channels, uint8_t channel, const uint8_t *part, size_t part_len, double *out, size_t out_len);
+uint8_t fugnadri_wav_samples_f32(uint8_t kind, uint8_t channels, uint8_t channel, const uint8_t *part, size_t part_len, float *out, size_t out_len);
+
+/* ---- libfugnadri_residual.a: the residual in whole numbers ---------------------------------------------------------------------------------
+ *
+ * A report: how many samples were compared, the largest absolute difference, whether it has a place (0 or 1) and the place where it stands first,
+ * and the sum of the squared differences as high * 2^64 + low. Start with six zeros; hand the six on as the last call left them. Refused by 1 (a
+ * value outside 24 bits), 2 (unequal lengths), 3 (the report) or 8 (past 2^36 samples), and then the six are as they were. */
+uint8_t fugnadri_residual_compare(uint64_t *number, uint32_t *largest, uint8_t *placed, uint64_t *place, uint64_t *high, uint64_t *low, const int32_t *a, size_t a_len, const int32_t *b, size_t b_len);
 
 #ifdef __cplusplus
 }

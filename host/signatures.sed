@@ -8,6 +8,7 @@ s/\([a-z0-9_]*\): \([a-z0-9]*\)/\2 \1/g
 s/\bu8\b/uint8_t/g
 s/\bu32\b/uint32_t/g
 s/\bu64\b/uint64_t/g
+s/\bi32\b/int32_t/g
 s/\bi64\b/int64_t/g
 s/\busize\b/size_t/g
 s/\bf32\b/float/g

@@ -10,9 +10,15 @@ pub use bank::*;
 #[path = "boundary/readers.rs"]
 mod readers;
 pub use readers::*;
+#[path = "boundary/residual.rs"]
+mod residual;
+pub use residual::*;
 #[path = "boundary/tables.rs"]
 mod tables;
 pub use tables::*;
+#[path = "boundary/wav.rs"]
+mod wav;
+pub use wav::*;
 
 /// Declares functions over numbers, and wraps each under its name without the prefix.
 macro_rules! numbers {

@@ -15,6 +15,7 @@ mod hostile {
     pub mod outside;
     pub mod pool;
     pub mod readers;
+    pub mod residual;
     pub mod shapes;
     pub mod tables;
     pub mod tally;
@@ -22,16 +23,17 @@ mod hostile {
     pub mod value;
     pub mod wander;
     pub mod watch;
+    pub mod wav;
 }
 
-use hostile::{bank, numbers, outside, pool::Memory, readers, tables, tally::Tally, turn::Turn, wander, watch};
+use hostile::{bank, numbers, outside, pool::Memory, readers, residual, tables, tally::Tally, turn::Turn, wander, watch, wav};
 use std::time::{Duration, Instant};
 
 /// An export, and one hostile call of it, which gives the number that it answered: 0 for none, and where there is none.
 pub type Export = (&'static str, fn(&mut Turn) -> u8);
 
 fn exports() -> Vec<Export> {
-    [numbers::EXPORTS, outside::EXPORTS, wander::EXPORTS, readers::EXPORTS, tables::EXPORTS, bank::EXPORTS].concat()
+    [numbers::EXPORTS, outside::EXPORTS, wander::EXPORTS, readers::EXPORTS, tables::EXPORTS, bank::EXPORTS, wav::EXPORTS, residual::EXPORTS].concat()
 }
 
 #[no_mangle]

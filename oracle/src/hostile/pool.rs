@@ -13,6 +13,8 @@ pub struct Memory {
     pub sets: Region,
     pub doubles: &'static [f64],
     pub floats: &'static [f32],
+    pub wholes: &'static [i32],
+    pub bytes: &'static [u8],
 }
 
 /// The floats of a set.
@@ -28,6 +30,8 @@ impl Memory {
         let doubles: Vec<f64> = (0..POOL).map(|k| if k < POOL / 2 { random.seldom_odd() } else { random.float() }).collect();
         let floats: Vec<f32> = (0..POOL).map(|k| if k < POOL / 2 { random.seldom_odd() as f32 } else { random.float32() }).collect();
         let (doubles, floats) = (doubles.leak(), floats.leak());
+        let wholes: Vec<i32> = floats.iter().map(|x| x.to_bits() as i32).collect();
+        let bytes: Vec<u8> = doubles.iter().flat_map(|x| x.to_bits().to_le_bytes()).collect();
         Memory {
             ring: Region::new(8 << 24),
             table: Region::new(8 * 4097 * 128),
@@ -36,6 +40,8 @@ impl Memory {
             sets: Region::new(4 * (SETS * SET + 1)).only_read(&floats[..POOL / 2]),
             doubles,
             floats,
+            wholes: wholes.leak(),
+            bytes: bytes.leak(),
         }
     }
 }
