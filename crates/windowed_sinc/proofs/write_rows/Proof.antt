@@ -37,7 +37,7 @@ abbrev begun : tie.In-loop Inv-loop μ-loop → tie.Start Inv-loop μ-loop
 begun c = c .before .before .before .before
 
 inside : (c : tie.In-loop Inv-loop μ-loop) → let s = begun c .args .settings in c .before .loop .phase * s .taps + s .taps ≤ length (now (begun c .args .table))
-inside c = row-inside (lent (begun c)) _ (c .loop-test .taken)
+inside c = row-inside (lent (begun c)) _ (omega (arith, c .loop-test .taken))
 
 loop-again : tie.Need-loop-again Inv-loop μ-loop
 loop-again c =
@@ -48,7 +48,7 @@ loop-again c =
     let p = l .loop .phase in
     let w = length-lent (row s) (s .taps) (s .phases + 1) (l .loop .table) p (l .loop .inv) (omega (arith, i .loop-test .taken)) in
     filled-more (row s) (s .taps) (s .phases + 1) (l .loop .table) p (l .loop .inv) (omega (arith, i .loop-test .taken)) _
-    (c .before .before .write-row .ensures ∙ row-lent s (now (b .args .window)) (lentRow (s .taps) (l .loop .table) p) p (lent b .settings) (b .pre .1) (i .loop-test .taken) w)
+    (c .before .before .write-row .ensures ∙ row-lent s (now (b .args .window)) (lentRow (s .taps) (l .loop .table) p) p (lent b .settings) (b .pre .1) (omega (arith, i .loop-test .taken)) w)
     (length-row s (windowOf s) p)
 
 returns : tie.Need-returns Inv-loop μ-loop

@@ -38,14 +38,14 @@ abbrev begun : tie.In-loop Inv-loop μ-loop → tie.Start Inv-loop μ-loop
 begun c = c .before .before .before .before
 
 inside : (c : tie.In-loop Inv-loop μ-loop) → let s = begun c .args .settings in c .before .loop .phase * s .taps + s .taps ≤ length (now (begun c .args .table))
-inside c = row-inside (lent (begun c)) _ (c .loop-test .taken)
+inside c = row-inside (lent (begun c)) _ (omega (arith, c .loop-test .taken))
 
 write-row-requires : tie.Need-write-row-requires Inv-loop μ-loop
 write-row-requires c κs =
     let i = c .before in
     let b = begun i in
     let l = i .before .loop in
-    (lent b .settings, b .pre .1, i .loop-test .taken, length-lent _ _ _ (l .table) (l .phase) (l .inv) (omega (arith, i .loop-test .taken)))
+    (lent b .settings, b .pre .1, omega (arith, i .loop-test .taken), length-lent _ _ _ (l .table) (l .phase) (l .inv) (omega (arith, i .loop-test .taken)))
 
 loop-again : tie.Need-loop-again Inv-loop μ-loop
 loop-again c =
