@@ -11,8 +11,8 @@ use lib.ListN.{length, take, length-set}
 use lib.Seq.{take-length}
 use Rattle.word_bytes.specs.Bytes.{lowBytes}
 use Rattle.word_bytes.proofs.Rows.{byte-written}
-use Rattle.word_bytes.proofs.write_bytes.Statement.{statement}
-use Rattle.word_bytes.proofs.write_bytes.Tie as tie
+use Rattle.word_bytes.proofs.as_bytes.write_bytes.Statement.{statement}
+use Rattle.word_bytes.proofs.as_bytes.write_bytes.Tie as tie
 
 abbrev Inv-loop : tie.InvT-loop
 Inv-loop n out₀ v₀ i₀ out v i =
@@ -23,15 +23,6 @@ abbrev μ-loop : tie.MeasureT-loop
 
 loop-holds : tie.Need-loop-holds Inv-loop μ-loop
 loop-holds c = (search needs, search needs, rw sub-zero)
-
-cast-out : tie.Need-cast-out Inv-loop μ-loop
-cast-out c = search needs
-
-slice-write-out : tie.Need-slice-write-out Inv-loop μ-loop
-slice-write-out c = search needs
-
-add-i : tie.Need-add-i Inv-loop μ-loop
-add-i c = search needs
 
 loop-less : tie.Need-loop-less Inv-loop μ-loop
 loop-less c = simp length-set (omega arith)
@@ -45,9 +36,6 @@ loop-again c =
       simp (length-set, add-one) (rw (← byte-written (l .out) (l .i) (length (l .out) - suc (l .i)) (l .v) (omega arith), ← e) (l .inv .2)),
     )
 
-same-length : tie.Need-same-length Inv-loop μ-loop
-same-length c = search needs
-
 returns : tie.Need-returns Inv-loop μ-loop
 unfolding lowBytes
 returns c =
@@ -57,15 +45,4 @@ returns c =
 
 pub write-bytes-spec : {M : Type 1} → statement M
 write-bytes-spec =
-    tie.close
-    (tie.spec
-    Inv-loop
-    μ-loop
-    loop-holds
-    cast-out
-    slice-write-out
-    add-i
-    loop-less
-    loop-again
-    same-length
-    returns)
+    tie.close (tie.spec Inv-loop μ-loop loop-holds (λ c. search needs) (λ c. search needs) (λ c. search needs) loop-less loop-again (λ c. search needs) returns)

@@ -1,8 +1,8 @@
 -- `word_bytes::glyph` meets its contract: the code's test is the definition's. Assumes nothing.
 use borrow.Author.Needs.{needs}
 use borrow.Author.Tests.{lt-ltb, le-ltb}
-use Rattle.word_bytes.proofs.glyph.Statement.{statement}
-use Rattle.word_bytes.proofs.glyph.Tie as tie
+use Rattle.word_bytes.proofs.as_text.glyph.Statement.{statement}
+use Rattle.word_bytes.proofs.as_text.glyph.Tie as tie
 
 returns : tie.Need-returns
 returns c = simp (lt-ltb _ _ (c .if1 .taken))

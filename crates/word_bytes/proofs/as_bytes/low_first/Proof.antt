@@ -3,8 +3,8 @@ use borrow.Author.Needs.{needs}
 use mathlib.Core.Path.{_∙_, ap}
 use native.Mathlib.Omega.{arith}
 use Rattle.word_bytes.specs.Bytes.{bytesValue}
-use Rattle.word_bytes.proofs.low_first.Statement.{statement}
-use Rattle.word_bytes.proofs.low_first.Tie as tie
+use Rattle.word_bytes.proofs.as_bytes.low_first.Statement.{statement}
+use Rattle.word_bytes.proofs.as_bytes.low_first.Tie as tie
 
 read-bytes-requires : tie.Need-read-bytes-requires
 read-bytes-requires c κs = omega arith

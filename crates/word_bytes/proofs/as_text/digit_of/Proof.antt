@@ -2,8 +2,8 @@
 use borrow.Author.Needs.{needs}
 use borrow.Author.Tests.{lt-ltb, le-ltb}
 use native.Mathlib.Omega.{arith}
-use Rattle.word_bytes.proofs.digit_of.Statement.{statement}
-use Rattle.word_bytes.proofs.digit_of.Tie as tie
+use Rattle.word_bytes.proofs.as_text.digit_of.Statement.{statement}
+use Rattle.word_bytes.proofs.as_text.digit_of.Tie as tie
 
 returns : tie.Need-returns
 returns c = (simp (lt-ltb _ _ (c .if1 .taken)), omega arith)

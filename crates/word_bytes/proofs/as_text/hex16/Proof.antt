@@ -8,8 +8,8 @@ use native.Mathlib.Omega.{arith}
 use lib.ListN.{length, drop, length-set}
 use Rattle.word_bytes.specs.Hex.{hexDigits}
 use Rattle.word_bytes.proofs.Rows.{hex-written}
-use Rattle.word_bytes.proofs.hex16.Statement.{statement}
-use Rattle.word_bytes.proofs.hex16.Tie as tie
+use Rattle.word_bytes.proofs.as_text.hex16.Statement.{statement}
+use Rattle.word_bytes.proofs.as_text.hex16.Tie as tie
 
 abbrev Inv-loop : tie.InvT-loop
 Inv-loop n out₀ v₀ k₀ out v k = (length out ≡ 16) × (k ≤ 16) × (hexDigits 16 n ≡ hexDigits k v ++ drop k out)
@@ -19,18 +19,6 @@ abbrev μ-loop : tie.MeasureT-loop
 
 loop-holds : tie.Need-loop-holds Inv-loop μ-loop
 loop-holds c = (search needs, search needs, rw append-nil)
-
-sub-k : tie.Need-sub-k Inv-loop μ-loop
-sub-k c = search needs
-
-glyph-requires : tie.Need-glyph-requires Inv-loop μ-loop
-glyph-requires c κs = search needs
-
-array-write-out : tie.Need-array-write-out Inv-loop μ-loop
-array-write-out c = search needs
-
-loop-less : tie.Need-loop-less Inv-loop μ-loop
-loop-less c = search needs
 
 loop-again : tie.Need-loop-again Inv-loop μ-loop
 loop-again c =
@@ -47,14 +35,4 @@ returns c =
 
 pub hex16-spec : {M : Type 1} → statement M
 hex16-spec =
-    tie.close
-    (tie.spec
-    Inv-loop
-    μ-loop
-    loop-holds
-    sub-k
-    glyph-requires
-    array-write-out
-    loop-less
-    loop-again
-    returns)
+    tie.close (tie.spec Inv-loop μ-loop loop-holds (λ c. search needs) (λ c κs. search needs) (λ c. search needs) (λ c. search needs) loop-again returns)

@@ -10,8 +10,8 @@ use lib.ListN.{length, drop}
 use lib.Seq.{drop-length}
 use Rattle.word_bytes.specs.Hex.{hexValue}
 use Rattle.word_bytes.proofs.Rows.{one-more, within, hex-read}
-use Rattle.word_bytes.proofs.read_hex.Statement.{statement}
-use Rattle.word_bytes.proofs.read_hex.Tie as tie
+use Rattle.word_bytes.proofs.as_text.read_hex.Statement.{statement}
+use Rattle.word_bytes.proofs.as_text.read_hex.Tie as tie
 
 abbrev Inv-loop : tie.InvT-loop
 Inv-loop s v₀ i₀ v i = (i ≤ length s) × (v < 16 ^ i) × (hexValue 0 s ≡ hexValue v (drop i s))
@@ -19,31 +19,16 @@ Inv-loop s v₀ i₀ v i = (i ≤ length s) × (v < 16 ^ i) × (hexValue 0 s ≡
 abbrev μ-loop : tie.MeasureT-loop
 μ-loop s v₀ i₀ v i = length s - i
 
-loop-holds : tie.Need-loop-holds Inv-loop μ-loop
-loop-holds c = search needs
-
 mul-v : tie.Need-mul-v Inv-loop μ-loop
 mul-v c =
     let h : c .before .loop .v < 16 ^ 15 = within 16 15 (c .before .loop .inv .1) (omega arith) (lit≤ tt) in
     omega arith
-
-shared-slice-read-digit-of : tie.Need-shared-slice-read-digit-of Inv-loop μ-loop
-shared-slice-read-digit-of c = search needs
-
-digit-of-requires : tie.Need-digit-of-requires Inv-loop μ-loop
-digit-of-requires c κs = search needs
 
 add-v : tie.Need-add-v Inv-loop μ-loop
 add-v c =
     let l = c .before .before .before .loop in
     let h : l .v < 16 ^ 15 = within 16 15 (l .inv .1) (omega arith) (lit≤ tt) in
     omega arith
-
-add-i : tie.Need-add-i Inv-loop μ-loop
-add-i c = search needs
-
-loop-less : tie.Need-loop-less Inv-loop μ-loop
-loop-less c = search needs
 
 loop-again : tie.Need-loop-again Inv-loop μ-loop
 loop-again c =
@@ -61,16 +46,4 @@ returns c =
 
 pub read-hex-spec : {M : Type 1} → statement M
 read-hex-spec =
-    tie.close
-    (tie.spec
-    Inv-loop
-    μ-loop
-    loop-holds
-    mul-v
-    shared-slice-read-digit-of
-    digit-of-requires
-    add-v
-    add-i
-    loop-less
-    loop-again
-    returns)
+    tie.close (tie.spec Inv-loop μ-loop (λ c. search needs) mul-v (λ c. search needs) (λ c κs. search needs) add-v (λ c. search needs) (λ c. search needs) loop-again returns)

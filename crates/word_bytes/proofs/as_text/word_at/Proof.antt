@@ -2,8 +2,8 @@
 use borrow.Author.Needs.{needs}
 use mathlib.Core.Path.{_∙_, ap}
 use Rattle.word_bytes.specs.Hex.{hexValue}
-use Rattle.word_bytes.proofs.word_at.Statement.{statement}
-use Rattle.word_bytes.proofs.word_at.Tie as tie
+use Rattle.word_bytes.proofs.as_text.word_at.Statement.{statement}
+use Rattle.word_bytes.proofs.as_text.word_at.Tie as tie
 
 returns : tie.Need-returns
 returns c = c .read-hex .ensures ∙ ap (hexValue 0) (c .before .part .ensures .0)

@@ -6,8 +6,8 @@ use native.Mathlib.Omega.{arith}
 use lib.Dec.{lit≤}
 use Rattle.word_bytes.specs.Bytes.{bytesValue}
 use Rattle.word_bytes.proofs.Rows.{within}
-use Rattle.word_bytes.proofs.low_first_u32.Statement.{statement}
-use Rattle.word_bytes.proofs.low_first_u32.Tie as tie
+use Rattle.word_bytes.proofs.as_bytes.low_first_u32.Statement.{statement}
+use Rattle.word_bytes.proofs.as_bytes.low_first_u32.Tie as tie
 
 read-bytes-requires : tie.Need-read-bytes-requires
 read-bytes-requires c κs = omega arith

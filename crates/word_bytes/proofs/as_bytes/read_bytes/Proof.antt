@@ -9,8 +9,8 @@ use lib.ListN.{length, drop}
 use lib.Seq.{drop-length}
 use Rattle.word_bytes.specs.Bytes.{bytesValue}
 use Rattle.word_bytes.proofs.Rows.{one-more, within, byte-read}
-use Rattle.word_bytes.proofs.read_bytes.Statement.{statement}
-use Rattle.word_bytes.proofs.read_bytes.Tie as tie
+use Rattle.word_bytes.proofs.as_bytes.read_bytes.Statement.{statement}
+use Rattle.word_bytes.proofs.as_bytes.read_bytes.Tie as tie
 
 abbrev Inv-loop : tie.InvT-loop
 Inv-loop s v₀ k₀ v k = (k ≤ length s) × (v < 256 ^ (length s - k)) × (v ≡ bytesValue (drop k s))
@@ -22,28 +22,16 @@ loop-holds : tie.Need-loop-holds Inv-loop μ-loop
 unfolding bytesValue
 loop-holds c = (omega arith, rw sub-self (lit≤ tt), sym (ap bytesValue (drop-length (c .before .args .s .now))))
 
-sub-k : tie.Need-sub-k Inv-loop μ-loop
-sub-k c = search needs
-
 mul-v : tie.Need-mul-v Inv-loop μ-loop
 mul-v c =
     let h : c .before .loop .v < 256 ^ 7 = within 256 7 (c .before .loop .inv .1) (omega arith) (lit≤ tt) in
     omega arith
-
-shared-slice-read-wide : tie.Need-shared-slice-read-wide Inv-loop μ-loop
-shared-slice-read-wide c = search needs
-
-wide-requires : tie.Need-wide-requires Inv-loop μ-loop
-wide-requires c κs = search needs
 
 add-v : tie.Need-add-v Inv-loop μ-loop
 add-v c =
     let l = c .before .before .before .loop in
     let h : l .v < 256 ^ 7 = within 256 7 (l .inv .1) (omega arith) (lit≤ tt) in
     omega arith
-
-loop-less : tie.Need-loop-less Inv-loop μ-loop
-loop-less c = search needs
 
 loop-again : tie.Need-loop-again Inv-loop μ-loop
 loop-again c =
@@ -63,16 +51,4 @@ returns c =
 
 pub read-bytes-spec : {M : Type 1} → statement M
 read-bytes-spec =
-    tie.close
-    (tie.spec
-    Inv-loop
-    μ-loop
-    loop-holds
-    sub-k
-    mul-v
-    shared-slice-read-wide
-    wide-requires
-    add-v
-    loop-less
-    loop-again
-    returns)
+    tie.close (tie.spec Inv-loop μ-loop loop-holds (λ c. search needs) mul-v (λ c. search needs) (λ c κs. search needs) add-v (λ c. search needs) loop-again returns)
