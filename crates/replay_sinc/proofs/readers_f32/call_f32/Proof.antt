@@ -1,9 +1,9 @@
--- `replay_sinc::readers::call_f32` keeps within the ring and the table: the parts that it lends are no longer than they are. Assumes nothing.
+-- `replay_sinc::readers_f32::call_f32` keeps within the ring and the table: the parts that it lends are no longer than they are. Assumes nothing.
 use borrow.Author.Needs.{needs}
 use mathlib.Core.Path.{sym}
 use lib.Seq.{length-take-le}
-use Rattle.replay_sinc.proofs.readers.call_f32.Statement.{statement}
-use Rattle.replay_sinc.proofs.readers.call_f32.Tie as tie
+use Rattle.replay_sinc.proofs.readers_f32.call_f32.Statement.{statement}
+use Rattle.replay_sinc.proofs.readers_f32.call_f32.Tie as tie
 
 slice-aggregate-called-f32 : tie.Need-slice-aggregate-called-f32
 slice-aggregate-called-f32 c = sym (length-take-le _ _ (search needs))
