@@ -1,9 +1,9 @@
--- `fugnadri_tables::readers::fugnadri_windowed_sinc_f32_process` meets its contract: what the calls ensure, one put into the other; none of them asks anything. Assumes nothing.
+-- `fugnadri_tables::readers_f32::fugnadri_windowed_sinc_f32_process` meets its contract: what the calls ensure, one put into the other; none of them asks anything. Assumes nothing.
 use borrow.Author.Needs.{needs}
 use mathlib.Core.Path.{_∙_, ap}
 use Rattle.answer.specs.Answers.{numberF32Of, valueF32Of}
-use Rattle.fugnadri_tables.proofs.readers.fugnadri_windowed_sinc_f32_process.Statement.{statement}
-use Rattle.fugnadri_tables.proofs.readers.fugnadri_windowed_sinc_f32_process.Tie as tie
+use Rattle.fugnadri_tables.proofs.readers_f32.fugnadri_windowed_sinc_f32_process.Statement.{statement}
+use Rattle.fugnadri_tables.proofs.readers_f32.fugnadri_windowed_sinc_f32_process.Tie as tie
 
 returns : tie.Need-returns
 returns c = let e = c .before .before .before .before .before .process-sample .ensures in
