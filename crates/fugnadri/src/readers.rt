@@ -2,13 +2,13 @@
 // count through pointers.
 ghost use mathlib.Core.Path.{_≡_};
 ghost use mathlib.Core.Bool.{true};
-ghost use lib.ListN.{length};
 ghost use Rattle.answer.specs.Answers.{numberOf, valueOf};
-ghost use Rattle.variable_delay.specs.Reader.{processed, processedBy, verdict, ringAfter};
+ghost use Rattle.variable_delay.specs.Reader.{processed};
 ghost use Rattle.cubic_farrow.specs.Cubic.{cubicAt};
-ghost use Rattle.lagrange.specs.Kernel.{tapsOk, lagrangeAt};
+ghost use Rattle.lagrange.specs.Kernel.{tapsOk};
 ghost use Rattle.farrow8.specs.Kernel.{farrowAt};
 ghost use Rattle.doors.specs.Doors.{stateOf};
+ghost use Rattle.fugnadri.specs.Doors.{called, ringLeft};
 use doors::number;
 use doors::value;
 use variable_delay::VariableDelay;
@@ -26,7 +26,7 @@ pub extern "C" fn fugnadri_cubic_process(
     ensures { λ r. ⌜ r ≡ numberOf ((processed cubicAt (stateOf maximum margin (now (accepted .entry))) (now (ring .entry)) input delay) .answer) ⌝ }
     ensures { λ r. ⌜ now (sample .exit) ≡ valueOf ((processed cubicAt (stateOf maximum margin (now (accepted .entry))) (now (ring .entry)) input delay) .answer) ⌝ }
     ensures { λ r. ⌜ now (accepted .exit) ≡ (processed cubicAt (stateOf maximum margin (now (accepted .entry))) (now (ring .entry)) input delay) .state .accepted ⌝ }
-    ensures { λ r. ⌜ now (ring .exit) ≡ ringAfter (verdict true true (stateOf maximum margin (now (accepted .entry))) (length (now (ring .entry))) input delay) (stateOf maximum margin (now (accepted .entry))) (now (ring .entry)) input ⌝ }
+    ensures { λ r. ⌜ now (ring .exit) ≡ ringLeft true (stateOf maximum margin (now (accepted .entry))) (now (ring .entry)) input delay ⌝ }
 {
     let state = VariableDelay {
         maximum: maximum,
@@ -52,10 +52,10 @@ pub extern "C" fn fugnadri_lagrange_process(
     taps: u64,
     sample: &mut f64,
 ) -> u8
-    ensures { λ r. ⌜ r ≡ numberOf ((processedBy (lagrangeAt taps) (verdict (tapsOk taps) true (stateOf maximum margin (now (accepted .entry))) (length (now (ring .entry))) input delay) (stateOf maximum margin (now (accepted .entry))) (now (ring .entry)) input delay) .answer) ⌝ }
-    ensures { λ r. ⌜ now (sample .exit) ≡ valueOf ((processedBy (lagrangeAt taps) (verdict (tapsOk taps) true (stateOf maximum margin (now (accepted .entry))) (length (now (ring .entry))) input delay) (stateOf maximum margin (now (accepted .entry))) (now (ring .entry)) input delay) .answer) ⌝ }
-    ensures { λ r. ⌜ now (accepted .exit) ≡ (processedBy (lagrangeAt taps) (verdict (tapsOk taps) true (stateOf maximum margin (now (accepted .entry))) (length (now (ring .entry))) input delay) (stateOf maximum margin (now (accepted .entry))) (now (ring .entry)) input delay) .state .accepted ⌝ }
-    ensures { λ r. ⌜ now (ring .exit) ≡ ringAfter (verdict (tapsOk taps) true (stateOf maximum margin (now (accepted .entry))) (length (now (ring .entry))) input delay) (stateOf maximum margin (now (accepted .entry))) (now (ring .entry)) input ⌝ }
+    ensures { λ r. ⌜ r ≡ numberOf ((called taps (stateOf maximum margin (now (accepted .entry))) (now (ring .entry)) input delay) .answer) ⌝ }
+    ensures { λ r. ⌜ now (sample .exit) ≡ valueOf ((called taps (stateOf maximum margin (now (accepted .entry))) (now (ring .entry)) input delay) .answer) ⌝ }
+    ensures { λ r. ⌜ now (accepted .exit) ≡ (called taps (stateOf maximum margin (now (accepted .entry))) (now (ring .entry)) input delay) .state .accepted ⌝ }
+    ensures { λ r. ⌜ now (ring .exit) ≡ ringLeft (tapsOk taps) (stateOf maximum margin (now (accepted .entry))) (now (ring .entry)) input delay ⌝ }
 {
     let state = VariableDelay {
         maximum: maximum,
@@ -83,7 +83,7 @@ pub extern "C" fn fugnadri_farrow8_process(
     ensures { λ r. ⌜ r ≡ numberOf ((processed farrowAt (stateOf maximum margin (now (accepted .entry))) (now (ring .entry)) input delay) .answer) ⌝ }
     ensures { λ r. ⌜ now (sample .exit) ≡ valueOf ((processed farrowAt (stateOf maximum margin (now (accepted .entry))) (now (ring .entry)) input delay) .answer) ⌝ }
     ensures { λ r. ⌜ now (accepted .exit) ≡ (processed farrowAt (stateOf maximum margin (now (accepted .entry))) (now (ring .entry)) input delay) .state .accepted ⌝ }
-    ensures { λ r. ⌜ now (ring .exit) ≡ ringAfter (verdict true true (stateOf maximum margin (now (accepted .entry))) (length (now (ring .entry))) input delay) (stateOf maximum margin (now (accepted .entry))) (now (ring .entry)) input ⌝ }
+    ensures { λ r. ⌜ now (ring .exit) ≡ ringLeft true (stateOf maximum margin (now (accepted .entry))) (now (ring .entry)) input delay ⌝ }
 {
     let state = VariableDelay {
         maximum: maximum,

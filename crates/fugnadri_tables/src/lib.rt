@@ -2,5 +2,6 @@
 // as a pointer. No enum, no struct. Each function is total, and its contract is that of the function it calls.
 pub mod openings;
 pub mod readers;
+pub mod readers_f32;
 pub mod readings;
 pub mod tables;

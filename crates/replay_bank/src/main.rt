@@ -10,8 +10,8 @@ use libc::STDOUT_FILENO;
 use patterns::float_of;
 use quality_fade::Fade;
 use quality_mode::QualityMode;
+use replay_lines::Heard;
 use replay_lines::Line;
-use replay_lines::line_of;
 use word_bytes::hex16;
 
 // The two words that answer a line.
@@ -61,19 +61,11 @@ fn call(before: Fade, source: &mut [f32], letter: u8, a: u64, b: u64, c: u64) ->
     }
 }
 
-struct Heard {
-    whole: bool,
-    line: Line,
-}
-
 // The next 53 bytes, where there are so many.
 fn hear() -> Heard {
     let mut text = [0u8; 53];
     let n = io::read_full(STDIN_FILENO, &mut text);
-    Heard {
-        whole: n == 53,
-        line: line_of(&text),
-    }
+    replay_lines::line_heard(n, &text)
 }
 
 fn say(first: u64, second: u64) {

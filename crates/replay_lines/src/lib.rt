@@ -2,7 +2,7 @@
 // for a refusal; how much of a room is lent.
 ghost use mathlib.Core.Path.{_≡_};
 ghost use Prim.Native.Nat.{_+_, _≤_, min};
-ghost use Rattle.replay_lines.specs.Lines.{lineOf};
+ghost use Rattle.replay_lines.specs.Lines.{lineOf, heardOf, tablePart};
 use word_bytes::word_at;
 
 pub struct Line {
@@ -25,6 +25,21 @@ pub fn line_of(text: &[u8; 53]) -> Line
     }
 }
 
+// What a read of at most 53 bytes brought: a line, where there were so many.
+pub struct Heard {
+    pub whole: bool,
+    pub line: Line,
+}
+
+pub fn line_heard(n: usize, text: &[u8; 53]) -> Heard
+    ensures { λ r. ⌜ r ≡ heardOf n (now (text .entry)) ⌝ }
+{
+    Heard {
+        whole: n == 53,
+        line: line_of(text),
+    }
+}
+
 // A refusal is no answer of the original's, nor looks like one.
 pub fn refused(no: u8) -> u64
     ensures { λ r. ⌜ r ≡ 18446744073709551360 + no ⌝ }
@@ -38,4 +53,18 @@ pub fn within(need: usize, room: usize) -> usize
     ensures { λ r. ⌜ r ≤ room ⌝ }
 {
     if need < room { need } else { room }
+}
+
+// How much of a room the table of some taps and phases takes: all of it where they are out of range, so that no product wraps.
+pub fn table_part(taps: usize, phases: usize, room: usize) -> usize
+    ensures { λ r. ⌜ r ≡ tablePart taps phases room ⌝ }
+    ensures { λ r. ⌜ r ≤ room ⌝ }
+{
+    if taps > 128 {
+        return room;
+    }
+    if phases > 4096 {
+        return room;
+    }
+    within((phases + 1) * taps, room)
 }

@@ -7,23 +7,15 @@ use answers::Reply;
 use answers::answer;
 use libc::STDIN_FILENO;
 use libc::STDOUT_FILENO;
+use replay_lines::Heard;
 use replay_lines::Line;
-use replay_lines::line_of;
 use word_bytes::hex16;
-
-struct Heard {
-    whole: bool,
-    line: Line,
-}
 
 // The next 53 bytes, where there are so many.
 fn hear() -> Heard {
     let mut text = [0u8; 53];
     let n = io::read_full(STDIN_FILENO, &mut text);
-    Heard {
-        whole: n == 53,
-        line: line_of(&text),
-    }
+    replay_lines::line_heard(n, &text)
 }
 
 fn say(reply: Reply) {

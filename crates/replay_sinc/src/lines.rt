@@ -1,8 +1,7 @@
 // A line of standard input and one of standard output, which is two words of sixteen hex digits, and what is kept between two lines.
 use libc::STDIN_FILENO;
 use libc::STDOUT_FILENO;
-use replay_lines::Line;
-use replay_lines::line_of;
+use replay_lines::Heard;
 use variable_delay::VariableDelay;
 use word_bytes::hex16;
 
@@ -18,19 +17,11 @@ pub struct Shape {
     pub beta: f64,
 }
 
-pub struct Heard {
-    pub whole: bool,
-    pub line: Line,
-}
-
 // The next 53 bytes, where there are so many.
 pub fn hear() -> Heard {
     let mut text = [0u8; 53];
     let n = io::read_full(STDIN_FILENO, &mut text);
-    Heard {
-        whole: n == 53,
-        line: line_of(&text),
-    }
+    replay_lines::line_heard(n, &text)
 }
 
 pub fn say(answer: u64, beside: u64) {

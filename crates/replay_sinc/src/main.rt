@@ -3,7 +3,8 @@
 // list. A trailing part of a line is ignored.
 mod elements; // the elements of the tables, set and written
 mod lines; // a line that is read, one that is written, and what is kept between
-mod readers; // a reader of either width
+mod readers; // a reader
+mod readers_f32; // a reader of single precision
 mod tables; // a table of either width, built
 mod turns; // what a reader answers, and what it leaves
 
@@ -35,7 +36,7 @@ fn replay(
         return tables::call(before, table, table_f32, line);
     }
     if whom == 1 {
-        return readers::call_f32(before, ring_f32, &table_f32[..], line);
+        return readers_f32::call_f32(before, ring_f32, &table_f32[..], line);
     }
     readers::call(before, ring, &table[..], line)
 }

@@ -1,5 +1,4 @@
 // The tables of both widths, built from the same settings.
-ghost use Prim.Native.Nat.{_≤_};
 use crate::elements::set;
 use crate::elements::write;
 use crate::lines::Player;
@@ -9,7 +8,7 @@ use patterns::bits_of;
 use patterns::float_of;
 use replay_lines::Line;
 use replay_lines::refused;
-use replay_lines::within;
+use replay_lines::table_part;
 use sinc_settings::Settings;
 
 // `s`: the taps, the phases and beta of what follows.
@@ -24,20 +23,6 @@ fn shaped(before: Player, line: Line) -> Player {
         },
         state,
     }
-}
-
-// How much of a room a table takes.
-pub fn part(taps: usize, phases: usize, room: usize) -> usize
-    ensures { λ r. ⌜ r ≤ room ⌝ }
-{
-    if taps > 128 {
-        return room;
-    }
-    if phases > 4096 {
-        return room;
-    }
-    let need = (phases + 1) * taps;
-    within(need, room)
 }
 
 fn built(kernel: windowed_sinc::Built) -> u64 {
@@ -107,8 +92,8 @@ pub fn call(before: Player, table: &mut [f64], table_f32: &mut [f32], line: Line
         return shaped(before, line);
     }
     let shape = before.shape;
-    let end = part(shape.taps, shape.phases, table.len());
-    let to = part(shape.taps, shape.phases, table_f32.len());
+    let end = table_part(shape.taps, shape.phases, table.len());
+    let to = table_part(shape.taps, shape.phases, table_f32.len());
     called(shape, &mut table[..end], &mut table_f32[..to], line);
     before
 }

@@ -1,11 +1,6 @@
-// The calls that a line's letter names, each with whether what it hands out is what the line says.
-use crate::calls::Turn;
-use crate::calls::step;
-use crate::calls::steps;
-use crate::calls::turn_of;
+// The settings and the state that a line's letter names, each with whether the state is what the line says.
 use modulation_engine::ModulationEngine;
 use modulation_params::ModulationParams;
-use patterns::float_of;
 
 // The engine, and the settings of its next steps.
 pub struct Player {
@@ -25,15 +20,6 @@ fn set(engine: ModulationEngine, params: ModulationParams) -> Found {
         player: Player { engine, params },
         answers: false,
         agrees: true,
-    }
-}
-
-fn called(params: ModulationParams, turn: Turn, agrees: bool) -> Found {
-    let engine = turn.engine;
-    Found {
-        player: Player { engine, params },
-        answers: true,
-        agrees,
     }
 }
 
@@ -63,43 +49,6 @@ pub fn settings(
         }
     }
     set(e, p)
-}
-
-// `o` opens an engine, `t` sets its sample rate, `d` its seed, `r` resets it: the third word is the number of the refusal, 0 for none.
-pub fn call(
-    e: ModulationEngine,
-    p: ModulationParams,
-    letter: u8,
-    a: u64,
-    b: u64,
-    refusal: u64,
-) -> Found {
-    let opened = match letter {
-        b'o' => ModulationEngine::new(float_of(a), b),
-        b't' => e.set_sample_rate(float_of(a)),
-        b'd' => e.set_seed(a),
-        _ => e.reset(),
-    };
-    let turn = turn_of(e, opened);
-    called(p, turn, turn.refusal == refusal)
-}
-
-// `n`: so many steps, and the offsets of the last. `x`: one step, which is refused by this number.
-pub fn stepped(
-    e: ModulationEngine,
-    p: ModulationParams,
-    letter: u8,
-    a: u64,
-    b: u64,
-    c: u64,
-) -> Found {
-    if letter == b'n' {
-        let turn = steps(e, p, a);
-        let sides = turn.left == b && turn.right == c;
-        return called(p, turn, turn.refusal == 0 && sides);
-    }
-    let turn = step(e, p);
-    called(p, turn, turn.refusal == a)
 }
 
 // A digit from 0 to 4: three of the engine's 15 words.

@@ -1,10 +1,10 @@
 // A line of the list: the call that its letter names, and whether what it hands out is what the line says.
+use crate::engine_letters::call;
+use crate::engine_letters::stepped;
 use crate::letters::Found;
 use crate::letters::Player;
-use crate::letters::call;
 use crate::letters::settings;
 use crate::letters::state;
-use crate::letters::stepped;
 use patterns::float_of;
 use replay_lines::Line;
 

@@ -1,21 +1,16 @@
--- A tap and a run of taps by where the index stands, for an index that the code holds as a word: one law for each way out of `tap`, `tap_f32`
--- and `run_start`. Assumes nothing.
+-- A run of taps by where its index stands, for an index that the code holds as a word: one law for each way out of `run_start`. Assumes nothing.
 use mathlib.Core.Path.{_≡_, sym, subst}
 use mathlib.Core.Bool.{true, false}
-use mathlib.Core.List.{List}
-use Prim.Native.Nat.{ℕ, _+_, _-_, _%_, _<_, _≤_}
+use Prim.Native.Nat.{ℕ, _+_, _%_, _<_, _≤_}
 use native.Mathlib.Nat.{mod-lt}
 use native.Mathlib.Omega.{arith}
-use borrow.Author.Tests.{ltb-true, le-leb, lt-leb, le-ltb, lt-ltb, ne-eqb}
+use borrow.Author.Tests.{ltb-true, le-leb, lt-leb, ne-eqb}
 use lib.Dec.{T}
 use lib.IntN.{ℤ, pos, negsuc, natAbs}
 use lib.Signed.{ltZ, nonNeg, natAbs-le}
-use lib.ListN.{length, getD}
-use lib.Ieee.{Float, nan, fin}
 use mir.Syntax.{w64}
 use mir.Val.{Fits, SFits, toZ, ofZ}
 use mir.ValLaws.{toZ-ofZ}
-use Rattle.ring.specs.Taps.{tapOf}
 use Rattle.ring.specs.Places.{placeOf, startOf}
 use Rattle.ring.specs.declared.Start.{Start}
 
@@ -35,25 +30,6 @@ place-mod k n some = rw (ne-eqb n 0 (λ z. omega arith))
 
 pub place-inside : (k n : ℕ) {p : ℕ} → 0 < n → p ≡ placeOf k n → p < n
 place-inside k n some e = rw (e, place-mod k n some) (mod-lt k some)
-
--- what a tap reads, at the word z of the index i
-module _ (xs : List Float) (count : ℕ) where
-  pub before : (z : ℤ) {i : ℤ} → z ≡ i → ltZ z (pos 0) ≡ true → fin false 0 (pos 0) ≡ tapOf xs count i
-  before (negsuc k) e h = rw (← e)
-  before (pos k) e h = let l : k < 0 = ltb-true k 0 h in absurd (omega arith)
-
-  pub ahead : (z : ℤ) {i : ℤ} → z ≡ i → ltZ z (pos 0) ≡ false → count ≤ natAbs z → fin false 0 (pos 0) ≡ tapOf xs count i
-  ahead (negsuc k) e h l = absurd (not-negative k h)
-  ahead (pos k) e h l = rw (← e, le-ltb k count l)
-
-  pub gone : (z : ℤ) {i : ℤ} → z ≡ i → ltZ z (pos 0) ≡ false → natAbs z < count → length xs ≤ count - 1 - natAbs z → fin false 0 (pos 0) ≡ tapOf xs count i
-  gone (negsuc k) e h l g = absurd (not-negative k h)
-  gone (pos k) e h l g = rw (← e, lt-ltb k count l, lt-leb count (k + length xs) (omega arith))
-
-  pub kept : (z : ℤ) {i : ℤ} {p : ℕ} → z ≡ i → ltZ z (pos 0) ≡ false → natAbs z < count → count - 1 - natAbs z < length xs → p ≡ placeOf (natAbs z) (length xs)
-      → getD xs p nan ≡ tapOf xs count i
-  kept (negsuc k) e h l g q = absurd (not-negative k h)
-  kept (pos k) e h l g q = rw (← e, q, lt-ltb k count l, le-leb count (k + length xs) (omega arith), ne-eqb (length xs) 0 (λ z. omega arith))
 
 -- whether all of a run are held
 module _ (len count taps : ℕ) where

@@ -27,7 +27,7 @@ pub record Run (len count taps : ℕ) (i : ℤ) (place : ℕ) : Type 0 where
 abbrev start : ℕ → ℕ → Bool → Start
 start k len b = pickStart b (record { held = true; place = placeOf k len }) (record { held = false; place = 0 })
 
-run-of : (len count taps : ℕ) (i : ℤ) → startOf len count i taps .held ≡ true → Run len count taps i (startOf len count i taps .place)
+pub run-of : (len count taps : ℕ) (i : ℤ) → startOf len count i taps .held ≡ true → Run len count taps i (startOf len count i taps .place)
 run-of len count taps (negsuc k) h = let e : _≡_ {A = ℕ} 0 1 = cc in absurd (omega arith)
 run-of len count taps (pos k) h = go (leb (k + taps) count) (leb count (k + len)) refl refl h
   where

@@ -1,13 +1,14 @@
 // A lent ring of samples: how long it is, where a sample stands in it, and what a tap reads. 000's RingView, RingViewF32 and SliceSource.
-mod single;
+mod single; // the same for samples of single precision
+mod taps; // where a tap stands, and what it reads
 
 pub use single::clear_f32;
 pub use single::tap_f32;
+pub use taps::tap;
 ghost use mathlib.Core.Path.{_≡_};
-ghost use mathlib.Core.Bool.{cond};
+ghost use mathlib.Core.Bool.{false, cond};
 ghost use lib.ListN.{length};
 ghost use Rattle.ring.specs.Length.{settingsOk, lengthFor, zeros};
-ghost use Rattle.ring.specs.Taps.{tapOf};
 ghost use Rattle.ring.specs.Places.{positionOk, placeOf, startOf};
 
 // G1. The length that the settings need, and 0 where they are out of range. No setting wraps: each is tested before it is added.
@@ -56,28 +57,19 @@ pub fn place(index: u64, len: usize) -> usize
     (index % n) as usize
 }
 
-// K2. A tap of a ring that has accepted `count` samples; absent ones read zero.
-pub fn tap(source: &[f64], count: u64, index: i64) -> f64
-    ensures { λ r. ⌜ r ≡ tapOf (now (source .entry)) count index ⌝ }
-{
-    if index < 0 {
-        return 0.0;
-    }
-    let k = index as u64;
-    if count <= k {
-        return 0.0;
-    }
-    let n = source.len();
-    if count - 1 - k >= n as u64 {
-        return 0.0;
-    }
-    let at = place(k, n);
-    source[at]
-}
-
 pub struct Start {
     pub held: bool,
     pub place: usize,
+}
+
+// No run that is held.
+fn absent() -> Start
+    ensures { λ r. ⌜ r ≡ record { held = false; place = 0 } ⌝ }
+{
+    Start {
+        held: false,
+        place: 0,
+    }
 }
 
 // Whether all of a run of taps are held, and where the first stands: the kernels' quick way, with no test for each tap.
@@ -85,30 +77,18 @@ pub fn run_start(len: usize, count: u64, index: i64, taps: u64) -> Start
     ensures { λ r. ⌜ r ≡ startOf len count index taps ⌝ }
 {
     if index < 0 {
-        return Start {
-            held: false,
-            place: 0,
-        };
+        return absent();
     }
     let k = index as u64;
     if count < k {
-        return Start {
-            held: false,
-            place: 0,
-        };
+        return absent();
     }
     let back = count - k;
     if back < taps {
-        return Start {
-            held: false,
-            place: 0,
-        };
+        return absent();
     }
     if back > len as u64 {
-        return Start {
-            held: false,
-            place: 0,
-        };
+        return absent();
     }
     Start {
         held: true,

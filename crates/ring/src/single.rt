@@ -3,7 +3,7 @@ ghost use mathlib.Core.Path.{_≡_};
 ghost use lib.ListN.{length};
 ghost use Rattle.ring.specs.Length.{zeros};
 ghost use Rattle.ring.specs.Taps.{tapOf};
-use crate::place;
+use crate::taps::tap_place;
 
 pub fn clear_f32(ring: &mut [f32])
     ensures { λ r. ⌜ now (ring .exit) ≡ zeros (length (now (ring .entry))) ⌝ }
@@ -18,17 +18,10 @@ pub fn clear_f32(ring: &mut [f32])
 pub fn tap_f32(source: &[f32], count: u64, index: i64) -> f32
     ensures { λ r. ⌜ r ≡ tapOf (now (source .entry)) count index ⌝ }
 {
-    if index < 0 {
-        return 0.0;
+    let start = tap_place(source.len(), count, index);
+    let at = start.place;
+    if start.held {
+        return source[at];
     }
-    let k = index as u64;
-    if count <= k {
-        return 0.0;
-    }
-    let n = source.len();
-    if count - 1 - k >= n as u64 {
-        return 0.0;
-    }
-    let at = place(k, n);
-    source[at]
+    0.0
 }

@@ -36,9 +36,6 @@ loop-holds : tie.Need-loop-holds Inv-loop μ-loop
 unfolding seriesOf ofBits
 loop-holds c = (omega arith, simp sub-zero)
 
-add-k : tie.Need-add-k Inv-loop μ-loop
-add-k c = search needs
-
 int-to-float-n : tie.Need-int-to-float-n Inv-loop μ-loop
 int-to-float-n c = tt
 
@@ -55,4 +52,4 @@ returns-2 : tie.Need-returns-2 Inv-loop μ-loop
 returns-2 c = let l = c .before .before .before in turn (l .before .args .terms) (l .loop .k) _ (l .loop .sum) (l .loop .term) true (omega arith) (l .loop .inv .1) (c .if2 .taken)
 
 pub series-spec : {M : Type 1} → statement M
-series-spec = tie.close (tie.spec Inv-loop μ-loop loop-holds add-k int-to-float-n loop-less loop-again returns returns-2)
+series-spec = tie.close (tie.spec Inv-loop μ-loop loop-holds (λ c. search needs) int-to-float-n loop-less loop-again returns returns-2)

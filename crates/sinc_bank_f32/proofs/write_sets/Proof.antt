@@ -34,9 +34,6 @@ Inv-loop max-rate n width sets₀ i₀ sets i = Filled (set max-rate) width n se
 abbrev μ-loop : tie.MeasureT-loop
 μ-loop max-rate n width sets₀ i₀ sets i = n - i
 
-loop-holds : tie.Need-loop-holds Inv-loop μ-loop
-loop-holds c = let b = c .before in let a = b .args in unfilled (set (a .max-rate)) (a .width) (a .n) (now (a .sets)) (b .pre .3)
-
 abbrev begun : tie.In-loop Inv-loop μ-loop → tie.Start Inv-loop μ-loop
 begun c = c .before .before .before
 
@@ -45,27 +42,6 @@ below c = c .loop-test .taken
 
 inside : (c : tie.In-loop Inv-loop μ-loop) → let a = begun c .args in c .before .loop .i * a .width + a .width ≤ length (now (a .sets))
 inside c = let a = begun c .args in omega (arith, row-end (set (a .max-rate)) (a .width) (a .n) (c .before .loop .i) (below c), begun c .pre .3)
-
-set-rate-requires : tie.Need-set-rate-requires Inv-loop μ-loop
-set-rate-requires c κs = search needs
-
-mul-start : tie.Need-mul-start Inv-loop μ-loop
-mul-start c = omega (arith, inside (c .before), begun (c .before) .good .1 .1 .1 .0 .1)
-
-add-end : tie.Need-add-end Inv-loop μ-loop
-add-end c = omega (arith, inside (c .before), begun (c .before) .good .1 .1 .1 .0 .1)
-
-mul-write-set : tie.Need-mul-write-set Inv-loop μ-loop
-mul-write-set c = omega (arith, inside (c .before), begun (c .before) .good .1 .1 .1 .0 .1)
-
-sub-write-set : tie.Need-sub-write-set Inv-loop μ-loop
-sub-write-set c = omega arith
-
-part-write-set-start : tie.Need-part-write-set-start Inv-loop μ-loop
-part-write-set-start c = omega arith
-
-part-write-set-end : tie.Need-part-write-set-end Inv-loop μ-loop
-part-write-set-end c = let i = c .before in omega (arith, inside i, i .before .loop .inv .long, begun i .pre .3)
 
 -- the rate that the code holds
 rate : (c : tie.After-set-rate Inv-loop μ-loop) → let a = begun (c .before) .args in (c .set-rate .result ≡ rateOf (a .max-rate) (stepsOf (a .max-rate)) (c .before .before .loop .i + 1)) × (bankOk (c .set-rate .result) ≡ true)
@@ -85,12 +61,6 @@ write-set-requires c κs =
 abbrev turn : tie.After-slice-known2 Inv-loop μ-loop → tie.In-loop Inv-loop μ-loop
 turn c = c .before .before .before .before .before
 
-add-i : tie.Need-add-i Inv-loop μ-loop
-add-i c = let b = begun (turn c) in omega (arith, below (turn c), b .pre .1, most (b .args .max-rate) (b .pre .0))
-
-loop-less : tie.Need-loop-less Inv-loop μ-loop
-loop-less c = let h = below (turn c) in omega arith
-
 loop-again : tie.Need-loop-again Inv-loop μ-loop
 loop-again c =
     let w = c .before .before in
@@ -101,9 +71,6 @@ loop-again c =
     let a = b .args in
     filled-more (set (a .max-rate)) (a .width) (a .n) (l .loop .sets) (l .loop .i) (l .loop .inv) (below i) (w .write-set .last .1 .0) (w .write-set .ensures ∙ ap setOf (rate r .0)) (set-long _ ∙ sym (b .pre .2))
 
-same-length : tie.Need-same-length Inv-loop μ-loop
-same-length c = c .before .loop .inv .long ∙ sym (c .before .before .before .pre .3)
-
 returns : tie.Need-returns Inv-loop μ-loop
 unfolding bankOf
 returns c =
@@ -113,4 +80,19 @@ returns c =
     filled (set (a .max-rate)) (a .width) (a .n) (l .loop .sets) (l .loop .i) (l .loop .inv) (omega (arith, c .loop-test .left, l .loop .inv .most)) ∙ ap (rows (set (a .max-rate))) (b .pre .1)
 
 pub write-sets-spec : {M : Type 1} → statement M
-write-sets-spec = tie.close (tie.spec Inv-loop μ-loop loop-holds set-rate-requires mul-start add-end mul-write-set sub-write-set part-write-set-start part-write-set-end write-set-requires add-i loop-less loop-again same-length returns)
+write-sets-spec =
+    tie.close (tie.spec Inv-loop μ-loop
+    (λ c. unfilled _ _ _ _ (c .before .pre .3))
+    (λ c κs. search needs)
+    (λ c. let i = c .before in omega (arith, inside i, begun i .good .1 .1 .1 .0 .1))
+    (λ c. let i = c .before in omega (arith, inside i, begun i .good .1 .1 .1 .0 .1))
+    (λ c. let i = c .before in omega (arith, inside i, begun i .good .1 .1 .1 .0 .1))
+    (λ c. search needs)
+    (λ c. search needs)
+    (λ c. let i = c .before in omega (arith, inside i, i .before .loop .inv .long, begun i .pre .3))
+    write-set-requires
+    (λ c. let b = begun (turn c) in omega (arith, below (turn c), b .pre .1, most (b .args .max-rate) (b .pre .0)))
+    (λ c. let h = below (turn c) in omega arith)
+    loop-again
+    (λ c. c .before .loop .inv .long ∙ sym (c .before .before .before .pre .3))
+    returns)

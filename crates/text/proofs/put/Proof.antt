@@ -23,31 +23,10 @@ abbrev μ-loop : tie.MeasureT-loop
 returns : tie.Need-returns Inv-loop μ-loop
 returns c = (omega arith ∙ sym (min-eq-left (omega arith)), sym (put-out (c .before .args .text .now) _ _ (omega arith)))
 
-loop-holds : tie.Need-loop-holds Inv-loop μ-loop
-loop-holds c = search needs
-
-same-length : tie.Need-same-length Inv-loop μ-loop
-same-length c = search needs
-
 returns-2 : tie.Need-returns-2 Inv-loop μ-loop
 returns-2 c =
     let l = c .before .before .loop in
     (omega arith ∙ sym (min-eq-left (omega arith)), sym (l .inv .4 ∙ put-out (drop (l .k) (c .before .before .before .before .args .text .now)) _ _ (omega arith)))
-
-shared-slice-read-out : tie.Need-shared-slice-read-out Inv-loop μ-loop
-shared-slice-read-out c = search needs
-
-slice-write-out : tie.Need-slice-write-out Inv-loop μ-loop
-slice-write-out c = search needs
-
-add-to : tie.Need-add-to Inv-loop μ-loop
-add-to c = search needs
-
-add-k : tie.Need-add-k Inv-loop μ-loop
-add-k c = search needs
-
-loop-less : tie.Need-loop-less Inv-loop μ-loop
-loop-less c = search needs
 
 loop-again : tie.Need-loop-again Inv-loop μ-loop
 loop-again c =
@@ -59,9 +38,6 @@ loop-again c =
       rw (add-one, add-one) (l .inv .4 ∙ put-next (l .out) _ (l .to) (l .k) (omega arith)),
     )
 
-same-length-2 : tie.Need-same-length-2 Inv-loop μ-loop
-same-length-2 c = search needs
-
 returns-3 : tie.Need-returns-3 Inv-loop μ-loop
 returns-3 c =
     let l = c .before .loop in
@@ -70,19 +46,4 @@ returns-3 c =
 
 pub put-spec : {M : Type 1} → statement M
 put-spec =
-    tie.close
-    (tie.spec
-    Inv-loop
-    μ-loop
-    returns
-    loop-holds
-    same-length
-    returns-2
-    shared-slice-read-out
-    slice-write-out
-    add-to
-    add-k
-    loop-less
-    loop-again
-    same-length-2
-    returns-3)
+    tie.close (tie.spec Inv-loop μ-loop returns (λ c. search needs) (λ c. search needs) returns-2 (λ c. search needs) (λ c. search needs) (λ c. search needs) (λ c. search needs) (λ c. search needs) loop-again (λ c. search needs) returns-3)

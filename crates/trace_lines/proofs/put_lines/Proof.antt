@@ -21,30 +21,6 @@ Inv-loop ring₀ block out₀ s₀ to₀ at₀ ring out s to at =
 abbrev μ-loop : tie.MeasureT-loop
 μ-loop ring₀ block out₀ s₀ to₀ at₀ ring out s to at = length block - at
 
-loop-holds : tie.Need-loop-holds Inv-loop μ-loop
-loop-holds c = search needs
-
-sub-loop : tie.Need-sub-loop Inv-loop μ-loop
-sub-loop c = search needs
-
-low-first-requires : tie.Need-low-first-requires Inv-loop μ-loop
-low-first-requires c κs = search needs
-
-float-of-requires : tie.Need-float-of-requires Inv-loop μ-loop
-float-of-requires c κs = search needs
-
-process-sample-requires : tie.Need-process-sample-requires Inv-loop μ-loop
-process-sample-requires c κs = search needs
-
-put-line-requires : tie.Need-put-line-requires Inv-loop μ-loop
-put-line-requires c κs = search needs
-
-add-at : tie.Need-add-at Inv-loop μ-loop
-add-at c = search needs
-
-loop-less : tie.Need-loop-less Inv-loop μ-loop
-loop-less c = search needs
-
 loop-again : tie.Need-loop-again Inv-loop μ-loop
 unfolding le ofBits
 loop-again c =
@@ -59,12 +35,6 @@ loop-again c =
     let t = turn r (l .out) (l .to) (next-sample block (l .at) x (omega arith)) (e .0) (e .1) (p .ensures) in
     (search needs, search needs, omega arith, omega (arith, p .ensures .0), l .inv .4 ∙ t)
 
-same-length : tie.Need-same-length Inv-loop μ-loop
-same-length c = search needs
-
-same-length-2 : tie.Need-same-length-2 Inv-loop μ-loop
-same-length-2 c = search needs
-
 returns : tie.Need-returns Inv-loop μ-loop
 returns c =
     let l = c .before .loop in
@@ -75,19 +45,4 @@ returns c =
 
 pub put-lines-spec : {M : Type 1} → statement M
 put-lines-spec =
-    tie.close
-    (tie.spec
-    Inv-loop
-    μ-loop
-    loop-holds
-    sub-loop
-    low-first-requires
-    float-of-requires
-    process-sample-requires
-    put-line-requires
-    add-at
-    loop-less
-    loop-again
-    same-length
-    same-length-2
-    returns)
+    tie.close (tie.spec Inv-loop μ-loop (λ c. search needs) (λ c. search needs) (λ c κs. search needs) (λ c κs. search needs) (λ c κs. search needs) (λ c κs. search needs) (λ c. search needs) (λ c. search needs) loop-again (λ c. search needs) (λ c. search needs) returns)

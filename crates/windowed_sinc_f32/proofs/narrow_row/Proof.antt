@@ -32,9 +32,6 @@ mul-narrow c = let s = c .before .before .before .before in scaled-fits _ (lengt
 shared-slice-read-narrow : tie.Need-shared-slice-read-narrow Inv-loop μ-loop
 shared-slice-read-narrow c = omega arith
 
-narrow-requires : tie.Need-narrow-requires Inv-loop μ-loop
-narrow-requires c κs = search needs
-
 mul-row : tie.Need-mul-row Inv-loop μ-loop
 mul-row c = let s = c .before .before .before .before .before .before in scaled-fits _ (length (now (s .args .row))) 4 (omega arith) (s .good .0 .1)
 
@@ -69,4 +66,4 @@ returns c =
     whole (rounded from) (l .loop .row) (length from) (omega arith) (rw e at (l .loop .inv .2)) ∙ sym (ap (map narrowed) (elements from nan) ∙ map-list narrowed (λ (k : ℕ). getD from k nan) (length from))
 
 pub narrow-row-spec : {M : Type 1} → statement M
-narrow-row-spec = tie.close (tie.spec Inv-loop μ-loop loop-holds mul-narrow shared-slice-read-narrow narrow-requires mul-row slice-write-row add-k loop-less loop-again same-length returns)
+narrow-row-spec = tie.close (tie.spec Inv-loop μ-loop loop-holds mul-narrow shared-slice-read-narrow (λ c κs. search needs) mul-row slice-write-row add-k loop-less loop-again same-length returns)
