@@ -1,10 +1,10 @@
 -- An answer by its number, and what a file that is not refused has: one or two channels. Assumes nothing.
 use mathlib.Core.Path.{_≡_, refl, ap, _∙_}
-use mathlib.Core.Bool.{Bool, true, false, true≢false, not, _&&_, _||_}
+use mathlib.Core.Bool.{Bool, true, false, true≢false, cond, not, _&&_, _||_}
 use mathlib.Core.List.{List}
-use Prim.Native.Nat.{ℕ, zero, suc, _+_, _*_, _/_, _≤_}
+use Prim.Native.Nat.{ℕ, zero, suc, _+_, _*_, _/_, _≤_, _<_}
 use native.Mathlib.Omega.{arith}
-use borrow.Author.Tests.{eqb-true}
+use borrow.Author.Tests.{eqb-true, lt-leb}
 use lib.Dec.{eqb, leb}
 use lib.ListN.{length}
 use Rattle.riff_chunks.specs.declared.Walked.{Walked}
@@ -18,6 +18,14 @@ use Rattle.wav.specs.Wave.{firstOf, verdict, riffSize, walkIn, partOf, f
 pub refused : (k : ℕ) (w : Wave) → (k ≡ 0 → ⊥) → found.Refused k ≡ foundBy k w
 refused zero w h = absurd (h refl)
 refused (suc k) w h = refl
+
+-- a RIFF that runs past the file
+pub past : (b : List ℕ) → length b < 8 + riffSize b → found.Refused (cond (isWave b) 10 9) ≡ foundBy (verdict b) (waveIn b)
+past b h = rw (lt-leb (8 + riffSize b) (length b) h) (by (isWave b))
+  where
+    by : (t : Bool) → found.Refused (cond t 10 9) ≡ foundBy (cond t 10 9) (waveIn b)
+    by true = refl
+    by false = refl
 
 pub taken : (k : ℕ) (w : Wave) → k ≡ 0 → found.Wave w ≡ foundBy k w
 taken k w h = rw h

@@ -9,6 +9,7 @@ use format::format_ok;
 use format::kind_of;
 use order::first;
 use order::is_wave;
+use order::past;
 use order::within;
 
 // PCM of 16 and 24 bits, IEEE float of 32.
@@ -36,7 +37,12 @@ pub fn read(file: &[u8]) -> Found
     ensures { λ r. ⌜ r ≡ foundIn (now (file .entry)) ⌝ }
 {
     let size = word_bytes::low_first_u32(file, 4);
-    let walked = riff_chunks::walk(file, 8 + size as usize);
+    let end = 8 + size as usize;
+    // Where the RIFF runs past the file there is no need to walk: up to 2^32 bytes that are not there would be.
+    if file.len() < end {
+        return Found::Refused(past(is_wave(file)));
+    }
+    let walked = riff_chunks::walk(file, end);
     let fmt = walked.fmt;
     let samples = walked.samples;
     let f = part_of(file, fmt.body, fmt.size);

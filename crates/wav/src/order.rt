@@ -1,6 +1,6 @@
 // W1. The first tests of a file, and the order of the refusals 9 to 13.
 ghost use mathlib.Core.Path.{_≡_};
-ghost use mathlib.Core.Bool.{not, _&&_};
+ghost use mathlib.Core.Bool.{cond, not, _&&_};
 ghost use Prim.Native.Nat.{_+_};
 ghost use lib.Dec.{leb};
 ghost use lib.ListN.{length};
@@ -30,6 +30,13 @@ pub fn within(file: &[u8], overruns: bool) -> bool
 {
     let end = 8 + low_first_u32(file, 4) as usize;
     both(end <= file.len(), !overruns)
+}
+
+// What is due where the RIFF runs past the file.
+pub fn past(is: bool) -> u8
+    ensures { λ r. ⌜ r ≡ cond is 10 9 ⌝ }
+{
+    if is { 10 } else { 9 }
 }
 
 // The lowest number whose test fails; 0 where all pass.
