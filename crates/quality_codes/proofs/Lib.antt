@@ -1,2 +1,3 @@
 pub mod Told
 pub mod Drafted
+pub mod Sets

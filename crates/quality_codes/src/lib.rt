@@ -2,6 +2,7 @@
 mod calls; // a call
 mod codes; // a quality and a state as numbers
 mod draft; // a call that is plain in Draft
+mod lent; // whether a bank has its length
 mod plainly; // its tests
 mod renewing; // opening and reset
 mod through; // a call whose numbers come and go through pointers

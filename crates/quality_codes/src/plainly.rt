@@ -11,6 +11,7 @@ ghost use Rattle.bank_choice.specs.Rates.{bankOk, stepsOf};
 ghost use Rattle.sinc_bank_f32.specs.Sets.{setLength};
 ghost use Rattle.quality_variable_delay.specs.Bank.{dueOf};
 ghost use Rattle.quality_codes.specs.Codes.{decoded, stateOf};
+use super::lent;
 
 // Whether all three qualities are Draft and the fade's numbers in range.
 fn draft(current: u8, target: u8, quality: u8, place: u32, crossfade: u32) -> bool
@@ -49,10 +50,8 @@ fn filled(maximum: usize, margin: usize, len: usize, top: f64, lent: usize) -> b
     ensures { λ r. ⌜ (r ≡ true → (settingsOk maximum margin ≡ true) × (eqb len (lengthFor maximum margin) ≡ true) × (bankOk top ≡ true) × (eqb lent (stepsOf top * setLength) ≡ true)) ⌝ }
 {
     if len != 0 {
-        if lent != 0 {
-            if len == ring::length_for(maximum, margin) {
-                return lent == sinc_bank_f32::bank_length(top);
-            }
+        if len == ring::length_for(maximum, margin) {
+            return lent::fits(top, lent);
         }
     }
     false

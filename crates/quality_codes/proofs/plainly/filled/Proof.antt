@@ -8,15 +8,12 @@ use Rattle.quality_codes.proofs.plainly.filled.Tie as tie
 
 returns : tie.Need-returns
 returns c =
-    let fits = c .before in
-    let long = fits .before in
-    let lent = long .before in
-    let some = lent .before in
+    let long = c .before in
+    let some = long .before .before in
     λ h.
-    let r = passing.filled _ _ _ (long .length-for .result) (long .length-for .ensures) (some .if1 .taken) (eq-eqb _ _ (fits .if3 .taken)) in
-    let b = passing.filled _ _ _ (c .bank-length .result) (c .bank-length .ensures) (lent .if2 .taken) h in
+    let r = passing.filled _ _ _ (long .before .length-for .result) (long .before .length-for .ensures) (some .if1 .taken) (eq-eqb _ _ (long .if2 .taken)) in
+    let b = c .fits2 .ensures h in
     (r .0, r .1, b .0, b .1)
 
 pub filled-spec : {M : Type 1} → statement M
-filled-spec =
-    tie.close (tie.spec (λ c κs. search needs) (λ c κs. search needs) returns (λ c h. absurd (false≢true h)) (λ c h. absurd (false≢true h)) (λ c h. absurd (false≢true h)))
+filled-spec = tie.close (tie.spec (λ c κs. search needs) (λ c κs. search needs) returns (λ c h. absurd (false≢true h)) (λ c h. absurd (false≢true h)))

@@ -1,0 +1,41 @@
+// Whether a bank has as many f32 as its sets need, with one division of a whole number by a constant and none of its ceiling worked out.
+ghost use mathlib.Core.Path.{_≡_};
+ghost use mathlib.Core.Bool.{true};
+ghost use Prim.Native.Nat.{_*_, _^_, _<_, max};
+ghost use lib.Dec.{eqb};
+ghost use Rattle.magnitude.specs.Bounds.{AtMost};
+ghost use Rattle.bank_choice.specs.Rates.{bankOk, ceilingOf, stepsOf};
+ghost use Rattle.sinc_bank_f32.specs.Sets.{setLength};
+
+// Whether n is the ceiling of x, and at least 1: x lies above the number before it and not above n.
+fn counted(x: f64, n: u64) -> bool
+    requires { ⌜ AtMost 50 x × (n < 2 ^ 44) ⌝ }
+    ensures { λ r. ⌜ (r ≡ true → n ≡ max 1 (ceilingOf x)) ⌝ }
+{
+    if n <= 1 {
+        if 1.0 < x {
+            return false;
+        }
+        return n == 1;
+    }
+    let k = n - 1;
+    if ((k as i64) as f64) < x {
+        if ((n as i64) as f64) < x {
+            return false;
+        }
+        return true;
+    }
+    false
+}
+
+pub(crate) fn fits(top: f64, lent: usize) -> bool
+    ensures { λ r. ⌜ (r ≡ true → (bankOk top ≡ true) × (eqb lent (stepsOf top * setLength) ≡ true)) ⌝ }
+{
+    let n = lent / 1081648;
+    if n * 1081648 == lent {
+        if magnitude::within(top, 1.0, 2.0) {
+            return counted((top - 1.0) / 0.02, n as u64);
+        }
+    }
+    false
+}
