@@ -20,21 +20,6 @@ abbrev μ-loop : tie.MeasureT-loop
 loop-holds : tie.Need-loop-holds Inv-loop μ-loop
 loop-holds c = (refl, begun _ _ _)
 
-sub-loop : tie.Need-sub-loop Inv-loop μ-loop
-sub-loop c = search needs
-
-add-end : tie.Need-add-end Inv-loop μ-loop
-add-end c = search needs
-
-sub-put-sample : tie.Need-sub-put-sample Inv-loop μ-loop
-sub-put-sample c = search needs
-
-part-put-sample-start : tie.Need-part-put-sample-start Inv-loop μ-loop
-part-put-sample-start c = search needs
-
-part-put-sample-end : tie.Need-part-put-sample-end Inv-loop μ-loop
-part-put-sample-end c = search needs
-
 put-sample-requires : tie.Need-put-sample-requires Inv-loop μ-loop
 put-sample-requires c κs = let half = c .before .before .before .loop .inv .1 in simp (length-take, length-drop) (omega (arith, half .long, half .inside))
 
@@ -58,12 +43,6 @@ loop-less c =
 loop-again : tie.Need-loop-again Inv-loop μ-loop
 loop-again c = (search needs, done c)
 
-same-length : tie.Need-same-length Inv-loop μ-loop
-same-length c = search needs
-
-same-length-2 : tie.Need-same-length-2 Inv-loop μ-loop
-same-length-2 c = search needs
-
 returns : tie.Need-returns Inv-loop μ-loop
 returns c =
     let l = c .before .loop in
@@ -73,19 +52,4 @@ returns c =
 
 pub render-block-spec : {M : Type 1} → statement M
 render-block-spec =
-    tie.close
-    (tie.spec
-    Inv-loop
-    μ-loop
-    loop-holds
-    sub-loop
-    add-end
-    sub-put-sample
-    part-put-sample-start
-    part-put-sample-end
-    put-sample-requires
-    loop-less
-    loop-again
-    same-length
-    same-length-2
-    returns)
+    tie.close (tie.spec Inv-loop μ-loop loop-holds (λ c. search needs) (λ c. search needs) (λ c. search needs) (λ c. search needs) (λ c. search needs) put-sample-requires loop-less loop-again (λ c. search needs) (λ c. search needs) returns)
