@@ -66,7 +66,7 @@ same : (a d : ℕ) → 0 < d → a ≤ a / d * d → (a + (d - 1)) / d ≡ a / d
 same a d p h = div-eq-of-lt-le d (le-trans (div-mul-le-self a d) (omega arith)) (rw (add-mul (a / d) 1 d) (omega arith))
 
 -- ---- the test
-less : (y : Float) (q m : ℕ) (e : ℤ) → HasValue y false q 1 → lt y (fin false m e) ≡ true → q * down e < m * up e
+pub less : (y : Float) (q m : ℕ) (e : ℤ) → HasValue y false q 1 → lt y (fin false m e) ≡ true → q * down e < m * up e
 unfolding lt
 less nan q m e v h = absurd v
 less (inf s) q m e v h = absurd v
@@ -77,7 +77,7 @@ less (fin false n d) q m e v h =
     (ap (λ (z : ℕ). z * down e) (sym (mul-one (n * up d)) ∙ v .1) ∙ mul-right-comm q (down d) (down e))
     (ltb-true (n * up d * down e) (m * up e * down d) h))
 
-not-less : (y : Float) (q m : ℕ) (e : ℤ) → HasValue y false q 1 → lt y (fin false m e) ≡ false → m * up e ≤ q * down e
+pub not-less : (y : Float) (q m : ℕ) (e : ℤ) → HasValue y false q 1 → lt y (fin false m e) ≡ false → m * up e ≤ q * down e
 unfolding lt
 not-less nan q m e v h = absurd v
 not-less (inf s) q m e v h = absurd v

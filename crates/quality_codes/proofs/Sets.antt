@@ -13,29 +13,7 @@ use lib.Ieee.Exact.{HasValue}
 use Rattle.magnitude.specs.Bounds.{AtMost}
 use Rattle.magnitude.proofs.Whole.{whole-value}
 use Rattle.bank_choice.specs.Rates.{num, ceilingOf}
-
-less : (y : Float) (q m : ℕ) (e : ℤ) → HasValue y false q 1 → lt y (fin false m e) ≡ true → q * down e < m * up e
-unfolding lt
-less nan q m e v h = absurd v
-less (inf s) q m e v h = absurd v
-less (fin true n d) q m e v h = absurd (true≢false (v .0))
-less (fin false n d) q m e v h =
-    lt-of-mul-lt-mul-right (down d)
-    (subst (λ (z : ℕ). z < m * up e * down d)
-    (ap (λ (z : ℕ). z * down e) (sym (mul-one (n * up d)) ∙ v .1) ∙ mul-right-comm q (down d) (down e))
-    (ltb-true (n * up d * down e) (m * up e * down d) h))
-
-not-less : (y : Float) (q m : ℕ) (e : ℤ) → HasValue y false q 1 → lt y (fin false m e) ≡ false → m * up e ≤ q * down e
-unfolding lt
-not-less nan q m e v h = absurd v
-not-less (inf s) q m e v h = absurd v
-not-less (fin true n d) q m e v h = absurd (true≢false (v .0))
-not-less (fin false n d) q m e v h =
-    le-of-mul-le-mul-right
-    (subst (λ (z : ℕ). m * up e * down d ≤ z)
-    (ap (λ (z : ℕ). z * down e) (sym (mul-one (n * up d)) ∙ v .1) ∙ mul-right-comm q (down d) (down e))
-    (ltb-false (n * up d * down e) (m * up e * down d) h))
-    (down-pos d)
+use Rattle.bank_choice.proofs.Ceilings.{less, not-less}
 
 -- nothing below zero lies above a whole number
 not-below : (y : Float) (q m : ℕ) (e : ℤ) → HasValue y false q 1 → lt y (fin true m e) ≡ true → ⊥

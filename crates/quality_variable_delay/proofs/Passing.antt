@@ -9,7 +9,7 @@ use lib.IntN.{pos}
 use lib.Ieee.{Float, fin, le, isNan}
 use lib.Ieee.Scale.{finite}
 use Rattle.ring.specs.Length.{settingsOk, lengthFor}
-use Rattle.variable_delay_f32.proofs.Passing.{delay-finite}
+use Rattle.variable_delay.proofs.Settings.{delay-finite}
 use Rattle.bank_choice.specs.Rates.{bankOk, stepsOf}
 use Rattle.sinc_bank_f32.specs.Sets.{setLength}
 use Rattle.quality_fade.specs.Fade.{lengthOk, placeOk}

@@ -1,6 +1,6 @@
 -- The tests 1 and 2 as the code makes them, on the length that `length_for` gives: it is 0 exactly where the settings are out of range, and what test 2 says then
 -- counts for nothing. Assumes nothing.
-use mathlib.Core.Path.{_≡_, refl, sym}
+use mathlib.Core.Path.{_≡_, refl, sym, _∙_}
 use mathlib.Core.Bool.{Bool, true, false, not, cond, _&&_, true≢false}
 use Prim.Native.Nat.{ℕ, _^_}
 use native.Mathlib.Nat.{le-of-lt}
@@ -48,6 +48,13 @@ bounded nan = refl
 bounded (inf true) = refl
 bounded (inf false) = refl
 bounded (fin s m e) = refl
+
+pub delay-finite : (y : Float) → le (fin false 0 (pos 0)) y ≡ true → le y (fin false 1 (pos 36)) ≡ true → finite y ≡ true
+delay-finite y a b = go (finite y) _ _ (bounded y) a b
+  where
+    go : (f p q : Bool) → (f && p) && q ≡ p && q → p ≡ true → q ≡ true → f ≡ true
+    go true p q e a b = refl
+    go false p q e a b = e ∙ rw (a, b)
 
 -- none is due where every test passes, the third by the last
 none-of : (p q t3 t4 t5 t6 t8 : Bool) → (t8 ≡ true → t3 ≡ true) → (p && q) && (t8 && (t4 && (t5 && t6))) ≡ eqb (firstOf p q t3 t4 t5 t6 true t8) 0

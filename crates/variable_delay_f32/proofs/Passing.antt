@@ -4,25 +4,19 @@ use mathlib.Core.Bool.{Bool, true, false, cond}
 use Prim.Native.Nat.{ℕ, _^_, _<_}
 use native.Mathlib.Omega.{arith}
 use borrow.Author.Tests.{eqb-true, le-leb, lt-ltb}
-use denote.Floats.{passes}
 use lib.Dec.{eqb}
 use lib.IntN.{pos}
 use lib.Ieee.{Float, fin, le}
-use lib.Ieee.Bits.{is-true}
 use lib.Ieee.Scale.{finite}
-use Rattle.interval.proofs.Between.{between}
 use Rattle.ring.specs.Length.{settingsOk, lengthFor}
 use Rattle.variable_delay.specs.Reader.{verdict}
+use Rattle.variable_delay.proofs.Settings.{delay-finite}
 use Rattle.variable_delay.specs.declared.VariableDelay.{VariableDelay}
 
 -- something lent that is not empty, and has the length that is m where b holds and else 0
 pub filled : (b : Bool) (m len n : ℕ) → n ≡ cond b m 0 → (len ≡ 0 → ⊥) → eqb len n ≡ true → (b ≡ true) × (eqb len m ≡ true)
 filled true m len n e some h = (refl, ap (eqb len) (sym e) ∙ h)
 filled false m len n e some h = absurd (some (eqb-true len n h ∙ e))
-
--- a delay from 0 to 2^36 is finite
-pub delay-finite : (y : Float) → le (fin false 0 (pos 0)) y ≡ true → le y (fin false 1 (pos 36)) ≡ true → finite y ≡ true
-delay-finite y a b = is-true (finite y) (between {low = fin false 0 (pos 0)} {high = fin false 1 (pos 36)} tt tt (passes _ a) (passes _ b) .above .second)
 
 pub none-due : (own lent : Bool) (d : VariableDelay) (len : ℕ) (x y : Float) (n : ℕ) → own ≡ true → lent ≡ true → d .accepted < 2 ^ 36
     → le (fin false 0 (pos 0)) y ≡ true → le y (fin false 1 (pos 36)) ≡ true → finite x ≡ true → (len ≡ 0 → ⊥)

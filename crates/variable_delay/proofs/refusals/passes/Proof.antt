@@ -2,8 +2,8 @@
 use borrow.Author.Needs.{needs}
 use lib.Ieee.{ofBits}
 use Rattle.variable_delay.proofs.Settings.{none-due}
-use Rattle.variable_delay.proofs.passes.Statement.{statement}
-use Rattle.variable_delay.proofs.passes.Tie as tie
+use Rattle.variable_delay.proofs.refusals.passes.Statement.{statement}
+use Rattle.variable_delay.proofs.refusals.passes.Tie as tie
 
 returns : tie.Need-returns
 unfolding ofBits

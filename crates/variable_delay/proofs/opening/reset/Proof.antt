@@ -10,8 +10,8 @@ use Rattle.answer.specs.Refusals.{firstOf}
 use Rattle.variable_delay.specs.Opening.{resetVerdict}
 use Rattle.variable_delay.proofs.Settings.{settled}
 use Rattle.variable_delay.proofs.Refused.{not-opened, not-cleared}
-use Rattle.variable_delay.proofs.reset.Statement.{statement}
-use Rattle.variable_delay.proofs.reset.Tie as tie
+use Rattle.variable_delay.proofs.opening.reset.Statement.{statement}
+use Rattle.variable_delay.proofs.opening.reset.Tie as tie
 
 verdict-is : (c : tie.After-first) → let a = c .before .before .before .before .args in c .first .result ≡ resetVerdict (a .state) (length (now (a .ring)))
 verdict-is c =

@@ -1,8 +1,8 @@
 -- `variable_delay::due` meets its contract: each test is the definition's. Assumes nothing.
 use borrow.Author.Needs.{needs}
 use lib.Ieee.{ofBits}
-use Rattle.variable_delay.proofs.due.Statement.{statement}
-use Rattle.variable_delay.proofs.due.Tie as tie
+use Rattle.variable_delay.proofs.refusals.due.Statement.{statement}
+use Rattle.variable_delay.proofs.refusals.due.Tie as tie
 
 returns : tie.Need-returns
 unfolding ofBits

@@ -1,0 +1,70 @@
+// The refusal that is due at a call, and whether none is.
+ghost use mathlib.Core.Path.{_≡_};
+ghost use mathlib.Core.Bool.{_&&_};
+ghost use lib.Dec.{eqb};
+ghost use Rattle.variable_delay.specs.Reader.{verdict, dueOf};
+use super::VariableDelay;
+
+// The refusal that is due, in 01's order, and 0 for none.
+pub fn refusal(
+    state: VariableDelay,
+    own: bool,
+    lent: bool,
+    len: usize,
+    input: f64,
+    delay: f64,
+) -> u8
+    ensures { λ r. ⌜ r ≡ verdict own lent state len input delay ⌝ }
+{
+    let length = ring::length_for(state.maximum, state.margin);
+    due(length, own, lent, len, state.accepted, input, delay)
+}
+
+// The same for the length that the settings need, 0 where they are out of range.
+pub(crate) fn due(
+    length: usize,
+    own: bool,
+    lent: bool,
+    len: usize,
+    accepted: u64,
+    input: f64,
+    delay: f64,
+) -> u8
+    ensures { λ r. ⌜ r ≡ dueOf length own lent len accepted input delay ⌝ }
+{
+    let t1 = both(length != 0, own);
+    let t2 = both(len == length, lent);
+    let t3 = accepted <= 68719476736;
+    let t4 = magnitude::is_finite(input);
+    let t5 = both(magnitude::is_finite(delay), delay >= 0.0);
+    let t6 = delay <= 68719476736.0;
+    let t8 = accepted < 68719476736;
+    answer::first(t1, t2, t3, t4, t5, t6, true, t8)
+}
+
+// Whether none is due, which asks less: a delay from 0 to 2^36 is finite, and a count below 2^36 is in range.
+pub(crate) fn passes(
+    length: usize,
+    own: bool,
+    lent: bool,
+    len: usize,
+    accepted: u64,
+    input: f64,
+    delay: f64,
+) -> bool
+    ensures { λ r. ⌜ r ≡ eqb (dueOf length own lent len accepted input delay) 0 ⌝ }
+{
+    let t1 = both(length != 0, own);
+    let t2 = both(len == length, lent);
+    let t4 = both(
+        magnitude::is_finite(input),
+        magnitude::within(delay, 0.0, 68719476736.0),
+    );
+    both(both(t1, t2), both(accepted < 68719476736, t4))
+}
+
+fn both(a: bool, b: bool) -> bool
+    ensures { λ r. ⌜ r ≡ (a && b) ⌝ }
+{
+    if a { b } else { false }
+}
