@@ -2,15 +2,15 @@
 ghost use mathlib.Core.Path.{_≡_};
 ghost use Rattle.wav.specs.Wave.{foundIn, partOf};
 
+mod first_tests;
 mod format;
-mod order;
 
+use first_tests::first;
+use first_tests::is_wave;
+use first_tests::past;
+use first_tests::within;
 use format::format_ok;
 use format::kind_of;
-use order::first;
-use order::is_wave;
-use order::past;
-use order::within;
 
 // PCM of 16 and 24 bits, IEEE float of 32.
 pub enum SampleKind {

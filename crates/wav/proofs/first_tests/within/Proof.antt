@@ -1,7 +1,7 @@
--- `wav::order::within` meets its contract: what the calls ensure, put together. Assumes nothing.
+-- `wav::first_tests::within` meets its contract: what the calls ensure, put together. Assumes nothing.
 use borrow.Author.Needs.{needs}
-use Rattle.wav.proofs.order.within.Statement.{statement}
-use Rattle.wav.proofs.order.within.Tie as tie
+use Rattle.wav.proofs.first_tests.within.Statement.{statement}
+use Rattle.wav.proofs.first_tests.within.Tie as tie
 
 returns : tie.Need-returns
 returns c = cc

@@ -1,8 +1,8 @@
--- `wav::order::is_wave` meets its contract: what the calls ensure, put together. Assumes nothing.
+-- `wav::first_tests::is_wave` meets its contract: what the calls ensure, put together. Assumes nothing.
 use borrow.Author.Needs.{needs}
 use Rattle.wav.specs.Wave.{isWave}
-use Rattle.wav.proofs.order.is_wave.Statement.{statement}
-use Rattle.wav.proofs.order.is_wave.Tie as tie
+use Rattle.wav.proofs.first_tests.is_wave.Statement.{statement}
+use Rattle.wav.proofs.first_tests.is_wave.Tie as tie
 
 returns : tie.Need-returns
 unfolding isWave
