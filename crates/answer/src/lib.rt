@@ -1,7 +1,7 @@
 // A reader's answer: a sample or a refusal number (01), at both widths, and which number is given where several are due.
 ghost use mathlib.Core.Path.{_≡_};
 ghost use Rattle.answer.specs.Answers.{answerOf, answerF32Of};
-ghost use Rattle.answer.specs.Refusals.{firstOf};
+ghost use Rattle.answer.specs.Refusals.{lowestOf};
 
 pub enum Answer {
     Sample(f64),
@@ -36,7 +36,7 @@ pub fn answered_f32(refusal: u8, sample: f32) -> AnswerF32
 
 // N9. The lowest number whose test fails, in 01's order; 0 where all eight pass.
 pub fn first(t1: bool, t2: bool, t3: bool, t4: bool, t5: bool, t6: bool, t7: bool, t8: bool) -> u8
-    ensures { λ r. ⌜ r ≡ firstOf t1 t2 t3 t4 t5 t6 t7 t8 ⌝ }
+    ensures { λ r. ⌜ r ≡ lowestOf t1 t2 t3 t4 t5 t6 t7 t8 ⌝ }
 {
     if t1 {
         if t2 {

@@ -12,13 +12,13 @@ use lib.Ieee.Fits.{and-i, eq→eqb}
 use lib.Ieee.Scale.{finite}
 use Rattle.fraction.specs.Value.{val}
 use Rattle.fraction.proofs.Compare.{side, le-is}
-use Rattle.answer.specs.Refusals.{firstOf}
+use Rattle.answer.specs.Refusals.{lowestOf}
 use Rattle.ring.specs.Length.{need, settingsOk, lengthFor}
 use Rattle.variable_delay.specs.Reader.{verdict}
 use Rattle.variable_delay.specs.declared.VariableDelay.{VariableDelay}
 use Rattle.cubic_bound.specs.Desk.{WholeDelay}
 
-none-due : (t1 t2 t3 t4 t5 t6 t7 t8 : Bool) → T t1 → T t2 → T t3 → T t4 → T t5 → T t6 → T t7 → T t8 → firstOf t1 t2 t3 t4 t5 t6 t7 t8 ≡ 0
+none-due : (t1 t2 t3 t4 t5 t6 t7 t8 : Bool) → T t1 → T t2 → T t3 → T t4 → T t5 → T t6 → T t7 → T t8 → lowestOf t1 t2 t3 t4 t5 t6 t7 t8 ≡ 0
 none-due t1 t2 t3 t4 t5 t6 t7 t8 h1 h2 h3 h4 h5 h6 h7 h8 = rw (is-true t1 h1, is-true t2 h2, is-true t3 h3, is-true t4 h4, is-true t5 h5, is-true t6 h6, is-true t7 h7, is-true t8 h8)
 
 ordered : (x y : Float) → T (finite x) → T (finite y) → side (val x) (val y) ≤ side (val y) (val x) → T (le x y)

@@ -1,7 +1,9 @@
 -- G8, M1, M2. 001's engine: opened, and its sample rate, its seed or its whole course set anew. Definitions only.
 use Prim.Native.Nat.{ℕ, zero, suc}
 use mathlib.Core.Bool.{Bool, true, _&&_, cond}
+use mathlib.Core.List.{[], _∷_}
 use lib.Ieee.{Float}
+use Rattle.refusal_order.specs.Order.{_unless_, firstOf}
 use Rattle.xorshift.specs.Seeds.{flutterSeedOf}
 use Rattle.smooth_random.specs.Ranges as ranges
 use Rattle.smooth_random.specs.Drift as drift
@@ -20,7 +22,7 @@ validEngine e = phasesOk e && (ranges.validOf (e .«wow_drift») && ranges.valid
 
 -- N1, N3, N9. The refusal that is due where a state is handed in, 0 for none: 1 for the sample rate that it keeps or an argument beside it, 3 for any other field.
 unfoldable pub verdict : Bool → ModulationEngine → ℕ
-verdict arguments e = cond (sampleRateOk (e .«sample_rate») && arguments) (cond (validEngine e) 0 3) 1
+verdict arguments e = firstOf (1 unless (sampleRateOk (e .«sample_rate») && arguments) ∷ 3 unless validEngine e ∷ [])
 
 -- The engine where no refusal is due.
 abbrev pub openedBy : ℕ → ModulationEngine → Opened

@@ -11,7 +11,7 @@ use lib.ListN.{length, length-set}
 use lib.Ieee.{Float}
 use lib.Ieee.Bits.{is-true}
 use lib.Ieee.Fits.{and-l, and-r}
-use Rattle.answer.specs.Refusals.{firstOf}
+use Rattle.answer.specs.Refusals.{lowestOf}
 use Rattle.answer.proofs.Passed.{passed}
 use Rattle.ring.specs.Length.{settingsOk, lengthFor}
 use Rattle.quality_mode.specs.declared.QualityMode.{QualityMode}
@@ -36,12 +36,12 @@ module _ (s n e a p : Bool) where
     counts : a ≡ true
     placed : p ≡ true
 
-  valid : firstOf (s && n) e (a && p) true true true true true ≡ 0 → Valid
+  valid : lowestOf (s && n) e (a && p) true true true true true ≡ 0 → Valid
   valid h =
       let q = passed (s && n) e (a && p) true true true true true h in
       record { settings = is-true s (and-l s n (q .p1)); fits = is-true n (and-r s n (q .p1)); long = is-true e (q .p2); counts = is-true a (and-l a p (q .p3)); placed = is-true p (and-r a p (q .p3)) }
 
-  sound : Valid → firstOf (s && n) e (a && p) true true true true true ≡ 0
+  sound : Valid → lowestOf (s && n) e (a && p) true true true true true ≡ 0
   sound v = rw (v .settings, v .fits, v .long, v .counts, v .placed)
 
 -- what the five tests of a state and its ring's length say
@@ -108,5 +108,5 @@ pub opens : (maximum margin crossfade : ℕ) (q : QualityMode) → renewed (fres
 opens maximum margin crossfade q = refl
 
 pub open-due : (maximum margin crossfade len : ℕ) (q : QualityMode)
-    → resetVerdict (fresh maximum margin q crossfade) len ≡ firstOf (settingsOk maximum margin && lengthOk crossfade) (eqb len (lengthFor maximum margin)) true true true true true true
+    → resetVerdict (fresh maximum margin q crossfade) len ≡ lowestOf (settingsOk maximum margin && lengthOk crossfade) (eqb len (lengthFor maximum margin)) true true true true true true
 open-due maximum margin crossfade len q = rw (fade.in-place q q crossfade crossfade (omega arith) (λ f. let z : _≡_ {A = ℕ} 0 1 = cc (same-refl q) in absurd (omega arith)))

@@ -10,7 +10,7 @@ use lib.Ieee.{Float, fin, le, isNan}
 use lib.Ieee.Bits.{is-true}
 use lib.Ieee.Fits.{and-l, and-r}
 use lib.Ieee.Scale.{finite}
-use Rattle.answer.specs.Refusals.{firstOf}
+use Rattle.answer.specs.Refusals.{lowestOf}
 use Rattle.answer.specs.Answers.{answerF32Of}
 use Rattle.answer.specs.declared.AnswerF32.{AnswerF32}
 use Rattle.answer.proofs.Passed.{passed}
@@ -30,13 +30,13 @@ use Rattle.quality_variable_delay.specs.declared.ProcessedQ.{ProcessedQ}
 
 -- the tests by name: settings, fade length, bank; ring, sets; count, place; input, delay twice, rate, room
 record Tests (s n b e l a p x y w r m : Bool) : Type 0 where
-  fewer : firstOf (s && true) (e && true) a x y w true m ≡ 0
+  fewer : lowestOf (s && true) (e && true) a x y w true m ≡ 0
   fits : n ≡ true
   banked : b ≡ true
   lasting : l ≡ true
   placed : p ≡ true
 
-tests : (s n b e l a p x y w r m : Bool) → firstOf (s && (n && b)) (e && l) (a && p) x y w r m ≡ 0 → Tests s n b e l a p x y w r m
+tests : (s n b e l a p x y w r m : Bool) → lowestOf (s && (n && b)) (e && l) (a && p) x y w r m ≡ 0 → Tests s n b e l a p x y w r m
 tests s n b e l a p x y w r m h =
     let q = passed (s && (n && b)) (e && l) (a && p) x y w r m h in
     let own = and-r s (n && b) (q .p1) in record {

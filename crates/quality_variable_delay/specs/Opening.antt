@@ -1,11 +1,11 @@
 -- K1, Q3. Opening a quality reader over a lent ring, and resetting one: both zero the ring and the count, and leave nothing to fade. Definitions only.
 use Prim.Native.Nat.{ℕ, zero, suc, _^_}
 use mathlib.Core.Bool.{true, _&&_}
-use mathlib.Core.List.{List}
+use mathlib.Core.List.{List, [], _∷_}
 use lib.Dec.{eqb, leb}
 use lib.ListN.{length}
 use lib.Ieee.{Float}
-use Rattle.answer.specs.Refusals.{firstOf}
+use Rattle.refusal_order.specs.Order.{_unless_, firstOf}
 use Rattle.ring.specs.Length.{settingsOk, lengthFor}
 use Rattle.variable_delay.specs.Opening.{clearedBy}
 use Rattle.variable_delay.specs.Opening as plain
@@ -20,14 +20,11 @@ use Rattle.quality_variable_delay.specs.State.{fadePart, joined}
 -- N1 to N3. The refusal that is due at a reset, 0 for none; a full state may be reset.
 abbrev pub resetVerdict : QualityVariableDelayF32 → ℕ → ℕ
 resetVerdict d len =
-    firstOf (settingsOk (d .maximum) (d .margin) && lengthOk (d .«crossfade_samples»))
-    (eqb len (lengthFor (d .maximum) (d .margin)))
-    (leb (d .accepted) (2 ^ 36) && placeOk (fadePart d))
-    true
-    true
-    true
-    true
-    true
+    firstOf
+    (1 unless (settingsOk (d .maximum) (d .margin) && lengthOk (d .«crossfade_samples»))
+    ∷ 2 unless eqb len (lengthFor (d .maximum) (d .margin))
+    ∷ 3 unless (leb (d .accepted) (2 ^ 36) && placeOk (fadePart d))
+    ∷ [])
 
 -- Q3. The count is zero, the target is current, and the place is the length.
 abbrev pub renewed : QualityVariableDelayF32 → QualityVariableDelayF32

@@ -2,12 +2,12 @@
 -- qualities it reads, and what it leaves. Definitions only.
 use Prim.Native.Nat.{ℕ, zero, suc, _+_, _^_}
 use mathlib.Core.Bool.{Bool, true, false, not, _&&_, cond}
-use mathlib.Core.List.{List}
+use mathlib.Core.List.{List, [], _∷_}
 use lib.Dec.{eqb, leb, ltb}
 use lib.IntN.{pos}
 use lib.Ieee.{Float, fin, binary32, add, sub, mul, div, le, ofInt, isNan}
 use lib.Ieee.Scale.{finite}
-use Rattle.answer.specs.Refusals.{firstOf}
+use Rattle.refusal_order.specs.Order.{_unless_, firstOf}
 use Rattle.answer.specs.Answers.{answerF32Of}
 use Rattle.order.specs.Choice.{smaller}
 use Rattle.ring.specs.Length.{settingsOk, lengthFor}
@@ -25,14 +25,16 @@ use Rattle.quality_variable_delay.specs.State.{delayPart, fadePart, join
 -- setting; the qualities and the fade place are fields of a state. A rate that is a NaN is refused whatever quality is asked for (N7).
 abbrev pub verdict : Bool → Bool → QualityVariableDelayF32 → ℕ → Float → Float → Float → ℕ
 verdict bank lent d len x y rate =
-    firstOf (settingsOk (d .maximum) (d .margin) && (lengthOk (d .«crossfade_samples») && bank))
-    (eqb len (lengthFor (d .maximum) (d .margin)) && lent)
-    (leb (d .accepted) (2 ^ 36) && placeOk (fadePart d))
-    (finite x)
-    (finite y && le (fin false 0 (pos 0)) y)
-    (le y (fin false 1 (pos 36)))
-    (not (isNan rate))
-    (ltb (d .accepted) (2 ^ 36))
+    firstOf
+    (1 unless (settingsOk (d .maximum) (d .margin) && (lengthOk (d .«crossfade_samples») && bank))
+    ∷ 2 unless (eqb len (lengthFor (d .maximum) (d .margin)) && lent)
+    ∷ 3 unless (leb (d .accepted) (2 ^ 36) && placeOk (fadePart d))
+    ∷ 4 unless finite x
+    ∷ 5 unless (finite y && le (fin false 0 (pos 0)) y)
+    ∷ 6 unless le y (fin false 1 (pos 36))
+    ∷ 7 unless not (isNan rate)
+    ∷ 8 unless ltb (d .accepted) (2 ^ 36)
+    ∷ [])
 
 -- `(crossfade_position + 1) as f32 / crossfade_samples as f32`, at most 1
 abbrev pub weightOf : ℕ → ℕ → Float

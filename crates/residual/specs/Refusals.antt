@@ -6,7 +6,7 @@ use lib.Dec.{leb, ltb, eqb}
 use lib.IntN.{ℤ, pos, negsuc}
 use lib.Signed.{leZ}
 use lib.ListN.{length}
-use Rattle.answer.specs.Refusals.{firstOf}
+use Rattle.refusal_order.specs.Order.{_unless_, firstOf}
 use Rattle.residual.specs.declared.Report.{Report}
 use Rattle.residual.specs.declared.Place.{Place}
 use Rattle.residual.specs.declared.Place.the-variants.{Nowhere, At}
@@ -35,7 +35,13 @@ reportOk r = leb (r .number) (2 ^ 36) && (leb (r .largest) (2 ^ 24 - 1) && (plac
 
 -- 1 a value outside 24 bits, 2 unequal lengths, 3 the carried report, 8 past 2^36 samples; 0 for none.
 unfoldable pub verdict : Report → List ℤ → List ℤ → ℕ
-verdict r xs ys = firstOf (all24 xs && all24 ys) (eqb (length xs) (length ys)) (reportOk r) true true true true (leb (r .number + length xs) (2 ^ 36))
+verdict r xs ys =
+    firstOf
+    (1 unless (all24 xs && all24 ys)
+    ∷ 2 unless eqb (length xs) (length ys)
+    ∷ 3 unless reportOk r
+    ∷ 8 unless leb (r .number + length xs) (2 ^ 36)
+    ∷ [])
 
 -- A refused call adds nothing: the caller's report is still the report.
 abbrev pub answerOf : ℕ → Report → Compared

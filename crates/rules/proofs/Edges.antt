@@ -8,7 +8,7 @@ use lib.IntN.{pos}
 use lib.Ieee.{Float, nan, inf, fin, le, lt, isNan}
 use lib.Ieee.Bits.{is-true}
 use lib.Ieee.Scale.{finite}
-use Rattle.answer.specs.Refusals.{firstOf}
+use Rattle.answer.specs.Refusals.{lowestOf}
 use Rattle.answer.proofs.Passed.{passed}
 use Rattle.ring.specs.Length.{settingsOk, lengthFor}
 use Rattle.order.specs.Choice.{clamped}
@@ -49,7 +49,7 @@ pub full-valid : (maximum margin len : ℕ) → resetVerdict (full maximum margi
 full-valid maximum margin len = refl
 
 -- all tests passed, and then the last alone fails
-eighth : (t1 t2 t3 t4 t5 t6 t7 t8 : Bool) → firstOf t1 t2 t3 t4 t5 t6 t7 t8 ≡ 0 → firstOf t1 t2 t3 t4 t5 t6 t7 false ≡ 8
+eighth : (t1 t2 t3 t4 t5 t6 t7 t8 : Bool) → lowestOf t1 t2 t3 t4 t5 t6 t7 t8 ≡ 0 → lowestOf t1 t2 t3 t4 t5 t6 t7 false ≡ 8
 eighth t1 t2 t3 t4 t5 t6 t7 t8 e =
     let p = passed t1 t2 t3 t4 t5 t6 t7 t8 e in
     rw (is-true t1 (p .p1), is-true t2 (p .p2), is-true t3 (p .p3), is-true t4 (p .p4), is-true t5 (p .p5), is-true t6 (p .p6), is-true t7 (p .p7))

@@ -1,10 +1,10 @@
 -- N1, N2. Which refusal is due where a set or a bank is lent to be built, and what a builder answers. What it leaves in the lent slice is windowed_sinc's
 -- `tableAfter`. Definitions only.
 use Prim.Native.Nat.{ℕ, zero, suc, _*_}
-use mathlib.Core.Bool.{true}
+use mathlib.Core.List.{[], _∷_}
 use lib.Dec.{eqb}
 use lib.Ieee.{Float}
-use Rattle.answer.specs.Refusals.{firstOf}
+use Rattle.refusal_order.specs.Order.{_unless_, firstOf}
 use Rattle.bank_choice.specs.Rates.{bankOk, stepsOf}
 use Rattle.sinc_bank_f32.specs.declared.Built.{Built}
 use Rattle.sinc_bank_f32.specs.declared.Built.the-variants.{Sets, Refused}
@@ -12,10 +12,10 @@ use Rattle.sinc_bank_f32.specs.Sets.{setLength}
 
 -- 1: the rate is not in 1..2; 2: another length
 abbrev pub setVerdict : Float → ℕ → ℕ
-setVerdict rate len = firstOf (bankOk rate) (eqb len setLength) true true true true true true
+setVerdict rate len = firstOf (1 unless bankOk rate ∷ 2 unless eqb len setLength ∷ [])
 
 abbrev pub bankVerdict : Float → ℕ → ℕ
-bankVerdict top len = firstOf (bankOk top) (eqb len (stepsOf top * setLength)) true true true true true true
+bankVerdict top len = firstOf (1 unless bankOk top ∷ 2 unless eqb len (stepsOf top * setLength) ∷ [])
 
 -- how many sets were built
 abbrev pub builtBy : ℕ → Float → Built

@@ -7,7 +7,7 @@ use borrow.Author.Tests.{eqb-true}
 use lib.Dec.{eqb}
 use lib.Ieee.{Float}
 use Rattle.ring.specs.Places.{positionOk}
-use Rattle.answer.specs.Refusals.{firstOf}
+use Rattle.answer.specs.Refusals.{lowestOf}
 use Rattle.sinc_settings.specs.Ranges.{tapsOk, phasesOk}
 use Rattle.sinc_settings.specs.Refusals.{tableLength, tableVerdict}
 use Rattle.sinc_read.specs.Reading.{sampleVerdict}
@@ -18,7 +18,7 @@ pub record Readable (taps phases len : ℕ) (p : Float) : Type 0 where
   pub long : len ≡ tableLength taps phases
 
 abbrev due : Bool → Bool → ℕ
-due a b = firstOf a b true true true true true true
+due a b = lowestOf a b true true true true true true
 
 module _ (taps phases len : ℕ) (p : Float) where
   -- a position out of range is refused by 1, as a setting is; in range the rest is due

@@ -1,13 +1,13 @@
 -- K4. What a table of f64 reads at a position: 000's sum over the taps, each step rounded, in 000's order; and which refusal is due. Definitions only.
 use Prim.Native.Nat.{ℕ}
-use mathlib.Core.Bool.{true, _&&_, cond}
-use mathlib.Core.List.{List}
+use mathlib.Core.Bool.{_&&_, cond}
+use mathlib.Core.List.{List, [], _∷_}
 use lib.Dec.{eqb}
 use lib.IntN.{pos, _+ℤ_}
 use lib.ListN.{length}
 use lib.Ieee.{Float}
 use Rattle.answer.specs.Answers.{zero-f}
-use Rattle.answer.specs.Refusals.{firstOf}
+use Rattle.refusal_order.specs.Order.{_unless_, firstOf}
 use Rattle.loops.specs.Loops.{fold}
 use Rattle.ring.specs.Taps.{tapOf}
 use Rattle.ring.specs.Places.{positionOk}
@@ -26,4 +26,8 @@ readOf table taps phases xs count p = cond (eqb (tableVerdict taps phases (lengt
 
 -- N1, N2. 1 for a setting or a position out of its range, 2 for a table of another length, 0 for none.
 abbrev pub sampleVerdict : ℕ → ℕ → ℕ → Float → ℕ
-sampleVerdict taps phases len p = firstOf (tapsOk taps && phasesOk phases && positionOk p) (eqb len (tableLength taps phases)) true true true true true true
+sampleVerdict taps phases len p =
+    firstOf
+    (1 unless (tapsOk taps && phasesOk phases && positionOk p)
+    ∷ 2 unless eqb len (tableLength taps phases)
+    ∷ [])

@@ -1,9 +1,10 @@
 -- N1, N2. Which refusal is due where a table is lent: 1 for a setting out of its range, 2 for another length, 0 for none. Definitions only.
 use Prim.Native.Nat.{ℕ, _+_, _*_}
-use mathlib.Core.Bool.{true, _&&_}
+use mathlib.Core.Bool.{_&&_}
+use mathlib.Core.List.{[], _∷_}
 use lib.Dec.{eqb}
 use lib.Ieee.{Float, binary64, div}
-use Rattle.answer.specs.Refusals.{firstOf}
+use Rattle.refusal_order.specs.Order.{_unless_, firstOf}
 use Rattle.sinc_settings.specs.declared.Settings.{Settings}
 use Rattle.sinc_settings.specs.Ranges.{tapsOk, phasesOk, settingsOk, rateOk, passbandOk}
 
@@ -13,15 +14,20 @@ tableLength taps phases = (phases + 1) * taps
 
 -- to a reader
 abbrev pub tableVerdict : ℕ → ℕ → ℕ → ℕ
-tableVerdict taps phases len = firstOf (tapsOk taps && phasesOk phases) (eqb len (tableLength taps phases)) true true true true true true
+tableVerdict taps phases len =
+    firstOf (1 unless (tapsOk taps && phasesOk phases) ∷ 2 unless eqb len (tableLength taps phases) ∷ [])
 
 -- to a builder
 abbrev pub verdict : Settings → ℕ → ℕ
-verdict s len = firstOf (settingsOk s) (eqb len (tableLength (s .taps) (s .phases))) true true true true true true
+verdict s len = firstOf (1 unless settingsOk s ∷ 2 unless eqb len (tableLength (s .taps) (s .phases)) ∷ [])
 
 -- 000's for_max_rate: the cutoff is passband / rate, and the rate and the passband are settings too
 abbrev pub forRate : ℕ → ℕ → Float → Float → Float → Settings
 forRate taps phases rate passband beta = record { taps = taps; phases = phases; cutoff = div binary64 passband rate; beta = beta }
 
 abbrev pub rateVerdict : Settings → Float → Float → ℕ → ℕ
-rateVerdict s rate passband len = firstOf ((rateOk rate && passbandOk passband) && settingsOk s) (eqb len (tableLength (s .taps) (s .phases))) true true true true true true
+rateVerdict s rate passband len =
+    firstOf
+    (1 unless ((rateOk rate && passbandOk passband) && settingsOk s)
+    ∷ 2 unless eqb len (tableLength (s .taps) (s .phases))
+    ∷ [])

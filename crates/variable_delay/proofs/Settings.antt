@@ -10,7 +10,7 @@ use lib.Dec.{eqb, leb, ltb}
 use lib.IntN.{pos}
 use lib.Ieee.{Float, nan, inf, fin, lt, eq, le}
 use lib.Ieee.Scale.{finite}
-use Rattle.answer.specs.Refusals.{firstOf}
+use Rattle.answer.specs.Refusals.{lowestOf}
 use Rattle.ring.specs.Length.{settingsOk, lengthFor}
 use Rattle.ring.proofs.Lengths.{some}
 use Rattle.variable_delay.specs.Reader.{verdict, dueOf}
@@ -38,7 +38,7 @@ pub due-is : (own lent : Bool) (d : VariableDelay) (len : ℕ) (x y : Float) {n 
 due-is own lent d len x y {n} e =
     settled (d .maximum) (d .margin) len n
     (λ (t u : Bool).
-    firstOf (t && own) (u && lent) (leb (d .accepted) (2 ^ 36)) (finite x) (finite y && le (fin false 0 (pos 0)) y) (le y (fin false 1 (pos 36))) true (ltb (d .accepted) (2 ^ 36)))
+    lowestOf (t && own) (u && lent) (leb (d .accepted) (2 ^ 36)) (finite x) (finite y && le (fin false 0 (pos 0)) y) (le y (fin false 1 (pos 36))) true (ltb (d .accepted) (2 ^ 36)))
     (λ t u. refl) e
 
 -- a delay from 0 to 2 ^ 36 is finite
@@ -57,7 +57,7 @@ delay-finite y a b = go (finite y) _ _ (bounded y) a b
     go false p q e a b = e ∙ rw (a, b)
 
 -- none is due where every test passes, the third by the last
-none-of : (p q t3 t4 t5 t6 t8 : Bool) → (t8 ≡ true → t3 ≡ true) → (p && q) && (t8 && (t4 && (t5 && t6))) ≡ eqb (firstOf p q t3 t4 t5 t6 true t8) 0
+none-of : (p q t3 t4 t5 t6 t8 : Bool) → (t8 ≡ true → t3 ≡ true) → (p && q) && (t8 && (t4 && (t5 && t6))) ≡ eqb (lowestOf p q t3 t4 t5 t6 true t8) 0
 none-of false q t3 t4 t5 t6 t8 h = refl
 none-of true false t3 t4 t5 t6 t8 h = refl
 none-of true true false t4 t5 t6 false h = refl

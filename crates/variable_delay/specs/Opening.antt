@@ -1,11 +1,11 @@
 -- K1. Opening a reader over a lent ring, and resetting one: both zero the ring and the count. Definitions only.
 use Prim.Native.Nat.{ℕ, zero, suc, _^_}
 use mathlib.Core.Bool.{true}
-use mathlib.Core.List.{List}
+use mathlib.Core.List.{List, [], _∷_}
 use lib.Dec.{eqb, leb}
 use lib.ListN.{length}
 use lib.Ieee.{Float}
-use Rattle.answer.specs.Refusals.{firstOf}
+use Rattle.refusal_order.specs.Order.{_unless_, firstOf}
 use Rattle.ring.specs.Length.{settingsOk, lengthFor, zeros}
 use Rattle.variable_delay.specs.declared.VariableDelay.{VariableDelay}
 use Rattle.variable_delay.specs.declared.Opened.{Opened}
@@ -18,7 +18,11 @@ fresh maximum margin = record { maximum = maximum; margin = margin; accepted = 0
 -- N1 to N3. The refusal that is due at a reset, 0 for none; a full state may be reset.
 abbrev pub resetVerdict : VariableDelay → ℕ → ℕ
 resetVerdict d len =
-    firstOf (settingsOk (d .maximum) (d .margin)) (eqb len (lengthFor (d .maximum) (d .margin))) (leb (d .accepted) (2 ^ 36)) true true true true true
+    firstOf
+    (1 unless settingsOk (d .maximum) (d .margin)
+    ∷ 2 unless eqb len (lengthFor (d .maximum) (d .margin))
+    ∷ 3 unless leb (d .accepted) (2 ^ 36)
+    ∷ [])
 
 -- The reader that a verdict leaves, and its ring: a refusal leaves every element (D1c).
 abbrev pub openedBy : ℕ → VariableDelay → Opened

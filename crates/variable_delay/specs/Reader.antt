@@ -2,13 +2,13 @@
 -- Samples are floats of either width. Definitions only.
 use Prim.Native.Nat.{ℕ, zero, suc, _+_, _%_, _^_}
 use mathlib.Core.Bool.{Bool, true, false, not, _&&_}
-use mathlib.Core.List.{List}
+use mathlib.Core.List.{List, [], _∷_}
 use lib.Dec.{eqb, leb, ltb}
 use lib.IntN.{pos}
 use lib.ListN.{length, set}
 use lib.Ieee.{Float, fin, binary64, sub, le, ofInt}
 use lib.Ieee.Scale.{finite}
-use Rattle.answer.specs.Refusals.{firstOf}
+use Rattle.refusal_order.specs.Order.{_unless_, firstOf}
 use Rattle.answer.specs.Answers.{answerOf}
 use Rattle.ring.specs.Length.{settingsOk, lengthFor}
 use Rattle.variable_delay.specs.declared.VariableDelay.{VariableDelay}
@@ -22,19 +22,28 @@ Reading = List Float → ℕ → Float → Float
 -- N1 to N6, N8. The refusal that is due, 0 for none. `own` says that the kernel's own settings are in range, `lent` that its lent table has its length.
 abbrev pub verdict : Bool → Bool → VariableDelay → ℕ → Float → Float → ℕ
 verdict own lent d len x y =
-    firstOf (settingsOk (d .maximum) (d .margin) && own)
-    (eqb len (lengthFor (d .maximum) (d .margin)) && lent)
-    (leb (d .accepted) (2 ^ 36))
-    (finite x)
-    (finite y && le (fin false 0 (pos 0)) y)
-    (le y (fin false 1 (pos 36)))
-    true
-    (ltb (d .accepted) (2 ^ 36))
+    firstOf
+    (1 unless (settingsOk (d .maximum) (d .margin) && own)
+    ∷ 2 unless (eqb len (lengthFor (d .maximum) (d .margin)) && lent)
+    ∷ 3 unless leb (d .accepted) (2 ^ 36)
+    ∷ 4 unless finite x
+    ∷ 5 unless (finite y && le (fin false 0 (pos 0)) y)
+    ∷ 6 unless le y (fin false 1 (pos 36))
+    ∷ 8 unless ltb (d .accepted) (2 ^ 36)
+    ∷ [])
 
 -- The same on the length that `ring::length_for` gives, which is 0 where the settings are out of range: as the code tests it.
 abbrev pub dueOf : ℕ → Bool → Bool → ℕ → ℕ → Float → Float → ℕ
 dueOf length own lent len accepted x y =
-    firstOf (not (eqb length 0) && own) (eqb len length && lent) (leb accepted (2 ^ 36)) (finite x) (finite y && le (fin false 0 (pos 0)) y) (le y (fin false 1 (pos 36))) true (ltb accepted (2 ^ 36))
+    firstOf
+    (1 unless (not (eqb length 0) && own)
+    ∷ 2 unless (eqb len length && lent)
+    ∷ 3 unless leb accepted (2 ^ 36)
+    ∷ 4 unless finite x
+    ∷ 5 unless (finite y && le (fin false 0 (pos 0)) y)
+    ∷ 6 unless le y (fin false 1 (pos 36))
+    ∷ 8 unless ltb accepted (2 ^ 36)
+    ∷ [])
 
 -- K1. Accepted sample i goes to place i modulo the length.
 abbrev pub stored : ℕ → List Float → Float → List Float

@@ -1,19 +1,20 @@
 -- An answer by its number, and what a file that is not refused has: one or two channels. Assumes nothing.
 use mathlib.Core.Path.{_≡_, refl, ap, _∙_}
 use mathlib.Core.Bool.{Bool, true, false, true≢false, cond, not, _&&_, _||_}
-use mathlib.Core.List.{List}
+use mathlib.Core.List.{List, [], _∷_}
 use Prim.Native.Nat.{ℕ, zero, suc, _+_, _*_, _/_, _≤_, _<_}
 use native.Mathlib.Omega.{arith}
 use borrow.Author.Tests.{eqb-true, lt-leb}
 use lib.Dec.{eqb, leb}
 use lib.ListN.{length}
+use Rattle.refusal_order.specs.Order.{_unless_, firstOf}
 use Rattle.riff_chunks.specs.declared.Walked.{Walked}
 use Rattle.riff_chunks.specs.Walk.{walkOf}
 use Rattle.wav.specs.declared.Found.the-variants as found
 use Rattle.wav.specs.declared.SampleKind.{SampleKind}
 use Rattle.wav.specs.declared.Wave.{Wave}
 use Rattle.wav.specs.Format.{tag, channels, rate, block, bits, listed, kindOf, wholeFrames, formatOk}
-use Rattle.wav.specs.Wave.{firstOf, verdict, riffSize, walkIn, partOf, fmtOf, isWave, within, waveIn, foundBy}
+use Rattle.wav.specs.Wave.{verdict, riffSize, walkIn, partOf, fmtOf, isWave, within, waveIn, foundBy}
 
 pub refused : (k : ℕ) (w : Wave) → (k ≡ 0 → ⊥) → found.Refused k ≡ foundBy k w
 refused zero w h = absurd (h refl)
@@ -30,8 +31,12 @@ past b h = rw (lt-leb (8 + riffSize b) (length b) h) (by (isWave b))
 pub taken : (k : ℕ) (w : Wave) → k ≡ 0 → found.Wave w ≡ foundBy k w
 taken k w h = rw h
 
+-- the tests of `first`, in their order
+abbrev inOrder : Bool → Bool → Bool → Bool → Bool → ℕ
+inOrder t9 t10 t11 t12 t13 = firstOf (9 unless t9 ∷ 10 unless t10 ∷ 11 unless t11 ∷ 12 unless t12 ∷ 13 unless t13 ∷ [])
+
 -- the last test passed where no refusal is due
-passed : (t9 t10 t11 t12 t13 : Bool) → firstOf t9 t10 t11 t12 t13 ≡ 0 → t13 ≡ true
+passed : (t9 t10 t11 t12 t13 : Bool) → inOrder t9 t10 t11 t12 t13 ≡ 0 → t13 ≡ true
 passed true true true true true h = refl
 passed true true true true false h = absurd (omega arith)
 passed true true true false t13 h = absurd (omega arith)
@@ -67,11 +72,11 @@ module _ (b : List ℕ) (size : ℕ) (w : Walked) (f : List ℕ) (s : size ≡ r
   fmt-is = l ∙ ap (λ (v : Walked). partOf b (v .fmt .body) (v .fmt .size)) walk-is
 
   pub due : (t9 t10 t13 : Bool) (r : ℕ) → t9 ≡ isWave b → t10 ≡ leb (8 + riffSize b) (length b) && not (w .overruns) → t13 ≡ formatOk f (w .fmt .size) (w .samples .size)
-      → r ≡ firstOf t9 t10 (w .fmt .found) (w .samples .found) t13 → r ≡ verdict b
+      → r ≡ inOrder t9 t10 (w .fmt .found) (w .samples .found) t13 → r ≡ verdict b
   due t9 t10 t13 r e9 e10 e13 e =
       e
       ∙ rw (e9, e10, e13, fmt-is)
-      (ap (λ (v : Walked). firstOf (isWave b) (leb (8 + riffSize b) (length b) && not (v .overruns)) (v .fmt .found) (v .samples .found) (formatOk (fmtOf b) (v .fmt .size) (v .samples .size))) walk-is)
+      (ap (λ (v : Walked). inOrder (isWave b) (leb (8 + riffSize b) (length b) && not (v .overruns)) (v .fmt .found) (v .samples .found) (formatOk (fmtOf b) (v .fmt .size) (v .samples .size))) walk-is)
 
   pub wave-is : (kind : SampleKind) (n rt : ℕ) → kind ≡ kindOf (tag f) (bits f) → n ≡ channels f → rt ≡ rate f
       → _≡_ {A = Wave} (record { kind = kind; channels = n; rate = rt; start = w .samples .body; length = w .samples .size }) (waveIn b)

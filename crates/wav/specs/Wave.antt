@@ -1,9 +1,10 @@
 -- W1. A RIFF WAVE file: which refusal is due, and where no one is, the part that holds samples and what they are. Definitions only.
 use Prim.Native.Nat.{ℕ, zero, suc, _+_}
-use mathlib.Core.Bool.{Bool, cond, not, _&&_}
-use mathlib.Core.List.{List}
+use mathlib.Core.Bool.{Bool, not, _&&_}
+use mathlib.Core.List.{List, [], _∷_}
 use lib.Dec.{eqb, leb}
 use lib.ListN.{length, take, drop}
+use Rattle.refusal_order.specs.Order.{_unless_, firstOf}
 use Rattle.riff_chunks.specs.declared.Walked.{Walked}
 use Rattle.riff_chunks.specs.Walk.{walkOf}
 use Rattle.wav.specs.declared.Found.{Found}
@@ -42,11 +43,15 @@ abbrev pub within : List ℕ → Bool
 within b = leb (8 + riffSize b) (length b) && not (walkIn b .overruns)
 
 -- 9 to 13, in that order. 11: no `fmt ` up to the first `data`; 12: no `data`.
-abbrev pub firstOf : Bool → Bool → Bool → Bool → Bool → ℕ
-firstOf t9 t10 t11 t12 t13 = cond t9 (cond t10 (cond t11 (cond t12 (cond t13 0 13) 12) 11) 10) 9
-
 abbrev pub verdict : List ℕ → ℕ
-verdict b = firstOf (isWave b) (within b) (walkIn b .fmt .found) (walkIn b .samples .found) (formatOk (fmtOf b) (walkIn b .fmt .size) (walkIn b .samples .size))
+verdict b =
+    firstOf
+    (9 unless isWave b
+    ∷ 10 unless within b
+    ∷ 11 unless walkIn b .fmt .found
+    ∷ 12 unless walkIn b .samples .found
+    ∷ 13 unless formatOk (fmtOf b) (walkIn b .fmt .size) (walkIn b .samples .size)
+    ∷ [])
 
 abbrev pub waveIn : List ℕ → Wave
 waveIn b =

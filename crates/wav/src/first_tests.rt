@@ -4,7 +4,9 @@ ghost use mathlib.Core.Bool.{cond, not, _&&_};
 ghost use Prim.Native.Nat.{_+_};
 ghost use lib.Dec.{leb};
 ghost use lib.ListN.{length};
-ghost use Rattle.wav.specs.Wave.{firstOf, isWave, riffSize};
+ghost use Rattle.wav.specs.Wave.{isWave, riffSize};
+ghost use mathlib.Core.List.{[], _∷_};
+ghost use Rattle.refusal_order.specs.Order.{_unless_, firstOf};
 use crate::format::both;
 use word_bytes::low_first_u32;
 
@@ -41,7 +43,7 @@ pub fn past(is: bool) -> u8
 
 // The lowest number whose test fails; 0 where all pass.
 pub fn first(t9: bool, t10: bool, t11: bool, t12: bool, t13: bool) -> u8
-    ensures { λ r. ⌜ r ≡ firstOf t9 t10 t11 t12 t13 ⌝ }
+    ensures { λ r. ⌜ r ≡ firstOf (9 unless t9 ∷ 10 unless t10 ∷ 11 unless t11 ∷ 12 unless t12 ∷ 13 unless t13 ∷ []) ⌝ }
 {
     if t9 {
         if t10 {

@@ -7,7 +7,7 @@ use lib.Dec.{leb, ltb}
 use lib.IntN.{pos}
 use lib.Ieee.{fin, le, ofBits, isNan}
 use lib.Ieee.Scale.{finite}
-use Rattle.answer.specs.Refusals.{firstOf}
+use Rattle.answer.specs.Refusals.{lowestOf}
 use Rattle.variable_delay.proofs.Settings.{settled}
 use Rattle.quality_fade.specs.Fade.{lengthOk, placeOk}
 use Rattle.quality_variable_delay.specs.State.{fadePart}
@@ -47,7 +47,7 @@ returns c =
     )
     (settled (s .maximum) (s .margin) (a .len) (long .length-for .result)
     (λ (t u : Bool).
-    firstOf (t && (lengthOk (s .«crossfade_samples») && a .bank)) (u && a .lent) (leb (s .accepted) (2 ^ 36) && placeOk (fadePart s)) (finite (a .input)) (finite (a .delay) && le (fin false 0 (pos 0)) (a .delay)) (le (a .delay) (fin false 1 (pos 36))) (not (isNan (a .playback-rate))) (ltb (s .accepted) (2 ^ 36)))
+    lowestOf (t && (lengthOk (s .«crossfade_samples») && a .bank)) (u && a .lent) (leb (s .accepted) (2 ^ 36) && placeOk (fadePart s)) (finite (a .input)) (finite (a .delay) && le (fin false 0 (pos 0)) (a .delay)) (le (a .delay) (fin false 1 (pos 36))) (not (isNan (a .playback-rate))) (ltb (s .accepted) (2 ^ 36)))
     (λ t u. refl)
     (long .length-for .ensures))
 

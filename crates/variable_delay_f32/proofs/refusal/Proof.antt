@@ -7,7 +7,7 @@ use lib.Dec.{leb, ltb}
 use lib.IntN.{pos}
 use lib.Ieee.{fin, le, ofBits}
 use lib.Ieee.Scale.{finite}
-use Rattle.answer.specs.Refusals.{firstOf}
+use Rattle.answer.specs.Refusals.{lowestOf}
 use Rattle.variable_delay.proofs.Settings.{settled}
 use Rattle.variable_delay_f32.proofs.refusal.Statement.{statement}
 use Rattle.variable_delay_f32.proofs.refusal.Tie as tie
@@ -31,7 +31,7 @@ returns-2 c =
     )
     (settled (s .maximum) (s .margin) (a .len) (f .length-for .result)
     (λ (t u : Bool).
-    firstOf (t && a .own) (u && a .lent) (leb (s .accepted) (2 ^ 36)) (finite (a .input)) (finite (a .delay) && le (fin false 0 (pos 0)) (a .delay)) (le (a .delay) (fin false 1 (pos 36))) true (ltb (s .accepted) (2 ^ 36)))
+    lowestOf (t && a .own) (u && a .lent) (leb (s .accepted) (2 ^ 36)) (finite (a .input)) (finite (a .delay) && le (fin false 0 (pos 0)) (a .delay)) (le (a .delay) (fin false 1 (pos 36))) true (ltb (s .accepted) (2 ^ 36)))
     (λ t u. refl)
     (f .length-for .ensures))
 

@@ -6,7 +6,7 @@ use Prim.Native.Nat.{_^_}
 use lib.Dec.{leb}
 use lib.ListN.{length}
 use denote.Ref.{now}
-use Rattle.answer.specs.Refusals.{firstOf}
+use Rattle.answer.specs.Refusals.{lowestOf}
 use Rattle.variable_delay.specs.Opening.{resetVerdict}
 use Rattle.variable_delay.proofs.Settings.{settled}
 use Rattle.variable_delay.proofs.Refused.{not-opened, not-cleared}
@@ -17,7 +17,7 @@ verdict-is : (c : tie.After-first) → let a = c .before .before .before .before
 verdict-is c =
     let s = c .before .before .before .before .args .state in
     rw (c .first .ensures)
-    (settled (s .maximum) (s .margin) _ _ (λ (t u : Bool). firstOf t u (leb (s .accepted) (2 ^ 36)) true true true true true) (λ t u. refl) (c .before .before .length-for .ensures))
+    (settled (s .maximum) (s .margin) _ _ (λ (t u : Bool). lowestOf t u (leb (s .accepted) (2 ^ 36)) true true true true true) (λ t u. refl) (c .before .before .length-for .ensures))
 
 returns : tie.Need-returns
 returns c = (not-opened _ (verdict-is (c .before)) (c .if1 .taken) _, not-cleared _ (verdict-is (c .before)) (c .if1 .taken) _)

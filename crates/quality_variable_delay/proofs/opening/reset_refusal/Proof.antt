@@ -4,7 +4,7 @@ use mathlib.Core.Path.{refl}
 use mathlib.Core.Bool.{Bool, true, _&&_}
 use Prim.Native.Nat.{_^_}
 use lib.Dec.{leb}
-use Rattle.answer.specs.Refusals.{firstOf}
+use Rattle.answer.specs.Refusals.{lowestOf}
 use Rattle.variable_delay.proofs.Settings.{settled}
 use Rattle.quality_fade.specs.Fade.{lengthOk, placeOk}
 use Rattle.quality_variable_delay.specs.State.{fadePart}
@@ -22,7 +22,7 @@ returns c =
     let s = long .before .args .state in
     rw (c .first .ensures, third .both2 .ensures, placed .place-ok .ensures, faded .fading .ensures, set .both .ensures, fits .length-ok .ensures)
     (settled (s .maximum) (s .margin) (long .before .args .len) (long .length-for .result)
-    (λ (t u : Bool). firstOf (t && lengthOk (s .«crossfade_samples»)) u (leb (s .accepted) (2 ^ 36) && placeOk (fadePart s)) true true true true true)
+    (λ (t u : Bool). lowestOf (t && lengthOk (s .«crossfade_samples»)) u (leb (s .accepted) (2 ^ 36) && placeOk (fadePart s)) true true true true true)
     (λ t u. refl)
     (long .length-for .ensures))
 
