@@ -16,6 +16,9 @@ pub mod Adding
 pub mod Products
 pub mod Mirror
 pub mod Comparing
+pub mod Grid
 pub mod Nearest
 pub mod Ties
+pub mod Overflow
+pub mod Once
 pub mod Fusing
