@@ -22,3 +22,4 @@ pub mod Ties
 pub mod Overflow
 pub mod Once
 pub mod Fusing
+pub mod FusedOnce
