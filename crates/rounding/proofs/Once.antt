@@ -1,14 +1,14 @@
 -- `round` is IEEE 754's rounding to nearest, a tie to even, for either sign: infinite from the midpoint above the largest value on, and below it the nearest of all values of either
 -- sign. One of the other sign lies no nearer than zero does. Assumes nothing.
-use mathlib.Core.Path.{_≡_, refl, sym, ap, _∙_}
+use mathlib.Core.Path.{_≡_, refl, ap}
 use mathlib.Core.Logic.{_⊎_, inl, inr}
 use mathlib.Core.Bool.{Bool, true, false}
-use Prim.Native.Nat.{ℕ, zero, suc, _+_, _-_, _*_, _^_, _≤_, _<_, zero-le}
+use Prim.Native.Nat.{ℕ, _+_, _-_, _*_, _^_, _≤_, _<_, zero-le}
 use native.Mathlib.Nat.{le-of-lt, lt-irrefl, mul-pos, mul-le-mul-right, mul-lt-mul-of-pos-right, add-mul, zero-mul, le-antisymm, eq-zero-or-pos}
 use native.Mathlib.Omega.{arith}
 use lib.IntN.{ℤ, pos}
 use lib.Dec.{T}
-use lib.Ieee.{Float, fin, Format, binary32, up, down, round, fits, prec, low}
+use lib.Ieee.{Float, fin, Format, binary32, up, down, round, fits, low}
 use lib.Ieee.Fits.{down-pos, round-fits}
 use lib.Ieee.Exact.{HasValue}
 use lib.Ieee.Scale.{grid, overflow}
