@@ -29,7 +29,7 @@ round-value f s num den h =
     let n = num * 2 ^ low f in
     subst (λ (x : Float). HasValue x s (grid f num den) (2 ^ low f)) (sym (round-is f s num den)) (units-val f s (kept (prec f) n den) (drop (prec f) n den) h)
 
-value-one : (x : Float) (s t : Bool) (a b c : ℕ) → HasValue x s a c → HasValue x t b c → a ≡ b
+pub value-one : (x : Float) (s t : Bool) (a b c : ℕ) → HasValue x s a c → HasValue x t b c → a ≡ b
 value-one nan s t a b c p q = absurd p
 value-one (inf u) s t a b c p q = absurd p
 value-one (fin u m e) s t a b c p q = eq-of-mul-eq-mul-right (down e) (down-pos e) a b (sym (p .1) ∙ q .1)

@@ -1,10 +1,10 @@
 -- `round` is IEEE 754's rounding to nearest, a tie to even, for either sign: infinite from the midpoint above the largest value on, and below it the nearest of all values of either
 -- sign. One of the other sign lies no nearer than zero does. Assumes nothing.
-use mathlib.Core.Path.{_≡_, refl, ap}
-use mathlib.Core.Logic.{_⊎_, inl, inr}
-use mathlib.Core.Bool.{Bool, true, false}
+use mathlib.Core.Path.{_≡_, refl}
+use mathlib.Core.Logic.{inl, inr}
+use mathlib.Core.Bool.{Bool}
 use Prim.Native.Nat.{ℕ, _+_, _-_, _*_, _^_, _≤_, _<_, zero-le}
-use native.Mathlib.Nat.{le-of-lt, lt-irrefl, mul-pos, mul-le-mul-right, mul-lt-mul-of-pos-right, add-mul, zero-mul, le-antisymm, eq-zero-or-pos}
+use native.Mathlib.Nat.{lt-irrefl, mul-pos, add-mul, zero-mul, eq-zero-or-pos}
 use native.Mathlib.Omega.{arith}
 use lib.IntN.{ℤ, pos}
 use lib.Dec.{T}
@@ -13,60 +13,13 @@ use lib.Ieee.Fits.{down-pos, round-fits}
 use lib.Ieee.Exact.{HasValue}
 use lib.Ieee.Scale.{grid, overflow}
 use Rattle.rounding.specs.Operations.{narrowed}
-use Rattle.rounding.specs.Nearest.{apart, off, LastEven, Nearest, RoundedOnce}
-use Rattle.rounding.proofs.Orders.{lt-or-ge}
+use Rattle.rounding.specs.Nearest.{off, LastEven, Nearest, RoundedOnce}
 use Rattle.rounding.proofs.Own.{value-unique}
 use Rattle.rounding.proofs.Grid.{round-value}
 use Rattle.rounding.proofs.Nearest.{round-nearest}
 use Rattle.rounding.proofs.Ties.{round-even}
 use Rattle.rounding.proofs.Overflow.{round-finite, round-infinite}
-
--- ---- a / den, and the values R and Y, on one side of zero
-no-nearer : (a den R Y : ℕ) → (R < Y → a * 2 ≤ (R + Y) * den) × (Y < R → (R + Y) * den ≤ a * 2) → a - R * den + (R * den - a) ≤ a - Y * den + (Y * den - a)
-no-nearer a den R Y c =
-    let s : (R + Y) * den ≡ R * den + Y * den = add-mul R Y den in
-    elim (lt-or-ge R Y) [
-      | inl h ↦
-          let m : R * den ≤ Y * den = mul-le-mul-right den (le-of-lt h) in
-          omega (arith, c .0 h)
-      | inr g ↦ elim (lt-or-ge Y R) [
-        | inl h ↦
-            let m : Y * den ≤ R * den = mul-le-mul-right den g in
-            omega (arith, c .1 h)
-        | inr h ↦
-            let e : R * den ≡ Y * den = ap (λ (z : ℕ). z * den) (le-antisymm h g) in
-            omega arith
-      ]
-    ]
-
--- as near, and not the same: the middle
-as-near : (a den R Y : ℕ) → 0 < den → (R ≡ Y → ⊥) → a - R * den + (R * den - a) ≡ a - Y * den + (Y * den - a) → a * 2 ≡ (R + Y) * den
-as-near a den R Y D ne e =
-    let s : (R + Y) * den ≡ R * den + Y * den = add-mul R Y den in
-    elim (lt-or-ge R Y) [
-      | inl h ↦
-          let m : R * den < Y * den = mul-lt-mul-of-pos-right h D in
-          omega arith
-      | inr g ↦ elim (lt-or-ge Y R) [
-        | inl h ↦
-            let m : Y * den < R * den = mul-lt-mul-of-pos-right h D in
-            omega arith
-        | inr h ↦ absurd (ne (le-antisymm h g))
-      ]
-    ]
-
--- ---- the same, with their signs
-apart-le : (s t : Bool) (a r y : ℕ) → a - r + (r - a) ≤ a - y + (y - a) → a - r + (r - a) ≤ a → apart s a s r ≤ apart s a t y
-apart-le true true a r y h k = h
-apart-le false false a r y h k = h
-apart-le true false a r y h k = omega arith
-apart-le false true a r y h k = omega arith
-
-apart-eq : (s t : Bool) (a r y : ℕ) → apart s a s r ≡ apart s a t y → ((t ≡ s) × (a - r + (r - a) ≡ a - y + (y - a))) ⊎ (a - r + (r - a) ≡ a + y)
-apart-eq true true a r y e = inl (refl, e)
-apart-eq false false a r y e = inl (refl, e)
-apart-eq true false a r y e = inr e
-apart-eq false true a r y e = inr e
+use Rattle.rounding.proofs.Apart.{no-nearer, as-near, apart-le, apart-eq}
 
 -- ---- zero
 zero-held : (f : Format) (s : Bool) → T (fits f (fin s 0 (pos 0)))

@@ -52,11 +52,10 @@ module _ (f : Format) (num den : ℕ) (D : 0 < den) where
   abbrev q : ℕ
   q = kept (prec f) n den
 
-  pub grid-even : (Y y j : ℕ) → Y ≡ y * 2 ^ j → y < 2 ^ prec f → (grid f num den ≡ Y → ⊥) → n * 2 ≡ (grid f num den + Y) * den → q % 2 ≡ 0
-  grid-even Y y j e h ne tie = elim (on-grid f num den D y j h) [
-    | inl z ↦
-        let w : Y ≡ z .0 * 2 ^ k = e ∙ z .1 in
-        closest-tie n (den * 2 ^ k) (z .0) (mul-pos D (pow-pos k)) (λ c. ne (ap (λ (x : ℕ). x * 2 ^ k) c ∙ sym w)) (tie ∙ rw w (both f num den D (z .0)))
+  -- the fraction is the middle of the result and of Y
+  pub tied : (Y y j : ℕ) → Y ≡ y * 2 ^ j → y < 2 ^ prec f → n * 2 ≡ (grid f num den + Y) * den → (v : ℕ) × (Y ≡ v * 2 ^ k)
+  tied Y y j e h tie = elim (on-grid f num den D y j h) [
+    | inl z ↦ (z .0, e ∙ z .1)
     | inr z ↦
         let l : Y < hid f * 2 ^ k = lt-of-le-of-lt (le-of-eq e) (z .1) in
         let m : (q * 2 ^ k + Y) * den < (q * 2 ^ k + hid f * 2 ^ k) * den = mul-lt-mul-of-pos-right (omega arith) D in
@@ -64,6 +63,11 @@ module _ (f : Format) (num den : ℕ) (D : 0 < den) where
         let g = least f num den D (z .0) in
         absurd (omega arith)
   ]
+
+  pub grid-even : (Y y j : ℕ) → Y ≡ y * 2 ^ j → y < 2 ^ prec f → (grid f num den ≡ Y → ⊥) → n * 2 ≡ (grid f num den + Y) * den → q % 2 ≡ 0
+  grid-even Y y j e h ne tie =
+      let (v, w) = tied Y y j e h tie in
+      closest-tie n (den * 2 ^ k) v (mul-pos D (pow-pos k)) (λ c. ne (ap (λ (x : ℕ). x * 2 ^ k) c ∙ sym w)) (tie ∙ ap (λ (x : ℕ). (grid f num den + x) * den) w ∙ both f num den D v)
 
 -- In units of the smallest value the result is R, another value is Y, whatever the signs, and the fraction is their middle.
 pub round-even : (f : Format) (s t : Bool) (num den R Y : ℕ) (y : Float) → 0 < den → HasValue (round f s num den) s R (2 ^ low f) → T (fits f y) → HasValue y t Y (2 ^ low f)
