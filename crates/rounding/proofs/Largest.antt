@@ -1,5 +1,5 @@
 -- The largest finite value of a format: it is one, none is larger, and the midpoint above it is half way to 2 ^ (emax + 1), the first number past it. Assumes nothing.
-use mathlib.Core.Path.{_≡_, sym, ap, _∙_}
+use mathlib.Core.Path.{_≡_, refl, sym, ap, _∙_}
 use mathlib.Core.Logic.{dite}
 use mathlib.Core.Bool.{Bool, false}
 use Prim.Native.Nat.{ℕ, suc, _+_, _-_, _*_, _^_, _≤_, _<_}
@@ -37,10 +37,16 @@ limit-is f = omega (arith, above-largest f, half-unit f)
 pub limit-middle : (f : Format) → limit f * 2 ≡ largest f + 2 ^ suc (emax f)
 limit-middle f = omega (arith, above-largest f, half-unit f)
 
-pub largest-held : (f : Format) → T (fits f (fin false (2 ^ prec f - 1) (pos (suc (emax f) - prec f))))
+abbrev top-value : Format → Float
+top-value f = fin false (2 ^ prec f - 1) (pos (suc (emax f) - prec f))
+
+top-fits : (f : Format) → T (fits f (top-value f))
 unfolding fits
-largest-held binary32 = tt
-largest-held binary64 = tt
+top-fits binary32 = tt
+top-fits binary64 = tt
+
+pub largest-held : (f : Format) → (x : Float) × T (fits f x) × HasValue x false (largest f) 1
+largest-held f = (top-value f, top-fits f, (refl, refl))
 
 -- the largest unit is 2 ^ place of the smallest values
 abbrev pub place : Format → ℕ

@@ -52,8 +52,8 @@ module _ (f : Format) (num den : ℕ) (D : 0 < den) where
   one-few : 1 < 2 ^ prec f
   one-few = pow-lt {i = 0} {j = prec f} (prec-pos f)
 
-  stays : limit f * den ≤ num → G < overflow f → ⊥
-  stays h l =
+  never-finite : limit f * den ≤ num → G < overflow f → ⊥
+  never-finite h l =
       let W = overflow f in
       let one : W ≡ 1 * 2 ^ (low f + suc (emax f)) = sym (one-mul W) in
       let a : n * 2 ≤ (G + W) * den = grid-nearest f num den D W 1 (low f + suc (emax f)) one one-few .0 l in
@@ -81,6 +81,6 @@ module _ (f : Format) (num den : ℕ) (D : 0 < den) where
   -- The result is infinite exactly from the midpoint above the largest finite value on.
   pub round-infinite : (s : Bool) → (limit f * den ≤ num → round f s num den ≡ inf s) × (round f s num den ≡ inf s → limit f * den ≤ num)
   round-infinite s = (
-    (λ h. elim (lt-or-ge G (overflow f)) [ inl l ↦ absurd (stays h l) | inr g ↦ round-over f s num den g ]),
+    (λ h. elim (lt-or-ge G (overflow f)) [ inl l ↦ absurd (never-finite h l) | inr g ↦ round-over f s num den g ]),
     (λ e. elim (lt-or-ge G (overflow f)) [ inl l ↦ absurd (subst (λ (x : Float). HasValue x s G (2 ^ low f)) e (round-value f s num den l)) | inr g ↦ under g ]),
   )
