@@ -1,31 +1,17 @@
 -- The fused step is one rounding of the exact x * y + z, over the format: the law of the crate rounding, in fractions. Assumes nothing.
-use mathlib.Core.Bool.{Bool, true, false}
-use Prim.Native.Nat.{ℕ, _*_, _<_}
-use native.Mathlib.Nat.{add-mul, mul-pos}
-use native.Mathlib.Omega.{arith}
+use Prim.Native.Nat.{_*_}
+use native.Mathlib.Nat.{mul-pos}
 use lib.Dec.{T}
 use lib.Ieee.{Float, nan, inf, fin, Format, unlike, up, down}
 use lib.Ieee.Fits.{down-pos}
 use lib.Ieee.Scale.{finite}
 use Rattle.rounding.specs.Operations.{fused}
-use Rattle.rounding.specs.Nearest.{SumOf}
 use Rattle.rounding.proofs.FusedOnce.{fused-exact, fused-once}
-use Rattle.fraction.specs.Fraction.{plus, times, Same}
-use Rattle.fraction.specs.Value.{signed, val}
+use Rattle.fraction.specs.Fraction.{plus, times}
+use Rattle.fraction.specs.Value.{val}
 use Rattle.fraction.proofs.Same.{same-refl, same-trans, plus-same}
 use Rattle.fraction.proofs.Value.{signed-pos}
-use Rattle.fraction.proofs.Operations.{Rounded, joint, joint-same, product-same}
-
--- ±num / den is ±a / c + ±b / c
-sum-is-joint : (S s t : Bool) (num den a b c : ℕ) → 0 < den → 0 < c → SumOf S (num * c) s (a * den) t (b * den) → Same (signed S num den) (joint s a t b c)
-sum-is-joint true true true num den a b c D C h = omega (arith, h .adds, add-mul a b den)
-sum-is-joint true true false num den a b c D C h = omega (arith, h .adds)
-sum-is-joint true false true num den a b c D C h = omega (arith, h .adds)
-sum-is-joint true false false num den a b c D C h = omega (arith, h .adds, add-mul a b den)
-sum-is-joint false true true num den a b c D C h = omega (arith, h .adds, add-mul a b den)
-sum-is-joint false true false num den a b c D C h = omega (arith, h .adds)
-sum-is-joint false false true num den a b c D C h = omega (arith, h .adds)
-sum-is-joint false false false num den a b c D C h = omega (arith, h .adds, add-mul a b den)
+use Rattle.fraction.proofs.Operations.{Rounded, sum-is-joint, joint-same, product-same}
 
 pub fused-rounded : (f : Format) (x y z : Float) → T (finite x) → T (finite y) → T (finite z) → Rounded f (fused f x y z) (plus (times (val x) (val y)) (val z))
 fused-rounded f nan y z h i j = absurd h

@@ -26,4 +26,5 @@ pub mod Apart
 pub mod Once
 pub mod Only
 pub mod Fusing
+pub mod SignedSums
 pub mod FusedOnce
