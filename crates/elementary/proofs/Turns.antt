@@ -12,7 +12,7 @@ use Rattle.fraction.specs.Fraction.{Frac, frac, plus, times, opp, over, whole, 
 use Rattle.fraction.specs.Value.{val, Is, nearestTo}
 use Rattle.fraction.proofs.Same.{same-sym, same-trans}
 use Rattle.fraction.proofs.Value.{val-pos}
-use Rattle.fraction.proofs.Operations.{less}
+use Rattle.rounding.proofs.Orders.{less}
 use Rattle.fraction.proofs.Nearest.{nearest-same}
 use Rattle.fraction.proofs.Whole.{rep-less}
 use Rattle.elementary.specs.Reduction.{H, floorOf, turns, remainder, reduced, fourth}

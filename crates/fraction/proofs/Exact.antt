@@ -9,11 +9,12 @@ use lib.Pow.{pow-add, pow-pos, pow-mono, shl-lt}
 use lib.Ieee.{Float, fin, Format, prec, low, up, down, round, add, sub, mul, div}
 use lib.Ieee.Fits.{reach, up-pos}
 use lib.Ieee.Exact.{round-exact}
+use Rattle.rounding.proofs.Orders.{less}
 use Rattle.fraction.specs.Fraction.{Frac, frac, plus, times, opp, over, Same}
 use Rattle.fraction.specs.Value.{signed, Is}
 use Rattle.fraction.proofs.Same.{same-trans, plus-same, times-same, over-same}
 use Rattle.fraction.proofs.Value.{value-is, neg-is}
-use Rattle.fraction.proofs.Operations.{less, Rounded, bottom, seen, add-rounded, mul-rounded, div-rounded}
+use Rattle.fraction.proofs.Operations.{Rounded, bottom, seen, add-rounded, mul-rounded, div-rounded}
 
 -- (P - N) / 2 ^ t has no more digits than the format keeps
 pub record Fits (f : Format) (P N t : ℕ) : Type 0 where

@@ -5,6 +5,7 @@ pub mod Value
 pub mod Units
 pub mod Round
 pub mod Operations
+pub mod Fused
 pub mod Exact
 pub mod Near
 pub mod Nearest

@@ -10,11 +10,11 @@ use lib.Ieee.{Float, nan, inf, fin, Format, up, down, round, sum, add}
 use lib.Ieee.Fits.{down-pos}
 use lib.Ieee.Scale.{finite, round-same}
 use borrow.Author.Tests.{lt-ltb, le-ltb}
-use Rattle.rounding.proofs.Orders.{clash}
+use Rattle.rounding.proofs.Orders.{clash, less}
 use Rattle.rounding.proofs.Sums.{sum-sign, sum-size, sum-is}
 use Rattle.fraction.specs.Fraction.{Frac, plus, Same}
 use Rattle.fraction.specs.Value.{signed, val, nearestTo}
-use Rattle.fraction.proofs.Operations.{less, joint, joint-same, sum-same}
+use Rattle.fraction.proofs.Operations.{joint, joint-same, sum-same}
 
 -- ---- equal numbers
 below : (qp qn qd rp rn rd : ℕ) → 0 < rd → qp * rd + rn * qd ≡ rp * qd + qn * rd → qp < qn → rp < rn

@@ -1,18 +1,20 @@
 -- Each operation is one rounding of its exact result: a sum, a product, a quotient by a number above zero. By the cases of the signs. Assumes nothing.
-use mathlib.Core.Path.{_≡_, refl, sym, ap, _∙_}
-use mathlib.Core.Bool.{Bool, true, false, not, _&&_, Bool·beq, cond}
-use Prim.Native.Nat.{ℕ, _+_, _-_, _*_, _≤_, _<_}
-use native.Mathlib.Nat.{add-mul, add-sub-of-le, le-of-lt, mul-le-mul-right, mul-pos}
+use mathlib.Core.Path.{_≡_, refl}
+use mathlib.Core.Bool.{Bool, true, false, cond}
+use Prim.Native.Nat.{ℕ, _+_, _*_, _≤_, _<_}
+use native.Mathlib.Nat.{add-mul, mul-pos}
 use native.Mathlib.Omega.{arith}
 use lib.IntN.{ℤ}
-use lib.Dec.{T, ltb, eqb, ltb→lt, nltb→le, eqb→eq}
+use lib.Dec.{T, eqb, eqb→eq}
 use lib.Ieee.{Float, nan, inf, fin, Format, unlike, up, down, round, add, mul, div}
 use lib.Ieee.Fits.{down-pos, up-pos}
 use lib.Ieee.Scale.{finite}
+use Rattle.rounding.specs.Nearest.{SumOf}
 use Rattle.rounding.proofs.Sums.{sum-sign, sum-size, sum-is}
+use Rattle.rounding.proofs.SignedSums.{sum-adds}
 use Rattle.fraction.specs.Fraction.{Frac, frac, nil, plus, times, over, Same, Within}
 use Rattle.fraction.specs.Value.{signed, val}
-use Rattle.fraction.proofs.Same.{ring, same-refl, same-sym, same-trans}
+use Rattle.fraction.proofs.Same.{ring, same-sym, same-trans}
 use Rattle.fraction.proofs.Within.{from}
 use Rattle.fraction.proofs.Value.{signed-d, signed-pos}
 
@@ -42,20 +44,19 @@ bounded {g = g} {e} r w = go (r .s) (r .a) (r .c) (from (same-sym (r .same)) w)
 abbrev pub joint : Bool → ℕ → Bool → ℕ → ℕ → Frac
 joint s a t b c = frac (signed s a c .p + signed t b c .p) (signed s a c .n + signed t b c .n) c
 
-pub less : (a b c : ℕ) → a ≤ b → a * c + (b - a) * c ≡ b * c
-less a b c h = sym (add-mul a (b - a) c) ∙ ap (λ (x : ℕ). x * c) (add-sub-of-le h)
+-- ±num / den is ±a / c + ±b / c
+pub sum-is-joint : (S s t : Bool) (num den a b c : ℕ) → 0 < den → 0 < c → SumOf S (num * c) s (a * den) t (b * den) → Same (signed S num den) (joint s a t b c)
+sum-is-joint true true true num den a b c D C h = omega (arith, h .adds, add-mul a b den)
+sum-is-joint true true false num den a b c D C h = omega (arith, h .adds)
+sum-is-joint true false true num den a b c D C h = omega (arith, h .adds)
+sum-is-joint true false false num den a b c D C h = omega (arith, h .adds, add-mul a b den)
+sum-is-joint false true true num den a b c D C h = omega (arith, h .adds, add-mul a b den)
+sum-is-joint false true false num den a b c D C h = omega (arith, h .adds)
+sum-is-joint false false true num den a b c D C h = omega (arith, h .adds)
+sum-is-joint false false false num den a b c D C h = omega (arith, h .adds, add-mul a b den)
 
 pub sum-same : (s : Bool) (a : ℕ) (t : Bool) (b c : ℕ) → 0 < c → Same (signed (sum-sign s a t b) (sum-size s a t b) c) (joint s a t b c)
-sum-same s a t b c C = go s t (ltb a b) (ltb→lt a b) (nltb→le a b) (ltb b a) (nltb→le b a)
-  where
-    go : (s t y : Bool) → (T y → a < b) → (T (not y) → b ≤ a) → (z : Bool) → (T (not z) → a ≤ b) → Same (signed (cond (Bool·beq s t) s (cond y t (s && z))) (cond (Bool·beq s t) (a + b) (cond y (b - a) (a - b))) c) (joint s a t b c)
-    go false false y h k z l = same-refl C
-    go true true y h k z l = same-refl C
-    go false true true h k z l = omega (arith, less a b c (le-of-lt (h tt)))
-    go false true false h k z l = omega (arith, less b a c (k tt))
-    go true false true h k z l = omega (arith, less a b c (le-of-lt (h tt)))
-    go true false false h k true l = omega (arith, less b a c (k tt))
-    go true false false h k false l = omega (arith, less b a c (k tt), mul-le-mul-right c (l tt))
+sum-same s a t b c C = sum-is-joint (sum-sign s a t b) s t (sum-size s a t b) c a b c C C (sum-adds s a t b c C)
 
 pub joint-same : (s t : Bool) (a c b d : ℕ) → 0 < c → 0 < d → Same (joint s (a * d) t (b * c) (c * d)) (plus (signed s a c) (signed t b d))
 joint-same s t a c b d C D = record { left = mul-pos C D; right = mul-pos (signed-pos s a c C) (signed-pos t b d D); cross = go s t }

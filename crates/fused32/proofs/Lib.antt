@@ -8,3 +8,4 @@ pub mod Sums
 pub mod Larger
 pub mod Parts
 pub mod Joined
+pub mod Once

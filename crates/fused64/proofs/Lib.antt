@@ -13,3 +13,4 @@ pub mod Placing
 pub mod Joining
 pub mod Fields
 pub mod Normals
+pub mod Once

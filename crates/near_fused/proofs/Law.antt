@@ -12,6 +12,7 @@ use Rattle.fraction.proofs.Same.{same-refl}
 use Rattle.fraction.proofs.Within.{flip, to, within-opp}
 use Rattle.fraction.proofs.Value.{val-pos}
 use Rattle.fraction.proofs.Operations.{add-rounded}
+use Rattle.fraction.proofs.Fused.{fused-rounded}
 use Rattle.near_fused.proofs.TwoSum.{sub-rounded}
 use Rattle.near_fused.proofs.Near.{Unit, Near, near-same, near-chain, near-rounds}
 use Rattle.near_fused.proofs.Ends.{ziv}
@@ -19,7 +20,7 @@ use Rattle.near_fused.proofs.Mono.{AtMost, at-most-trans}
 use Rattle.near_fused.proofs.Sides.{over, under, not-both}
 use Rattle.near_fused.proofs.Finite.{add-finite}
 use Rattle.near_fused.specs.Step.{total}
-use Rattle.near_fused.proofs.Low.{fused-rounded, finite-low, zero-same, zero-too}
+use Rattle.near_fused.proofs.Low.{finite-low, zero-same, zero-too}
 use Rattle.near_fused.proofs.Sure.{Step, p, u, hi, lo, end-near, upper-near, lower-end-near, end-size, margin-size}
 
 module _ (U : Unit) (v mu c vh mh e : Float) (K : Step U v mu c vh mh e) (fv : T (finite v)) (fm : T (finite mu)) (fc : T (finite c)) where
@@ -92,4 +93,4 @@ module _ (U : Unit) (v mu c vh mh e : Float) (K : Step U v mu c vh mh e) (fv : T
         not-both U Q (val e) Qd 2048 (K .margin) 982 (lit≤ tt) (lit< tt) (near-chain U 490 492 (flip low) (near-chain U 1 491 b (near-chain U 1 490 (flip a) high)))
 
     pub law : add binary64 s H ≡ fused binary64 v mu c
-    law = sym (ziv (add binary64 s H) (add-rounded binary64 s L fs fl) (fused-rounded v mu c fv fm fc) (add-rounded binary64 s H fs fh) below above real not-zero test)
+    law = sym (ziv (add binary64 s H) (add-rounded binary64 s L fs fl) (fused-rounded binary64 v mu c fv fm fc) (add-rounded binary64 s H fs fh) below above real not-zero test)

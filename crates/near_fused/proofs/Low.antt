@@ -1,51 +1,23 @@
--- The exact sum as `fused` rounds it; and that the lower end is finite, and zero where the upper one is. Assumes nothing.
+-- The lower end is finite, and zero where the upper one is. Assumes nothing.
 use mathlib.Core.Path.{_≡_, refl, subst}
 use mathlib.Core.Bool.{Bool, true, false, not}
-use Prim.Native.Nat.{ℕ, zero, suc, _+_, _*_}
+use Prim.Native.Nat.{ℕ, zero, suc, _+_}
 use native.Mathlib.Nat.{mul-pos, zero-lt-suc}
 use native.Mathlib.Omega.{arith}
 use lib.IntN.{ℤ}
 use lib.Dec.{T, lit<, lt→ltb}
-use lib.Ieee.{Float, nan, inf, fin, binary64, unlike, up, down, add, neg, lt, eq, le}
-use lib.Ieee.Fits.{down-pos, up-pos}
+use lib.Ieee.{Float, nan, inf, fin, binary64, up, add, neg, lt, eq, le}
+use lib.Ieee.Fits.{up-pos}
 use lib.Ieee.Positive.{above, above-of-le}
 use lib.Ieee.Scale.{finite}
-use Rattle.rounding.specs.Operations.{fused}
-use Rattle.rounding.proofs.Sums.{sum-is, sum-sign, sum-size}
-use Rattle.fraction.specs.Fraction.{Frac, nil, plus, times, Same}
+use Rattle.fraction.specs.Fraction.{Frac, nil, Same}
 use Rattle.fraction.specs.Value.{val}
-use Rattle.fraction.proofs.Same.{same-refl, same-trans, plus-same}
-use Rattle.fraction.proofs.Value.{signed-pos, val-pos}
-use Rattle.fraction.proofs.Operations.{Rounded, joint-same, sum-same, product-same}
+use Rattle.fraction.proofs.Value.{val-pos}
+use Rattle.fraction.proofs.Operations.{Rounded}
 use Rattle.near_fused.proofs.Ends.{neg-mono, no-nan, no-inf}
 use Rattle.near_fused.proofs.Mono.{AtMost, mono-above}
 
-pub fused-rounded : (v mu c : Float) → T (finite v) → T (finite mu) → T (finite c) → Rounded binary64 (fused binary64 v mu c) (plus (times (val v) (val mu)) (val c))
-unfolding fused
-fused-rounded nan mu c f g h = absurd f
-fused-rounded (inf s) mu c f g h = absurd f
-fused-rounded (fin s m e) nan c f g h = absurd g
-fused-rounded (fin s m e) (inf t) c f g h = absurd g
-fused-rounded (fin s m e) (fin t n d) nan f g h = absurd h
-fused-rounded (fin s m e) (fin t n d) (inf w) f g h = absurd h
-fused-rounded (fin s m e) (fin t n d) (fin w k i) f g h =
-    let A = m * up e * (n * up d) in
-    let C = down e * down d in
-    let a = A * down i in
-    let b = k * up i * C in
-    let c = C * down i in
-    let D = mul-pos (down-pos e) (down-pos d) in
-    record {
-      s = sum-sign (unlike s t) a w b;
-      a = sum-size (unlike s t) a w b;
-      c = c;
-      is = sum-is binary64 (unlike s t) a w b c;
-      same = same-trans (sum-same (unlike s t) a w b c (mul-pos D (down-pos i)))
-          (same-trans (joint-same (unlike s t) w A C (k * up i) (down i) D (down-pos i))
-          (plus-same (product-same s t (m * up e) (down e) (n * up d) (down d) (down-pos e) (down-pos d)) (same-refl (signed-pos w (k * up i) (down i) (down-pos i)))));
-    }
-
--- ---- the lower end is finite too
+-- ---- the lower end is finite
 top-inf : (x : Float) → T (finite x) → T (le (inf false) x) → ⊥
 unfolding le lt eq
 top-inf nan f h = f

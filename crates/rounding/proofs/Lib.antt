@@ -16,6 +16,15 @@ pub mod Adding
 pub mod Products
 pub mod Mirror
 pub mod Comparing
+pub mod Parity
+pub mod Grid
 pub mod Nearest
 pub mod Ties
+pub mod Largest
+pub mod Overflow
+pub mod Apart
+pub mod Once
+pub mod Only
 pub mod Fusing
+pub mod SignedSums
+pub mod FusedOnce

@@ -2,21 +2,20 @@
 -- value is a multiple of 2 ^ k too, or lies below the least number of as many digits as q. Assumes nothing.
 use mathlib.Core.Path.{_≡_, sym, ap, _∙_}
 use mathlib.Core.Logic.{_⊎_, inl, inr, dite}
-use mathlib.Core.Bool.{Bool, false}
+use mathlib.Core.Bool.{Bool}
 use Prim.Native.Nat.{ℕ, suc, _+_, _-_, _*_, _/_, _^_, _≤_, _<_}
-use native.Mathlib.Nat.{le-trans, le-of-eq, lt-of-lt-of-le, lt-of-le-of-lt, mul-comm, mul-assoc, mul-pos, mul-le-mul-right, lt-of-mul-lt-mul-right, add-mul, suc-mul, le-div-iff-mul-le, eq-of-mul-eq-mul-right, eq-or-lt-of-le}
+use native.Mathlib.Nat.{le-trans, le-of-eq, lt-of-lt-of-le, lt-of-le-of-lt, mul-comm, mul-assoc, mul-pos, mul-le-mul-right, lt-of-mul-lt-mul-right, add-mul, suc-mul, le-div-iff-mul-le, eq-or-lt-of-le}
 use native.Mathlib.Decide.{decLe}
 use native.Mathlib.Omega.{arith}
 use lib.Dec.{T}
 use lib.Pow.{pow-add, pow-pos, pow-mono, shl-lt}
-use lib.Ieee.{Float, nan, inf, fin, Format, down, round, fits, prec, low, hid}
+use lib.Ieee.{Float, Format, round, fits, prec, low, hid}
 use lib.Ieee.Digits.{back, size-reaches}
-use lib.Ieee.Fits.{down-pos}
 use lib.Ieee.Exact.{HasValue}
 use lib.Ieee.Order.{drop, kept}
-use lib.Ieee.Scale.{grid, round-val, round-under}
+use lib.Ieee.Scale.{grid}
 use Rattle.rounding.proofs.Dropped.{prec-pos, kept-ge}
-use Rattle.rounding.proofs.Values.{value-finite, fits-units}
+use Rattle.rounding.proofs.Grid.{few-digits, rounded-grid}
 use Rattle.rounding.proofs.Within.{closest-near}
 
 -- q of the unit u is as near to n as a whole number of them can be: v of them lie on the far side of the middle
@@ -68,7 +67,7 @@ module _ (f : Format) (num den : ℕ) (D : 0 < den) where
       (λ l. inl (y * 2 ^ (j - k), ap (λ (x : ℕ). y * 2 ^ x) (sym (back j k l)) ∙ ap (λ (x : ℕ). y * x) (pow-add 2 (j - k) k) ∙ sym (mul-assoc y (2 ^ (j - k)) (2 ^ k))))
       (λ g. inr (omega arith, lt-of-lt-of-le (shl-lt (prec f) j h) (le-trans (pow-mono {j = prec f - 1 + k} (omega arith)) (le-of-eq (pow-add 2 (prec f - 1) k)))))
 
-  grid-nearest : (Y y j : ℕ) → Y ≡ y * 2 ^ j → y < 2 ^ prec f → (grid f num den < Y → n * 2 ≤ (grid f num den + Y) * den) × (Y < grid f num den → (grid f num den + Y) * den ≤ n * 2)
+  pub grid-nearest : (Y y j : ℕ) → Y ≡ y * 2 ^ j → y < 2 ^ prec f → (grid f num den < Y → n * 2 ≤ (grid f num den + Y) * den) × (Y < grid f num den → (grid f num den + Y) * den ≤ n * 2)
   grid-nearest Y y j e h = elim (on-grid y j h) [
     | inl z ↦
         let v = z .0 in
@@ -80,27 +79,7 @@ module _ (f : Format) (num den : ℕ) (D : 0 < den) where
         ((λ (m : q * 2 ^ k < Y). absurd (omega arith)), (λ _. le-trans (mul-le-mul-right den (omega arith)) (le-trans (le-of-eq (both (hid f))) (least (z .0)))))
   ]
 
--- ---- in values
-value-one : (x : Float) (s t : Bool) (a b c : ℕ) → HasValue x s a c → HasValue x t b c → a ≡ b
-value-one nan s t a b c p q = absurd p
-value-one (inf u) s t a b c p q = absurd p
-value-one (fin u m e) s t a b c p q = eq-of-mul-eq-mul-right (down e) (down-pos e) a b (sym (p .1) ∙ q .1)
-
--- a value of the format is a number of at most prec digits, at some place
-pub few-digits : (f : Format) (y : Float) (Y : ℕ) → T (fits f y) → HasValue y false Y (2 ^ low f) → (w : ℕ) × (j : ℕ) × (Y ≡ w * 2 ^ j) × (w < 2 ^ prec f)
-few-digits f nan Y h v = absurd v
-few-digits f (inf t) Y h v = absurd v
-few-digits f (fin t m e) Y h v =
-    let z = fits-units f t m e h in
-    (m, z .0, value-one (fin t m e) false t Y (m * 2 ^ (z .0)) (2 ^ low f) v (z .1), z .2)
-
--- a finite result, in units of the smallest value
-pub rounded-grid : (f : Format) (num den R : ℕ) → HasValue (round f false num den) false R (2 ^ low f) → R ≡ grid f num den
-rounded-grid f num den R r =
-    let x = round f false num den in
-    value-one x false false R (grid f num den) (2 ^ low f) r (round-val f num den (round-under f num den (value-finite x false R (2 ^ low f) r)))
-
--- In units of the smallest value the result is R and any other value Y: the fraction lies on R's side of their middle.
-pub round-nearest : (f : Format) (num den R Y : ℕ) (y : Float) → 0 < den → HasValue (round f false num den) false R (2 ^ low f) → T (fits f y) → HasValue y false Y (2 ^ low f)
+-- In units of the smallest value the result is R and any other value Y, whatever the signs: the fraction lies on R's side of their middle.
+pub round-nearest : (f : Format) (s t : Bool) (num den R Y : ℕ) (y : Float) → 0 < den → HasValue (round f s num den) s R (2 ^ low f) → T (fits f y) → HasValue y t Y (2 ^ low f)
     → (R < Y → num * 2 ^ low f * 2 ≤ (R + Y) * den) × (Y < R → (R + Y) * den ≤ num * 2 ^ low f * 2)
-round-nearest f num den R Y y D r held v = let z = few-digits f y Y held v in rw (rounded-grid f num den R r) (grid-nearest f num den D Y (z .0) (z .1) (z .2) (z .3))
+round-nearest f s t num den R Y y D r held v = let z = few-digits f y t Y held v in rw (rounded-grid f s num den R r) (grid-nearest f num den D Y (z .0) (z .1) (z .2) (z .3))

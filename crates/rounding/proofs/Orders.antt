@@ -2,8 +2,8 @@
 use mathlib.Core.Path.{_≡_, refl, sym, ap, _∙_, subst}
 use mathlib.Core.Logic.{_⊎_, inl, inr}
 use mathlib.Core.Bool.{Bool, true, false, not, _&&_}
-use Prim.Native.Nat.{ℕ, zero, suc, _-_, _*_, _%_, _^_, _≤_, _<_, compare, Ordering, Ordering·lt, Ordering·eq, Ordering·gt}
-use native.Mathlib.Nat.{le-refl, le-of-eq, lt-of-lt-of-le, lt-of-le-of-lt, zero-lt-suc, mul-comm, mul-lt-mul-of-pos-right, lt-of-mul-lt-mul-right, mul-sub, le-of-suc-le-suc, lt-of-not-le, lt-irrefl, eq-of-mul-eq-mul-right, mod-lt}
+use Prim.Native.Nat.{ℕ, zero, suc, _+_, _-_, _*_, _%_, _^_, _≤_, _<_, compare, Ordering, Ordering·lt, Ordering·eq, Ordering·gt}
+use native.Mathlib.Nat.{le-refl, le-of-eq, lt-of-lt-of-le, lt-of-le-of-lt, zero-lt-suc, mul-comm, mul-lt-mul-of-pos-right, lt-of-mul-lt-mul-right, mul-sub, add-mul, add-sub-of-le, le-of-suc-le-suc, lt-of-not-le, lt-irrefl, eq-of-mul-eq-mul-right, mod-lt}
 use native.Mathlib.Omega.{arith}
 use lib.Dec.{T, ltb, eqb, ltb→lt, lt→ltb, leb→le, eqb→eq, isLe, isEq, nleb→lt, eqb-refl}
 use lib.Arith.{lt-of-le-ne}
@@ -89,3 +89,6 @@ cross-eqb a b c a' b' c' C C' p q =
 
 pub sub-mul : (a b c : ℕ) → (a - b) * c ≡ a * c - b * c
 sub-mul a b c = mul-comm (a - b) c ∙ mul-sub c a b ∙ ap (λ (z : ℕ). z - c * b) (mul-comm c a) ∙ ap (λ (z : ℕ). a * c - z) (mul-comm c b)
+
+pub less : (a b c : ℕ) → a ≤ b → a * c + (b - a) * c ≡ b * c
+less a b c h = sym (add-mul a (b - a) c) ∙ ap (λ (x : ℕ). x * c) (add-sub-of-le h)

@@ -2,7 +2,7 @@
 -- a whole number of the result's unit too, since what lies below the least number of as many digits is farther away. Assumes nothing.
 use mathlib.Core.Path.{_≡_, sym, ap, _∙_, subst}
 use mathlib.Core.Logic.{inl, inr}
-use mathlib.Core.Bool.{false}
+use mathlib.Core.Bool.{Bool}
 use Prim.Native.Nat.{ℕ, suc, _+_, _*_, _/_, _%_, _^_, _≤_, _<_, compare, Ordering, Ordering·lt, Ordering·eq, Ordering·gt}
 use native.Mathlib.Nat.{le-of-eq, lt-of-le-of-lt, mul-pos, mul-le-mul-right, mul-lt-mul-of-pos-right, add-mul, suc-mul, div-add-mod', mod-lt}
 use native.Mathlib.Omega.{arith}
@@ -14,9 +14,11 @@ use lib.Ieee.Exact.{HasValue}
 use lib.Ieee.Nearest.{closest}
 use lib.Ieee.Order.{drop, kept}
 use lib.Ieee.Scale.{grid}
+use Rattle.rounding.specs.Nearest.{LastEven}
 use Rattle.rounding.proofs.Orders.{Cmp, cmp, lt-or-ge}
 use Rattle.rounding.proofs.Dropped.{prec-pos, kept-ge, kept-le}
-use Rattle.rounding.proofs.Nearest.{on-grid, least, both, few-digits, rounded-grid}
+use Rattle.rounding.proofs.Grid.{few-digits, rounded-grid}
+use Rattle.rounding.proofs.Nearest.{on-grid, least, both}
 
 -- v of the divisor are as near to a as the nearest whole number of them is
 closest-tie : (a d v : ℕ) → 0 < d → (closest a d ≡ v → ⊥) → a * 2 ≡ (closest a d + v) * d → closest a d % 2 ≡ 0
@@ -40,15 +42,6 @@ closest-tie a d v D =
           | inr h ↦ let m : suc (suc q) * d ≤ v * d = mul-le-mul-right d (lt-of-le-ne h n) in let w : suc (suc q) * d ≡ suc q * d + d = suc-mul (suc q) d in absurd (omega arith)
         ]
 
--- R is q units of 2 ^ k smallest values, and all of the format's digits are q's: q is even
-pub record LastEven (f : Format) (R : ℕ) : Type 0 where
-  pub q : ℕ
-  pub k : ℕ
-  pub is : R ≡ q * 2 ^ k
-  pub few : q ≤ 2 ^ prec f
-  pub full : 0 < k → hid f ≤ q
-  pub even : q % 2 ≡ 0
-
 module _ (f : Format) (num den : ℕ) (D : 0 < den) where
   abbrev n : ℕ
   n = num * 2 ^ low f
@@ -59,11 +52,10 @@ module _ (f : Format) (num den : ℕ) (D : 0 < den) where
   abbrev q : ℕ
   q = kept (prec f) n den
 
-  grid-even : (Y y j : ℕ) → Y ≡ y * 2 ^ j → y < 2 ^ prec f → (grid f num den ≡ Y → ⊥) → n * 2 ≡ (grid f num den + Y) * den → q % 2 ≡ 0
-  grid-even Y y j e h ne tie = elim (on-grid f num den D y j h) [
-    | inl z ↦
-        let w : Y ≡ z .0 * 2 ^ k = e ∙ z .1 in
-        closest-tie n (den * 2 ^ k) (z .0) (mul-pos D (pow-pos k)) (λ c. ne (ap (λ (x : ℕ). x * 2 ^ k) c ∙ sym w)) (tie ∙ rw w (both f num den D (z .0)))
+  -- the fraction is the middle of the result and of Y
+  pub tied : (Y y j : ℕ) → Y ≡ y * 2 ^ j → y < 2 ^ prec f → n * 2 ≡ (grid f num den + Y) * den → (v : ℕ) × (Y ≡ v * 2 ^ k)
+  tied Y y j e h tie = elim (on-grid f num den D y j h) [
+    | inl z ↦ (z .0, e ∙ z .1)
     | inr z ↦
         let l : Y < hid f * 2 ^ k = lt-of-le-of-lt (le-of-eq e) (z .1) in
         let m : (q * 2 ^ k + Y) * den < (q * 2 ^ k + hid f * 2 ^ k) * den = mul-lt-mul-of-pos-right (omega arith) D in
@@ -72,12 +64,17 @@ module _ (f : Format) (num den : ℕ) (D : 0 < den) where
         absurd (omega arith)
   ]
 
--- In units of the smallest value the result is R, another value is Y, and the fraction is their middle.
-pub round-even : (f : Format) (num den R Y : ℕ) (y : Float) → 0 < den → HasValue (round f false num den) false R (2 ^ low f) → T (fits f y) → HasValue y false Y (2 ^ low f)
+  pub grid-even : (Y y j : ℕ) → Y ≡ y * 2 ^ j → y < 2 ^ prec f → (grid f num den ≡ Y → ⊥) → n * 2 ≡ (grid f num den + Y) * den → q % 2 ≡ 0
+  grid-even Y y j e h ne tie =
+      let (v, w) = tied Y y j e h tie in
+      closest-tie n (den * 2 ^ k) v (mul-pos D (pow-pos k)) (λ c. ne (ap (λ (x : ℕ). x * 2 ^ k) c ∙ sym w)) (tie ∙ ap (λ (x : ℕ). (grid f num den + x) * den) w ∙ both f num den D v)
+
+-- In units of the smallest value the result is R, another value is Y, whatever the signs, and the fraction is their middle.
+pub round-even : (f : Format) (s t : Bool) (num den R Y : ℕ) (y : Float) → 0 < den → HasValue (round f s num den) s R (2 ^ low f) → T (fits f y) → HasValue y t Y (2 ^ low f)
     → (R ≡ Y → ⊥) → num * 2 ^ low f * 2 ≡ (R + Y) * den → LastEven f R
-round-even f num den R Y y D r held v ne tie =
-    let z = few-digits f y Y held v in
-    let e : R ≡ grid f num den = rounded-grid f num den R r in
+round-even f s t num den R Y y D r held v ne tie =
+    let z = few-digits f y t Y held v in
+    let e : R ≡ grid f num den = rounded-grid f s num den R r in
     record {
       q = q f num den D;
       k = k f num den D;

@@ -4,14 +4,14 @@ use Prim.Native.Nat.{ℕ, zero, suc, _+_, _*_, _/_, _^_}
 use lib.Dec.{leb, eqb}
 use lib.Ieee.{Float, nan, inf, fin, Format, binary32, low, unlike, up, down, size, round, sum, add, mul}
 
--- convertFormat, to f32: the nearest value, a tie to the one whose last digit is even.
+-- convertFormat, to f32: the nearest value, a tie to the one whose last digit is even (the law `narrowed-nearest`).
 unfoldable pub narrowed : Float → Float
 narrowed nan = nan
 narrowed (inf s) = inf s
 narrowed (fin s m e) = round binary32 s (m * up e) (down e)
 
 -- fusedMultiplyAdd: x * y + z, rounded once. Where an infinity stands nothing is rounded, so `mul` and `add` say what it is;
--- `sum` says the sign of an exact zero.
+-- `sum` says the sign of an exact zero. The laws `fused-once` and `fused-nearest` say in IEEE 754's words what this is.
 unfoldable pub fused : Format → Float → Float → Float → Float
 unfolding sum add mul
 fused f nan y z = nan

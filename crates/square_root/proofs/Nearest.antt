@@ -52,7 +52,7 @@ unfolding roundedRoot
 rounded-nearest f n R Y y r held v =
     let s = wholeRoot n in
     let w = whole-root n in
-    let near = round-nearest f (2 * s + more s n) (4 * 2 ^ low f) R Y y (mul-pos (zero-lt-suc 3) (pow-pos (low f))) r held v in
+    let near = round-nearest f false false (2 * s + more s n) (4 * 2 ^ low f) R Y y (mul-pos (zero-lt-suc 3) (pow-pos (low f))) r held v in
     let side = sides n s (R + Y) (2 ^ low f) (pow-pos (low f)) (w .0) (w .1) in
     ((λ h. side .0 (near .0 h)), (λ h. side .1 (near .1 h)))
 
