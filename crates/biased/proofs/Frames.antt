@@ -5,13 +5,24 @@ use Prim.Native.Nat.{ℕ, suc, _+_, _-_, _*_, _/_, _%_, _^_, _≤_, _<_}
 use native.Mathlib.Nat.{two-pow-succ}
 use native.Mathlib.Omega.{arith}
 use lib.Dec.{T, leb}
-use lib.Ieee.{Float, binary64, ofBits, nanBits}
+use lib.Pow.{pow-pos}
+use lib.Ieee.{Float, binary64, round, ofBits, nanBits}
+use lib.Ieee.Bits.{ofBits-fits}
 use lib.Ieee.Exact.{HasValue}
 use borrow.Author.Tests.{lt-leb, le-leb}
+use Rattle.rounding.proofs.Own.{round-own}
 use Rattle.rounding.proofs.Patterns.{rest-no-nan}
 use Rattle.narrowing.proofs.Patterns.{count, exponent, value}
+use Rattle.biased.specs.declared.Ends.{Ends}
 use Rattle.biased.specs.Biased.{digit, bias-of, near-of, far-of, Frame}
+use Rattle.biased.specs.Beginning.{endsFor}
 use Rattle.biased.proofs.Grid.{L}
+
+abbrev ends : Float → Float → Float → Ends
+ends a b c = record { bias = a; low = b; high = c }
+
+same-ends : {a b c d e f : Float} → a ≡ d → b ≡ e → c ≡ f → ends a b c ≡ ends d e f
+same-ends {a} {b} {c} {d} {e} {f} p q r = ap (λ (z : Float). ends z b c) p ∙ ap (λ (z : Float). ends d z c) q ∙ ap (λ (z : Float). ends d e z) r
 
 -- q * 2 ^ (x - 1), for the pattern of the field x
 at : (s : Bool) (r q x A : ℕ) → r < 0x7ff0_0000_0000_0000 → r / 2 ^ 52 ≡ suc x → r ≡ x * 2 ^ 52 + q → q * 2 ^ x ≡ A → HasValue (ofBits binary64 (cond s 0x8000_0000_0000_0000 0 + r)) s A L
@@ -67,7 +78,32 @@ module _ (h : ℕ) (lo : 899 ≤ h % 2048) (hi : h % 2048 ≤ 1148) where
     far : HasValue (ofBits binary64 (big + 0x0080_0000)) s (far-of k) L
     far = sized (big + 0x0080_0000) ((f + 29) * 2 ^ 52 + 0x0080_0000) (2 ^ 52 + 2 ^ 23) (f + 28) (far-of k) (omega (arith, beside s h f 0 0x0080_0000 is (omega arith))) (omega arith) (omega arith) (omega arith) upper
 
+    -- each is the one f64 of its size
+    exactly : (b A : ℕ) → HasValue (ofBits binary64 b) s A L → ofBits binary64 b ≡ round binary64 s A L
+    exactly b A v = sym (round-own binary64 (ofBits binary64 b) s A L (ofBits-fits binary64 b) (pow-pos 1074) v)
+
+    exact-bias : ofBits binary64 (big - 0x0100_0000) ≡ round binary64 s (bias-of k) L
+    exact-bias = exactly (big - 0x0100_0000) (bias-of k) bias
+
+    exact-near : ofBits binary64 (big - 0x0080_0000) ≡ round binary64 s (near-of k) L
+    exact-near = exactly (big - 0x0080_0000) (near-of k) near
+
+    exact-far : ofBits binary64 (big + 0x0080_0000) ≡ round binary64 s (far-of k) L
+    exact-far = exactly (big + 0x0080_0000) (far-of k) far
+
   -- ---- with a plus and with a minus
+  pub ends-plus : h < 2048 → ends (ofBits binary64 (big - 0x0100_0000)) (ofBits binary64 (big - 0x0080_0000)) (ofBits binary64 (big + 0x0080_0000)) ≡ endsFor (leb 2048 h) k
+  unfolding endsFor
+  ends-plus l =
+      let e : h ≡ cond false 2048 0 + f = omega arith in
+      rw (lt-leb 2048 h l) (same-ends (exact-bias false e) (exact-near false e) (exact-far false e))
+
+  pub ends-minus : h < 4096 → 2048 ≤ h → ends (ofBits binary64 (big - 0x0100_0000)) (ofBits binary64 (big + 0x0080_0000)) (ofBits binary64 (big - 0x0080_0000)) ≡ endsFor (leb 2048 h) k
+  unfolding endsFor
+  ends-minus u l =
+      let e : h ≡ cond true 2048 0 + f = omega arith in
+      rw (le-leb 2048 h l) (same-ends (exact-bias true e) (exact-far true e) (exact-near true e))
+
   pub frame-plus : h < 2048 → Frame (leb 2048 h) k (ofBits binary64 (big - 0x0100_0000)) (ofBits binary64 (big - 0x0080_0000)) (ofBits binary64 (big + 0x0080_0000))
   frame-plus l =
       let e : h ≡ cond false 2048 0 + f = omega arith in

@@ -15,7 +15,9 @@ use lib.Ieee.Scale.{finite}
 use borrow.Author.Tests.{ltb-true}
 use Rattle.rounding.proofs.Comparing.{lt-units, eq-units}
 use Rattle.rounding.proofs.Orders.{lt-or-ge, clash}
+use Rattle.rounding.proofs.Values.{value-finite}
 use Rattle.rounding.proofs.Whole.{near, places}
+use Rattle.fused32.proofs.Infinite.{under-top}
 use Rattle.fused32.proofs.Neighbours.{rounds}
 use Rattle.biased.specs.Biased.{digit, bias-of, near-of, far-of, Frame}
 use Rattle.biased.proofs.Grid.{L}
@@ -30,7 +32,7 @@ le-sizes x y a b h k l = go (ltb a b) (ltb→lt a b) (eqb a b) (eqb→eq a b) (s
     go false f true g t = le-of-eq (g tt)
     go false f false g t = absurd t
 
-module _ (v : ℕ) (bound : v < 2 ^ 1401) (q j : ℕ) (few : q < 2 ^ 53) (J : j ≤ 1200) where
+module _ (v : ℕ) (bound : near binary64 v * 2 ^ places binary64 v < 2 ^ (1074 + 1024)) (q j : ℕ) (few : q < 2 ^ 53) (J : j ≤ 1200) where
   abbrev G : ℕ
   G = near binary64 v * 2 ^ places binary64 v
 
@@ -67,7 +69,10 @@ pub record Lies (s S : Bool) (k v : ℕ) : Type 0 where
   pub from : near-of k ≤ v
   pub to : v < far-of k
 
-module _ (s S : Bool) (k v : ℕ) (m low high x : Float) (F : Frame s k m low high) (bound : v < 2 ^ 1401) (is : x ≡ round binary64 S v (2 ^ 1074)) (a : lt low x ≡ true) (b : lt x high ≡ true) where
+module _ (s S : Bool) (k v : ℕ) (m low high x : Float) (F : Frame s k m low high) (is : x ≡ round binary64 S v (2 ^ 1074)) (a : lt low x ≡ true) (b : lt x high ≡ true) where
+  bound : near binary64 v * 2 ^ places binary64 v < 2 ^ (1074 + 1024)
+  bound = under-top v S (subst (λ (z : Float). T (finite z)) is (between-finite low x high (value-finite low s _ L (F .lower)) (value-finite high s _ L (F .upper)) a b))
+
   pub inside : Lies s S k v
   inside =
       let K : 925 + k ≤ 1200 = omega (arith, F .small) in

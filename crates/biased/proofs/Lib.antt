@@ -5,3 +5,4 @@ pub mod Taking
 pub mod Steps
 pub mod Frames
 pub mod Tested
+pub mod Begun

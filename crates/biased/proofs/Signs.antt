@@ -8,14 +8,6 @@ use lib.Dec.{ltb}
 use borrow.Author.Tests.{lt-ltb, ltb-true, ltb-false}
 use Rattle.rounding.proofs.Sums.{sum-sign, sum-size}
 
-pub size-le-sum : (t : Bool) (a : ℕ) (s : Bool) (b : ℕ) → sum-size t a s b ≤ a + b
-size-le-sum t a s b = go (Bool·beq t s) (ltb a b)
-  where
-    go : (x y : Bool) → cond x (a + b) (cond y (b - a) (a - b)) ≤ a + b
-    go true y = le-refl (a + b)
-    go false true = omega arith
-    go false false = omega arith
-
 pub record Apart (t : Bool) (P : ℕ) (s : Bool) (Q C : ℕ) : Type 0 where
   pub sign : sum-sign t P s Q ≡ s
   pub size : sum-size t P s (C + Q) ≡ C + sum-size t P s Q

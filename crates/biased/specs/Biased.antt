@@ -34,7 +34,6 @@ pub record Biased (m low high b q : Float) : Type 0 where
   pub frame : Frame sign k m low high
   pub size : ℕ
   pub some : 0 < size
-  pub bounded : bias-of k + size < 2 ^ 1400
   pub held : T (fits binary32 q)
   pub value : HasValue q sign size (2 ^ 1074)
   pub biased : HasValue b sign (bias-of k + size) (2 ^ 1074)

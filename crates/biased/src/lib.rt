@@ -6,6 +6,7 @@ ghost use lib.Dec.{T, leb};
 ghost use lib.Ieee.{binary32, binary64, add, fits};
 ghost use Rattle.biased.specs.Biased.{Frame, Biased};
 ghost use Rattle.biased.specs.Sums.{allTaken, Advanced};
+ghost use Rattle.biased.specs.Beginning.{endsFor, noBias, withBias};
 
 // A bias, and the ends between which a biased sum is taken.
 struct Ends {
@@ -26,6 +27,7 @@ pub struct Start {
 // From the sign and the exponent's field of 2^e, as an f64's pattern has them: 2^(e + 29) - 2^e, and it with 2^(e - 1) and with 2^(e + 1) added, by the pattern of 2^(e + 29).
 fn ends_of(h: u64) -> Ends
     requires { ⌜ (h < 4096) × (899 ≤ h % 2048) × (h % 2048 ≤ 1148) ⌝ }
+    ensures { λ r. ⌜ r ≡ endsFor (leb 2048 h) (h % 2048 - 898) ⌝ }
     ensures { λ r. ⌜ Frame (leb 2048 h) (h % 2048 - 898) (r .bias) (r .low) (r .high) ⌝ }
 {
     let big: u64 = (h + 29) * 0x0010_0000_0000_0000;
@@ -47,7 +49,7 @@ fn ends_of(h: u64) -> Ends
 }
 
 fn no_bias() -> Start
-    ensures { λ r. ⌜ (r .fine ≡ true → ⊥) ⌝ }
+    ensures { λ r. ⌜ r ≡ noBias ⌝ }
 {
     Start {
         fine: false,
@@ -58,8 +60,10 @@ fn no_bias() -> Start
     }
 }
 
-// The sum, biased for the power of two that is nearest to it: from about 1.414 times a power on that is the next one.
+// The sum, biased for the power of two near it: from about 1.414 times a power on that is the next one. An f32 that is taken
+// stands in it.
 pub fn with_bias(sum: f64) -> Start
+    ensures { λ r. ⌜ r ≡ withBias sum ⌝ }
     ensures { λ r. ⌜ (T (fits binary32 sum) → r .fine ≡ true → Biased (r .bias) (r .low) (r .high) (r .sum) sum) ⌝ }
 {
     if sum != sum {

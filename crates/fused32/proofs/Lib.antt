@@ -1,4 +1,5 @@
 pub mod Again
+pub mod Infinite
 pub mod Neighbours
 pub mod Remainder
 pub mod Compared
