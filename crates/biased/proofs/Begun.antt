@@ -1,15 +1,20 @@
--- What the tests of `with_bias` say of a sum: whether it has a bias, and so what is given. Assumes nothing.
+-- What the tests of `with_bias` say of a sum: whether it has a bias, and so what is given. And an f32 that is taken stands in the biased sum. Assumes nothing.
 use mathlib.Core.Path.{_≡_, refl, sym, ap, _∙_, subst}
-use mathlib.Core.Bool.{Bool, true, false, not, _&&_}
+use mathlib.Core.Bool.{Bool, true, false, not, _&&_, false≢true}
 use Prim.Native.Nat.{ℕ, _-_, _%_, _≤_, _<_}
+use native.Mathlib.Omega.{arith}
 use lib.Dec.{T, leb}
-use lib.Ieee.{Float, binary64, add, isNan, ne}
+use lib.Ieee.{Float, binary32, binary64, add, fits, isNan, lt, ne}
 use lib.Ieee.Compare.{differs-from-itself}
-use borrow.Author.Tests.{lt-leb, le-leb}
+use borrow.Author.Tests.{lt-leb, le-leb, leb-true}
 use Rattle.biased.specs.declared.Ends.{Ends}
 use Rattle.biased.specs.declared.Start.{Start}
 use Rattle.biased.specs.Beginning.{powerOf, hasBias, endsFor, biasedBy, noBias, pickStart, withBias}
+use Rattle.biased.specs.Biased.{Biased}
 use Rattle.biased.specs.Sums.{taken}
+use Rattle.biased.proofs.Framed.{framed}
+use Rattle.biased.proofs.Steps.{start}
+use Rattle.biased.proofs.Tested.{first-of, second-of}
 
 none-of : (a : Bool) → (a && false) ≡ false
 none-of true = refl
@@ -51,3 +56,20 @@ module _ (x : Float) where
       ap (λ (b : Bool). given b e) t
       ∙ ap (λ (b : Ends). biasedBy b x) is
       ∙ sym (ap (λ (b : Bool). pickStart b (biasedBy found x) noBias) (with-one n lo hi))
+
+  -- ---- what is taken
+  abbrev IsBiased : Start → Type 0
+  IsBiased r = r .fine ≡ true → Biased (r .bias) (r .low) (r .high) (r .sum) x
+
+  pub begins : (r : Start) → r ≡ withBias x → T (fits binary32 x) → IsBiased r
+  begins r is held = subst IsBiased (sym is) (go (hasBias x) refl)
+    where
+      go : (b : Bool) → hasBias x ≡ b → IsBiased (pickStart b (biasedBy found x) noBias)
+      go false h t = absurd (false≢true t)
+      go true h t =
+          let top : leb f 1148 ≡ true = second-of (leb 899 f && leb f 1148) (leb 899 f) (leb f 1148) refl (second-of (hasBias x) (not (isNan x)) (leb 899 f && leb f 1148) refl h) in
+          let s = add binary64 x (found .bias) in
+          let lo = lt (found .low) s in
+          let hi = lt s (found .high) in
+          start (leb 2048 (powerOf x)) (f - 898) (found .bias) (found .low) (found .high) x (framed (f - 898) (omega (arith, leb-true f 1148 top)) (leb 2048 (powerOf x))) held
+              (first-of (lo && hi) lo hi refl t) (second-of (lo && hi) lo hi refl t)

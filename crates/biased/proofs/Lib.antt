@@ -1,4 +1,5 @@
 pub mod Grid
+pub mod Framed
 pub mod Signs
 pub mod Inside
 pub mod Taking

@@ -1,6 +1,6 @@
 // fusedMultiplyAdd for f32: the product of two f32 is an f64 exactly, so that all lies in the sum of two f64.
 ghost use mathlib.Core.Path.{_≡_};
-ghost use lib.Ieee.{binary32, binary64, add};
+ghost use lib.Ieee.{binary32, add};
 ghost use Rattle.rounding.specs.Operations.{fused};
 ghost use Rattle.fused32.specs.Parts.{SumOf, Ordered, Above, Tested};
 use narrowing::narrow;
