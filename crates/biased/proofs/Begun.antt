@@ -72,4 +72,4 @@ module _ (x : Float) where
           let lo = lt (found .low) s in
           let hi = lt s (found .high) in
           start (leb 2048 (powerOf x)) (f - 898) (found .bias) (found .low) (found .high) x (framed (f - 898) (omega (arith, leb-true f 1148 top)) (leb 2048 (powerOf x))) held
-              (first-of (lo && hi) lo hi refl t) (second-of (lo && hi) lo hi refl t)
+          (first-of (lo && hi) lo hi refl t) (second-of (lo && hi) lo hi refl t)

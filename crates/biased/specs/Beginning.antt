@@ -1,4 +1,5 @@
--- K4. How a biased sum begins: with the bias for the power of two near it, where there is one; it is taken where it then lies between that bias's ends. Definitions only.
+-- K4. How a biased sum begins: with the bias for the power of two near it, where there is one. It is taken where it then
+-- lies between that bias's ends. Definitions only.
 use mathlib.Core.Bool.{Bool, true, false, not, _&&_, cond}
 use Prim.Native.Nat.{ℕ, _+_, _-_, _/_, _%_, _^_}
 use lib.Dec.{leb}
@@ -37,7 +38,13 @@ biasedBy e x = record {
 
 -- Nothing is taken.
 abbrev pub noBias : Start
-noBias = record { fine = false; bias = ofBits binary64 0; low = ofBits binary64 0; high = ofBits binary64 0; sum = ofBits binary64 0 }
+noBias = record {
+  fine = false;
+  bias = ofBits binary64 0;
+  low = ofBits binary64 0;
+  high = ofBits binary64 0;
+  sum = ofBits binary64 0;
+}
 
 abbrev pub pickStart : Bool → Start → Start → Start
 pickStart true a b = a

@@ -7,7 +7,8 @@ use native.Mathlib.Nat.{le-of-eq, le-of-lt, zero-mul, eq-zero-or-pos}
 use native.Mathlib.Omega.{arith}
 use lib.Dec.{T, ltb}
 use lib.Pow.{pow-pos}
-use lib.Ieee.{Float, nan, inf, fin, Format, binary64, add, ofBits, neg, lt, below}
+use lib.Ieee.{Float, Format, binary64, add, ofBits, neg, lt, below}
+use lib.Ieee.Exact.{HasValue}
 use lib.Ieee.Scale.{finite}
 use borrow.Author.Tests.{lt-ltb, ltb-true, ltb-false}
 use Rattle.fused32.specs.Parts.{Ordered, Short, amount}
@@ -18,7 +19,7 @@ use Rattle.rounding.proofs.Comparing.{lt-units}
 use Rattle.rounding.proofs.Mirror.{add-swap, sum-neg}
 use Rattle.rounding.proofs.Orders.{clash}
 use Rattle.rounding.proofs.Sums.{sum-sign, sum-size}
-use Rattle.rounding.proofs.Values.{neg-value}
+use Rattle.rounding.proofs.Values.{neg-value, value-finite}
 use Rattle.rounding.proofs.Whole.{exact-multiple, places}
 
 -- the larger of two parts whose sum is above zero has no sign; a comparison tells which it is
@@ -39,12 +40,6 @@ larger true false X Y e h = (λ l. (refl, go (ltb X Y) (ltb-true X Y) e), λ l. 
     none : (b : Bool) → X + Y ≤ 0 → 0 < cond b (Y - X) (X - Y) → ⊥
     none true l h = omega arith
     none false l h = omega arith
-
-pub neg-finite : (x : Float) → T (finite x) → T (finite (neg x))
-unfolding neg
-neg-finite nan h = h
-neg-finite (inf s) h = h
-neg-finite (fin s m e) h = h
 
 abbrev pub short-neg : {x : Float} → Short x → Short (neg x)
 short-neg {x} p = record { sign = not (p .sign); digits = p .digits; places = p .places; few = p .few; bounded = p .bounded; value = neg-value x (p .sign) (amount p) (2 ^ 1074) (p .value) }
@@ -108,8 +103,14 @@ module _ (p c : Float) (P : Short p) (C : Short c) (bounded : T (finite (add bin
       ∙ sum-neg f (P .sign) (amount P) (C .sign) (amount C) (2 ^ 1074) (some (under h .1))
       ∙ ap neg (sym (add-units f p c (P .sign) (C .sign) (amount P) (amount C) (2 ^ 1074) (pow-pos 1074) (P .value) (C .value)))
 
+  negative-value : HasValue (neg s) (not (S p c P C)) (G p c P C) (2 ^ 1074)
+  negative-value = neg-value s (S p c P C) (G p c P C) (2 ^ 1074) (s-value p c P C fine)
+
+  pub negative-bounded : T (finite (neg s))
+  negative-bounded = value-finite (neg s) (not (S p c P C)) (G p c P C) (2 ^ 1074) negative-value
+
   pub negative-above : lt s (ofBits binary64 0) ≡ true → lt (ofBits binary64 0) (neg s) ≡ true
   negative-above h =
-      lt-units (ofBits binary64 0) (neg s) false (not (S p c P C)) 0 (G p c P C) (2 ^ 1074) (pow-pos 1074) zero-value (neg-value s (S p c P C) (G p c P C) (2 ^ 1074) (s-value p c P C fine))
+      lt-units (ofBits binary64 0) (neg s) false (not (S p c P C)) 0 (G p c P C) (2 ^ 1074) (pow-pos 1074) zero-value negative-value
       ∙ ap (λ (b : Bool). below false 0 (not b) (G p c P C)) (under h .0)
       ∙ lt-ltb 0 (G p c P C) (under h .1)

@@ -10,7 +10,8 @@ use lib.Ieee.Exact.{HasValue}
 use borrow.Author.Tests.{le-ltb}
 use Rattle.fused32.specs.Parts.{Short, amount}
 use Rattle.fused32.proofs.Compared.{Tests, tests-minus, tests-plus}
-use Rattle.fused32.proofs.Remainder.{whole, left-of-difference, left-of-sum}
+use Rattle.fused32.proofs.Remainder.{left-of-difference, left-of-sum}
+use Rattle.fused32.proofs.Unit.{whole}
 use Rattle.rounding.proofs.Orders.{sub-mul}
 use Rattle.rounding.proofs.Sums.{sum-is, sum-like}
 use Rattle.rounding.proofs.Whole.{near, places}

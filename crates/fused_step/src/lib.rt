@@ -1,4 +1,4 @@
-// K4. One tap of 000's f32 loop: a fused step from an f64 to an f64 that holds an f32, quick where the f64 sum is plain.
+// K4. One tap of 000's f32 loop: a fused step from an f64 to an f64 that is an f32, quick where the f64 sum is plain.
 ghost use mathlib.Core.Path.{_≡_};
 ghost use mathlib.Core.Bool.{true};
 ghost use lib.Ieee.{binary32, binary64, add, mul};
@@ -51,8 +51,9 @@ fn rare_step(x: f32, c: f32, sum: f64, s: f64) -> f64
 }
 
 // x * c + sum rounded once to an f32, for any f64 sum. The chain's sums are f32 all along, held as f64, so that no step
-// widens or narrows them. The product is exact in f64. Where the sum is plain, half of the last digit that an f32 keeps is added to its pattern and what an f32 lacks is
-// cut off: a carry moves up into the exponent's field. No tie is met there, so this is the nearest.
+// widens or narrows them. The product is exact in f64. Where the f64 sum is plain, half of the last digit that an f32 keeps
+// is added to its pattern and what an f32 lacks is cut off: a carry moves up into the exponent's field. No tie is met
+// there, so this is the nearest.
 pub fn step(x: f32, c: f32, sum: f64) -> f64
     ensures { λ r. ⌜ r ≡ fused binary32 x c sum ⌝ }
 {

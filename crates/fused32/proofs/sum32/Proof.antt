@@ -7,7 +7,7 @@ use lib.Ieee.Scale.{finite}
 use Rattle.rounding.proofs.Mirror.{neg-neg}
 use Rattle.fused32.specs.Parts.{Short}
 use Rattle.fused32.proofs.Joined.{both, clear-code}
-use Rattle.fused32.proofs.Larger.{short-neg, neg-finite, negatives, negative-above}
+use Rattle.fused32.proofs.Larger.{short-neg, negatives, negative-bounded, negative-above}
 use Rattle.fused32.proofs.Parts.{short}
 use Rattle.fused32.proofs.Sums.{sum-under, zero-sum}
 use Rattle.fused32.proofs.sum32.Statement.{statement}
@@ -50,7 +50,7 @@ positive-sum-requires-2 c κs =
       second = short-neg (second e);
       sum = record {
         is = sym (negatives (a .args .p) (a .args .c) (first e) (second e) (bounded e) (c .if3 .taken) binary64);
-        bounded = neg-finite (add binary64 (a .args .p) (a .args .c)) (bounded e);
+        bounded = negative-bounded (a .args .p) (a .args .c) (first e) (second e) (bounded e);
       };
       above = negative-above (a .args .p) (a .args .c) (first e) (second e) (bounded e) (c .if3 .taken);
     }
