@@ -38,13 +38,13 @@ returns-3 : tie.Need-returns-3
 returns-3 c = nothing _ _ (high-without _ (c .before .if3 .taken)) (c .no-bias3 .ensures)
 
 ends-of-requires : tie.Need-ends-of-requires
-ends-of-requires c κs = (omega (arith, room (c .before .before)), c .before .if2 .left, c .if3 .left)
+ends-of-requires c κs = (omega (arith, room (c .before .before)), omega arith, omega arith)
 
 returns-4 : tie.Need-returns-4
 returns-4 c =
     let e = c .before .before .before .before in
     let n = e .before .before .before in
-    something (n .before .args .sum) (c .both .result) (e .ends-of .result) (number n) (e .before .before .if2 .left) (e .before .if3 .left) (e .ends-of .ensures) (c .both .ensures)
+    something (n .before .args .sum) (c .both .result) (e .ends-of .result) (number n) (omega arith) (omega arith) (e .ends-of .ensures) (c .both .ensures)
 
 pub with-bias-spec : {M : Type 1} → statement M
 with-bias-spec =
