@@ -5,7 +5,7 @@ use mathlib.Core.Bool.{Bool}
 use Prim.Native.Nat.{ℕ, suc, _+_, _-_, _*_, _^_, _≤_, _<_}
 use native.Mathlib.Nat.{le-trans, le-of-eq, lt-of-lt-of-le, lt-of-le-of-lt, add-mul, mul-assoc, mul-le-mul, mul-le-mul-right, two-pow-succ}
 use native.Mathlib.Omega.{arith}
-use lib.Dec.{lit≤, lit<}
+use lib.Dec.{lit<}
 use lib.Pow.{pow-add, pow-pos, pow-mono}
 use lib.Ieee.{Float, binary32, binary64, round}
 use lib.Ieee.Exact.{HasValue, units-val}
@@ -60,7 +60,6 @@ module _ (s : Bool) (k w y : ℕ) (K : k ≤ 252) (lo : 2 ^ 52 * digit k ≤ w *
 pub record Rounded (s : Bool) (k y : ℕ) : Type 0 where
   pub size : ℕ
   pub least : 2 ^ 23 * digit k ≤ size
-  pub most : size ≤ 2 ^ 25 * digit k
   pub wide : HasValue (round binary64 s (bias-of k + y) (2 ^ 1074)) s (bias-of k + size) (2 ^ 1074)
   pub narrow : HasValue (round binary32 s y (2 ^ 1074)) s size (2 ^ 1074)
 
@@ -69,7 +68,6 @@ rounds s k y K lo hi = elim (lt-or-ge y (2 ^ 24 * digit k)) [
   | inl l ↦ record {
     size = closest y (digit k) * digit k;
     least = mul-le-mul-right (digit k) (closest-ge y (digit k) (2 ^ 23) (pow-pos (925 + k)) (omega arith));
-    most = le-trans (mul-le-mul-right (digit k) (closest-le y (digit k) (2 ^ 24) (pow-pos (925 + k)) l)) (mul-le-mul-right (digit k) (lit≤ tt));
     wide = wide s k (2 ^ 52 - 2 ^ 23) y (omega arith) (omega arith) (omega arith) (omega arith) l;
     narrow = narrow s k (2 ^ 52 - 2 ^ 23) y (omega arith) (omega arith) (omega arith) (omega arith) l;
   }
@@ -88,12 +86,10 @@ rounds s k y K lo hi = elim (lt-or-ge y (2 ^ 24 * digit k)) [
         let c = closest y E in
         let t : E ≡ D + D = twice in
         let b : (2 ^ 51 - 2 ^ 22) * 2 * E ≡ bias-of k = omega arith in
-        let x : c ≤ 2 ^ 24 = closest-le y E (2 ^ 24) (pow-pos (925 + suc k)) (omega arith) in
         let z : 2 ^ 23 ≤ c = closest-ge y E (2 ^ 23) (pow-pos (925 + suc k)) (omega arith) in
         record {
           size = c * E;
           least = le-trans (omega arith) (mul-le-mul-right E z);
-          most = le-trans (mul-le-mul-right E x) (omega arith);
           wide = subst (λ (z : ℕ). HasValue (round binary64 s (z + y) L) s (z + c * E) L) b (wide s (suc k) (2 ^ 51 - 2 ^ 22) y (omega arith) (omega arith) (omega arith) (omega arith) (omega arith));
           narrow = narrow s (suc k) (2 ^ 51 - 2 ^ 22) y (omega arith) (omega arith) (omega arith) (omega arith) (omega arith);
         }

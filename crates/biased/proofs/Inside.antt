@@ -1,24 +1,26 @@
 -- An f64 sum between the ends of a frame: it is finite, has the frame's sign, and the exact sum lies between the ends too, which are f64. Assumes nothing.
 use mathlib.Core.Path.{_≡_, refl, sym, ap, _∙_, subst}
 use mathlib.Core.Logic.{inl, inr}
-use mathlib.Core.Bool.{Bool, true, false, _||_, _&&_, cond, true≢false, false≢true}
+use mathlib.Core.Bool.{Bool, true, false, _||_, _&&_, cond, false≢true}
 use Prim.Native.Nat.{ℕ, suc, _+_, _-_, _*_, _^_, _≤_, _<_}
-use native.Mathlib.Nat.{le-refl, le-trans, le-of-eq, le-of-lt, lt-of-le-of-lt, mul-le-mul-right, mul-le-mul, two-pow-succ}
+use native.Mathlib.Nat.{le-of-eq, le-of-lt, mul-le-mul-right, mul-le-mul}
 use native.Mathlib.Omega.{arith}
-use lib.Dec.{T, ltb, eqb, lit≤, lit<, ltb→lt, eqb→eq}
-use lib.Pow.{pow-pos, pow-mono}
+use lib.Dec.{T, ltb, eqb, lit<, ltb→lt, eqb→eq}
+use lib.Pow.{pow-pos}
 use lib.Ieee.{Float, nan, inf, fin, binary64, round, lt, eq, le, below}
-use lib.Ieee.Exact.{HasValue, round-exact}
-use lib.Ieee.Fits.{and-l}
+use lib.Ieee.Exact.{HasValue}
 use lib.Ieee.Order.{round-mono}
 use lib.Ieee.Scale.{finite}
 use borrow.Author.Tests.{ltb-true}
 use Rattle.rounding.proofs.Comparing.{lt-units, eq-units}
 use Rattle.rounding.proofs.Orders.{lt-or-ge, clash}
+use Rattle.rounding.proofs.Values.{value-finite}
 use Rattle.rounding.proofs.Whole.{near, places}
+use Rattle.fused32.proofs.Infinite.{under-top}
 use Rattle.fused32.proofs.Neighbours.{rounds}
-use Rattle.biased.specs.Biased.{digit, bias-of, near-of, far-of, Frame}
+use Rattle.biased.specs.Biased.{near-of, far-of, Frame}
 use Rattle.biased.proofs.Grid.{L}
+use Rattle.biased.proofs.Framed.{own, far-even}
 
 -- ---- rounding keeps the order of sizes
 le-sizes : (x y : Float) (a b : ℕ) → HasValue x false a L → HasValue y false b L → T (le x y) → a ≤ b
@@ -30,18 +32,15 @@ le-sizes x y a b h k l = go (ltb a b) (ltb→lt a b) (eqb a b) (eqb→eq a b) (s
     go false f true g t = le-of-eq (g tt)
     go false f false g t = absurd t
 
-module _ (v : ℕ) (bound : v < 2 ^ 1401) (q j : ℕ) (few : q < 2 ^ 53) (J : j ≤ 1200) where
+module _ (v : ℕ) (bound : near binary64 v * 2 ^ places binary64 v < 2 ^ (1074 + 1024)) (q j : ℕ) (few : q < 2 ^ 53) (J : j ≤ 1200) where
   abbrev G : ℕ
   G = near binary64 v * 2 ^ places binary64 v
 
-  own : HasValue (round binary64 false (q * 2 ^ j) L) false (q * 2 ^ j) L
-  own = round-exact binary64 false (q * 2 ^ j) L q j (pow-pos 1074) few (lt-of-le-of-lt (mul-le-mul (le-of-lt few) (pow-mono J)) (lit< tt)) refl
-
   not-above : v ≤ q * 2 ^ j → G ≤ q * 2 ^ j
-  not-above h = le-sizes (round binary64 false v L) (round binary64 false (q * 2 ^ j) L) G (q * 2 ^ j) (rounds v bound false) own (round-mono binary64 v L (q * 2 ^ j) L (pow-pos 1074) (pow-pos 1074) (mul-le-mul-right L h))
+  not-above h = le-sizes (round binary64 false v L) (round binary64 false (q * 2 ^ j) L) G (q * 2 ^ j) (rounds v bound false) (own false q j few J) (round-mono binary64 v L (q * 2 ^ j) L (pow-pos 1074) (pow-pos 1074) (mul-le-mul-right L h))
 
   not-below : q * 2 ^ j ≤ v → q * 2 ^ j ≤ G
-  not-below h = le-sizes (round binary64 false (q * 2 ^ j) L) (round binary64 false v L) (q * 2 ^ j) G own (rounds v bound false) (round-mono binary64 (q * 2 ^ j) L v L (pow-pos 1074) (pow-pos 1074) (mul-le-mul-right L h))
+  not-below h = le-sizes (round binary64 false (q * 2 ^ j) L) (round binary64 false v L) (q * 2 ^ j) G (own false q j few J) (rounds v bound false) (round-mono binary64 (q * 2 ^ j) L v L (pow-pos 1074) (pow-pos 1074) (mul-le-mul-right L h))
 
 -- ---- what lies between two finite values is finite
 pub between-finite : (x y z : Float) → T (finite x) → T (finite z) → lt x y ≡ true → lt y z ≡ true → T (finite y)
@@ -67,7 +66,10 @@ pub record Lies (s S : Bool) (k v : ℕ) : Type 0 where
   pub from : near-of k ≤ v
   pub to : v < far-of k
 
-module _ (s S : Bool) (k v : ℕ) (m low high x : Float) (F : Frame s k m low high) (bound : v < 2 ^ 1401) (is : x ≡ round binary64 S v (2 ^ 1074)) (a : lt low x ≡ true) (b : lt x high ≡ true) where
+module _ (s S : Bool) (k v : ℕ) (m low high x : Float) (F : Frame s k m low high) (is : x ≡ round binary64 S v (2 ^ 1074)) (a : lt low x ≡ true) (b : lt x high ≡ true) where
+  bound : near binary64 v * 2 ^ places binary64 v < 2 ^ (1074 + 1024)
+  bound = under-top v S (subst (λ (z : Float). T (finite z)) is (between-finite low x high (value-finite low s _ L (F .lower)) (value-finite high s _ L (F .upper)) a b))
+
   pub inside : Lies s S k v
   inside =
       let K : 925 + k ≤ 1200 = omega (arith, F .small) in
@@ -89,13 +91,7 @@ module _ (s S : Bool) (k v : ℕ) (m low high x : Float) (F : Frame s k m low hi
         ];
       }
     where
-      -- the far end is an even number of the unit
       top : far-of k ≤ v → far-of k ≤ near binary64 v * 2 ^ places binary64 v
       top l =
           let J : suc (925 + k) ≤ 1200 = omega (arith, F .small) in
-          subst (λ (z : ℕ). z ≤ near binary64 v * 2 ^ places binary64 v) (far k) (not-below v bound (2 ^ 52 + 2 ^ 23) (suc (925 + k)) (lit< tt) J (subst (λ (z : ℕ). z ≤ v) (sym (far k)) l))
-        where
-          far : (k : ℕ) → (2 ^ 52 + 2 ^ 23) * 2 ^ suc (925 + k) ≡ far-of k
-          far k =
-              let t : 2 ^ suc (925 + k) ≡ digit k + digit k = two-pow-succ (925 + k) in
-              omega arith
+          subst (λ (z : ℕ). z ≤ near binary64 v * 2 ^ places binary64 v) (far-even k) (not-below v bound (2 ^ 52 + 2 ^ 23) (suc (925 + k)) (lit< tt) J (subst (λ (z : ℕ). z ≤ v) (sym (far-even k)) l))

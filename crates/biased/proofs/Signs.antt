@@ -1,20 +1,11 @@
 -- A sum of two signed sizes, one of them with C added: where it keeps that one's sign and is above C, it is the sum without C, and C. Assumes nothing.
 use mathlib.Core.Path.{_≡_, refl, sym, ap, _∙_}
-use mathlib.Core.Bool.{Bool, true, false, _&&_, Bool·beq, cond, true≢false, false≢true}
+use mathlib.Core.Bool.{Bool, true, false, _&&_, cond, true≢false, false≢true}
 use Prim.Native.Nat.{ℕ, _+_, _-_, _≤_, _<_}
-use native.Mathlib.Nat.{le-refl}
 use native.Mathlib.Omega.{arith}
 use lib.Dec.{ltb}
 use borrow.Author.Tests.{lt-ltb, ltb-true, ltb-false}
 use Rattle.rounding.proofs.Sums.{sum-sign, sum-size}
-
-pub size-le-sum : (t : Bool) (a : ℕ) (s : Bool) (b : ℕ) → sum-size t a s b ≤ a + b
-size-le-sum t a s b = go (Bool·beq t s) (ltb a b)
-  where
-    go : (x y : Bool) → cond x (a + b) (cond y (b - a) (a - b)) ≤ a + b
-    go true y = le-refl (a + b)
-    go false true = omega arith
-    go false false = omega arith
 
 pub record Apart (t : Bool) (P : ℕ) (s : Bool) (Q C : ℕ) : Type 0 where
   pub sign : sum-sign t P s Q ≡ s

@@ -2,14 +2,14 @@
 -- itself, `start`; and what is biased comes back exactly, `back`. Assumes nothing.
 use mathlib.Core.Path.{_≡_, refl, sym, ap, _∙_, subst}
 use mathlib.Core.Bool.{Bool, true, false, not, Bool·beq, cond, true≢false, false≢true}
-use Prim.Native.Nat.{ℕ, _+_, _-_, _*_, _^_, _≤_, _<_}
-use native.Mathlib.Nat.{lt-of-le-of-lt, mul-le-mul-left, add-zero}
+use Prim.Native.Nat.{ℕ, _+_, _-_, _<_}
+use native.Mathlib.Nat.{add-zero}
 use native.Mathlib.Omega.{arith}
-use lib.Dec.{T, ltb, lit<}
-use lib.Pow.{pow-pos, pow-mono}
+use lib.Dec.{T, ltb}
+use lib.Pow.{pow-pos}
 use lib.Ieee.{Float, binary32, binary64, round, add, sub, neg, mul, fits, lt}
 use lib.Ieee.Exact.{HasValue}
-use lib.Ieee.Fits.{fits-widens}
+use lib.Ieee.Fits.{fits-widens, mul-fits}
 use borrow.Author.Tests.{le-ltb, ltb-false}
 use Rattle.rounding.specs.Operations.{fused}
 use Rattle.rounding.proofs.Adding.{add-units}
@@ -19,7 +19,7 @@ use Rattle.rounding.proofs.Sums.{sum-is, sum-less, sum-sign, sum-size}
 use Rattle.rounding.proofs.Values.{neg-value, value-finite}
 use Rattle.fused32.specs.Parts.{amount}
 use Rattle.fused32.proofs.Joined.{both}
-use Rattle.fused32.proofs.Parts.{parts-of, parts-product, fused-is}
+use Rattle.fused32.proofs.Parts.{short, fused-is}
 use Rattle.biased.specs.Biased.{bias-of, Frame, Biased}
 use Rattle.biased.proofs.Grid.{L}
 use Rattle.biased.proofs.Inside.{between-finite}
@@ -34,9 +34,8 @@ module _ (m low high b q : Float) (B : Biased m low high b q) where
       let p = mul binary64 x c in
       let F = B .frame in
       let f = between-finite low (add binary64 p b) high (value-finite low s _ L (F .lower)) (value-finite high s _ L (F .upper)) lo hi in
-      let P = parts-product x c hx hc (both p b f .0) in
-      let few : amount P < 2 ^ 1400 = P .bounded in
-      let t = taken (P .sign) s (amount P) (B .size) (B .k) m low high p b F few (B .bounded) (P .value) (B .biased) lo hi in
+      let P = short p (mul-fits binary64 x c) (both p b f .0) in
+      let t = taken (P .sign) s (amount P) (B .size) (B .k) m low high p b F (P .value) (B .biased) lo hi in
       let e : add binary32 p q ≡ round binary32 s (sum-size (P .sign) (amount P) s (B .size)) L =
       add-units binary32 p q (P .sign) s (amount P) (B .size) L (pow-pos 1074) (P .value) (B .value)
       ∙ sum-is binary32 (P .sign) (amount P) s (B .size) L
@@ -47,7 +46,6 @@ module _ (m low high b q : Float) (B : Biased m low high b q) where
         frame = F;
         size = t .size;
         some = t .some;
-        bounded = t .bounded;
         held = fused-fits binary32 x c q;
         value = subst (λ (z : Float). HasValue z s (t .size) L) (sym e ∙ fused-is x c q hx hc) (t .rounded);
         biased = t .biased;
@@ -75,11 +73,8 @@ pub start : (s : Bool) (k : ℕ) (m low high q : Float) → Frame s k m low high
     → Biased m low high (add binary64 q m) q
 start s k m low high q F held lo hi =
     let f = between-finite low (add binary64 q m) high (value-finite low s _ L (F .lower)) (value-finite high s _ L (F .upper)) lo hi in
-    let P = parts-of q held (both q m f .0) in
-    let few : amount P < 2 ^ 1400 = P .bounded in
-    let K : 925 + k ≤ 1177 = omega (arith, F .small) in
-    let C : bias-of k + 0 < 2 ^ 1400 = lt-of-le-of-lt (omega arith) (lt-of-le-of-lt (mul-le-mul-left (2 ^ 54) (pow-mono K)) (lit< tt)) in
-    let t = taken (P .sign) s (amount P) 0 k m low high q m F few C (P .value) (subst (λ (z : ℕ). HasValue m s z L) (sym (add-zero (bias-of k))) (F .bias)) lo hi in
+    let P = short q (fits-widens q held) (both q m f .0) in
+    let t = taken (P .sign) s (amount P) 0 k m low high q m F (P .value) (subst (λ (z : ℕ). HasValue m s z L) (sym (add-zero (bias-of k))) (F .bias)) lo hi in
     let (same, size) = alone (P .sign) (amount P) s (t .sign) (t .more) in
     let v : HasValue q s (amount P) L = subst (λ (z : Bool). HasValue q z (amount P) L) same (P .value) in
     record {
@@ -88,7 +83,6 @@ start s k m low high q F held lo hi =
       frame = F;
       size = t .size;
       some = t .some;
-      bounded = t .bounded;
       held = held;
       value = subst (λ (z : Float). HasValue z s (t .size) L) (ap (λ (z : ℕ). round binary32 s z L) size ∙ round-own binary32 q s (amount P) L held (pow-pos 1074) v) (t .rounded);
       biased = t .biased;

@@ -1,11 +1,10 @@
 -- p + b as an f64, where b is a bias and Q units: between the ends of the bias's frame it is the bias and what p and Q add up to as an f32. Assumes nothing.
 use mathlib.Core.Path.{_≡_, sym, ap, _∙_, subst}
 use mathlib.Core.Bool.{Bool, true}
-use Prim.Native.Nat.{ℕ, _+_, _*_, _^_, _≤_, _<_}
-use native.Mathlib.Nat.{lt-of-lt-of-le, lt-of-le-of-lt, mul-le-mul-left, add-lt-add-of-lt-of-le, le-of-lt}
+use Prim.Native.Nat.{ℕ, _+_, _^_, _≤_, _<_}
+use native.Mathlib.Nat.{lt-of-lt-of-le}
 use native.Mathlib.Omega.{arith}
-use lib.Dec.{lit<}
-use lib.Pow.{pow-pos, pow-mono}
+use lib.Pow.{pow-pos}
 use lib.Ieee.{Float, binary32, binary64, round, add, lt}
 use lib.Ieee.Exact.{HasValue}
 use Rattle.rounding.proofs.Adding.{add-units}
@@ -13,18 +12,17 @@ use Rattle.rounding.proofs.Sums.{sum-is, sum-sign, sum-size}
 use Rattle.biased.specs.Biased.{digit, bias-of, near-of, far-of, Frame}
 use Rattle.biased.proofs.Grid.{L, Rounded, rounds}
 use Rattle.biased.proofs.Inside.{Lies, inside}
-use Rattle.biased.proofs.Signs.{size-le-sum, Apart, apart}
+use Rattle.biased.proofs.Signs.{Apart, apart}
 
 pub record Taken (t : Bool) (P : ℕ) (s : Bool) (Q k : ℕ) (b : Float) : Type 0 where
   pub sign : sum-sign t P s Q ≡ s
   pub more : 0 < sum-size t P s Q
   pub size : ℕ
   pub some : 0 < size
-  pub bounded : bias-of k + size < 2 ^ 1400
   pub biased : HasValue b s (bias-of k + size) (2 ^ 1074)
   pub rounded : HasValue (round binary32 s (sum-size t P s Q) (2 ^ 1074)) s size (2 ^ 1074)
 
-module _ (t s : Bool) (P Q k : ℕ) (m low high p b : Float) (F : Frame s k m low high) (x : P < 2 ^ 1400) (y : bias-of k + Q < 2 ^ 1400) (hp : HasValue p t P (2 ^ 1074)) (hb : HasValue b s (bias-of k + Q) (2 ^ 1074)) where
+module _ (t s : Bool) (P Q k : ℕ) (m low high p b : Float) (F : Frame s k m low high) (hp : HasValue p t P (2 ^ 1074)) (hb : HasValue b s (bias-of k + Q) (2 ^ 1074)) where
   abbrev C : ℕ
   C = bias-of k
 
@@ -36,19 +34,16 @@ module _ (t s : Bool) (P Q k : ℕ) (m low high p b : Float) (F : Frame s k m lo
 
   pub taken : lt low (add binary64 p b) ≡ true → lt (add binary64 p b) high ≡ true → Taken t P s Q k (add binary64 p b)
   taken a h =
-      let bound : W < 2 ^ 1401 = lt-of-le-of-lt (size-le-sum t P s (C + Q)) (add-lt-add-of-lt-of-le x (le-of-lt y)) in
-      let l : Lies s (sum-sign t P s (C + Q)) k W = inside s (sum-sign t P s (C + Q)) k W m low high (add binary64 p b) F bound is a h in
+      let l : Lies s (sum-sign t P s (C + Q)) k W = inside s (sum-sign t P s (C + Q)) k W m low high (add binary64 p b) F is a h in
       let D : 0 < digit k = pow-pos (925 + k) in
       let w : Apart t P s Q C = apart t P s Q C (l .sign) (lt-of-lt-of-le (omega arith) (l .from)) in
       let n = sum-size t P s Q in
       let r : Rounded s k n = rounds s k n (F .small) (subst (λ (z : ℕ). near-of k ≤ z) (w .size) (l .from)) (subst (λ (z : ℕ). z < far-of k) (w .size) (l .to)) in
-      let K : 925 + k ≤ 1177 = omega (arith, F .small) in
       record {
         sign = w .sign;
         more = omega (arith, w .size, l .from);
         size = r .size;
         some = lt-of-lt-of-le (omega arith) (r .least);
-        bounded = lt-of-le-of-lt (omega (arith, r .most)) (lt-of-le-of-lt (mul-le-mul-left (2 ^ 54) (pow-mono K)) (lit< tt));
         biased = subst (λ (z : Float). HasValue z s (C + r .size) L) (sym (is ∙ ap (λ (z : Bool). round binary64 z W L) (l .sign) ∙ ap (λ (z : ℕ). round binary64 s z L) (w .size))) (r .wide);
         rounded = r .narrow;
       }

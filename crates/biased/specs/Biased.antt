@@ -1,7 +1,6 @@
 -- An f32 q that is kept as q + C, for a C of q's sign that is so large that an f64's last digit is an f32's: with u the last digit of an f32 below 2 ^ e,
 -- C is 2 ^ (e + 29) - 2 ^ e, which is (2 ^ 53 - 2 ^ 24) u. From C + 2 ^ (e - 1) up to C + 2 ^ (e + 1) an f64 counts u, and from 2 ^ (e + 29) on 2 u, just as an f32
 -- does from 2 ^ (e - 1) up to 2 ^ (e + 1). Sizes are in units of 2 ^ -1074, the smallest f64; u is 2 ^ (925 + k) of them. Definitions only.
-use mathlib.Core.Path.{_≡_}
 use mathlib.Core.Bool.{Bool, cond}
 use Prim.Native.Nat.{ℕ, _+_, _-_, _*_, _^_, _<_}
 use lib.Dec.{T}
@@ -34,7 +33,6 @@ pub record Biased (m low high b q : Float) : Type 0 where
   pub frame : Frame sign k m low high
   pub size : ℕ
   pub some : 0 < size
-  pub bounded : bias-of k + size < 2 ^ 1400
   pub held : T (fits binary32 q)
   pub value : HasValue q sign size (2 ^ 1074)
   pub biased : HasValue b sign (bias-of k + size) (2 ^ 1074)

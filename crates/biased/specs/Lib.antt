@@ -1,2 +1,3 @@
 pub mod Biased
 pub mod Sums
+pub mod Beginning

@@ -2,10 +2,10 @@
 ghost use mathlib.Core.Path.{_≡_};
 ghost use mathlib.Core.Bool.{true, _&&_};
 ghost use Prim.Native.Nat.{_-_, _%_, _≤_, _<_};
-ghost use lib.Dec.{T, leb};
-ghost use lib.Ieee.{binary32, binary64, add, fits};
-ghost use Rattle.biased.specs.Biased.{Frame, Biased};
+ghost use lib.Dec.{leb};
+ghost use lib.Ieee.{binary64, add};
 ghost use Rattle.biased.specs.Sums.{allTaken, Advanced};
+ghost use Rattle.biased.specs.Beginning.{endsFor, noBias, withBias};
 
 // A bias, and the ends between which a biased sum is taken.
 struct Ends {
@@ -26,7 +26,7 @@ pub struct Start {
 // From the sign and the exponent's field of 2^e, as an f64's pattern has them: 2^(e + 29) - 2^e, and it with 2^(e - 1) and with 2^(e + 1) added, by the pattern of 2^(e + 29).
 fn ends_of(h: u64) -> Ends
     requires { ⌜ (h < 4096) × (899 ≤ h % 2048) × (h % 2048 ≤ 1148) ⌝ }
-    ensures { λ r. ⌜ Frame (leb 2048 h) (h % 2048 - 898) (r .bias) (r .low) (r .high) ⌝ }
+    ensures { λ r. ⌜ r ≡ endsFor (leb 2048 h) (h % 2048 - 898) ⌝ }
 {
     let big: u64 = (h + 29) * 0x0010_0000_0000_0000;
     let bias = f64::from_bits(big - 0x0100_0000);
@@ -47,7 +47,7 @@ fn ends_of(h: u64) -> Ends
 }
 
 fn no_bias() -> Start
-    ensures { λ r. ⌜ (r .fine ≡ true → ⊥) ⌝ }
+    ensures { λ r. ⌜ r ≡ noBias ⌝ }
 {
     Start {
         fine: false,
@@ -58,9 +58,10 @@ fn no_bias() -> Start
     }
 }
 
-// The sum, biased for the power of two that is nearest to it: from about 1.414 times a power on that is the next one.
+// The sum, biased for the power of two near it: from about 1.414 times a power on that is the next one.
+// An f32 that is taken stands in it exactly (`begins` in proofs/Begun.antt).
 pub fn with_bias(sum: f64) -> Start
-    ensures { λ r. ⌜ (T (fits binary32 sum) → r .fine ≡ true → Biased (r .bias) (r .low) (r .high) (r .sum) sum) ⌝ }
+    ensures { λ r. ⌜ r ≡ withBias sum ⌝ }
 {
     if sum != sum {
         return no_bias();

@@ -1,4 +1,4 @@
--- The cases of `join` where the f64 sum is clear or not finite, and those of `is_clear`. Assumes nothing.
+-- The cases of `sum32` where the f64 sum is clear or not finite, and those of `is_clear`. Assumes nothing.
 use mathlib.Core.Path.{_≡_, refl, sym, _∙_, subst}
 use mathlib.Core.Bool.{Bool, true, false, not, Bool·beq, cond, true≢false, false≢true}
 use Prim.Native.Nat.{ℕ, _-_, _%_, _^_, _≤_, _<_}
@@ -9,8 +9,9 @@ use lib.Ieee.{Float, nan, inf, fin, binary32, binary64, add, fits, toBits, ne}
 use lib.Ieee.Compare.{differs-from-itself}
 use lib.Ieee.Scale.{finite}
 use borrow.Author.Tests.{not-true, not-false, eqb-true, eqb-false}
-use Rattle.fused32.specs.Parts.{Clear, Parts, Tested}
+use Rattle.fused32.specs.Parts.{Clear, Tested}
 use Rattle.rounding.specs.Operations.{narrowed}
+use Rattle.fused32.proofs.Parts.{short}
 use Rattle.fused32.proofs.Sums.{clear-sum}
 use Rattle.rounding.proofs.Comparing.{differs-no-nan}
 use Rattle.rounding.proofs.Patterns.{bits-finite, no-nan-rest, no-value, value-bits}
@@ -41,13 +42,13 @@ both (fin s m e) nan h = absurd h
 both (fin s m e) (inf t) h = absurd h
 both (fin s m e) (fin t k d) h = (tt, tt)
 
-pub clear-code : (p c : Float) → Parts p → Parts c → Clear (add binary64 p c) → narrowed (add binary64 p c) ≡ add binary32 p c
+pub clear-code : (p c : Float) → T (fits binary64 p) → T (fits binary64 c) → Clear (add binary64 p c) → narrowed (add binary64 p c) ≡ add binary32 p c
 clear-code p c P C h = go (finite p) refl (finite c) refl
   where
     go : (x : Bool) → finite p ≡ x → (y : Bool) → finite c ≡ y → narrowed (add binary64 p c) ≡ add binary32 p c
     go false e y f = not-both p c (λ a b. subst T e a)
     go true e false f = not-both p c (λ a b. subst T f b)
-    go true e true f = clear-sum p c (P (subst T (sym e) tt)) (C (subst T (sym f) tt)) h
+    go true e true f = clear-sum p c (short p P (subst T (sym e) tt)) (short c C (subst T (sym f) tt)) h
 
 -- ---- `is_clear`
 nan-no-value : (s : Float) → ne s s ≡ true → T (finite s) → ⊥

@@ -5,19 +5,21 @@ use mathlib.Core.Bool.{Bool, true, false, not, cond, true≢false, false≢true}
 use Prim.Native.Nat.{ℕ, _+_, _-_, _^_, _≤_, _<_, zero-le}
 use native.Mathlib.Nat.{le-of-eq, le-of-lt, zero-mul, eq-zero-or-pos}
 use native.Mathlib.Omega.{arith}
-use lib.Dec.{ltb}
+use lib.Dec.{T, ltb}
 use lib.Pow.{pow-pos}
 use lib.Ieee.{Float, Format, binary64, add, ofBits, neg, lt, below}
+use lib.Ieee.Exact.{HasValue}
+use lib.Ieee.Scale.{finite}
 use borrow.Author.Tests.{lt-ltb, ltb-true, ltb-false}
 use Rattle.fused32.specs.Parts.{Ordered, Short, amount}
 use Rattle.fused32.proofs.Compared.{zero-value}
-use Rattle.fused32.proofs.Sums.{G, S, s-value, to-zero, v, zero-to}
+use Rattle.fused32.proofs.Sums.{G, S, s-value, sum-under, to-zero, v, zero-to}
 use Rattle.rounding.proofs.Adding.{add-units}
 use Rattle.rounding.proofs.Comparing.{lt-units}
 use Rattle.rounding.proofs.Mirror.{add-swap, sum-neg}
 use Rattle.rounding.proofs.Orders.{clash}
 use Rattle.rounding.proofs.Sums.{sum-sign, sum-size}
-use Rattle.rounding.proofs.Values.{neg-value}
+use Rattle.rounding.proofs.Values.{neg-value, value-finite}
 use Rattle.rounding.proofs.Whole.{exact-multiple, places}
 
 -- the larger of two parts whose sum is above zero has no sign; a comparison tells which it is
@@ -42,9 +44,15 @@ larger true false X Y e h = (λ l. (refl, go (ltb X Y) (ltb-true X Y) e), λ l. 
 abbrev pub short-neg : {x : Float} → Short x → Short (neg x)
 short-neg {x} p = record { sign = not (p .sign); digits = p .digits; places = p .places; few = p .few; bounded = p .bounded; value = neg-value x (p .sign) (amount p) (2 ^ 1074) (p .value) }
 
-module _ (p c : Float) (P : Short p) (C : Short c) where
+pub swapped : (p c : Float) (P : Short p) (C : Short c) (f : Format) → add f p c ≡ add f c p
+swapped p c P C f = add-swap f p c (P .sign) (C .sign) (amount P) (amount C) (2 ^ 1074) (pow-pos 1074) (P .value) (C .value)
+
+module _ (p c : Float) (P : Short p) (C : Short c) (bounded : T (finite (add binary64 p c))) where
   abbrev s : Float
   s = add binary64 p c
+
+  fine : G p c P C < 2 ^ (1074 + 1024)
+  fine = sum-under p c P C bounded
 
   some : 0 < G p c P C → 0 < v p c P C
   some h =
@@ -56,7 +64,7 @@ module _ (p c : Float) (P : Short p) (C : Short c) where
 
   -- ---- above zero
   above : lt (ofBits binary64 0) s ≡ true → (S p c P C ≡ false) × (0 < v p c P C)
-  above h = go (S p c P C) (sym (zero-to p c P C) ∙ h)
+  above h = go (S p c P C) (sym (zero-to p c P C fine) ∙ h)
     where
       go : (s : Bool) → below false 0 s (G p c P C) ≡ true → (s ≡ false) × (0 < v p c P C)
       go true e = absurd (false≢true e)
@@ -81,12 +89,9 @@ module _ (p c : Float) (P : Short p) (C : Short c) where
       let r = pick a .1 (sym test-is ∙ l) in
       record { large = P; small = C; plus = r .0; order = r .1 }
 
-  pub swapped : (f : Format) → add f p c ≡ add f c p
-  swapped f = add-swap f p c (P .sign) (C .sign) (amount P) (amount C) (2 ^ 1074) (pow-pos 1074) (P .value) (C .value)
-
   -- ---- below zero
   under : lt s (ofBits binary64 0) ≡ true → (S p c P C ≡ true) × (0 < G p c P C)
-  under h = go (S p c P C) (sym (to-zero p c P C) ∙ h)
+  under h = go (S p c P C) (sym (to-zero p c P C fine) ∙ h)
     where
       go : (s : Bool) → below s (G p c P C) false 0 ≡ true → (s ≡ true) × (0 < G p c P C)
       go true e = (refl, omega (arith, ltb-true 0 (G p c P C + 0) e))
@@ -98,8 +103,14 @@ module _ (p c : Float) (P : Short p) (C : Short c) where
       ∙ sum-neg f (P .sign) (amount P) (C .sign) (amount C) (2 ^ 1074) (some (under h .1))
       ∙ ap neg (sym (add-units f p c (P .sign) (C .sign) (amount P) (amount C) (2 ^ 1074) (pow-pos 1074) (P .value) (C .value)))
 
+  negative-value : HasValue (neg s) (not (S p c P C)) (G p c P C) (2 ^ 1074)
+  negative-value = neg-value s (S p c P C) (G p c P C) (2 ^ 1074) (s-value p c P C fine)
+
+  pub negative-bounded : T (finite (neg s))
+  negative-bounded = value-finite (neg s) (not (S p c P C)) (G p c P C) (2 ^ 1074) negative-value
+
   pub negative-above : lt s (ofBits binary64 0) ≡ true → lt (ofBits binary64 0) (neg s) ≡ true
   negative-above h =
-      lt-units (ofBits binary64 0) (neg s) false (not (S p c P C)) 0 (G p c P C) (2 ^ 1074) (pow-pos 1074) zero-value (neg-value s (S p c P C) (G p c P C) (2 ^ 1074) (s-value p c P C))
+      lt-units (ofBits binary64 0) (neg s) false (not (S p c P C)) 0 (G p c P C) (2 ^ 1074) (pow-pos 1074) zero-value negative-value
       ∙ ap (λ (b : Bool). below false 0 (not b) (G p c P C)) (under h .0)
       ∙ lt-ltb 0 (G p c P C) (under h .1)

@@ -1,5 +1,7 @@
 pub mod Again
+pub mod Infinite
 pub mod Neighbours
+pub mod Unit
 pub mod Remainder
 pub mod Compared
 pub mod Totals

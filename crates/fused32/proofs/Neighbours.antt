@@ -1,19 +1,19 @@
--- v units, rounded to an f64: where that is v, or has an odd last digit, or is clear, it rounds to an f32 as v does; else its neighbour towards v does, which is odd.
+-- v units, rounded to a finite f64: where that is v, or has an odd last digit, or is clear, it rounds to an f32 as v does; else its neighbour towards v does, which is odd.
 -- Assumes nothing.
 use mathlib.Core.Path.{_≡_, sym, ap, _∙_, subst}
 use mathlib.Core.Logic.{_⊎_, inl, inr}
 use mathlib.Core.Bool.{Bool, false, cond}
 use Prim.Native.Nat.{ℕ, suc, _+_, _-_, _*_, _%_, _^_, _≤_, _<_}
-use native.Mathlib.Nat.{le-refl, le-trans, le-of-lt, lt-of-lt-of-le, lt-of-le-of-lt, lt-of-mul-lt-mul-right, eq-or-lt-of-le, two-pow-succ, mul-le-mul, suc-mul, zero-add, le-suc, eq-zero-or-pos}
+use native.Mathlib.Nat.{le-refl, le-trans, le-of-eq, le-of-lt, lt-of-lt-of-le, lt-of-le-of-lt, lt-of-mul-lt-mul-right, mul-lt-mul-of-pos-right, mul-le-mul-left, mul-le-mul-right, eq-or-lt-of-le, two-pow-succ, suc-mul, zero-add, le-suc, eq-zero-or-pos}
 use native.Mathlib.Omega.{arith}
-use lib.Dec.{lit<}
-use lib.Pow.{pow-pos, pow-mono}
+use lib.Dec.{lit<, lit≤}
+use lib.Pow.{pow-add, pow-pos, pow-mono}
 use lib.Ieee.{binary32, binary64, units, round, toBits, ofBits}
-use lib.Ieee.Digits.{size-le}
 use lib.Ieee.Exact.{HasValue, units-val}
 use Rattle.rounding.specs.Operations.{narrowed}
 use Rattle.fused32.proofs.Again.{again-normal, again-odd}
 use Rattle.narrowing.proofs.Narrowed.{narrowed-value}
+use Rattle.rounding.proofs.Orders.{pow-lt-back}
 use Rattle.rounding.proofs.Pack.{pack}
 use Rattle.rounding.proofs.Units.{up-hid}
 use Rattle.rounding.proofs.Whole.{exact-short, near, near-ge, near-le, places, rounded-bits, rounded-value, v-ge, v-lt}
@@ -26,7 +26,7 @@ normal j Q h k = omega arith
 lower : (j Q : ℕ) → Q % 2 ^ 29 ≡ 2 ^ 28 → (j * 2 ^ 52 + Q) % 2 ^ 29 ≡ 2 ^ 28
 lower j Q h = omega arith
 
-module _ (v : ℕ) (bound : v < 2 ^ 1401) where
+module _ (v : ℕ) (bound : near binary64 v * 2 ^ places binary64 v < 2 ^ (1074 + 1024)) where
   abbrev j : ℕ
   j = places binary64 v
 
@@ -36,11 +36,14 @@ module _ (v : ℕ) (bound : v < 2 ^ 1401) where
   abbrev u : ℕ
   u = 2 ^ j
 
-  pub j-le : j ≤ 1348
-  j-le = omega (arith, size-le v 1401 bound)
+  pub j-le : j ≤ 2045
+  j-le = elim (eq-zero-or-pos j) [
+    | inl e ↦ omega arith
+    | inr h ↦ omega (arith, pow-lt-back (52 + j) 2098 (lt-of-le-of-lt (le-trans (le-of-eq (pow-add 2 52 j)) (mul-le-mul-right u (near-ge binary64 v h))) bound))
+  ]
 
-  pub under : (q : ℕ) → q ≤ 2 ^ 53 → q * u < 2 ^ (1074 + 1024)
-  under q h = lt-of-le-of-lt (mul-le-mul h (pow-mono j-le)) (lit< tt)
+  under : (q : ℕ) → q < 2 ^ 53 → q * u < 2 ^ (1074 + 1024)
+  under q h = lt-of-lt-of-le (mul-lt-mul-of-pos-right h (pow-pos j)) (le-trans (mul-le-mul-left (2 ^ 53) (pow-mono j-le)) (lit≤ tt))
 
   off-lo : Q * u < v + u
   off-lo = omega (arith, closest-near v u (pow-pos j) .0, pow-pos j)
@@ -50,10 +53,10 @@ module _ (v : ℕ) (bound : v < 2 ^ 1401) where
 
   module _ (s : Bool) where
     pub rounds : HasValue (round binary64 s v (2 ^ 1074)) s (Q * u) (2 ^ 1074)
-    rounds = rounded-value binary64 v s (under Q (near-le binary64 v))
+    rounds = rounded-value binary64 v s bound
 
     pub bits : toBits binary64 (round binary64 s v (2 ^ 1074)) ≡ cond s 0x8000_0000_0000_0000 0 + (j * 2 ^ 52 + Q)
-    bits = rounded-bits binary64 v s (under Q (near-le binary64 v))
+    bits = rounded-bits binary64 v s bound
 
     narrows : narrowed (round binary64 s v (2 ^ 1074)) ≡ round binary32 s (Q * u) (2 ^ 1074)
     narrows = narrowed-value (round binary64 s v (2 ^ 1074)) s (Q * u) (2 ^ 1074) (pow-pos 1074) rounds
@@ -100,7 +103,7 @@ module _ (v : ℕ) (bound : v < 2 ^ 1401) where
       let J : j < 2046 = omega (arith, j-le) in
       ap (λ (z : ℕ). narrowed (ofBits binary64 z)) (e ∙ sym (zero-add (j * 2 ^ 52 + q)))
       ∙ ap narrowed (pack binary64 false q j (le-of-lt few) (λ _. ge) J)
-      ∙ narrowed-value (units binary64 false q j) false (q * u) (2 ^ 1074) (pow-pos 1074) (units-val binary64 false q j (under q (le-of-lt few)))
+      ∙ narrowed-value (units binary64 false q j) false (q * u) (2 ^ 1074) (pow-pos 1074) (units-val binary64 false q j (under q few))
       ∙ sym (again-odd false v q j few (λ _. ge) lo hi o)
 
   pub as-up : Q % 2 ≡ 0 → Q * u < v → narrowed (ofBits binary64 (j * 2 ^ 52 + Q + 1)) ≡ round binary32 false v (2 ^ 1074)

@@ -3,26 +3,28 @@ use mathlib.Core.Path.{_≡_, sym, ap, _∙_, subst}
 use mathlib.Core.Logic.{inl, inr}
 use mathlib.Core.Bool.{Bool, true, false, not}
 use Prim.Native.Nat.{ℕ, _+_, _-_, _*_, _%_, _^_, _≤_, _<_, zero-le}
-use native.Mathlib.Nat.{le-of-eq, lt-of-lt-of-le, zero-mul, zero-add, eq-zero-or-pos}
+use native.Mathlib.Nat.{le-of-eq, lt-of-lt-of-le, lt-of-le-of-lt, eq-or-lt-of-le, zero-mul, zero-add, eq-zero-or-pos}
 use native.Mathlib.Omega.{arith}
 use lib.Dec.{T}
 use lib.Arith.{lt-of-le-ne}
-use lib.Pow.{pow-pos}
+use lib.Pow.{pow-add, pow-pos}
 use lib.Bits.{bitAnd, and-mask}
 use lib.Ieee.{Float, Format, binary32, binary64, round, add, toBits, ofBits, sub, lt, eq, isNan}
 use lib.Ieee.Exact.{HasValue}
+use lib.Ieee.Scale.{finite}
 use borrow.Author.Tests.{ltb-true, ltb-false, eqb-true, eqb-false}
-use Rattle.fused32.specs.Parts.{Ordered, Short, amount}
+use Rattle.fused32.specs.Parts.{Ordered, Short, SumOf, amount}
 use Rattle.rounding.specs.Operations.{narrowed}
 use Rattle.fused32.proofs.Compared.{Tests}
+use Rattle.fused32.proofs.Infinite.{under-top}
 use Rattle.fused32.proofs.Neighbours.{as-down, as-exact, as-odd, as-up, bits, j-le, rounds}
-use Rattle.fused32.proofs.Totals.{bound, sum-total, tests, total}
+use Rattle.fused32.proofs.Totals.{sum-total, tests, total}
 use Rattle.rounding.proofs.Adding.{add-units}
-use Rattle.rounding.proofs.Orders.{bit, clash}
+use Rattle.rounding.proofs.Orders.{bit, clash, pow-lt-back}
 use Rattle.rounding.proofs.Values.{value-no-nan}
 use Rattle.rounding.proofs.Whole.{near, near-le, places}
 
-module _ (x y s : Float) (O : Ordered x y) (is : s ≡ add binary64 x y) where
+module _ (x y s : Float) (O : Ordered x y) (E : SumOf x y s) where
   abbrev p : Short x
   p = O .large
 
@@ -41,14 +43,14 @@ module _ (x y s : Float) (O : Ordered x y) (is : s ≡ add binary64 x y) where
   x-value : HasValue x false (amount p) (2 ^ 1074)
   x-value = subst (λ (b : Bool). HasValue x b (amount p) (2 ^ 1074)) (O .plus) (p .value)
 
-  fine : w < 2 ^ 1401
-  fine = bound p q (O .order) x-value (q .sign)
-
   sum-is-total : (f : Format) → add f x y ≡ round f false w (2 ^ 1074)
   sum-is-total f = add-units f x y false (q .sign) (amount p) (amount q) (2 ^ 1074) (pow-pos 1074) x-value (q .value) ∙ sum-total f (q .sign) (amount p) (amount q) (2 ^ 1074) (O .order)
 
   s-is : s ≡ round binary64 false w (2 ^ 1074)
-  s-is = is ∙ sum-is-total binary64
+  s-is = E .is ∙ sum-is-total binary64
+
+  fine : Q * 2 ^ j < 2 ^ (1074 + 1024)
+  fine = under-top w false (subst (λ (z : Float). T (finite z)) s-is (E .bounded))
 
   s-value : HasValue s false (Q * 2 ^ j) (2 ^ 1074)
   s-value = subst (λ (z : Float). HasValue z false (Q * 2 ^ j) (2 ^ 1074)) (sym s-is) (rounds w fine false)
@@ -57,7 +59,7 @@ module _ (x y s : Float) (O : Ordered x y) (is : s ≡ add binary64 x y) where
   n-is = ap (toBits binary64) s-is ∙ bits w fine false ∙ zero-add (j * 2 ^ 52 + Q)
 
   known : Tests s x y (Q * 2 ^ j) w
-  known = tests p q (O .order) x-value s (q .sign) (q .value) s-value
+  known = tests p q (O .order) x-value s (q .sign) (q .value) s-value fine
 
   -- ---- what is returned
   pub same-code : eq (sub binary64 s x) y ≡ true → narrowed s ≡ add binary32 x y
@@ -91,8 +93,11 @@ module _ (x y s : Float) (O : Ordered x y) (is : s ≡ add binary64 x y) where
   pub s-no-nan : T (not (isNan s))
   s-no-nan = value-no-nan s false (Q * 2 ^ j) (2 ^ 1074) s-value
 
-  pub s-bits : toBits binary64 s + 1 < 0x7ff0_0000_0000_0000
-  s-bits = omega (arith, n-is, j-le w fine, near-le binary64 w)
+  pub s-bits : toBits binary64 s < 0x7ff0_0000_0000_0000
+  s-bits = elim (eq-or-lt-of-le (near-le binary64 w)) [
+    | inl e ↦ omega (arith, n-is, pow-lt-back (53 + j) 2098 (lt-of-le-of-lt (le-of-eq (pow-add 2 53 j ∙ ap (λ (z : ℕ). z * 2 ^ j) (sym e))) fine))
+    | inr l ↦ omega (arith, n-is, j-le w fine)
+  ]
 
   pub some-bits : eq (sub binary64 s x) y ≡ false → lt (sub binary64 s x) y ≡ false → 1 ≤ toBits binary64 s
   some-bits e l = elim (eq-zero-or-pos Q) [

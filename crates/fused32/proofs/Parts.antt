@@ -1,40 +1,25 @@
--- An f32 and the product of two have few digits, so that the product is an f64 exactly. Assumes nothing.
+-- A finite f64 has 53 digits at most; the product of two f32 has 48, so that it is an f64 exactly. Assumes nothing.
 use mathlib.Core.Path.{_≡_, refl, sym, ap, _∙_, subst}
 use mathlib.Core.Bool.{Bool}
 use Prim.Native.Nat.{ℕ, _+_, _*_, _^_, _<_}
-use native.Mathlib.Nat.{le-trans, le-of-eq, le-of-lt, lt-of-lt-of-le, lt-of-le-of-lt, mul-comm, mul-assoc, mul-le-mul-right, mul-le-mul-left, mul-lt-mul-of-pos-right, mul-mul-mul-comm, mul-le-mul}
+use native.Mathlib.Nat.{le-trans, le-of-eq, le-of-lt, lt-of-lt-of-le, lt-of-le-of-lt, mul-assoc, mul-le-mul-right, mul-le-mul-left, mul-lt-mul-of-pos-right, mul-mul-mul-comm, mul-le-mul}
 use lib.IntN.{ℤ}
-use lib.Dec.{T, eqb, lit≤, lit<}
+use lib.Dec.{T, lit≤, lit<}
 use lib.Pow.{pow-add, pow-pos}
 use lib.Ieee.{Float, nan, inf, fin, binary32, binary64, unlike, up, down, round, add, mul, fits}
 use lib.Ieee.Exact.{HasValue, round-exact}
-use Rattle.fused32.specs.Parts.{Parts, Short}
+use lib.Ieee.Scale.{finite}
+use Rattle.fused32.specs.Parts.{Short}
 use Rattle.rounding.specs.Operations.{fused}
-use Rattle.rounding.proofs.Patterns.{no-value}
 use Rattle.rounding.proofs.Products.{exact-product, mul-value}
 use Rattle.rounding.proofs.Values.{fits-units, rescale}
 
--- m * 2 ^ i of the units 2 ^ -l, in the units 2 ^ -1074
-finer : (x : Float) (s : Bool) (m i l k : ℕ) → HasValue x s (m * 2 ^ i) (2 ^ l) → l + k ≡ 1074 → m < 2 ^ 48 → m * 2 ^ i * 2 ^ k < 2 ^ 1400 → Short x
-finer x s m i l k h e few b =
-    let a : m * 2 ^ (i + k) ≡ m * 2 ^ i * 2 ^ k = ap (λ (z : ℕ). m * z) (pow-add 2 i k) ∙ sym (mul-assoc m (2 ^ i) (2 ^ k)) in
-    let c : 2 ^ 1074 ≡ 2 ^ l * 2 ^ k = ap (λ (z : ℕ). 2 ^ z) (sym e) ∙ pow-add 2 l k in
-    record {
-      sign = s;
-      digits = m;
-      places = i + k;
-      few = few;
-      bounded = lt-of-le-of-lt (le-of-eq a) b;
-      value = rescale x s (m * 2 ^ i) (2 ^ l) (m * 2 ^ (i + k)) (2 ^ 1074) (pow-pos l)
-          (ap (λ (z : ℕ). m * 2 ^ i * z) (c ∙ mul-comm (2 ^ l) (2 ^ k)) ∙ sym (mul-assoc (m * 2 ^ i) (2 ^ k) (2 ^ l)) ∙ ap (λ (z : ℕ). z * 2 ^ l) (sym a)) h;
-    }
-
-pub parts-of : (x : Float) → T (fits binary32 x) → Parts x
-parts-of nan h f = absurd f
-parts-of (inf s) h f = absurd f
-parts-of (fin s m e) h f =
-    let (i, v, few, b) = fits-units binary32 s m e h in
-    finer (fin s m e) s m i 149 925 v refl (lt-of-lt-of-le few (lit≤ tt)) (lt-of-le-of-lt (mul-le-mul-right (2 ^ 925) (le-of-lt b)) (lit< tt))
+pub short : (x : Float) → T (fits binary64 x) → T (finite x) → Short x
+short nan h f = absurd f
+short (inf s) h f = absurd f
+short (fin s m e) h f =
+    let (i, v, few, b) = fits-units binary64 s m e h in
+    record { sign = s; digits = m; places = i; few = few; bounded = lt-of-lt-of-le b (lit≤ tt); value = v }
 
 -- ---- the product: as many units of 2 ^ -298 as the product of both counts
 module _ (s : Bool) (m : ℕ) (e : ℤ) (t : Bool) (n : ℕ) (d : ℤ) (h : T (fits binary32 (fin s m e))) (k : T (fits binary32 (fin t n d))) where
@@ -69,9 +54,6 @@ module _ (s : Bool) (m : ℕ) (e : ℤ) (t : Bool) (n : ℕ) (d : ℤ) (h : T (f
       (round-exact binary64 (unlike s t) E (2 ^ 298) (m * n) (i + j + 776) (pow-pos 298) (lt-of-lt-of-le few (lit≤ tt)) (lt-of-le-of-lt (le-of-eq a) (lt-of-lt-of-le bounded (lit≤ tt)))
       (sym (mul-assoc E (2 ^ 776) (2 ^ 298)) ∙ ap (λ (z : ℕ). z * 2 ^ 298) (sym a)))
 
-  product-short : Short p
-  product-short = finer p (unlike s t) (m * n) (i + j) 298 776 exact refl few bounded
-
   product-value : HasValue p (unlike s t) (m * up e * (n * up d)) (down e * down d)
   product-value =
       rescale p (unlike s t) (m * n * 2 ^ (i + j)) (2 ^ 298) (m * up e * (n * up d)) (down e * down d) (pow-pos 298)
@@ -82,16 +64,6 @@ module _ (s : Bool) (m : ℕ) (e : ℤ) (t : Bool) (n : ℕ) (d : ℤ) (h : T (f
       ∙ mul-mul-mul-comm (m * 2 ^ i) (down e) (n * 2 ^ j) (down d)
       ∙ ap (λ (z : ℕ). z * (down e * down d)) count))
       exact
-
-pub parts-product : (a b : Float) → T (fits binary32 a) → T (fits binary32 b) → Parts (mul binary64 a b)
-unfolding mul
-parts-product nan b h k f = absurd f
-parts-product (inf s) nan h k f = absurd f
-parts-product (inf s) (inf t) h k f = absurd f
-parts-product (inf s) (fin t n d) h k f = absurd (no-value (eqb n 0) nan (inf (unlike s t)) (λ z. z) (λ z. z) f)
-parts-product (fin s m e) nan h k f = absurd f
-parts-product (fin s m e) (inf t) h k f = absurd (no-value (eqb m 0) nan (inf (unlike s t)) (λ z. z) (λ z. z) f)
-parts-product (fin s m e) (fin t n d) h k f = product-short s m e t n d h k
 
 -- ---- `fused` is the exact product, added
 pub fused-is : (a b c : Float) → T (fits binary32 a) → T (fits binary32 b) → add binary32 (mul binary64 a b) c ≡ fused binary32 a b c

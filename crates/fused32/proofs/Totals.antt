@@ -3,19 +3,18 @@
 use mathlib.Core.Path.{_≡_, refl, sym, ap, _∙_}
 use mathlib.Core.Bool.{Bool, true, false, cond}
 use Prim.Native.Nat.{ℕ, _+_, _-_, _*_, _^_, _≤_, _<_}
-use native.Mathlib.Nat.{le-of-lt, lt-of-lt-of-le, lt-of-le-of-lt, add-mul, add-lt-add-of-lt-of-le}
+use native.Mathlib.Nat.{add-mul}
 use native.Mathlib.Omega.{arith}
-use lib.Dec.{lit≤}
 use lib.Ieee.{Float, Format, binary64, round, sum}
 use lib.Ieee.Exact.{HasValue}
 use borrow.Author.Tests.{le-ltb}
 use Rattle.fused32.specs.Parts.{Short, amount}
 use Rattle.fused32.proofs.Compared.{Tests, tests-minus, tests-plus}
-use Rattle.fused32.proofs.Neighbours.{under}
-use Rattle.fused32.proofs.Remainder.{whole, left-of-difference, left-of-sum}
+use Rattle.fused32.proofs.Remainder.{left-of-difference, left-of-sum}
+use Rattle.fused32.proofs.Unit.{whole}
 use Rattle.rounding.proofs.Orders.{sub-mul}
 use Rattle.rounding.proofs.Sums.{sum-is, sum-like}
-use Rattle.rounding.proofs.Whole.{near, near-le, places}
+use Rattle.rounding.proofs.Whole.{near, places}
 
 -- the exact sum, in units
 abbrev pub total : Bool → ℕ → ℕ → ℕ
@@ -44,19 +43,13 @@ module _ {x y : Float} (p : Short x) (q : Short y) (o : amount q ≤ amount p) (
   abbrev G : Bool → ℕ
   G t = near binary64 (v t) * 2 ^ places binary64 (v t)
 
-  pub bound : (t : Bool) → v t < 2 ^ 1401
-  bound t = lt-of-le-of-lt (total-le t (amount p) (amount q) o) (add-lt-add-of-lt-of-le (p .bounded) (le-of-lt (p .bounded)))
-
-  pub tests : (s : Float) (t : Bool) → HasValue y t (amount q) (2 ^ 1074) → HasValue s false (G t) (2 ^ 1074) → Tests s x y (G t) (v t)
-  tests s t k g = go t k g (under (v t) (bound t) (near binary64 (v t)) (near-le binary64 (v t))) (total-le t (amount p) (amount q) o)
+  pub tests : (s : Float) (t : Bool) → HasValue y t (amount q) (2 ^ 1074) → HasValue s false (G t) (2 ^ 1074) → G t < 2 ^ (1074 + 1024) → Tests s x y (G t) (v t)
+  tests s t k g fine = go t k g fine (total-le t (amount p) (amount q) o)
     where
-      small : amount p < 2 ^ (1074 + 1024)
-      small = lt-of-lt-of-le (p .bounded) (lit≤ tt)
-
       go : (t : Bool) → HasValue y t (amount q) (2 ^ 1074) → HasValue s false (G t) (2 ^ 1074) → G t < 2 ^ (1074 + 1024) → v t ≤ amount p + amount p → Tests s x y (G t) (v t)
       go true k g fine le =
           let r = left-of-difference p q o (v true) le (divided true p q) refl in
-          tests-minus s x y (G true) (amount p) (amount q) fine small g h k o (r .0) (r .1)
+          tests-minus s x y (G true) (amount p) (amount q) fine (p .bounded) g h k o (r .0) (r .1)
       go false k g fine le =
           let r = left-of-sum p q o (v false) le (divided false p q) refl in
-          tests-plus s x y (G false) (amount p) (amount q) fine small g h k (r .0) (r .1)
+          tests-plus s x y (G false) (amount p) (amount q) fine (p .bounded) g h k (r .0) (r .1)

@@ -1,15 +1,15 @@
-// fusedMultiplyAdd for f32: the product of two f32 is an f64 exactly, so that all lies in the sum.
+// fusedMultiplyAdd for f32: the product of two f32 is an f64 exactly, so that all lies in the sum of two f64.
 ghost use mathlib.Core.Path.{_≡_};
-ghost use lib.Ieee.{binary32, binary64, add};
+ghost use lib.Ieee.{binary32, add};
 ghost use Rattle.rounding.specs.Operations.{fused};
-ghost use Rattle.fused32.specs.Parts.{Parts, Ordered, Above, Tested};
+ghost use Rattle.fused32.specs.Parts.{SumOf, Ordered, Above, Tested};
 use narrowing::narrow;
 
 // x + y rounded once, where x is not below zero, y is no larger in size, and s is x + y as an f64.
 // s - x is exact, so that it tells on which side of x + y s lies. Where s is not x + y, and its last digit is even, it gives way
 // to its neighbour towards x + y: an odd last digit is neither an f32's nor a midpoint's, and rounds as x + y does.
 fn odd_sum(x: f64, y: f64, s: f64) -> f32
-    requires { ⌜ Ordered x y ⌝ ∗ ⌜ s ≡ add binary64 x y ⌝ }
+    requires { ⌜ Ordered x y ⌝ ∗ ⌜ SumOf x y s ⌝ }
     ensures { λ r. ⌜ r ≡ add binary32 x y ⌝ }
 {
     let z = s - x;
@@ -52,9 +52,8 @@ fn is_clear(s: f64) -> bool
     m & 0x1fff_ffff != 0x1000_0000
 }
 
-// p + c rounded once.
-fn join(p: f64, c: f64) -> f32
-    requires { ⌜ Parts p ⌝ ∗ ⌜ Parts c ⌝ }
+// K4, K5. p + c of any two f64, rounded once to an f32.
+pub fn sum32(p: f64, c: f64) -> f32
     ensures { λ r. ⌜ r ≡ add binary32 p c ⌝ }
 {
     let s = p + c;
@@ -77,5 +76,5 @@ pub fn fused32(a: f32, b: f32, c: f32) -> f32
     let x = std::num::f32_to_f64_with_nan(a);
     let y = std::num::f32_to_f64_with_nan(b);
     let z = std::num::f32_to_f64_with_nan(c);
-    join(x * y, z)
+    sum32(x * y, z)
 }

@@ -1,7 +1,7 @@
 -- What the parts of a run before the middle ask of each other. Definitions only.
 use mathlib.Core.Path.{_≡_}
 use lib.Dec.{T}
-use lib.Ieee.{Float, binary32, fits}
+use lib.Ieee.{Float, binary32}
 use lib.Ieee.Scale.{finite}
 use Rattle.rounding.specs.Operations.{fused}
 use Rattle.fused_chain.specs.Blocks.{Product}
@@ -9,7 +9,7 @@ use Rattle.fused_chain.specs.Blocks.{Product}
 -- r is p + sum rounded once to an f32, for the product p of any two f32.
 pub record Nearest (p sum r : Float) : Type 0 where
   pub bounded : T (finite r)
-  pub is : (x c : Float) → Product x c p → T (fits binary32 sum) → r ≡ fused binary32 x c sum
+  pub is : (x c : Float) → Product x c p → r ≡ fused binary32 x c sum
 
 -- Four sums, one behind the other; r is the last.
 pub record FourNearest (a b c d sum r : Float) : Type 0 where

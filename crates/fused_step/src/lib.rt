@@ -1,12 +1,10 @@
-// K4. One tap of 000's f32 loop: a fused step from an f64 that holds an f32 to another, quick where the f64 sum is plain.
+// K4. One tap of 000's f32 loop: a fused step from an f64 to an f64 that is an f32, quick where the f64 sum is plain.
 ghost use mathlib.Core.Path.{_≡_};
 ghost use mathlib.Core.Bool.{true};
-ghost use lib.Dec.{T};
-ghost use lib.Ieee.{binary32, binary64, add, mul, fits};
+ghost use lib.Ieee.{binary32, binary64, add, mul};
 ghost use Rattle.rounding.specs.Operations.{fused};
 ghost use Rattle.fused_step.specs.Steps.{Numbers, Plain, inOrder, plain};
-use fused32::fused32;
-use narrowing::narrow;
+use fused32::sum32;
 
 // Whether neither is a NaN: one comparison of the two tells.
 pub fn are_numbers(x: f32, c: f32) -> bool
@@ -32,17 +30,19 @@ pub fn is_plain(n: u64) -> bool
     m < 0x47e0_0000_1000_0000
 }
 
-// The step by the fused step itself.
+// The step where it is not quick: the product is exact in f64, and the sum of the two is rounded once.
 fn any_step(x: f32, c: f32, sum: f64) -> f64
-    ensures { λ r. ⌜ (T (fits binary32 sum) → r ≡ fused binary32 x c sum) ⌝ }
+    ensures { λ r. ⌜ r ≡ fused binary32 x c sum ⌝ }
 {
-    std::num::f32_to_f64_with_nan(fused32(x, c, narrow(sum)))
+    let a = std::num::f32_to_f64_with_nan(x);
+    let b = std::num::f32_to_f64_with_nan(c);
+    std::num::f32_to_f64_with_nan(sum32(a * b, sum))
 }
 
 // A step whose f64 sum s is not plain. A zero is exact, and stays as it is, sign included: silence is not slow.
 fn rare_step(x: f32, c: f32, sum: f64, s: f64) -> f64
     requires { ⌜ s ≡ add binary64 (mul binary64 x c) sum ⌝ }
-    ensures { λ r. ⌜ (T (fits binary32 sum) → r ≡ fused binary32 x c sum) ⌝ }
+    ensures { λ r. ⌜ r ≡ fused binary32 x c sum ⌝ }
 {
     if s == 0.0 {
         return s;
@@ -50,11 +50,12 @@ fn rare_step(x: f32, c: f32, sum: f64, s: f64) -> f64
     any_step(x, c, sum)
 }
 
-// x * c + sum rounded once to an f32. The sum is an f32 all along, held as an f64, so that no step widens or narrows it.
-// The product is exact in f64. Where the sum is plain, half of the last digit that an f32 keeps is added to its pattern and what an f32 lacks is
-// cut off: a carry moves up into the exponent's field. No tie is met there, so this is the nearest.
+// x * c + sum rounded once to an f32, for any f64 sum. The chain's sums are f32 all along, held as f64, so that no step
+// widens or narrows them. The product is exact in f64. Where the f64 sum is plain, half of the last digit that an f32 keeps
+// is added to its pattern and what an f32 lacks is cut off: a carry moves up into the exponent's field. No tie is met
+// there, so this is the nearest.
 pub fn step(x: f32, c: f32, sum: f64) -> f64
-    ensures { λ r. ⌜ (T (fits binary32 sum) → r ≡ fused binary32 x c sum) ⌝ }
+    ensures { λ r. ⌜ r ≡ fused binary32 x c sum ⌝ }
 {
     if !are_numbers(x, c) {
         return any_step(x, c, sum);

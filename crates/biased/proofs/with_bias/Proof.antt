@@ -1,16 +1,15 @@
--- `biased::with_bias` meets its contract: the first biased sum. Assumes nothing.
+-- `biased::with_bias` meets its contract: its tests tell whether the sum has a bias. Assumes nothing.
 use borrow.Author.Needs.{needs}
 use mathlib.Core.Path.{sym, subst}
 use mathlib.Core.Bool.{not}
-use Prim.Native.Nat.{_+_, _^_, _-_, _<_}
+use Prim.Native.Nat.{_+_, _^_, _<_}
 use native.Mathlib.Omega.{arith}
 use lib.Dec.{T}
-use lib.Ieee.{binary64, isNan, toBits, lt, add}
+use lib.Ieee.{binary64, isNan, toBits}
 use lib.Ieee.Bits.{toBits-lt}
 use Rattle.rounding.proofs.Comparing.{differs-no-nan}
 use Rattle.rounding.proofs.Patterns.{no-nan-rest, value-bits}
-use Rattle.biased.proofs.Steps.{start}
-use Rattle.biased.proofs.Tested.{first-of, second-of}
+use Rattle.biased.proofs.Begun.{nan-without, low-without, high-without, nothing, something}
 use Rattle.biased.proofs.with_bias.Statement.{statement}
 use Rattle.biased.proofs.with_bias.Tie as tie
 
@@ -24,7 +23,7 @@ room c =
     omega (arith, toBits-lt binary64 x held, no-nan-rest binary64 (toBits binary64 x) (value-bits binary64 x held (number c)))
 
 returns : tie.Need-returns
-returns c = λ _ h. absurd (c .no-bias .ensures h)
+returns c = nothing _ _ (nan-without _ (c .before .if1 .taken)) (c .no-bias .ensures)
 
 float-to-bits-h : tie.Need-float-to-bits-h
 float-to-bits-h c = number c
@@ -33,22 +32,19 @@ add-h : tie.Need-add-h
 add-h c = omega (arith, room c)
 
 returns-2 : tie.Need-returns-2
-returns-2 c = λ _ h. absurd (c .no-bias2 .ensures h)
+returns-2 c = nothing _ _ (low-without _ (c .before .if2 .taken)) (c .no-bias2 .ensures)
 
 returns-3 : tie.Need-returns-3
-returns-3 c = λ _ h. absurd (c .no-bias3 .ensures h)
+returns-3 c = nothing _ _ (high-without _ (c .before .if3 .taken)) (c .no-bias3 .ensures)
 
 ends-of-requires : tie.Need-ends-of-requires
-ends-of-requires c κs = (omega (arith, room (c .before .before)), c .before .if2 .left, c .if3 .left)
+ends-of-requires c κs = (omega (arith, room (c .before .before)), omega arith, omega arith)
 
 returns-4 : tie.Need-returns-4
 returns-4 c =
     let e = c .before .before .before .before in
-    let r = e .ends-of .result in
-    let b = e .before .before .before .before in
-    let x = b .args .sum in
-    let s = add binary64 x (r .bias) in
-    λ held h. start _ _ (r .bias) (r .low) (r .high) x (e .ends-of .ensures) held (first-of (c .both .result) (lt (r .low) s) (lt s (r .high)) (c .both .ensures) h) (second-of (c .both .result) (lt (r .low) s) (lt s (r .high)) (c .both .ensures) h)
+    let n = e .before .before .before in
+    something (n .before .args .sum) (c .both .result) (e .ends-of .result) (number n) (omega arith) (omega arith) (e .ends-of .ensures) (c .both .ensures)
 
 pub with-bias-spec : {M : Type 1} → statement M
 with-bias-spec =

@@ -53,7 +53,7 @@ loop-again : tie.Need-loop-again Inv-loop μ-loop
 loop-again c =
     let l = c .before .before .before .before .before in
     let a = l .before .before .before .before .args in
-    (omega arith, omega arith, on (now (a .xs)) (now (a .row0)) (now (a .row1)) (a .blend) (l .loop .inv .2) (once (now (a .xs)) (now (a .row0)) (now (a .row1)) (a .blend) (l .loop .k) _ (l .loop .held) (c .step .result) refl (c .step .ensures (l .loop .inv .2 .held))))
+    (omega arith, omega arith, on (now (a .xs)) (now (a .row0)) (now (a .row1)) (a .blend) (l .loop .inv .2) (once (now (a .xs)) (now (a .row0)) (now (a .row1)) (a .blend) (l .loop .k) _ (l .loop .held) (c .step .result) refl (c .step .ensures)))
 
 returns : tie.Need-returns Inv-loop μ-loop
 returns c =

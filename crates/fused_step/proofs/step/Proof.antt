@@ -21,6 +21,9 @@ held-x c = subst T (sym (c .good .0 .1)) tt
 held-c : (c : tie.Start) → T (fits binary32 (c .args .c))
 held-c c = subst T (sym (c .good .1 .0 .1)) tt
 
+held-sum : (c : tie.Start) → T (fits binary64 (c .args .sum))
+held-sum c = subst T (sym (c .good .1 .1 .0 .1)) tt
+
 -- behind the first test neither operand is a NaN
 both : (c : tie.Else1) → let a = c .before .before .args in Numbers (a .x) (a .c)
 both c = c .before .are-numbers .ensures .1 (not-false (c .before .are-numbers .result) (c .if1 .left))
@@ -52,7 +55,7 @@ returns-3 c =
     let e = c .before .before in
     let b = e .before .before .before .before .before in
     let a = b .args in
-    λ held. plain-step (a .x) (a .c) (a .sum) (s e) (held-x b) (held-c b) held refl (number e) (c .before .is-plain .ensures .1 (c .if3 .taken))
+    plain-step (a .x) (a .c) (a .sum) (s e) (held-x b) (held-c b) (held-sum b) refl (number e) (c .before .is-plain .ensures .1 (c .if3 .taken))
 
 pub step-spec : {M : Type 1} → statement M
 step-spec =

@@ -8,6 +8,7 @@ use native.Mathlib.Nat.{le-refl}
 use native.Mathlib.Omega.{arith}
 use lib.Ieee.{binary64, sub}
 use denote.Ref.{now}
+use Rattle.biased.proofs.Begun.{begins}
 use Rattle.biased.proofs.Tested.{first-of, second-of}
 use Rattle.fused_chain.specs.Blocks.{Runs}
 use Rattle.fused_chain.proofs.Carrying.{stay}
@@ -66,8 +67,8 @@ loop-holds c =
     let all = not-false (w .both .result) (c .if1 .left) in (
       le-refl (a .from),
       p .order,
-      (a .a, u .with-bias .ensures (p .held) (first-of (w .both .result) f g (w .both .ensures) all), stay (now (a .xs)) (now (a .a0)) (now (a .a1)) (a .blend) (a .from) (a .a) (p .held)),
-      (a .b, v .with-bias2 .ensures (q .held) (second-of (w .both .result) f g (w .both .ensures) all), stay (now (a .xs)) (now (a .b0)) (now (a .b1)) (a .blend) (a .from) (a .b) (q .held)),
+      (a .a, begins (a .a) (u .with-bias .result) (u .with-bias .ensures) (p .held) (first-of (w .both .result) f g (w .both .ensures) all), stay (now (a .xs)) (now (a .a0)) (now (a .a1)) (a .blend) (a .from) (a .a) (p .held)),
+      (a .b, begins (a .b) (v .with-bias2 .result) (v .with-bias2 .ensures) (q .held) (second-of (w .both .result) f g (w .both .ensures) all), stay (now (a .xs)) (now (a .b0)) (now (a .b1)) (a .blend) (a .from) (a .b) (q .held)),
     )
 
 multiplied-requires : tie.Need-multiplied-requires Inv-loop μ-loop

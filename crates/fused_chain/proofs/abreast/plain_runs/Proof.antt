@@ -107,8 +107,8 @@ loop-again c =
     let all = not-false (w .both3 .result) (c .if3 .left) in
     let N = u .four-rounded .ensures (first-of (w .both3 .result) (u .four-rounded .result .fine) (v .four-rounded2 .result .fine) (w .both3 .ensures) all) in
     let O = v .four-rounded2 .ensures (second-of (w .both3 .result) (u .four-rounded .result .fine) (v .four-rounded2 .result .fine) (w .both3 .ensures) all) in
-    let C = four (now (a .xs)) (now (a .a0)) (now (a .a1)) (a .blend) (l .loop .k) (l .loop .s) (x .a) (x .b) (x .c) (x .d) (u .four-rounded .result .sum) (i .2 .held) (p .multiplied .ensures (products e .0)) N in
-    let D = four (now (a .xs)) (now (a .b0)) (now (a .b1)) (a .blend) (l .loop .k) (l .loop .t) (y .a) (y .b) (y .c) (y .d) (v .four-rounded2 .result .sum) (i .4 .held) (q .multiplied2 .ensures (products e .1)) O in (
+    let C = four (now (a .xs)) (now (a .a0)) (now (a .a1)) (a .blend) (l .loop .k) (l .loop .s) (x .a) (x .b) (x .c) (x .d) (u .four-rounded .result .sum) (p .multiplied .ensures (products e .0)) N in
+    let D = four (now (a .xs)) (now (a .b0)) (now (a .b1)) (a .blend) (l .loop .k) (l .loop .t) (y .a) (y .b) (y .c) (y .d) (v .four-rounded2 .result .sum) (q .multiplied2 .ensures (products e .1)) O in (
       omega (arith, i .0),
       omega (arith, i .1, p .before .loop-test .taken),
       on (now (a .xs)) (now (a .a0)) (now (a .a1)) (a .blend) (i .2) C,

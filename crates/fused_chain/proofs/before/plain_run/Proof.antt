@@ -78,7 +78,7 @@ loop-again c =
     let p = m .multiplied .result in
     let N = v .four-rounded .ensures (not-false (v .four-rounded .result .fine) (c .if3 .left)) in
     let M = m .multiplied .ensures (not-false (p .fine) (e .if2 .left)) in
-    let C = four (now (a .xs)) (now (a .row0)) (now (a .row1)) (a .blend) (l .loop .k) (l .loop .held) (p .a) (p .b) (p .c) (p .d) (v .four-rounded .result .sum) (l .loop .inv .2 .held) M N in
+    let C = four (now (a .xs)) (now (a .row0)) (now (a .row1)) (a .blend) (l .loop .k) (l .loop .held) (p .a) (p .b) (p .c) (p .d) (v .four-rounded .result .sum) M N in
     (omega arith, omega arith, on (now (a .xs)) (now (a .row0)) (now (a .row1)) (a .blend) (l .loop .inv .2) C, N .fourth .bounded)
 
 returns-4 : tie.Need-returns-4 Inv-loop μ-loop

@@ -1,10 +1,10 @@
 -- `fused_chain::before::rounded` meets its contract: the quick way of a step. Assumes nothing.
 use borrow.Author.Needs.{needs}
-use mathlib.Core.Path.{ap}
+use mathlib.Core.Path.{sym, ap, subst}
 use mathlib.Core.Bool.{not, false≢true}
 use native.Mathlib.Omega.{arith}
 use lib.Dec.{T}
-use lib.Ieee.{Float, binary64, isNan, add}
+use lib.Ieee.{Float, binary64, fits, isNan, add}
 use lib.Ieee.Fits.{add-fits}
 use Rattle.fused_step.proofs.Cut.{half-fits, plain-no-nan, plain-finite}
 use Rattle.fused_chain.proofs.Finite.{add-number}
@@ -14,6 +14,9 @@ use Rattle.fused_chain.proofs.before.rounded.Tie as tie
 
 abbrev s : tie.Start → Float
 s c = add binary64 (c .args .p) (c .args .sum)
+
+held : (c : tie.Start) → T (fits binary64 (c .args .sum))
+held c = subst T (sym (c .good .1 .0 .1)) tt
 
 number : (c : tie.Start) → T (not (isNan (s c)))
 number c = add-number binary64 (c .args .p) (c .args .sum) (c .pre .0) (c .pre .1)
@@ -33,7 +36,7 @@ returns c =
     let plain = c .before .is-plain .ensures .1 (c .if1 .taken) in
     λ h. record {
       bounded = plain-finite (s b) (add-fits binary64 _ _) (number b) plain;
-      is = λ x d p held. plain-step x d (b .args .sum) (s b) (p .sample) (p .coefficient) held (ap (λ (z : Float). add binary64 z (b .args .sum)) (p .is)) (number b) plain;
+      is = λ x d p. plain-step x d (b .args .sum) (s b) (p .sample) (p .coefficient) (held b) (ap (λ (z : Float). add binary64 z (b .args .sum)) (p .is)) (number b) plain;
     }
 
 returns-2 : tie.Need-returns-2

@@ -5,6 +5,7 @@ use Prim.Native.Nat.{_-_, _≤_}
 use native.Mathlib.Nat.{le-refl}
 use native.Mathlib.Omega.{arith}
 use denote.Ref.{now}
+use Rattle.biased.proofs.Begun.{begins}
 use Rattle.biased.proofs.Tested.{first-of, second-of}
 use Rattle.fused_chain.proofs.Carrying.{stay}
 use Rattle.fused_chain.proofs.Four.{Stands, four, ended}
@@ -31,7 +32,7 @@ loop-holds c =
     let r = c .before .before in
     let b = r .before .before .before .before in
     let a = b .args in
-    (le-refl (a .from), b .pre .order, (a .sum, r .with-bias .ensures (b .pre .held) (not-false (r .with-bias .result .fine) (c .if1 .left)), stay (now (a .xs)) (now (a .row0)) (now (a .row1)) (a .blend) (a .from) (a .sum) (b .pre .held)))
+    (le-refl (a .from), b .pre .order, (a .sum, begins (a .sum) (r .with-bias .result) (r .with-bias .ensures) (b .pre .held) (not-false (r .with-bias .result .fine) (c .if1 .left)), stay (now (a .xs)) (now (a .row0)) (now (a .row1)) (a .blend) (a .from) (a .sum) (b .pre .held)))
 
 sub-loop : tie.Need-sub-loop Inv-loop μ-loop
 sub-loop c = omega arith
