@@ -1,4 +1,5 @@
 pub mod Calls
+pub mod Refused
 pub mod Fading
 pub mod Counted
 pub mod Kept
