@@ -1,4 +1,3 @@
-pub mod Determined
 pub mod Filled
 pub mod Counted
 pub mod Refused
