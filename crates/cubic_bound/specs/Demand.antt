@@ -34,7 +34,10 @@ pub record Close (a : Answer) (q : Frac) : Type 0 where
 
 -- Demand 3 of the answer a to a call on a reader: whatever run of calls, from opening or the last reset, left the reader so.
 pub record Demand3 (r : Reader) (c : Call) (a : Answer) : Type 0 where
-  pub close : (maximum margin : ℕ) (before : List Call) (ss : List ℤ) (s : ℤ) (d : ℕ) → Desk maximum margin before c ss s d → r ≡ run (start maximum margin) before → Close a (exactAt (lengthFor maximum margin) ss s d)
+  pub close : (maximum margin : ℕ) (before : List Call) (ss : List ℤ) (s : ℤ) (d : ℕ)
+      → Desk maximum margin before c ss s d
+      → r ≡ run (start maximum margin) before
+      → Close a (exactAt (lengthFor maximum margin) ss s d)
 
 -- A reader whose every answer meets it.
 abbrev pub Meets : Reading → Type 0

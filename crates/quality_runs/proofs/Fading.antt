@@ -14,17 +14,19 @@ use Rattle.quality_fade.specs.Runs.{turnsOf, leftOf, mixesOf}
 use Rattle.quality_fade.proofs.Fading as steps
 use Rattle.quality_fade.proofs.Left as left
 use Rattle.quality_variable_delay.specs.State.{fadePart}
-use Rattle.quality_runs.specs.Runs.{Call, Reader, afterBy, keep, due, run, accepted, turns, asked}
-use Rattle.quality_runs.proofs.Calls.{run-taken, run-refused, accepted-taken, accepted-refused, by-calls}
+use Rattle.runs.specs.Calls.{keep, acceptedOf}
+use Rattle.runs.proofs.Calls.{accepted-taken, accepted-refused, by-calls, by-accepted}
+use Rattle.quality_runs.specs.Runs.{Call, Reader, afterBy, due, run, accepted, turns, asked}
+use Rattle.quality_runs.proofs.Calls.{stays}
 
 -- the qualities that the run leaves, and the turns that its accepted calls take
-pub faded : (r : Reader) (cs : List Call) → fadePart (run r cs .state) ≡ leftOf (fadePart (r .state)) (asked (accepted r cs))
-unfolding run accepted leftOf
+pub faded : (r : Reader) (cs : List Call)
+    → fadePart (run r cs .state) ≡ leftOf (fadePart (r .state)) (asked (accepted r cs))
+unfolding leftOf
 faded =
-    by-calls (λ r cs. fadePart (run r cs .state) ≡ leftOf (fadePart (r .state)) (asked (accepted r cs)))
+    by-accepted due afterBy stays (λ r s cs. fadePart (s .state) ≡ leftOf (fadePart (r .state)) (asked cs))
     (λ r. refl)
-    (λ r c cs e ih. rw (run-taken r c cs e, accepted-taken r c cs e) ih)
-    (λ r c cs k e ih. rw (run-refused r c cs k e, accepted-refused r c cs k e) ih)
+    (λ r c s cs e ih. ih)
 
 turns-by : (r : Reader) (c : Call) (cs : List Call) (v : ℕ) → due r c ≡ v
     → turns r (c ∷ cs) ≡ keep v (stepOf (fadePart (r .state)) (c .quality)) (turns (afterBy v r c) cs)
@@ -32,12 +34,14 @@ unfolding turns
 turns-by r c cs v e = ap (λ (w : ℕ). keep w (stepOf (fadePart (r .state)) (c .quality)) (turns (afterBy w r c) cs)) e
 
 pub turned : (r : Reader) (cs : List Call) → turns r cs ≡ turnsOf (fadePart (r .state)) (asked (accepted r cs))
-unfolding turns accepted turnsOf
+unfolding turns acceptedOf turnsOf
 turned =
-    by-calls (λ r cs. turns r cs ≡ turnsOf (fadePart (r .state)) (asked (accepted r cs)))
+    by-calls due afterBy stays (λ r cs. turns r cs ≡ turnsOf (fadePart (r .state)) (asked (accepted r cs)))
     (λ r. refl)
-    (λ r c cs e ih. rw (turns-by r c cs 0 e, accepted-taken r c cs e) (ap (λ (l : List Turn). stepOf (fadePart (r .state)) (c .quality) ∷ l) ih))
-    (λ r c cs k e ih. rw (turns-by r c cs (suc k) e, accepted-refused r c cs k e) ih)
+    (λ r c cs e ih.
+    rw (turns-by r c cs 0 e, accepted-taken due afterBy stays r c cs e)
+    (ap (λ (l : List Turn). stepOf (fadePart (r .state)) (c .quality) ∷ l) ih))
+    (λ r c cs k e ih. rw (turns-by r c cs (suc k) e, accepted-refused due afterBy stays r c cs k e) ih)
 
 -- Q1. Where the accepted calls of a run ask for a quality other than the target and the current, N and k times over, exactly the first N of them are mixed.
 pub exactly : (r : Reader) (cs : List Call) (q : QualityMode) (k : ℕ)

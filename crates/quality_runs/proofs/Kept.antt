@@ -25,6 +25,7 @@ use Rattle.quality_variable_delay.specs.Reader.{stateAfter, ringAfter}
 use Rattle.quality_variable_delay.specs.Opening.{resetVerdict, renewed, fresh}
 use Rattle.quality_variable_delay.proofs.Taken.{taken, room}
 use Rattle.quality_variable_delay.specs.declared.QualityVariableDelayF32.{QualityVariableDelayF32}
+use Rattle.runs.specs.Calls.{runOf}
 use Rattle.quality_runs.specs.Runs.{Call, Reader, afterBy, due, after, run}
 
 -- the tests of 1 to 3
@@ -80,7 +81,7 @@ kept r c h = go (due r c) refl
     go (suc k) e = h
 
 pub run-kept : (r : Reader) (cs : List Call) → resetVerdict (r .state) (length (r .ring)) ≡ 0 → resetVerdict (run r cs .state) (length (run r cs .ring)) ≡ 0
-unfolding run
+unfolding runOf
 run-kept r [] h = h
 run-kept r (c ∷ cs) h = run-kept (after r c) cs (kept r c h)
 

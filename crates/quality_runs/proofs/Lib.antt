@@ -1,5 +1,4 @@
 pub mod Calls
-pub mod Refused
 pub mod Fading
 pub mod Counted
 pub mod Kept

@@ -1,6 +1,6 @@
--- Q1 to Q3, K8. A run of a quality reader's calls: state and ring are handed on as the last call left them, whatever each
--- quality reads. Each call brings its own bank. Definitions only.
-use Prim.Native.Nat.{ℕ, zero, suc}
+-- Q1 to Q3, K8. A run of a quality reader's calls: state and ring are handed on as the last call left them, whatever
+-- each quality reads. Each call brings its own bank. Definitions only.
+use Prim.Native.Nat.{ℕ}
 use mathlib.Core.Bool.{Bool, _&&_}
 use mathlib.Core.List.{List, [], _∷_, map}
 use lib.ListN.{length}
@@ -8,6 +8,7 @@ use lib.Ieee.{Float}
 use Rattle.quality_mode.specs.declared.QualityMode.{QualityMode}
 use Rattle.quality_fade.specs.declared.Turn.{Turn}
 use Rattle.quality_fade.specs.Step.{stepOf}
+use Rattle.runs.specs.Calls.{keep, runOf, acceptedOf}
 use Rattle.runs.specs.Runs as plain
 use Rattle.quality_variable_delay.specs.State.{delayPart, fadePart}
 use Rattle.quality_variable_delay.specs.Reader.{verdict, stateAfter, ringAfter}
@@ -35,11 +36,6 @@ pub record Reader : Type 0 where
 abbrev pub afterBy : ℕ → Reader → Call → Reader
 afterBy v r c = record { state = stateAfter v (r .state) (c .quality); ring = ringAfter v (r .state) (r .ring) (c .input) }
 
--- an accepted call's is kept, a refused one's is not
-abbrev pub keep : {A : Type 0} → ℕ → A → List A → List A
-keep zero a rest = a ∷ rest
-keep (suc k) a rest = rest
-
 abbrev pub due : Reader → Call → ℕ
 due r c = verdict (c .bank) (c .lent) (r .state) (length (r .ring)) (c .input) (c .delay) (c .rate)
 
@@ -47,13 +43,11 @@ abbrev pub after : Reader → Call → Reader
 after r c = afterBy (due r c) r c
 
 -- a run, its calls that are accepted, and the turns that these take
-unfoldable pub run : Reader → List Call → Reader
-run r [] = r
-run r (c ∷ cs) = run (after r c) cs
+abbrev pub run : Reader → List Call → Reader
+run = runOf due afterBy
 
-unfoldable pub accepted : Reader → List Call → List Call
-accepted r [] = []
-accepted r (c ∷ cs) = keep (due r c) c (accepted (after r c) cs)
+abbrev pub accepted : Reader → List Call → List Call
+accepted = acceptedOf due afterBy
 
 unfoldable pub turns : Reader → List Call → List Turn
 turns r [] = []

@@ -1,14 +1,16 @@
 -- K8. Over a run of calls the count is the number of accepted ones, the ring is what storing their samples in turn leaves, and a refused call leaves no trace.
 -- By the calls, one after the other. Assumes nothing.
 use mathlib.Core.Path.{_≡_, refl, _∙_, ap}
-use mathlib.Core.List.{List, [], _∷_}
-use Prim.Native.Nat.{ℕ, zero, suc, _+_}
+use mathlib.Core.List.{List}
+use Prim.Native.Nat.{ℕ, suc, _+_}
 use native.Mathlib.Nat.{add-zero}
 use native.Mathlib.Omega.{arith}
 use lib.ListN.{length}
 use Rattle.variable_delay.specs.Reader.{Reading, verdict, ringAfter, processedBy}
-use Rattle.runs.specs.Runs.{Call, Reader, afterBy, keep, due, after, run, accepted, withCount, samples}
+use Rattle.runs.specs.Runs.{Call, Reader, afterBy, due, after, run, accepted, withCount, samples}
 use Rattle.runs.specs.Filled.{storedFrom}
+use Rattle.runs.proofs.Calls.{by-accepted}
+use Rattle.runs.proofs.Calls as calls
 
 tick : (a n : ℕ) → a + 1 + n ≡ a + suc n
 tick a n = omega arith
@@ -20,65 +22,25 @@ pub leaves : (read : Reading) (r : Reader) (c : Call)
     × (ringAfter v (r .state) (r .ring) (c .input) ≡ after r c .ring)
 leaves read r c = (refl, refl)
 
--- one call, accepted or refused
-module _ (r : Reader) (c : Call) (cs : List Call) where
-  pub run-taken : due r c ≡ 0 → run r (c ∷ cs) ≡ run (afterBy 0 r c) cs
-  unfolding run
-  run-taken e = ap (λ (v : ℕ). run (afterBy v r c) cs) e
-
-  pub run-refused : (k : ℕ) → due r c ≡ suc k → run r (c ∷ cs) ≡ run r cs
-  unfolding run
-  run-refused k e = ap (λ (v : ℕ). run (afterBy v r c) cs) e
-
-  pub accepted-taken : due r c ≡ 0 → accepted r (c ∷ cs) ≡ c ∷ accepted (afterBy 0 r c) cs
-  unfolding accepted
-  accepted-taken e = ap (λ (v : ℕ). keep v c (accepted (afterBy v r c) cs)) e
-
-  pub accepted-refused : (k : ℕ) → due r c ≡ suc k → accepted r (c ∷ cs) ≡ accepted r cs
-  unfolding accepted
-  accepted-refused k e = ap (λ (v : ℕ). keep v c (accepted (afterBy v r c) cs)) e
-
-pub by-calls : (P : Reader → List Call → Type 0) → ((r : Reader) → P r [])
-    → ((r : Reader) (c : Call) (cs : List Call) → due r c ≡ 0 → P (afterBy 0 r c) cs → P r (c ∷ cs))
-    → ((r : Reader) (c : Call) (cs : List Call) (k : ℕ) → due r c ≡ suc k → P r cs → P r (c ∷ cs))
-    → (r : Reader) (cs : List Call) → P r cs
-by-calls P none taken refused r [] = none r
-by-calls P none taken refused r (c ∷ cs) = go (due r c) refl (λ r. by-calls P none taken refused r cs)
-  where
-    go : (v : ℕ) → due r c ≡ v → ((r : Reader) → P r cs) → P r (c ∷ cs)
-    go zero e ih = taken r c cs e (ih (afterBy 0 r c))
-    go (suc k) e ih = refused r c cs k e (ih r)
+-- a refused call changes nothing
+pub stays : (k : ℕ) (r : Reader) (c : Call) → afterBy (suc k) r c ≡ r
+stays k r c = refl
 
 -- the settings stay, and the count goes up by one for each accepted call
-pub counted : (r : Reader) (cs : List Call) → run r cs .state ≡ withCount (r .state) (r .state .accepted + length (accepted r cs))
-unfolding run accepted
+pub counted : (r : Reader) (cs : List Call)
+    → run r cs .state ≡ withCount (r .state) (r .state .accepted + length (accepted r cs))
 counted =
-    by-calls (λ r cs. run r cs .state ≡ withCount (r .state) (r .state .accepted + length (accepted r cs)))
+    by-accepted due afterBy stays (λ r s cs. s .state ≡ withCount (r .state) (r .state .accepted + length cs))
     (λ r. rw (add-zero (r .state .accepted)))
-    (λ r c cs e ih. rw (run-taken r c cs e, accepted-taken r c cs e) (ih ∙ ap (withCount (r .state)) (tick _ _)))
-    (λ r c cs k e ih. rw (run-refused r c cs k e, accepted-refused r c cs k e) ih)
+    (λ r c s cs e ih. ih ∙ ap (withCount (r .state)) (tick _ _))
 
-pub ring-of : (r : Reader) (cs : List Call) → run r cs .ring ≡ storedFrom (r .state .accepted) (r .ring) (samples (accepted r cs))
-unfolding run accepted storedFrom
+pub ring-of : (r : Reader) (cs : List Call)
+    → run r cs .ring ≡ storedFrom (r .state .accepted) (r .ring) (samples (accepted r cs))
+unfolding storedFrom
 ring-of =
-    by-calls (λ r cs. run r cs .ring ≡ storedFrom (r .state .accepted) (r .ring) (samples (accepted r cs)))
+    by-accepted due afterBy stays (λ r s cs. s .ring ≡ storedFrom (r .state .accepted) (r .ring) (samples cs))
     (λ r. refl)
-    (λ r c cs e ih. rw (run-taken r c cs e, accepted-taken r c cs e) ih)
-    (λ r c cs k e ih. rw (run-refused r c cs k e, accepted-refused r c cs k e) ih)
+    (λ r c s cs e ih. ih)
 
--- the accepted calls alone leave the same, and all of them are accepted
 pub refused-leave-nothing : (r : Reader) (cs : List Call) → run r (accepted r cs) ≡ run r cs
-unfolding run accepted
-refused-leave-nothing =
-    by-calls (λ r cs. run r (accepted r cs) ≡ run r cs)
-    (λ r. refl)
-    (λ r c cs e ih. rw (accepted-taken r c cs e, run-taken r c (accepted (afterBy 0 r c) cs) e, run-taken r c cs e) ih)
-    (λ r c cs k e ih. rw (run-refused r c cs k e, accepted-refused r c cs k e) ih)
-
-pub accepted-again : (r : Reader) (cs : List Call) → accepted r (accepted r cs) ≡ accepted r cs
-unfolding run accepted
-accepted-again =
-    by-calls (λ r cs. accepted r (accepted r cs) ≡ accepted r cs)
-    (λ r. refl)
-    (λ r c cs e ih. rw (accepted-taken r c cs e, accepted-taken r c (accepted (afterBy 0 r c) cs) e) (ap (λ (l : List Call). c ∷ l) ih))
-    (λ r c cs k e ih. rw (accepted-refused r c cs k e) ih)
+refused-leave-nothing = calls.refused-leave-nothing due afterBy stays

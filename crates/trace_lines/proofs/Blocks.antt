@@ -14,7 +14,8 @@ use Rattle.text.proofs.Texts.{Puts, then}
 use Rattle.variable_delay.specs.Reader.{processed, ringAfter}
 use Rattle.variable_delay.specs.declared.Processed.{Processed}
 use Rattle.cubic_farrow.specs.Cubic.{cubicAt}
-use Rattle.runs.specs.Runs.{Reader, run, due, after}
+use Rattle.runs.specs.Calls.{runOf}
+use Rattle.runs.specs.Runs.{Reader, due, after}
 use Rattle.trace_lines.specs.Lines.{lineOf, call, answerTo, linesOf, readerAfter, samplesOf, samplesIn}
 
 pub no-more : (bytes : List ℕ) (at : ℕ) → length bytes - at < 8 → samplesIn (drop at bytes) ≡ []
@@ -45,19 +46,19 @@ pub turn : (r : Reader) (out : List ℕ) (at : ℕ) {x : Float} {all xs : List F
     → ring ≡ ringAfter (due r (call x)) (r .state) (r .ring) x
     → Puts out at (lineOf (r .state .accepted) (p .answer)) q zs
     → come r out at all ≡ come (record { state = p .state; ring = ring }) zs q xs
-unfolding linesOf run
+unfolding linesOf runOf
 turn r out at {x} {all} {xs} n e f p =
     let t = then out (lineOf (r .state .accepted) (answerTo r (call x))) (linesOf (after r (call x)) xs) at (rw e at p) (refl, refl) in
     rw (n, e, f) (λ i. record { reader = readerAfter (after r (call x)) xs; place = sym (t .0) i; bytes = sym (t .1) i })
 
 -- where nothing is to come
 pub ended : (r : Reader) (out : List ℕ) (at : ℕ) {all : List Float} → all ≡ [] → at ≤ length out → come r out at all ≡ record { reader = r; place = at; bytes = out }
-unfolding linesOf run
+unfolding linesOf runOf
 ended r out at n h = rw (n, add-zero at, min-eq-right h)
 
 -- samples in two blocks
 pub in-blocks : (r : Reader) (xs ys : List Float) → linesOf r (xs ++ ys) ≡ linesOf r xs ++ linesOf (readerAfter r xs) ys
-unfolding linesOf run
+unfolding linesOf runOf
 in-blocks r [] ys = refl
 in-blocks r (x ∷ xs) ys =
     let line = lineOf (r .state .accepted) (answerTo r (call x)) in

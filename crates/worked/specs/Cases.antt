@@ -23,7 +23,8 @@ upTo (suc n) delay = upTo n delay ++ (bareCall (whole (suc n)) delay ∷ [])
 
 -- what the cubic f64 reader with ring 8 answers to the input n + 1, after the inputs 1 to n since opening, all at one delay
 unfoldable pub answerTo : ℕ → Float → Answer
-answerTo n delay = let r = run (opened 0 0 8) (upTo n delay) in processed cubicAt (r .state) (r .ring) (whole (suc n)) delay .answer
+answerTo n delay =
+    let r = run (opened 0 0 8) (upTo n delay) in processed cubicAt (r .state) (r .ring) (whole (suc n)) delay .answer
 
 pub record Nine : Type 0 where
   pub P1 : Answer
