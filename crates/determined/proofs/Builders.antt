@@ -12,20 +12,20 @@ use Rattle.determined.specs.Determined.{Determined}
 use Rattle.determined.proofs.Given.{agree}
 
 module _ (κs : Lfts 1) where
-  pub windowed-sinc : Determined (new.Post κs) (λ e. now (e .1 .0))
+  pub windowed-sinc : Determined (new.Learnt κs) (λ e. now (e .1 .0))
   windowed-sinc f g p q a = agree _ _ (p a) (q a)
 
-  pub windowed-sinc-for-rate : Determined (for-rate.Post κs) (λ e. now (e .1 .1 .1 .1 .1 .0))
+  pub windowed-sinc-for-rate : Determined (for-rate.Learnt κs) (λ e. now (e .1 .1 .1 .1 .1 .0))
   windowed-sinc-for-rate f g p q a = agree _ _ (p a) (q a)
 
-  pub windowed-sinc-f32 : Determined (new-f32.Post κs) (λ e. now (e .1 .0))
+  pub windowed-sinc-f32 : Determined (new-f32.Learnt κs) (λ e. now (e .1 .0))
   windowed-sinc-f32 f g p q a = agree _ _ (p a) (q a)
 
-  pub windowed-sinc-f32-for-rate : Determined (for-rate-f32.Post κs) (λ e. now (e .1 .1 .1 .1 .1 .0))
+  pub windowed-sinc-f32-for-rate : Determined (for-rate-f32.Learnt κs) (λ e. now (e .1 .1 .1 .1 .1 .0))
   windowed-sinc-f32-for-rate f g p q a = agree _ _ (p a) (q a)
 
-  pub bank-set : Determined (build-set.Post κs) (λ e. now (e .1 .0))
+  pub bank-set : Determined (build-set.Learnt κs) (λ e. now (e .1 .0))
   bank-set f g p q a = agree _ _ (p a) (q a)
 
-  pub bank : Determined (build.Post κs) (λ e. now (e .1 .0))
+  pub bank : Determined (build.Learnt κs) (λ e. now (e .1 .0))
   bank f g p q a = agree _ _ (p a) (q a)

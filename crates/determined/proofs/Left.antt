@@ -16,19 +16,19 @@ use Rattle.determined.specs.Calls.{lagrangeCall, sincCall, qualityCall, 
 
 -- the arguments: state, ring, input, delay, and of Lagrange the taps
 module _ (κs : Lfts 1) where
-  pub cubic-leaves : Follows after (cubic.Post κs)
+  pub cubic-leaves : Follows after (cubic.Learnt κs)
       (λ a. record { state = a .0; ring = now (a .1 .0) })
       (λ a. bareCall (a .1 .1 .0) (a .1 .1 .1 .0))
       (λ r e. record { state = r .state; ring = now (e .1 .0) })
   cubic-leaves f p a = λ i. record { state = p a .0 i .state; ring = p a .1 i }
 
-  pub farrow8-leaves : Follows after (farrow8.Post κs)
+  pub farrow8-leaves : Follows after (farrow8.Learnt κs)
       (λ a. record { state = a .0; ring = now (a .1 .0) })
       (λ a. bareCall (a .1 .1 .0) (a .1 .1 .1 .0))
       (λ r e. record { state = r .state; ring = now (e .1 .0) })
   farrow8-leaves f p a = λ i. record { state = p a .0 i .state; ring = p a .1 i }
 
-  pub lagrange-leaves : Follows after (lagrange.Post κs)
+  pub lagrange-leaves : Follows after (lagrange.Learnt κs)
       (λ a. record { state = a .0; ring = now (a .1 .0) })
       (λ a. lagrangeCall (a .1 .1 .1 .1 .0) (a .1 .1 .0) (a .1 .1 .1 .0))
       (λ r e. record { state = r .state; ring = now (e .1 .0) })
@@ -37,19 +37,19 @@ module _ (κs : Lfts 1) where
 -- state, ring, input, delay, table, taps, phases; of the quality reader state, ring, sets, maximum rate, input, delay,
 -- quality and, where it is not the maximum, rate
 module _ (κs : Lfts 2) where
-  pub sinc-leaves : Follows after (sinc.Post κs)
+  pub sinc-leaves : Follows after (sinc.Learnt κs)
       (λ a. record { state = a .0; ring = now (a .1 .0) })
       (λ a. let t = a .1 .1 .1 .1 in sincCall (now (t .0)) (t .1 .0) (t .1 .1 .0) (a .1 .1 .0) (a .1 .1 .1 .0))
       (λ r e. record { state = r .state; ring = now (e .1 .0) })
   sinc-leaves f p a = λ i. record { state = p a .0 i .state; ring = p a .1 i }
 
-  pub sinc-f32-leaves : Follows after (sinc-f32.Post κs)
+  pub sinc-f32-leaves : Follows after (sinc-f32.Learnt κs)
       (λ a. record { state = a .0; ring = now (a .1 .0) })
       (λ a. let t = a .1 .1 .1 .1 in sincCall (now (t .0)) (t .1 .0) (t .1 .1 .0) (a .1 .1 .0) (a .1 .1 .1 .0))
       (λ r e. record { state = r .state; ring = now (e .1 .0) })
   sinc-f32-leaves f p a = λ i. record { state = p a .0 i .state; ring = p a .1 i }
 
-  pub quality-leaves : Follows qualities.after (quality.Post κs)
+  pub quality-leaves : Follows qualities.after (quality.Learnt κs)
       (λ a. record { state = a .0; ring = now (a .1 .0) })
       (λ a.
       let b = a .1 .1 in
@@ -57,7 +57,7 @@ module _ (κs : Lfts 2) where
       (λ r e. record { state = r .state; ring = now (e .1 .0) })
   quality-leaves f p a = λ i. record { state = p a .0 i .state; ring = p a .1 i }
 
-  pub rate-aware-leaves : Follows qualities.after (rate-aware.Post κs)
+  pub rate-aware-leaves : Follows qualities.after (rate-aware.Learnt κs)
       (λ a. record { state = a .0; ring = now (a .1 .0) })
       (λ a.
       let b = a .1 .1 in

@@ -12,20 +12,20 @@ use Rattle.determined.specs.Determined.{Determined}
 use Rattle.determined.proofs.Given.{agree}
 
 module _ (κs : Lfts 1) where
-  pub opened : Determined (plain-open.Post κs) (λ e. now (e .1 .1 .0))
+  pub opened : Determined (plain-open.Learnt κs) (λ e. now (e .1 .1 .0))
   opened f g p q a = agree _ _ (p a) (q a)
 
-  pub renewed : Determined (plain-reset.Post κs) (λ e. now (e .1 .0))
+  pub renewed : Determined (plain-reset.Learnt κs) (λ e. now (e .1 .0))
   renewed f g p q a = agree _ _ (p a) (q a)
 
-  pub opened-f32 : Determined (open-f32.Post κs) (λ e. now (e .1 .1 .0))
+  pub opened-f32 : Determined (open-f32.Learnt κs) (λ e. now (e .1 .1 .0))
   opened-f32 f g p q a = agree _ _ (p a) (q a)
 
-  pub renewed-f32 : Determined (reset-f32.Post κs) (λ e. now (e .1 .0))
+  pub renewed-f32 : Determined (reset-f32.Learnt κs) (λ e. now (e .1 .0))
   renewed-f32 f g p q a = agree _ _ (p a) (q a)
 
-  pub quality-opened : Determined (quality-open.Post κs) (λ e. now (e .1 .1 .1 .1 .0))
+  pub quality-opened : Determined (quality-open.Learnt κs) (λ e. now (e .1 .1 .1 .1 .0))
   quality-opened f g p q a = agree _ _ (p a) (q a)
 
-  pub quality-renewed : Determined (quality-reset.Post κs) (λ e. now (e .1 .0))
+  pub quality-renewed : Determined (quality-reset.Learnt κs) (λ e. now (e .1 .0))
   quality-renewed f g p q a = agree _ _ (p a) (q a)

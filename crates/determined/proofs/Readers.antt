@@ -1,5 +1,6 @@
--- C1. Each reader's contract determines the answer, the state in it and every element of the ring. `Post` is what the
--- toolchain reads of the function's own clauses, so a clause that is left out there is missed here. Assumes nothing.
+-- C1. Each reader's contract determines the answer, the state in it and every element of the ring. `Learnt` is what a
+-- caller learns of a call, which the toolchain reads off the function's own clauses: one that is left out or opens
+-- something there is missed here. Assumes nothing.
 use contract.Lifetimes.{Lfts}
 use denote.Ref.{now}
 use Rattle.cubic_delay.proofs.process_sample.Reads as cubic
@@ -14,25 +15,25 @@ use Rattle.determined.proofs.Given.{agree}
 
 -- without a table
 module _ (κs : Lfts 1) where
-  pub cubic-delay : Determined (cubic.Post κs) (λ e. now (e .1 .0))
+  pub cubic-delay : Determined (cubic.Learnt κs) (λ e. now (e .1 .0))
   cubic-delay f g p q a = agree _ _ (p a) (q a)
 
-  pub lagrange-delay : Determined (lagrange.Post κs) (λ e. now (e .1 .0))
+  pub lagrange-delay : Determined (lagrange.Learnt κs) (λ e. now (e .1 .0))
   lagrange-delay f g p q a = agree _ _ (p a) (q a)
 
-  pub farrow8-delay : Determined (farrow8.Post κs) (λ e. now (e .1 .0))
+  pub farrow8-delay : Determined (farrow8.Learnt κs) (λ e. now (e .1 .0))
   farrow8-delay f g p q a = agree _ _ (p a) (q a)
 
 -- with a table or a bank that is lent beside the ring
 module _ (κs : Lfts 2) where
-  pub sinc-delay : Determined (sinc.Post κs) (λ e. now (e .1 .0))
+  pub sinc-delay : Determined (sinc.Learnt κs) (λ e. now (e .1 .0))
   sinc-delay f g p q a = agree _ _ (p a) (q a)
 
-  pub sinc-delay-f32 : Determined (sinc-f32.Post κs) (λ e. now (e .1 .0))
+  pub sinc-delay-f32 : Determined (sinc-f32.Learnt κs) (λ e. now (e .1 .0))
   sinc-delay-f32 f g p q a = agree _ _ (p a) (q a)
 
-  pub quality-delay : Determined (quality.Post κs) (λ e. now (e .1 .0))
+  pub quality-delay : Determined (quality.Learnt κs) (λ e. now (e .1 .0))
   quality-delay f g p q a = agree _ _ (p a) (q a)
 
-  pub quality-delay-rate-aware : Determined (rate-aware.Post κs) (λ e. now (e .1 .0))
+  pub quality-delay-rate-aware : Determined (rate-aware.Learnt κs) (λ e. now (e .1 .0))
   quality-delay-rate-aware f g p q a = agree _ _ (p a) (q a)
