@@ -36,13 +36,13 @@ module _ {maximum margin : ℕ} {before : List Call} {c : Call} {ss : List ℤ} 
 
   -- the samples accepted before, their number, and the reader that the run left
   abbrev xs : List Float
-  xs = since true true maximum margin len before
+  xs = since maximum margin len before
 
   abbrev n : ℕ
   n = length xs
 
   abbrev r : Reader
-  r = left true true maximum margin len before
+  r = left maximum margin len before
 
   room : n < 2 ^ 36
   room = rw (as-many (desk .earlier)) (desk .fewer)
@@ -52,7 +52,7 @@ module _ {maximum margin : ℕ} {before : List Call} {c : Call} {ss : List ℤ} 
 
   -- the call is accepted, whatever the kernel reads
   pub answered : (read : Reading) → processed read (r .state) (r .ring) (c .input) (c .delay) .answer ≡ Sample (read (stored n (filled len xs) (c .input)) (n + 1) (positionOf n (c .delay)))
-  answered read = rw (state-is true true maximum margin len before, ring-is true true maximum margin len before, due)
+  answered read = rw (state-is maximum margin len before, ring-is maximum margin len before, due)
 
   position : Steps (positionOf n (c .delay)) (place (length ss) d) 16
   position = rw (← as-many (desk .earlier)) (position-is n room (desk .delay))

@@ -16,7 +16,8 @@ use Rattle.ring.specs.Length.{lengthFor, zeros}
 use Rattle.integer_part.specs.Parts.{floorOf, fractionOf}
 use Rattle.cubic_farrow.specs.Cubic.{cubicAt}
 use Rattle.variable_delay.specs.Reader.{Reading, stored, positionOf}
-use Rattle.runs.specs.Runs.{Call, run, accepted}
+use Rattle.runs.specs.Calls.{runOf, acceptedOf}
+use Rattle.runs.specs.Runs.{Call, bareCall}
 use Rattle.runs.specs.Filled.{storedFrom}
 use Rattle.cubic_bound.specs.Desk.{WholeSample, WholeDelay, none, exactAt}
 use Rattle.cubic_bound.specs.Demand.{Desk, Meets, start}
@@ -28,9 +29,9 @@ same-sample p q = cc
 
 -- what a reader that meets Demand 3 answers to a first call
 first : (read : Reading) → Meets read → {x y : Float} {s : ℤ} {d : ℕ} → WholeSample x s → WholeDelay y d → Rounds (2 ^ 50) 1 (read (stored 0 (zeros 8) x) 1 (positionOf 0 y)) (exactAt 8 [] s d)
-unfolding run accepted lengthFor size storedFrom
+unfolding runOf acceptedOf lengthFor size storedFrom
 first read meets {x} {y} {s} {d} w v =
-    let c : Call = record { input = x; delay = y } in
+    let c : Call = bareCall x y in
     let desk : Desk 0 0 [] c [] s d = record { settings = lit≤ tt; earlier = none; fewer = lit< tt; input = w; delay = v } in
     let close = meets (start 0 0) c .close 0 0 [] [] s d desk refl in
     subst (λ (v : Float). Rounds (2 ^ 50) 1 v (exactAt 8 [] s d)) (same-sample (close .given) (answered desk read)) (close .near)

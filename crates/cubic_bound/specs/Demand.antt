@@ -1,7 +1,6 @@
 -- D3. Demand 3, of a delay reader and runs of its calls: what it supposes and what it promises. Definitions only.
 use Prim.Native.Nat.{ℕ, _^_, _≤_, _<_}
 use mathlib.Core.Path.{_≡_}
-use mathlib.Core.Bool.{true}
 use mathlib.Core.List.{List}
 use lib.IntN.{ℤ}
 use lib.ListN.{length}
@@ -22,7 +21,7 @@ start maximum margin = opened maximum margin (lengthFor maximum margin)
 -- What is supposed: settings in range; the samples accepted in the calls before are the whole numbers ss, fewer than 2^36; the input is s and the delay is d.
 pub record Desk (maximum margin : ℕ) (before : List Call) (c : Call) (ss : List ℤ) (s : ℤ) (d : ℕ) : Type 0 where
   pub settings : need maximum margin ≤ 2 ^ 24
-  pub earlier : WholeSamples (samples (accepted true true (start maximum margin) before)) ss
+  pub earlier : WholeSamples (samples (accepted (start maximum margin) before)) ss
   pub fewer : length ss < 2 ^ 36
   pub input : WholeSample (c .input) s
   pub delay : WholeDelay (c .delay) d
@@ -35,7 +34,10 @@ pub record Close (a : Answer) (q : Frac) : Type 0 where
 
 -- Demand 3 of the answer a to a call on a reader: whatever run of calls, from opening or the last reset, left the reader so.
 pub record Demand3 (r : Reader) (c : Call) (a : Answer) : Type 0 where
-  pub close : (maximum margin : ℕ) (before : List Call) (ss : List ℤ) (s : ℤ) (d : ℕ) → Desk maximum margin before c ss s d → r ≡ run true true (start maximum margin) before → Close a (exactAt (lengthFor maximum margin) ss s d)
+  pub close : (maximum margin : ℕ) (before : List Call) (ss : List ℤ) (s : ℤ) (d : ℕ)
+      → Desk maximum margin before c ss s d
+      → r ≡ run (start maximum margin) before
+      → Close a (exactAt (lengthFor maximum margin) ss s d)
 
 -- A reader whose every answer meets it.
 abbrev pub Meets : Reading → Type 0

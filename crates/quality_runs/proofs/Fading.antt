@@ -1,7 +1,7 @@
 -- Q1, Q2. Over a run of calls the qualities go as the accepted calls ask, one after the other: so what holds of runs of steps of quality_fade holds of the
 -- reader. Assumes nothing.
 use mathlib.Core.Path.{_≡_, refl, _∙_, ap}
-use mathlib.Core.Bool.{Bool, true, false}
+use mathlib.Core.Bool.{true, false}
 use mathlib.Core.List.{List, [], _∷_, _++_}
 use Prim.Native.Nat.{ℕ, zero, suc, _+_, _<_}
 use lib.ListN.{length, replicate}
@@ -14,46 +14,49 @@ use Rattle.quality_fade.specs.Runs.{turnsOf, leftOf, mixesOf}
 use Rattle.quality_fade.proofs.Fading as steps
 use Rattle.quality_fade.proofs.Left as left
 use Rattle.quality_variable_delay.specs.State.{fadePart}
-use Rattle.quality_runs.specs.Runs.{Call, Reader, afterBy, keep, due, run, accepted, turns, asked}
-use Rattle.quality_runs.proofs.Calls.{run-taken, run-refused, accepted-taken, accepted-refused, by-calls}
+use Rattle.runs.specs.Calls.{keep, acceptedOf}
+use Rattle.runs.proofs.Calls.{accepted-taken, accepted-refused, by-calls, by-accepted}
+use Rattle.quality_runs.specs.Runs.{Call, Reader, afterBy, due, run, accepted, turns, asked}
+use Rattle.quality_runs.proofs.Calls.{stays}
 
-module _ (bank lent : Bool) where
-  -- the qualities that the run leaves, and the turns that its accepted calls take
-  pub faded : (r : Reader) (cs : List Call) → fadePart (run bank lent r cs .state) ≡ leftOf (fadePart (r .state)) (asked (accepted bank lent r cs))
-  unfolding run accepted leftOf
-  faded =
-      by-calls bank lent (λ r cs. fadePart (run bank lent r cs .state) ≡ leftOf (fadePart (r .state)) (asked (accepted bank lent r cs)))
-      (λ r. refl)
-      (λ r c cs e ih. rw (run-taken bank lent r c cs e, accepted-taken bank lent r c cs e) ih)
-      (λ r c cs k e ih. rw (run-refused bank lent r c cs k e, accepted-refused bank lent r c cs k e) ih)
+-- the qualities that the run leaves, and the turns that its accepted calls take
+pub faded : (r : Reader) (cs : List Call)
+    → fadePart (run r cs .state) ≡ leftOf (fadePart (r .state)) (asked (accepted r cs))
+unfolding leftOf
+faded =
+    by-accepted due afterBy stays (λ r s cs. fadePart (s .state) ≡ leftOf (fadePart (r .state)) (asked cs))
+    (λ r. refl)
+    (λ r c s cs e ih. ih)
 
-  turns-by : (r : Reader) (c : Call) (cs : List Call) (v : ℕ) → due bank lent r c ≡ v
-      → turns bank lent r (c ∷ cs) ≡ keep v (stepOf (fadePart (r .state)) (c .quality)) (turns bank lent (afterBy v r c) cs)
-  unfolding turns
-  turns-by r c cs v e = ap (λ (w : ℕ). keep w (stepOf (fadePart (r .state)) (c .quality)) (turns bank lent (afterBy w r c) cs)) e
+turns-by : (r : Reader) (c : Call) (cs : List Call) (v : ℕ) → due r c ≡ v
+    → turns r (c ∷ cs) ≡ keep v (stepOf (fadePart (r .state)) (c .quality)) (turns (afterBy v r c) cs)
+unfolding turns
+turns-by r c cs v e = ap (λ (w : ℕ). keep w (stepOf (fadePart (r .state)) (c .quality)) (turns (afterBy w r c) cs)) e
 
-  pub turned : (r : Reader) (cs : List Call) → turns bank lent r cs ≡ turnsOf (fadePart (r .state)) (asked (accepted bank lent r cs))
-  unfolding turns accepted turnsOf
-  turned =
-      by-calls bank lent (λ r cs. turns bank lent r cs ≡ turnsOf (fadePart (r .state)) (asked (accepted bank lent r cs)))
-      (λ r. refl)
-      (λ r c cs e ih. rw (turns-by r c cs 0 e, accepted-taken bank lent r c cs e) (ap (λ (l : List Turn). stepOf (fadePart (r .state)) (c .quality) ∷ l) ih))
-      (λ r c cs k e ih. rw (turns-by r c cs (suc k) e, accepted-refused bank lent r c cs k e) ih)
+pub turned : (r : Reader) (cs : List Call) → turns r cs ≡ turnsOf (fadePart (r .state)) (asked (accepted r cs))
+unfolding turns acceptedOf turnsOf
+turned =
+    by-calls due afterBy stays (λ r cs. turns r cs ≡ turnsOf (fadePart (r .state)) (asked (accepted r cs)))
+    (λ r. refl)
+    (λ r c cs e ih.
+    rw (turns-by r c cs 0 e, accepted-taken due afterBy stays r c cs e)
+    (ap (λ (l : List Turn). stepOf (fadePart (r .state)) (c .quality) ∷ l) ih))
+    (λ r c cs k e ih. rw (turns-by r c cs (suc k) e, accepted-refused due afterBy stays r c cs k e) ih)
 
-  -- Q1. Where the accepted calls of a run ask for a quality other than the target and the current, N and k times over, exactly the first N of them are mixed.
-  pub exactly : (r : Reader) (cs : List Call) (q : QualityMode) (k : ℕ)
-      → let s = fadePart (r .state) in
-      validOf s ≡ true → sameQ q (s .target) ≡ false → sameQ q (s .current) ≡ false → 0 < s .length → asked (accepted bank lent r cs) ≡ replicate (s .length + k) q
-      → mixesOf (turns bank lent r cs) ≡ replicate (s .length) true ++ replicate k false
-  exactly r cs q k v ht hc l e = ap mixesOf (turned r cs ∙ ap (turnsOf (fadePart (r .state))) e) ∙ steps.exactly (fadePart (r .state)) q k v ht hc l
+-- Q1. Where the accepted calls of a run ask for a quality other than the target and the current, N and k times over, exactly the first N of them are mixed.
+pub exactly : (r : Reader) (cs : List Call) (q : QualityMode) (k : ℕ)
+    → let s = fadePart (r .state) in
+    validOf s ≡ true → sameQ q (s .target) ≡ false → sameQ q (s .current) ≡ false → 0 < s .length → asked (accepted r cs) ≡ replicate (s .length + k) q
+    → mixesOf (turns r cs) ≡ replicate (s .length) true ++ replicate k false
+exactly r cs q k v ht hc l e = ap mixesOf (turned r cs ∙ ap (turnsOf (fadePart (r .state))) e) ∙ steps.exactly (fadePart (r .state)) q k v ht hc l
 
-  -- Q1. After those N calls the new quality is current, and nothing is left to fade.
-  pub ended : (r : Reader) (cs : List Call) (q : QualityMode)
-      → let s = fadePart (r .state) in
-      validOf s ≡ true → sameQ q (s .target) ≡ false → sameQ q (s .current) ≡ false → 0 < s .length → asked (accepted bank lent r cs) ≡ replicate (s .length) q
-      → fadePart (run bank lent r cs .state) ≡ openOf q (s .length)
-  ended r cs q v ht hc l e = faded r cs ∙ ap (leftOf (fadePart (r .state))) e ∙ left.ended (fadePart (r .state)) q v ht hc l
+-- Q1. After those N calls the new quality is current, and nothing is left to fade.
+pub ended : (r : Reader) (cs : List Call) (q : QualityMode)
+    → let s = fadePart (r .state) in
+    validOf s ≡ true → sameQ q (s .target) ≡ false → sameQ q (s .current) ≡ false → 0 < s .length → asked (accepted r cs) ≡ replicate (s .length) q
+    → fadePart (run r cs .state) ≡ openOf q (s .length)
+ended r cs q v ht hc l e = faded r cs ∙ ap (leftOf (fadePart (r .state))) e ∙ left.ended (fadePart (r .state)) q v ht hc l
 
-  -- Q2. At length 0 no call is mixed.
-  pub never : (r : Reader) (cs : List Call) → r .state .«crossfade_samples» ≡ 0 → mixesOf (turns bank lent r cs) ≡ replicate (length (asked (accepted bank lent r cs))) false
-  never r cs e = ap mixesOf (turned r cs) ∙ steps.never (fadePart (r .state)) (asked (accepted bank lent r cs)) e
+-- Q2. At length 0 no call is mixed.
+pub never : (r : Reader) (cs : List Call) → r .state .«crossfade_samples» ≡ 0 → mixesOf (turns r cs) ≡ replicate (length (asked (accepted r cs))) false
+never r cs e = ap mixesOf (turned r cs) ∙ steps.never (fadePart (r .state)) (asked (accepted r cs)) e

@@ -25,6 +25,7 @@ use Rattle.quality_variable_delay.specs.Reader.{stateAfter, ringAfter}
 use Rattle.quality_variable_delay.specs.Opening.{resetVerdict, renewed, fresh}
 use Rattle.quality_variable_delay.proofs.Taken.{taken, room}
 use Rattle.quality_variable_delay.specs.declared.QualityVariableDelayF32.{QualityVariableDelayF32}
+use Rattle.runs.specs.Calls.{runOf}
 use Rattle.quality_runs.specs.Runs.{Call, Reader, afterBy, due, after, run}
 
 -- the tests of 1 to 3
@@ -69,21 +70,20 @@ taken-kept d xs x q v l =
       placed = fade.both (lengthOk (stepOf s q .state .length)) (placeOk (stepOf s q .state)) faded .1;
     }
 
-module _ (bank lent : Bool) where
-  -- no refusal 1 to 3 is due of a state and a ring that a call leaves, where none was due before
-  pub kept : (r : Reader) (c : Call) → resetVerdict (r .state) (length (r .ring)) ≡ 0 → resetVerdict (after bank lent r c .state) (length (after bank lent r c .ring)) ≡ 0
-  kept r c h = go (due bank lent r c) refl
-    where
-      go : (v : ℕ) → due bank lent r c ≡ v → resetVerdict (afterBy v r c .state) (length (afterBy v r c .ring)) ≡ 0
-      go zero e =
-          let t = taken bank lent (r .state) (length (r .ring)) (c .input) (c .delay) (c .rate) e in
-          not-due (afterBy 0 r c .state) (length (afterBy 0 r c .ring)) (taken-kept (r .state) (r .ring) (c .input) (c .quality) (in-range (r .state) (length (r .ring)) h) (room t))
-      go (suc k) e = h
+-- no refusal 1 to 3 is due of a state and a ring that a call leaves, where none was due before
+pub kept : (r : Reader) (c : Call) → resetVerdict (r .state) (length (r .ring)) ≡ 0 → resetVerdict (after r c .state) (length (after r c .ring)) ≡ 0
+kept r c h = go (due r c) refl
+  where
+    go : (v : ℕ) → due r c ≡ v → resetVerdict (afterBy v r c .state) (length (afterBy v r c .ring)) ≡ 0
+    go zero e =
+        let t = taken (c .bank) (c .lent) (r .state) (length (r .ring)) (c .input) (c .delay) (c .rate) e in
+        not-due (afterBy 0 r c .state) (length (afterBy 0 r c .ring)) (taken-kept (r .state) (r .ring) (c .input) (c .quality) (in-range (r .state) (length (r .ring)) h) (room t))
+    go (suc k) e = h
 
-  pub run-kept : (r : Reader) (cs : List Call) → resetVerdict (r .state) (length (r .ring)) ≡ 0 → resetVerdict (run bank lent r cs .state) (length (run bank lent r cs .ring)) ≡ 0
-  unfolding run
-  run-kept r [] h = h
-  run-kept r (c ∷ cs) h = run-kept (after bank lent r c) cs (kept r c h)
+pub run-kept : (r : Reader) (cs : List Call) → resetVerdict (r .state) (length (r .ring)) ≡ 0 → resetVerdict (run r cs .state) (length (run r cs .ring)) ≡ 0
+unfolding runOf
+run-kept r [] h = h
+run-kept r (c ∷ cs) h = run-kept (after r c) cs (kept r c h)
 
 -- ---- opening and reset
 

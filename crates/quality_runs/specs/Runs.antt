@@ -1,23 +1,31 @@
--- Q1 to Q3, K8. A run of a quality reader's calls: state, ring and sets are handed on as the last call left them. Over what the bank's rate and its lent sets say
--- (`bank`, `lent`), and whatever each quality reads. Definitions only.
-use Prim.Native.Nat.{ℕ, zero, suc}
-use mathlib.Core.Bool.{Bool}
+-- Q1 to Q3, K8. A run of a quality reader's calls: state and ring are handed on as the last call left them, whatever
+-- each quality reads. Each call brings its own bank. Definitions only.
+use Prim.Native.Nat.{ℕ}
+use mathlib.Core.Bool.{Bool, _&&_}
 use mathlib.Core.List.{List, [], _∷_, map}
 use lib.ListN.{length}
 use lib.Ieee.{Float}
 use Rattle.quality_mode.specs.declared.QualityMode.{QualityMode}
 use Rattle.quality_fade.specs.declared.Turn.{Turn}
 use Rattle.quality_fade.specs.Step.{stepOf}
+use Rattle.runs.specs.Calls.{keep, runOf, acceptedOf}
 use Rattle.runs.specs.Runs as plain
 use Rattle.quality_variable_delay.specs.State.{delayPart, fadePart}
 use Rattle.quality_variable_delay.specs.Reader.{verdict, stateAfter, ringAfter}
 use Rattle.quality_variable_delay.specs.declared.QualityVariableDelayF32.{QualityVariableDelayF32}
 
+-- `bank` says that the rate of the bank that the call lends is in range, `lent` that its sets have their length.
 pub record Call : Type 0 where
+  pub bank : Bool
+  pub lent : Bool
   pub input : Float
   pub delay : Float
   pub quality : QualityMode
   pub rate : Float
+
+-- whether its bank is as it must be
+abbrev pub fit : Call → Bool
+fit c = c .bank && c .lent
 
 -- A reader between two calls.
 pub record Reader : Type 0 where
@@ -28,30 +36,22 @@ pub record Reader : Type 0 where
 abbrev pub afterBy : ℕ → Reader → Call → Reader
 afterBy v r c = record { state = stateAfter v (r .state) (c .quality); ring = ringAfter v (r .state) (r .ring) (c .input) }
 
--- an accepted call's is kept, a refused one's is not
-abbrev pub keep : {A : Type 0} → ℕ → A → List A → List A
-keep zero a rest = a ∷ rest
-keep (suc k) a rest = rest
+abbrev pub due : Reader → Call → ℕ
+due r c = verdict (c .bank) (c .lent) (r .state) (length (r .ring)) (c .input) (c .delay) (c .rate)
 
-module _ (bank lent : Bool) where
-  abbrev pub due : Reader → Call → ℕ
-  due r c = verdict bank lent (r .state) (length (r .ring)) (c .input) (c .delay) (c .rate)
+abbrev pub after : Reader → Call → Reader
+after r c = afterBy (due r c) r c
 
-  abbrev pub after : Reader → Call → Reader
-  after r c = afterBy (due r c) r c
+-- a run, its calls that are accepted, and the turns that these take
+abbrev pub run : Reader → List Call → Reader
+run = runOf due afterBy
 
-  -- a run, its calls that are accepted, and the turns that these take
-  unfoldable pub run : Reader → List Call → Reader
-  run r [] = r
-  run r (c ∷ cs) = run (after r c) cs
+abbrev pub accepted : Reader → List Call → List Call
+accepted = acceptedOf due afterBy
 
-  unfoldable pub accepted : Reader → List Call → List Call
-  accepted r [] = []
-  accepted r (c ∷ cs) = keep (due r c) c (accepted (after r c) cs)
-
-  unfoldable pub turns : Reader → List Call → List Turn
-  turns r [] = []
-  turns r (c ∷ cs) = keep (due r c) (stepOf (fadePart (r .state)) (c .quality)) (turns (after r c) cs)
+unfoldable pub turns : Reader → List Call → List Turn
+turns r [] = []
+turns r (c ∷ cs) = keep (due r c) (stepOf (fadePart (r .state)) (c .quality)) (turns (after r c) cs)
 
 -- what calls ask for
 abbrev pub asked : List Call → List QualityMode
@@ -62,4 +62,4 @@ abbrev pub delayed : Reader → plain.Reader
 delayed r = record { state = delayPart (r .state); ring = r .ring }
 
 abbrev pub plainCall : Call → plain.Call
-plainCall c = record { input = c .input; delay = c .delay }
+plainCall c = plain.bareCall (c .input) (c .delay)

@@ -1,83 +1,46 @@
 -- K8. Over a run of calls the count is the number of accepted ones, the ring is what storing their samples in turn leaves, and a refused call leaves no trace.
 -- By the calls, one after the other. Assumes nothing.
 use mathlib.Core.Path.{_≡_, refl, _∙_, ap}
-use mathlib.Core.Bool.{Bool}
-use mathlib.Core.List.{List, [], _∷_}
-use Prim.Native.Nat.{ℕ, zero, suc, _+_}
+use mathlib.Core.List.{List}
+use Prim.Native.Nat.{ℕ, suc, _+_}
 use native.Mathlib.Nat.{add-zero}
 use native.Mathlib.Omega.{arith}
 use lib.ListN.{length}
-use Rattle.variable_delay.specs.Reader.{Reading, processedBy}
-use Rattle.runs.specs.Runs.{Call, Reader, afterBy, keep, due, after, run, accepted, withCount, samples}
+use Rattle.variable_delay.specs.Reader.{Reading, verdict, ringAfter, processedBy}
+use Rattle.runs.specs.Runs.{Call, Reader, afterBy, due, after, run, accepted, withCount, samples}
 use Rattle.runs.specs.Filled.{storedFrom}
+use Rattle.runs.proofs.Calls.{by-accepted}
+use Rattle.runs.proofs.Calls as calls
 
 tick : (a n : ℕ) → a + 1 + n ≡ a + suc n
 tick a n = omega arith
 
-module _ (own lent : Bool) where
-  -- a reader's call leaves `after`, whatever its kernel reads
-  pub leaves : (read : Reading) (r : Reader) (c : Call) → processedBy read (due own lent r c) (r .state) (r .ring) (c .input) (c .delay) .state ≡ after own lent r c .state
-  leaves read r c = refl
+-- A reader's call leaves `after`, whatever its kernel reads: the state in its answer, and the ring.
+pub leaves : (read : Reading) (r : Reader) (c : Call)
+    → let v = verdict (c .own) (c .lent) (r .state) (length (r .ring)) (c .input) (c .delay) in
+    (processedBy read v (r .state) (r .ring) (c .input) (c .delay) .state ≡ after r c .state)
+    × (ringAfter v (r .state) (r .ring) (c .input) ≡ after r c .ring)
+leaves read r c = (refl, refl)
 
-  -- one call, accepted or refused
-  module _ (r : Reader) (c : Call) (cs : List Call) where
-    pub run-taken : due own lent r c ≡ 0 → run own lent r (c ∷ cs) ≡ run own lent (afterBy 0 r c) cs
-    unfolding run
-    run-taken e = ap (λ (v : ℕ). run own lent (afterBy v r c) cs) e
+-- a refused call changes nothing
+pub stays : (k : ℕ) (r : Reader) (c : Call) → afterBy (suc k) r c ≡ r
+stays k r c = refl
 
-    run-refused : (k : ℕ) → due own lent r c ≡ suc k → run own lent r (c ∷ cs) ≡ run own lent r cs
-    unfolding run
-    run-refused k e = ap (λ (v : ℕ). run own lent (afterBy v r c) cs) e
+-- the settings stay, and the count goes up by one for each accepted call
+pub counted : (r : Reader) (cs : List Call)
+    → run r cs .state ≡ withCount (r .state) (r .state .accepted + length (accepted r cs))
+counted =
+    by-accepted due afterBy stays (λ r s cs. s .state ≡ withCount (r .state) (r .state .accepted + length cs))
+    (λ r. rw (add-zero (r .state .accepted)))
+    (λ r c s cs e ih. ih ∙ ap (withCount (r .state)) (tick _ _))
 
-    pub accepted-taken : due own lent r c ≡ 0 → accepted own lent r (c ∷ cs) ≡ c ∷ accepted own lent (afterBy 0 r c) cs
-    unfolding accepted
-    accepted-taken e = ap (λ (v : ℕ). keep v c (accepted own lent (afterBy v r c) cs)) e
+pub ring-of : (r : Reader) (cs : List Call)
+    → run r cs .ring ≡ storedFrom (r .state .accepted) (r .ring) (samples (accepted r cs))
+unfolding storedFrom
+ring-of =
+    by-accepted due afterBy stays (λ r s cs. s .ring ≡ storedFrom (r .state .accepted) (r .ring) (samples cs))
+    (λ r. refl)
+    (λ r c s cs e ih. ih)
 
-    accepted-refused : (k : ℕ) → due own lent r c ≡ suc k → accepted own lent r (c ∷ cs) ≡ accepted own lent r cs
-    unfolding accepted
-    accepted-refused k e = ap (λ (v : ℕ). keep v c (accepted own lent (afterBy v r c) cs)) e
-
-  by-calls : (P : Reader → List Call → Type 0) → ((r : Reader) → P r [])
-      → ((r : Reader) (c : Call) (cs : List Call) → due own lent r c ≡ 0 → P (afterBy 0 r c) cs → P r (c ∷ cs))
-      → ((r : Reader) (c : Call) (cs : List Call) (k : ℕ) → due own lent r c ≡ suc k → P r cs → P r (c ∷ cs))
-      → (r : Reader) (cs : List Call) → P r cs
-  by-calls P none taken refused r [] = none r
-  by-calls P none taken refused r (c ∷ cs) = go (due own lent r c) refl (λ r. by-calls P none taken refused r cs)
-    where
-      go : (v : ℕ) → due own lent r c ≡ v → ((r : Reader) → P r cs) → P r (c ∷ cs)
-      go zero e ih = taken r c cs e (ih (afterBy 0 r c))
-      go (suc k) e ih = refused r c cs k e (ih r)
-
-  -- the settings stay, and the count goes up by one for each accepted call
-  pub counted : (r : Reader) (cs : List Call) → run own lent r cs .state ≡ withCount (r .state) (r .state .accepted + length (accepted own lent r cs))
-  unfolding run accepted
-  counted =
-      by-calls (λ r cs. run own lent r cs .state ≡ withCount (r .state) (r .state .accepted + length (accepted own lent r cs)))
-      (λ r. rw (add-zero (r .state .accepted)))
-      (λ r c cs e ih. rw (run-taken r c cs e, accepted-taken r c cs e) (ih ∙ ap (withCount (r .state)) (tick _ _)))
-      (λ r c cs k e ih. rw (run-refused r c cs k e, accepted-refused r c cs k e) ih)
-
-  pub ring-of : (r : Reader) (cs : List Call) → run own lent r cs .ring ≡ storedFrom (r .state .accepted) (r .ring) (samples (accepted own lent r cs))
-  unfolding run accepted storedFrom
-  ring-of =
-      by-calls (λ r cs. run own lent r cs .ring ≡ storedFrom (r .state .accepted) (r .ring) (samples (accepted own lent r cs)))
-      (λ r. refl)
-      (λ r c cs e ih. rw (run-taken r c cs e, accepted-taken r c cs e) ih)
-      (λ r c cs k e ih. rw (run-refused r c cs k e, accepted-refused r c cs k e) ih)
-
-  -- the accepted calls alone leave the same, and all of them are accepted
-  pub refused-leave-nothing : (r : Reader) (cs : List Call) → run own lent r (accepted own lent r cs) ≡ run own lent r cs
-  unfolding run accepted
-  refused-leave-nothing =
-      by-calls (λ r cs. run own lent r (accepted own lent r cs) ≡ run own lent r cs)
-      (λ r. refl)
-      (λ r c cs e ih. rw (accepted-taken r c cs e, run-taken r c (accepted own lent (afterBy 0 r c) cs) e, run-taken r c cs e) ih)
-      (λ r c cs k e ih. rw (run-refused r c cs k e, accepted-refused r c cs k e) ih)
-
-  pub accepted-again : (r : Reader) (cs : List Call) → accepted own lent r (accepted own lent r cs) ≡ accepted own lent r cs
-  unfolding run accepted
-  accepted-again =
-      by-calls (λ r cs. accepted own lent r (accepted own lent r cs) ≡ accepted own lent r cs)
-      (λ r. refl)
-      (λ r c cs e ih. rw (accepted-taken r c cs e, accepted-taken r c (accepted own lent (afterBy 0 r c) cs) e) (ap (λ (l : List Call). c ∷ l) ih))
-      (λ r c cs k e ih. rw (accepted-refused r c cs k e) ih)
+pub refused-leave-nothing : (r : Reader) (cs : List Call) → run r (accepted r cs) ≡ run r cs
+refused-leave-nothing = calls.refused-leave-nothing due afterBy stays

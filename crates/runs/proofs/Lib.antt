@@ -1,4 +1,5 @@
-pub mod Determined
+pub mod Calls
 pub mod Filled
 pub mod Counted
+pub mod Refused
 pub mod Opened

@@ -1,6 +1,5 @@
 -- K8 since opening or reset: the count is the number of accepted calls, and a tap of the ring is the accepted sample of its number. Assumes nothing.
 use mathlib.Core.Path.{_≡_, sym, _∙_, ap}
-use mathlib.Core.Bool.{Bool}
 use mathlib.Core.List.{List}
 use Prim.Native.Nat.{ℕ}
 use native.Mathlib.Nat.{zero-add}
@@ -22,21 +21,21 @@ pub reset-leaves : (d : VariableDelay) (xs : List Float) → resetVerdict d (len
     → (resetOf d (length xs) ≡ Reader (fresh (d .maximum) (d .margin))) × (ringReset d xs ≡ opened (d .maximum) (d .margin) (length xs) .ring)
 reset-leaves d xs e = (rw e, rw e)
 
-module _ (own lent : Bool) (maximum margin len : ℕ) (cs : List Call) where
+module _ (maximum margin len : ℕ) (cs : List Call) where
   -- the samples accepted since, number 0 first
   abbrev pub since : List Float
-  since = samples (accepted own lent (opened maximum margin len) cs)
+  since = samples (accepted (opened maximum margin len) cs)
 
   abbrev pub left : runs.Reader
-  left = run own lent (opened maximum margin len) cs
+  left = run (opened maximum margin len) cs
 
   pub state-is : left .state ≡ withCount (fresh maximum margin) (length since)
   state-is =
-      counted own lent (opened maximum margin len) cs
-      ∙ ap (withCount (fresh maximum margin)) (zero-add _ ∙ sym (length-map (accepted own lent (opened maximum margin len) cs) (λ c. c .input)))
+      counted (opened maximum margin len) cs
+      ∙ ap (withCount (fresh maximum margin)) (zero-add _ ∙ sym (length-map (accepted (opened maximum margin len) cs) (λ c. c .input)))
 
   pub ring-is : left .ring ≡ filled len since
-  ring-is = ring-of own lent (opened maximum margin len) cs
+  ring-is = ring-of (opened maximum margin len) cs
 
   pub tap-is : (z : ℤ) → tapAt (left .ring) (left .state .accepted) z ≡ numbered len since z
   tap-is z = rw (ring-is, state-is) (tap-numbered len since z)

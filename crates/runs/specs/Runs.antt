@@ -1,18 +1,32 @@
--- K8. A run of a reader's calls: state and ring are handed on as the last call left them. Over what the kernel asks of its own settings and of its lent table
--- (`own`, `lent`), and whatever it reads. Definitions only.
-use Prim.Native.Nat.{ℕ, zero, suc}
-use mathlib.Core.Bool.{Bool}
-use mathlib.Core.List.{List, [], _∷_, map}
+-- K8. A run of a reader's calls: state and ring are handed on as the last call left them, whatever the kernel reads.
+-- Each call brings its own settings and its own table, so that one with bad taps may stand between accepted ones.
+-- Definitions only.
+use Prim.Native.Nat.{ℕ}
+use mathlib.Core.Bool.{Bool, true, _&&_}
+use mathlib.Core.List.{List, map}
 use lib.ListN.{length}
 use lib.Ieee.{Float}
 use Rattle.ring.specs.Length.{zeros}
 use Rattle.variable_delay.specs.Reader.{verdict, stateAfter, ringAfter}
 use Rattle.variable_delay.specs.Opening.{fresh}
 use Rattle.variable_delay.specs.declared.VariableDelay.{VariableDelay}
+use Rattle.runs.specs.Calls.{runOf, acceptedOf}
 
+-- `own` says that the settings which the call hands to its kernel are in range, `lent` that the table which it lends
+-- has its length, as in `verdict`.
 pub record Call : Type 0 where
+  pub own : Bool
+  pub lent : Bool
   pub input : Float
   pub delay : Float
+
+-- a call of a kernel that has no settings of its own and is lent no table
+abbrev pub bareCall : Float → Float → Call
+bareCall input delay = record { own = true; lent = true; input = input; delay = delay }
+
+-- whether its settings and its table are as they must be
+abbrev pub fit : Call → Bool
+fit c = c .own && c .lent
 
 -- A reader between two calls.
 pub record Reader : Type 0 where
@@ -27,25 +41,18 @@ opened maximum margin len = record { state = fresh maximum margin; ring = zeros 
 abbrev pub afterBy : ℕ → Reader → Call → Reader
 afterBy v r c = record { state = stateAfter v (r .state); ring = ringAfter v (r .state) (r .ring) (c .input) }
 
-abbrev pub keep : ℕ → Call → List Call → List Call
-keep zero c cs = c ∷ cs
-keep (suc k) c cs = cs
+abbrev pub due : Reader → Call → ℕ
+due r c = verdict (c .own) (c .lent) (r .state) (length (r .ring)) (c .input) (c .delay)
 
-module _ (own lent : Bool) where
-  abbrev pub due : Reader → Call → ℕ
-  due r c = verdict own lent (r .state) (length (r .ring)) (c .input) (c .delay)
+abbrev pub after : Reader → Call → Reader
+after r c = afterBy (due r c) r c
 
-  abbrev pub after : Reader → Call → Reader
-  after r c = afterBy (due r c) r c
+-- a run, and its calls that are accepted
+abbrev pub run : Reader → List Call → Reader
+run = runOf due afterBy
 
-  -- a run, and its calls that are accepted
-  unfoldable pub run : Reader → List Call → Reader
-  run r [] = r
-  run r (c ∷ cs) = run (after r c) cs
-
-  unfoldable pub accepted : Reader → List Call → List Call
-  accepted r [] = []
-  accepted r (c ∷ cs) = keep (due r c) c (accepted (after r c) cs)
+abbrev pub accepted : Reader → List Call → List Call
+accepted = acceptedOf due afterBy
 
 abbrev pub samples : List Call → List Float
 samples cs = map (λ c. c .input) cs

@@ -1,7 +1,6 @@
 -- A block of bytes, sample by sample: what a turn of the loop does to what is still to come, and that samples handed over in two blocks give the same
 -- lines as in one. Assumes nothing.
 use mathlib.Core.Path.{_≡_, refl, sym, _∙_, ap}
-use mathlib.Core.Bool.{true}
 use mathlib.Core.List.{List, [], _∷_, _++_, append-assoc}
 use Prim.Native.Nat.{ℕ, suc, _+_, _-_, _/_, _<_, _≤_}
 use native.Mathlib.Nat.{add-zero, min-eq-right}
@@ -15,7 +14,8 @@ use Rattle.text.proofs.Texts.{Puts, then}
 use Rattle.variable_delay.specs.Reader.{processed, ringAfter}
 use Rattle.variable_delay.specs.declared.Processed.{Processed}
 use Rattle.cubic_farrow.specs.Cubic.{cubicAt}
-use Rattle.runs.specs.Runs.{Reader, run, due, after}
+use Rattle.runs.specs.Calls.{runOf}
+use Rattle.runs.specs.Runs.{Reader, due, after}
 use Rattle.trace_lines.specs.Lines.{lineOf, call, answerTo, linesOf, readerAfter, samplesOf, samplesIn}
 
 pub no-more : (bytes : List ℕ) (at : ℕ) → length bytes - at < 8 → samplesIn (drop at bytes) ≡ []
@@ -43,23 +43,23 @@ come r out at xs = record { reader = readerAfter r xs; place = placeAfter (lengt
 -- one turn: the reader's call, and its line
 pub turn : (r : Reader) (out : List ℕ) (at : ℕ) {x : Float} {all xs : List Float} {p : Processed} {ring : List Float} {q : ℕ} {zs : List ℕ} → all ≡ x ∷ xs
     → p ≡ processed cubicAt (r .state) (r .ring) x (call x .delay)
-    → ring ≡ ringAfter (due true true r (call x)) (r .state) (r .ring) x
+    → ring ≡ ringAfter (due r (call x)) (r .state) (r .ring) x
     → Puts out at (lineOf (r .state .accepted) (p .answer)) q zs
     → come r out at all ≡ come (record { state = p .state; ring = ring }) zs q xs
-unfolding linesOf run
+unfolding linesOf runOf
 turn r out at {x} {all} {xs} n e f p =
-    let t = then out (lineOf (r .state .accepted) (answerTo r (call x))) (linesOf (after true true r (call x)) xs) at (rw e at p) (refl, refl) in
-    rw (n, e, f) (λ i. record { reader = readerAfter (after true true r (call x)) xs; place = sym (t .0) i; bytes = sym (t .1) i })
+    let t = then out (lineOf (r .state .accepted) (answerTo r (call x))) (linesOf (after r (call x)) xs) at (rw e at p) (refl, refl) in
+    rw (n, e, f) (λ i. record { reader = readerAfter (after r (call x)) xs; place = sym (t .0) i; bytes = sym (t .1) i })
 
 -- where nothing is to come
 pub ended : (r : Reader) (out : List ℕ) (at : ℕ) {all : List Float} → all ≡ [] → at ≤ length out → come r out at all ≡ record { reader = r; place = at; bytes = out }
-unfolding linesOf run
+unfolding linesOf runOf
 ended r out at n h = rw (n, add-zero at, min-eq-right h)
 
 -- samples in two blocks
 pub in-blocks : (r : Reader) (xs ys : List Float) → linesOf r (xs ++ ys) ≡ linesOf r xs ++ linesOf (readerAfter r xs) ys
-unfolding linesOf run
+unfolding linesOf runOf
 in-blocks r [] ys = refl
 in-blocks r (x ∷ xs) ys =
     let line = lineOf (r .state .accepted) (answerTo r (call x)) in
-    ap (λ (t : List ℕ). line ++ t) (in-blocks (after true true r (call x)) xs ys) ∙ sym (append-assoc line _ _)
+    ap (λ (t : List ℕ). line ++ t) (in-blocks (after r (call x)) xs ys) ∙ sym (append-assoc line _ _)

@@ -10,7 +10,8 @@ use Rattle.text.specs.Text.{ascii, decimalTo}
 use Rattle.ring.specs.Length.{lengthFor}
 use Rattle.integer_part.specs.Parts.{floorOf, fractionOf}
 use Rattle.cubic_farrow.specs.Cubic.{cubicAt}
-use Rattle.runs.specs.Runs.{opened, run}
+use Rattle.runs.specs.Calls.{runOf}
+use Rattle.runs.specs.Runs.{opened}
 use Rattle.trace_lines.specs.Lines.{linesOf, samplesOf, textOf}
 
 -- 1.0, 2.0, 3.0, 4.0, low byte first, and three bytes more
@@ -19,5 +20,5 @@ bytes = replicate 6 0 ++ 0xF0 ∷ 0x3F ∷ replicate 7 0 ++ 0x40 ∷ replicate 6
 
 pub four-lines : textOf (opened 0 0 8 .state) (opened 0 0 8 .ring) bytes
     ≡ ascii "0 BFB0000000000000\n1 3FDC000000000000\n2 3FF8000000000000\n3 4004000000000000\n"
-unfolding linesOf samplesOf bytesValue hexDigits ascii decimalTo run cubicAt lengthFor size floorOf fractionOf le add sub mul div neg ofInt ofBits toBits
+unfolding linesOf samplesOf bytesValue hexDigits ascii decimalTo runOf cubicAt lengthFor size floorOf fractionOf le add sub mul div neg ofInt ofBits toBits
 four-lines = refl

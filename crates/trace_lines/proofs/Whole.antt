@@ -1,7 +1,6 @@
 -- Nothing is cut off where there are 50 bytes for each sample: a line has at most 20 digits, a blank, 28 bytes of an answer and a line's end. By the digits.
 -- Assumes nothing.
 use mathlib.Core.Path.{_≡_, refl, _∙_, ap}
-use mathlib.Core.Bool.{true}
 use mathlib.Core.List.{List, [], _∷_, _++_}
 use Prim.Native.Nat.{ℕ, zero, suc, _+_, _*_, _/_, _%_, _≤_}
 use native.Mathlib.Nat.{zero-add, min-eq-right}
@@ -45,8 +44,8 @@ unfolding linesOf
 short-lines r [] = omega arith
 short-lines r (x ∷ xs) =
     let line = lineOf (r .state .accepted) (answerTo r (call x)) in
-    let rest = linesOf (after true true r (call x)) xs in
-    omega (arith, length-append line rest, short-line (r .state .accepted) (answerTo r (call x)), short-lines (after true true r (call x)) xs)
+    let rest = linesOf (after r (call x)) xs in
+    omega (arith, length-append line rest, short-line (r .state .accepted) (answerTo r (call x)), short-lines (after r (call x)) xs)
 
 in-samples : (n : ℕ) (bytes : List ℕ) → length (samplesOf n bytes) ≡ n
 unfolding samplesOf

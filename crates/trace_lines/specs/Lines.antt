@@ -1,6 +1,6 @@
 -- X1. What the program `trace` writes: a line for each sample that it reads. Definitions only.
 use Prim.Native.Nat.{ℕ, zero, suc, _/_}
-use mathlib.Core.Bool.{true, false}
+use mathlib.Core.Bool.{false}
 use mathlib.Core.List.{List, [], _∷_, _++_, map}
 use lib.IntN.{negsuc}
 use lib.ListN.{length, take, drop}
@@ -13,7 +13,7 @@ use Rattle.text.specs.Text.{ascii, decimal}
 use Rattle.variable_delay.specs.Reader.{processed}
 use Rattle.variable_delay.specs.declared.VariableDelay.{VariableDelay}
 use Rattle.cubic_farrow.specs.Cubic.{cubicAt}
-use Rattle.runs.specs.Runs.{Call, Reader, after, run}
+use Rattle.runs.specs.Runs.{Call, bareCall, Reader, after, run}
 
 -- the answer's 16 hex digits in capitals, or `refused`, a blank and the number in place of the digits
 abbrev pub answerText : Answer → List ℕ
@@ -26,7 +26,7 @@ lineOf count a = decimal count ++ (ascii " " ++ (answerText a ++ ascii "\n"))
 
 -- a sample is read at the delay 1.5
 abbrev pub call : Float → Call
-call x = record { input = x; delay = fin false 3 (negsuc 0) }
+call x = bareCall x (fin false 3 (negsuc 0))
 
 -- what the cubic reader answers
 abbrev pub answerTo : Reader → Call → Answer
@@ -35,10 +35,10 @@ answerTo r c = processed cubicAt (r .state) (r .ring) (c .input) (c .delay) .ans
 -- the lines for samples, and the reader after them
 unfoldable pub linesOf : Reader → List Float → List ℕ
 linesOf r [] = []
-linesOf r (x ∷ xs) = lineOf (r .state .accepted) (answerTo r (call x)) ++ linesOf (after true true r (call x)) xs
+linesOf r (x ∷ xs) = lineOf (r .state .accepted) (answerTo r (call x)) ++ linesOf (after r (call x)) xs
 
 abbrev pub readerAfter : Reader → List Float → Reader
-readerAfter r xs = run true true r (map call xs)
+readerAfter r xs = run r (map call xs)
 
 -- headerless binary64, low byte first: the first n samples
 unfoldable pub samplesOf : ℕ → List ℕ → List Float

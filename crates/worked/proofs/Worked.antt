@@ -10,7 +10,7 @@ use Rattle.integer_part.specs.Parts.{floorOf, fractionOf}
 use Rattle.ring.specs.Length.{lengthFor}
 use Rattle.cubic_farrow.specs.Cubic.{cubicAt}
 use Rattle.xorshift.specs.Xorshift.{stepOf}
-use Rattle.runs.specs.Runs.{run}
+use Rattle.runs.specs.Calls.{runOf}
 use Rattle.worked.specs.Cases.{cases, answerTo}
 
 -- 2.5, -0.0625, 0.4375, 3.8125, 2, 0; integer -1 and fraction 0.5
@@ -25,5 +25,5 @@ pub worked : cases ≡ record {
   P8 = (negsuc 0, fin false 1 (negsuc 0));
   P9 = 0xA076_1D64_78BD_642F;
 }
-unfolding answerTo run cubicAt lengthFor size floorOf fractionOf le add sub mul div neg ofInt stepOf xorTo
+unfolding answerTo runOf cubicAt lengthFor size floorOf fractionOf le add sub mul div neg ofInt stepOf xorTo
 worked = refl

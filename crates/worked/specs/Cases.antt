@@ -10,7 +10,7 @@ use Rattle.variable_delay.specs.Reader.{processed}
 use Rattle.cubic_farrow.specs.Cubic.{cubicAt}
 use Rattle.xorshift.specs.Xorshift.{stepOf, valueOf}
 use Rattle.xorshift.specs.Seeds.{flutterSeedOf}
-use Rattle.runs.specs.Runs.{Call, opened, run}
+use Rattle.runs.specs.Runs.{Call, bareCall, opened, run}
 
 -- the number n as an f64
 abbrev pub whole : ℕ → Float
@@ -19,11 +19,12 @@ whole n = ofInt binary64 (pos n)
 -- the inputs 1 to n, each at one delay
 abbrev pub upTo : ℕ → Float → List Call
 upTo zero delay = []
-upTo (suc n) delay = upTo n delay ++ (record { input = whole (suc n); delay = delay } ∷ [])
+upTo (suc n) delay = upTo n delay ++ (bareCall (whole (suc n)) delay ∷ [])
 
 -- what the cubic f64 reader with ring 8 answers to the input n + 1, after the inputs 1 to n since opening, all at one delay
 unfoldable pub answerTo : ℕ → Float → Answer
-answerTo n delay = let r = run true true (opened 0 0 8) (upTo n delay) in processed cubicAt (r .state) (r .ring) (whole (suc n)) delay .answer
+answerTo n delay =
+    let r = run (opened 0 0 8) (upTo n delay) in processed cubicAt (r .state) (r .ring) (whole (suc n)) delay .answer
 
 pub record Nine : Type 0 where
   pub P1 : Answer
