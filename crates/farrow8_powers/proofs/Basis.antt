@@ -1,5 +1,5 @@
--- K6. Farrow8's fractions are Lagrange's basis for the nodes -3 to 4: one test that antt computes over the whole table, and the
--- law that turns it into the rule at each entry. Assumes nothing.
+-- K6. Farrow8's fractions are Lagrange's basis for the nodes -3 to 4: one test that antt computes over the whole table,
+-- and the law that turns it into the rule at each entry. Assumes nothing.
 use mathlib.Core.Path.{_≡_, refl, ap, _∙_}
 use mathlib.Core.Bool.{Bool, true, false, _&&_, cond}
 use mathlib.Core.List.{List, [], _∷_}
@@ -32,7 +32,8 @@ each test (suc n) e k h =
     ⊎-elim (λ (i : k ≡ n). ap test i ∙ b .0) (λ (l : k < n). each test n (b .1) k l)
     (eq-or-lt-of-le (le-of-suc-le-suc h))
 
-each-of-eight : (test : ℕ → ℕ → Bool) → every (λ r. every (test r) 8) 8 ≡ true → (r k : ℕ) → r < 8 → k < 8 → test r k ≡ true
+each-of-eight : (test : ℕ → ℕ → Bool) → every (λ r. every (test r) 8) 8 ≡ true
+    → (r k : ℕ) → r < 8 → k < 8 → test r k ≡ true
 each-of-eight test e r k h l = each (test r) 8 (each (λ r. every (test r) 8) 8 e r h) k l
 
 unfoldable eqZ : ℤ → ℤ → Bool

@@ -1,4 +1,4 @@
--- K6. Lagrange's basis for the nodes -3 to 4 by powers of x: of each node the product of (x - j) over the other nodes j,
+-- K6. Lagrange's basis for the nodes -3 to 4 by powers of x: of each node the product of (x - j) over the other nodes,
 -- divided by the product of the node's distances from them. Definitions only.
 use Prim.Native.Nat.{ℕ, zero, suc, _<_}
 use mathlib.Core.Path.{_≡_}
@@ -29,7 +29,8 @@ unfoldable pub distances : ℕ → ℕ → ℤ
 distances r zero = pos 1
 distances r (suc i) = cond (eqb i r) (distances r i) (distances r i *ℤ (node r -ℤ node i))
 
--- What such a list means: `at-nodes` in proofs/Basis.antt has each product 0 at the nodes but its own, and there its distances.
+-- What such a list means. By `at-nodes` in proofs/Basis.antt a product is 0 at every node but its own, and there it is
+-- the distances.
 unfoldable pub valueAt : ℤ → List ℤ → ℤ
 valueAt x [] = pos 0
 valueAt x (a ∷ rest) = a +ℤ x *ℤ valueAt x rest

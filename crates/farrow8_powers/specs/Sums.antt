@@ -20,8 +20,8 @@ dotOf x c =
 abbrev pub power : List Float → ℕ → Float
 power x p = dotOf x (columnIn quotients p)
 
--- The powers 1 to 7, and the sample at the integer itself, where column 0 is 1; it is 0 elsewhere (`centre` in
--- proofs/Basis.antt).
+-- The powers 1 to 7, and for power 0 the sample at the integer itself, which the sum by column 0 equals (`power-0` in
+-- proofs/Centre.antt).
 abbrev pub powersOf : List Float → Powers
 powersOf x =
     record {
