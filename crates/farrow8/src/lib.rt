@@ -1,6 +1,4 @@
 // 000's Farrow8, over a slice, a count and a position: eight-point Lagrange interpolation in fixed Farrow form.
-mod powers;
-mod quotients;
 mod steps;
 mod taps;
 
@@ -10,7 +8,7 @@ ghost use Rattle.answer.specs.Answers.{answerOf};
 ghost use Rattle.ring.specs.Places.{positionOk};
 ghost use Rattle.farrow8.specs.Kernel.{farrowAt, readOf};
 use answer::Answer;
-use powers::sums;
+use farrow8_powers::sums;
 use steps::over;
 use steps::quick;
 use steps::slow;

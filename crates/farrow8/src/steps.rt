@@ -3,7 +3,7 @@ ghost use mathlib.Core.Path.{_≡_};
 ghost use lib.Dec.{T};
 ghost use lib.Ieee.Scale.{finite};
 ghost use Rattle.farrow8.specs.Kernel.{horner};
-use crate::powers::Powers;
+use farrow8_powers::Powers;
 
 // Horner's rule by floats: where a step is in doubt nothing after it is finite.
 pub(crate) fn quick(s: Powers, mu: f64) -> f64

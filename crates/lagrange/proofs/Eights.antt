@@ -11,10 +11,10 @@ use lib.Dec.{eqb, ltb, lit≤}
 use lib.IntN.{ℤ, pos, negsuc, subℕ}
 use lib.ListN.{getD}
 use lib.Ieee.{Float, nan, binary64, sub, mul, div, ofInt}
-use Rattle.loops.specs.Loops.{fold}
-use Rattle.loops.proofs.Folds.{none, turn}
 use Rattle.magnitude.proofs.Whole.{whole-value, whole-difference}
-use Rattle.lagrange.specs.Kernel.{num, one-f, factor}
+use Rattle.lagrange.specs.Kernel.{num, weightOf}
+use Rattle.lagrange_factors.specs.Weight.{floats}
+use Rattle.lagrange_factors.proofs.Turns.{none, turn}
 use Rattle.lagrange_factors.specs.Lanes.{eight, aboveOf, belowOf, gapIn, laneOf, turned, passed}
 use Rattle.lagrange.specs.Eights.{Nodes, Weights}
 
@@ -51,12 +51,14 @@ same-gap c a b {a′} {b′} e f l m =
     differ a b (omega arith) (omega arith) ∙ ap (ofInt binary64) (shift c a b ∙ rw (e, f)) ∙ sym (differ a′ b′ l m)
 
 -- ---- one factor, and none at the own node
-more : (local : Float) (k j : ℕ) {n : ℕ} {w x d : Float} → (j ≡ k → ⊥) → j + 1 ≡ n → w ≡ fold (factor local k) one-f j → x ≡ sub binary64 local (num j) → d ≡ sub binary64 (num k) (num j)
-    → mul binary64 w (div binary64 x d) ≡ fold (factor local k) one-f n
-more local k j {n} {w} {x} {d} h e p q r = turn (factor local k) one-f j w (mul binary64 w (div binary64 x d)) p (rw (ne-eqb j k h, q, r)) ∙ ap (fold (factor local k) one-f) e
+more : (local : Float) (k j : ℕ) {n : ℕ} {w x d : Float} → (j ≡ k → ⊥) → j + 1 ≡ n
+    → w ≡ weightOf j local k → x ≡ sub binary64 local (num j) → d ≡ sub binary64 (num k) (num j)
+    → mul binary64 w (div binary64 x d) ≡ weightOf n local k
+more local k j h e p q r = turn floats local k j p (rw (ne-eqb j k h, q, r)) ∙ ap (λ (m : ℕ). weightOf m local k) e
 
-own-skipped : (local : Float) (k j : ℕ) {n : ℕ} {w : Float} → j ≡ k → j + 1 ≡ n → w ≡ fold (factor local k) one-f j → w ≡ fold (factor local k) one-f n
-own-skipped local k j {n} {w} h e p = turn (factor local k) one-f j w w p (rw (eq-eqb j k h)) ∙ ap (fold (factor local k) one-f) e
+own-skipped : (local : Float) (k j : ℕ) {n : ℕ} {w : Float} → j ≡ k → j + 1 ≡ n
+    → w ≡ weightOf j local k → w ≡ weightOf n local k
+own-skipped local k j h e p = turn floats local k j p (rw (eq-eqb j k h)) ∙ ap (λ (m : ℕ). weightOf m local k) e
 
 module _ (local : Float) (first : ℕ) (small : first ≤ 16) (own : List Float) (nodes : Nodes first own) where
   gap : (k j : ℕ) → k < 8 → j < 8 → gapIn (aboveOf own) (belowOf own) k j ≡ sub binary64 (num (first + k)) (num (first + j))
@@ -80,14 +82,14 @@ module _ (local : Float) (first : ℕ) (small : first ≤ 16) (own : List Float)
     at-next : b ≡ sub binary64 local (num (first + (p + 1)))
     at-next = db ∙ ap (sub binary64 local) (nodes .node (p + 1) inside)
 
-    two : (k : ℕ) → k < 8 → laneOf (aboveOf own) (belowOf own) a b p w k ≡ fold (factor local (first + k)) one-f (first + (p + 2))
+    two : (k : ℕ) → k < 8 → laneOf (aboveOf own) (belowOf own) a b p w k ≡ weightOf (first + (p + 2)) local (first + k)
     two k h = go (eqb k p) (eqb k (p + 1)) refl refl
       where
         go : (s t : Bool) → eqb k p ≡ s → eqb k (p + 1) ≡ t
             → cond s (mul binary64 (getD w k nan) (div binary64 b (gapIn (aboveOf own) (belowOf own) k (p + 1))))
             (cond t (mul binary64 (getD w k nan) (div binary64 a (gapIn (aboveOf own) (belowOf own) k p)))
             (mul binary64 (mul binary64 (getD w k nan) (div binary64 a (gapIn (aboveOf own) (belowOf own) k p))) (div binary64 b (gapIn (aboveOf own) (belowOf own) k (p + 1)))))
-            ≡ fold (factor local (first + k)) one-f (first + (p + 2))
+            ≡ weightOf (first + (p + 2)) local (first + k)
         go true t e f =
             let i = eqb-true k p e in
             more local (first + k) (first + (p + 1)) (λ z. omega arith) (omega arith) (own-skipped local (first + k) (first + p) (omega arith) (omega arith) (ws .weight k h)) at-next (gap k (p + 1) h inside)
@@ -118,5 +120,5 @@ module _ (local : Float) (first : ℕ) (small : first ≤ 16) (own : List Float)
         }
 
 -- ---- before any factor
-pub ones : (local : Float) (first : ℕ) {o : Float} → o ≡ one-f → Weights local first 0 (eight (λ k. o))
-ones local first {o} e = record { weight = λ k h. lane (λ k. o) k h ∙ e ∙ none (factor local (first + k)) one-f }
+pub ones : (local : Float) (first : ℕ) {o : Float} → o ≡ floats .one → Weights local first 0 (eight (λ k. o))
+ones local first {o} e = record { weight = λ k h. lane (λ k. o) k h ∙ e ∙ none floats local (first + k) }

@@ -1,4 +1,3 @@
-pub mod Nodes
 pub mod Ranges
 pub mod Eights
 pub mod Blocks

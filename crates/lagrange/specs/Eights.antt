@@ -5,9 +5,8 @@ use Prim.Native.Nat.{ℕ, _+_, _<_, _≤_}
 use lib.ListN.{length, getD}
 use lib.IntN.{ℤ, pos, _+ℤ_}
 use lib.Ieee.{Float, nan, binary64, add, mul}
-use Rattle.loops.specs.Loops.{fold}
 use Rattle.ring.specs.Taps.{tapOf}
-use Rattle.lagrange.specs.Kernel.{num, one-f, factor}
+use Rattle.lagrange.specs.Kernel.{num, weightOf}
 
 -- the nodes from `first` on, as floats
 pub record Nodes (first : ℕ) (own : List Float) : Type 0 where
@@ -15,7 +14,7 @@ pub record Nodes (first : ℕ) (own : List Float) : Type 0 where
 
 -- their weights after the factors of the nodes below n
 pub record Weights (local : Float) (first n : ℕ) (w : List Float) : Type 0 where
-  pub weight : (k : ℕ) → k < 8 → getD w k nan ≡ fold (factor local (first + k)) one-f n
+  pub weight : (k : ℕ) → k < 8 → getD w k nan ≡ weightOf n local (first + k)
 
 -- `sum += source.at(base + k) * weight`, x the sample of tap k
 abbrev pub tapTurn : (ℕ → Float) → List Float → ℕ → Float → Float

@@ -4,8 +4,9 @@ use mathlib.Core.Bool.{Bool, true, false, _&&_, cond}
 use mathlib.Core.List.{List}
 use lib.Dec.{eqb, leb}
 use lib.IntN.{ℤ, pos, _+ℤ_, _-ℤ_}
-use lib.Ieee.{Float, fin, binary64, add, sub, mul, div, ofInt}
+use lib.Ieee.{Float, fin, binary64, add, sub, mul, ofInt}
 use Rattle.loops.specs.Loops.{fold}
+use Rattle.lagrange_factors.specs.Weight.{weight, floats}
 use Rattle.ring.specs.Taps.{tapOf}
 use Rattle.ring.specs.Places.{positionOk}
 use Rattle.integer_part.specs.Parts.{floorOf}
@@ -14,21 +15,15 @@ use Rattle.integer_part.specs.Parts.{floorOf}
 abbrev pub tapsOk : ℕ → Bool
 tapsOk taps = leb taps 16 && leb 2 taps && eqb (taps % 2) 0
 
-abbrev pub one-f : Float
-one-f = fin false 1 (pos 0)
-
 abbrev pub zero-f : Float
 zero-f = fin false 0 (pos 0)
 
 abbrev pub num : ℕ → Float
 num n = ofInt binary64 (pos n)
 
--- `if j != k { weight *= (local - j) / (k - j) }`
-abbrev pub factor : Float → ℕ → ℕ → Float → Float
-factor local k j w = cond (eqb j k) w (mul binary64 w (div binary64 (sub binary64 local (num j)) (sub binary64 (num k) (num j))))
-
+-- The inner loop in floats; in fractions it is Lagrange's formula (`formula` in lagrange_factors/proofs/Nodes.antt).
 abbrev pub weightOf : ℕ → Float → ℕ → Float
-weightOf taps local k = fold (factor local k) one-f taps
+weightOf taps local k = weight floats local k taps
 
 -- `sum += source.at(base + k) * weight`
 abbrev pub turnOf : List Float → ℕ → ℤ → Float → ℕ → ℕ → Float → Float
@@ -39,7 +34,7 @@ abbrev pub baseOf : Float → ℕ → ℤ
 baseOf p taps = floorOf p -ℤ pos (taps / 2 - 1)
 
 unfoldable pub lagrangeAt : ℕ → List Float → ℕ → Float → Float
-unfolding fold
+unfolding fold weight
 lagrangeAt taps xs count p =
     let base = baseOf p taps in
     fold (turnOf xs count base (sub binary64 p (ofInt binary64 base)) taps) zero-f taps

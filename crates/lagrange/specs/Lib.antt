@@ -1,3 +1,2 @@
 pub mod Kernel
 pub mod Eights
-pub mod Formula

@@ -1,1 +1,3 @@
+pub mod Weight
+pub mod Formula
 pub mod Lanes

@@ -3,7 +3,7 @@ use mathlib.Core.Path.{_≡_, refl, subst}
 use Prim.Native.Nat.{ℕ, _-_, _*_, _≤_}
 use native.Mathlib.Omega.{arith}
 use lib.Ieee.{binary64, ofBits}
-use Rattle.lagrange.specs.Kernel.{one-f}
+use Rattle.lagrange_factors.specs.Weight.{floats}
 use Rattle.lagrange.specs.Eights.{Weights}
 use Rattle.lagrange.proofs.Eights.{ones, pass}
 use Rattle.lagrange.proofs.lanes.nodes_before.Statement.{statement}
@@ -15,7 +15,7 @@ Inv-loop own f local w₀ h₀ w h = (h ≤ f) × Weights local (2 * f) (2 * h) 
 abbrev μ-loop : tie.MeasureT-loop
 μ-loop own f local w₀ h₀ w h = f - h
 
-one : ofBits binary64 0x3ff0_0000_0000_0000 ≡ one-f
+one : ofBits binary64 0x3ff0_0000_0000_0000 ≡ floats .one
 unfolding ofBits
 one = refl
 

@@ -1,9 +1,11 @@
-// K6. The sums of the powers: eight samples by each column of the constant.
+// K6. Farrow8's constant, which is Lagrange's basis, and the sums of the powers: eight samples by each of its columns.
+mod quotients;
+
 ghost use mathlib.Core.Path.{_≡_};
 ghost use Prim.Native.Nat.{_<_};
-ghost use Rattle.farrow8.specs.Kernel.{dotOf, Summed};
-ghost use Rattle.farrow8.specs.Table.{columnIn};
-use crate::quotients::C;
+ghost use Rattle.farrow8_powers.specs.Table.{columnIn};
+ghost use Rattle.farrow8_powers.specs.Sums.{dotOf, powersOf};
+use quotients::table;
 
 // 000's `dot!`.
 fn dot(x: [f64; 8], c: [f64; 8]) -> f64
@@ -36,23 +38,24 @@ fn column(c: [[f64; 8]; 8], n: usize) -> [f64; 8]
     ]
 }
 
-// The sums of the powers, and the sample itself. Neighbours in memory have quotients of the same signs, so that the compiler works out two sums at once.
-pub(crate) struct Powers {
-    pub(crate) s2: f64,
-    pub(crate) s6: f64,
-    pub(crate) s4: f64,
-    pub(crate) s7: f64,
-    pub(crate) s1: f64,
-    pub(crate) s3: f64,
-    pub(crate) s5: f64,
-    pub(crate) s0: f64,
+// The sums of the powers, and the sample itself. Neighbours in memory have quotients of the same signs, so that the
+// compiler works out two sums at once.
+pub struct Powers {
+    pub s2: f64,
+    pub s6: f64,
+    pub s4: f64,
+    pub s7: f64,
+    pub s1: f64,
+    pub s3: f64,
+    pub s5: f64,
+    pub s0: f64,
 }
 
 // The constant is named once and its columns are taken at literal powers, so that the compiler keeps no copy of it.
-pub(crate) fn sums(x: [f64; 8]) -> Powers
-    ensures { λ r. ⌜ Summed x r ⌝ }
+pub fn sums(x: [f64; 8]) -> Powers
+    ensures { λ r. ⌜ r ≡ powersOf x ⌝ }
 {
-    let c = C;
+    let c = table();
     Powers {
         s2: dot(x, column(c, 2)),
         s6: dot(x, column(c, 6)),

@@ -1,9 +1,9 @@
--- `farrow8::powers::dot` meets its contract: the sum is written as the definition has it. Assumes nothing.
+-- `farrow8_powers::dot` meets its contract: the sum is written as the definition has it. Assumes nothing.
 use borrow.Author.Needs.{needs}
 use mathlib.Core.Path.{refl}
-use Rattle.farrow8.specs.Kernel.{dotOf}
-use Rattle.farrow8.proofs.powers.dot.Statement.{statement}
-use Rattle.farrow8.proofs.powers.dot.Tie as tie
+use Rattle.farrow8_powers.specs.Sums.{dotOf}
+use Rattle.farrow8_powers.proofs.dot.Statement.{statement}
+use Rattle.farrow8_powers.proofs.dot.Tie as tie
 
 returns : tie.Need-returns
 unfolding dotOf

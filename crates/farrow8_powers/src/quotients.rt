@@ -1,5 +1,8 @@
 // F7, K6. 000's constant: a row for each node from -3 to 4, a column for each power of the fraction.
-pub(crate) const C: [[f64; 8]; 8] = [
+ghost use mathlib.Core.Path.{_≡_};
+ghost use Rattle.farrow8_powers.specs.Table.{quotients};
+
+const C: [[f64; 8]; 8] = [
     [
         0.0,
         -1.0 / 105.0,
@@ -81,3 +84,10 @@ pub(crate) const C: [[f64; 8]; 8] = [
         1.0 / 5040.0,
     ],
 ];
+
+// The whole of it, with column 0, which no sum takes.
+pub(crate) fn table() -> [[f64; 8]; 8]
+    ensures { λ r. ⌜ r ≡ quotients ⌝ }
+{
+    C
+}

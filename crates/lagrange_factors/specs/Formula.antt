@@ -1,5 +1,6 @@
--- K7, D2b. Lagrange's formula over whole numbers: the weight of node k at x = p / q is the product of (x - j) / (k - j) over the other nodes j.
--- It is the kernel's own loop with nothing rounded. Definitions only.
+-- K7, D2b. Lagrange's formula over whole numbers: the weight of node k at x = p / q is the product of (x - j) / (k - j)
+-- over the other nodes j. That the loop of Weight.antt gives it in fractions is `formula` in proofs/Nodes.antt.
+-- Definitions only.
 use Prim.Native.Nat.{ℕ, zero, suc}
 use mathlib.Core.Bool.{Bool, cond}
 use lib.Dec.{eqb}
