@@ -1,5 +1,5 @@
--- W1. A walk is never longer than the file, whatever end is asked for: each chunk takes 8 bytes or more behind the first
--- 12, and the end is cut to the file's. Assumes nothing.
+-- W1. A walk is never longer than the file, whatever end is asked for: each chunk takes 8 bytes or more behind the
+-- first 12, and the end is cut to the file's. Assumes nothing.
 use mathlib.Core.Path.{_≡_, refl}
 use mathlib.Core.Bool.{Bool, true, false, cond}
 use mathlib.Core.List.{List, [], _∷_}
