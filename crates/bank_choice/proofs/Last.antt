@@ -87,13 +87,13 @@ module _ (top : Float) (ok : bankOk top ≡ true) (held : T (fits binary64 top))
   unfolding le
   blend-high wide = elim (eq-or-lt-of-le (least top)) [
     | inl e ↦
-      let own-is : own ≡ top = ap (λ (n : ℕ). rateOf top n (n - 1 + 1)) (sym e) ∙ one-set top ok held in
-      let whole : blendOf top own low ≡ one-f = ap (λ (z : Float). blendOf z own low) (sym own-is) ∙ whole-blend top ok last among wide in
-      rw whole tt
+        let own-is : own ≡ top = ap (λ (n : ℕ). rateOf top n (n - 1 + 1)) (sym e) ∙ one-set top ok held in
+        let whole : blendOf top own low ≡ one-f = ap (λ (z : Float). blendOf z own low) (sym own-is) ∙ whole-blend top ok last among wide in
+        rw whole tt
     | inr l ↦
-      let e : last + 1 ≡ stepsOf top = omega arith in
-      let f = ne-eqb last 0 (λ z. omega arith) in
-      rw (e, f) (nearly-one top ok l (rw (e, f) at (gap-above top ok last among wide)))
+        let e : last + 1 ≡ stepsOf top = omega arith in
+        let f = ne-eqb last 0 (λ z. omega arith) in
+        rw (e, f) (nearly-one top ok l (rw (e, f) at (gap-above top ok last among wide)))
   ]
 
   alone : (b : Bool) → closeOf own low ≡ b
