@@ -33,8 +33,15 @@ verdict own lent d len x y =
 
 -- The same on the length that `ring::length_for` gives, which is 0 where the settings are out of range: as the code tests it.
 abbrev pub dueOf : ℕ → Bool → Bool → ℕ → ℕ → Float → Float → ℕ
-dueOf length own lent len accepted x y =
-    firstOf (not (eqb length 0) && own) (eqb len length && lent) (leb accepted (2 ^ 36)) (finite x) (finite y && le (fin false 0 (pos 0)) y) (le y (fin false 1 (pos 36))) true (ltb accepted (2 ^ 36))
+dueOf needed own lent len accepted x y =
+    firstOf (not (eqb needed 0) && own)
+    (eqb len needed && lent)
+    (leb accepted (2 ^ 36))
+    (finite x)
+    (finite y && le (fin false 0 (pos 0)) y)
+    (le y (fin false 1 (pos 36)))
+    true
+    (ltb accepted (2 ^ 36))
 
 -- K1. Accepted sample i goes to place i modulo the length.
 abbrev pub stored : ℕ → List Float → Float → List Float
