@@ -10,7 +10,7 @@ use Rattle.order.specs.Choice.{clamped}
 use Rattle.sinc_settings.specs.Ranges.{one-f}
 use Rattle.bank_choice.specs.Rates.{bankOk, stepsOf, rateOf}
 use Rattle.bank_choice.specs.Choosing.{lowerOf, closeOf, chosenOf}
-use Rattle.bank_choice.proofs.Last.{reads-last}
+use Rattle.bank_choice.proofs.Last.{at-maximum, reads-last}
 use Rattle.quality_mode.specs.declared.QualityMode.{QualityMode}
 use Rattle.bank_read.specs.Bank.{setAt, tableAt, blended, tablesAt}
 
@@ -27,3 +27,9 @@ last-read top rate ok held equal q sets xs count p =
     let c = reads-last top ok held rate equal in
     let close = closeOf (rateOf top n (n - 1 + 1)) (lowerOf top n (n - 1)) in
     rw (c .0, c .1, c .2) (either close (chosenOf top rate .blend) (tableAt q (setAt sets (n - 1)) xs count p))
+
+-- the rate that 000's process_sample asks for
+pub maximum-read : (top : Float) → bankOk top ≡ true → T (fits binary64 top)
+    → (q : QualityMode) (sets xs : List Float) (count : ℕ) (p : Float)
+    → tablesAt (chosenOf top top) q sets xs count p ≡ tableAt q (setAt sets (stepsOf top - 1)) xs count p
+maximum-read top ok held = last-read top top ok held (at-maximum top ok)
