@@ -186,10 +186,10 @@ uint8_t fugnadri_quality_process_rate_aware(size_t maximum, size_t margin, uint6
 
 /* ---- libfugnadri_wav.a: RIFF WAVE files ----------------------------------------------------------------------------------------------------
  *
- * A file that lies in memory: `*start` and `*length` are the bytes of its first `data`, `*kind` is 0 for PCM of 16 bits, 1 for PCM of 24, 2 for IEEE
+ * A file that lies in memory: `*start` and `*size` are the bytes of its first `data`, `*kind` is 0 for PCM of 16 bits, 1 for PCM of 24, 2 for IEEE
  * float of 32; zeros where it is refused, by 9 not RIFF WAVE or a RIFF size under 4, 10 a chunk runs past the end, 11 no `fmt ` before the first
  * `data`, 12 no `data`, 13 another kind, or sizes that do not agree. */
-uint8_t fugnadri_wav_read(const uint8_t *file, size_t file_len, uint8_t *kind, uint8_t *channels, uint32_t *rate, size_t *start, size_t *length);
+uint8_t fugnadri_wav_read(const uint8_t *file, size_t file_len, uint8_t *kind, uint8_t *channels, uint32_t *rate, size_t *start, size_t *size);
 
 /* One channel, counted from 0, of a part: PCM as whole multiples of 2^-15 or 2^-23, float as it is. `out` has an element for each frame. Refused by 1
  * (kind, channels, channel) or 2 (broken frames, or another number of them), and then nothing is written. */

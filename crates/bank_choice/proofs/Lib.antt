@@ -5,6 +5,11 @@ pub mod Growing
 pub mod Partition
 pub mod Coarse
 pub mod Room
+pub mod Counted
 pub mod NotLast
+pub mod OneSet
+pub mod NearOne
+pub mod AtMaximum
 pub mod OwnRate
+pub mod Last
 pub mod Worked

@@ -1,5 +1,6 @@
--- T4. Both sets are sets of the bank. A rate equal to a set's own rate reads the next tighter set, not that one, unless it is the last set or its rate is
--- within f64 epsilon of the rate below it: apart from the rate below, the sets before it are slower, and the blend is x / x, which is 1. Assumes nothing.
+-- T4. Both sets are sets of the bank. A rate equal to a set's own rate reads the next tighter set, not that one, unless
+-- it is the last set (`Last`) or its rate is within f64 epsilon of the rate below it: apart from the rate below, the
+-- sets before it are slower, and the blend is x / x, which is 1. Assumes nothing.
 use mathlib.Core.Path.{_≡_, refl, sym, _∙_}
 use mathlib.Core.Bool.{Bool, true, false, cond, true≢false}
 use Prim.Native.Nat.{ℕ, _+_, _-_, _<_, min}
@@ -14,6 +15,7 @@ use lib.Ieee.Fits.{and-i}
 use lib.Ieee.Scale.{finite}
 use Rattle.rounding.specs.Operations.{narrowed}
 use Rattle.order.specs.Choice.{clamped}
+use Rattle.magnitude.proofs.Comparisons.{lt→le}
 use Rattle.interval.proofs.Signed.{nle→lt, lt→nle, le-le, le-lt}
 use Rattle.interval.proofs.Between.{Between, between, point, difference-between}
 use Rattle.sinc_settings.specs.Ranges.{zero-f, one-f}
@@ -35,7 +37,7 @@ unfolding chosenOf
 tighter-inside top rate = omega (arith, least top)
 
 -- ---- what lies from 1 to the top is not clamped
-inside-stays : (x top : Float) → T (finite x) → T (finite top) → T (le one-f x) → T (le x top) → clamped x one-f top ≡ x
+pub inside-stays : (x top : Float) → T (finite x) → T (finite top) → T (le one-f x) → T (le x top) → clamped x one-f top ≡ x
 unfolding clamped
 inside-stays x top p q h k =
     rw (
@@ -82,7 +84,7 @@ module _ (top : Float) (ok : bankOk top ≡ true) (i : ℕ) (among : i < stepsOf
   finite-gap = gap-is .above .second
 
   module _ (wide : closeOf own low ≡ false) where
-    gap-above : T (lt zero-f gap)
+    pub gap-above : T (lt zero-f gap)
     unfolding le
     gap-above =
         let not-below = difference-ge own low finite-own finite-low (low-is .1) in
@@ -105,19 +107,21 @@ module _ (top : Float) (ok : bankOk top ≡ true) (i : ℕ) (among : i < stepsOf
     place : partitionOf top (stepsOf top) own ≡ i
     place = sym (found (slowerOf top (stepsOf top) own) (stepsOf top) i (omega arith) before (λ h. not-itself))
 
-    whole-blend : blendOf own own low ≡ one-f
+    pub whole-blend : blendOf own own low ≡ one-f
     unfolding blendOf narrowed round
     whole-blend = rw (over-itself gap finite-gap gap-above)
 
-    -- the rate, once it is clamped, is set i's own
-    pub reads-own : (rate : Float) → clamped rate one-f top ≡ own → (chosenOf top rate .safe ≡ i) × (chosenOf top rate .tighter ≡ min (i + 1) (stepsOf top - 1)) × (chosenOf top rate .which ≡ 1)
+    -- Set i's own rate, where it is at most the bank's, as it always is unless set i is the last. Where rounding took the
+    -- last set's rate above the bank's, no rate is that one once it is clamped: `Last` says what is read there.
+    pub reads-own : T (le own top)
+        → (chosenOf top own .safe ≡ i) × (chosenOf top own .tighter ≡ min (i + 1) (stepsOf top - 1)) × (chosenOf top own .which ≡ 1)
     unfolding chosenOf le
-    reads-own rate equal =
+    reads-own h =
+        let equal = inside-stays own top finite-own (in-range top ok .above .second) (own-is .above .order) h in
         let s : min i (stepsOf top - 1) ≡ i = min-eq-left (omega arith) in
         rw (equal, place, s, wide, whole-blend) (refl, refl, refl)
 
-    -- the rate is set i's own, and set i is not the last
     pub reads-next : i + 1 < stepsOf top → (chosenOf top own .safe ≡ i) × (chosenOf top own .tighter ≡ i + 1) × (chosenOf top own .which ≡ 1)
     reads-next more =
-        let r = reads-own own (inside-stays own top finite-own (in-range top ok .above .second) (own-is .above .order) (not-last top ok (i + 1) (omega arith) more)) in
+        let r = reads-own (lt→le own top (not-last top ok (i + 1) (omega arith) more)) in
         (r .0, r .1 ∙ min-eq-left (omega arith), r .2)

@@ -31,3 +31,24 @@ module _ (slower : ℕ → Bool) where
 
   pub bound : (n : ℕ) → firstFrom slower 0 n ≤ n
   bound n = omega (arith, bound-from 0 n)
+
+  later-from : (k n : ℕ) → k ≤ firstFrom slower k n
+  unfolding firstFrom
+  later-from k zero = omega arith
+  later-from k (suc n) = go (slower k) (later-from (suc k) n)
+    where
+      go : (b : Bool) → suc k ≤ firstFrom slower (suc k) n → k ≤ cond b (firstFrom slower (suc k) n) k
+      go true h = omega arith
+      go false h = omega arith
+
+  -- where all before p are slower, it is p or later
+  reached-from : (k n p : ℕ) → k ≤ p → p ≤ k + n → ((j : ℕ) → k ≤ j → j < p → slower j ≡ true) → p ≤ firstFrom slower k n
+  unfolding firstFrom
+  reached-from k zero p a b h = omega arith
+  reached-from k (suc n) p a b h = elim (eq-or-lt-of-le a) [
+    | inl q ↦ rw (← q) (later-from k (suc n))
+    | inr l ↦ let s = h k (omega arith) l in rw s (reached-from (suc k) n p l (omega arith) (λ j c d. h j (omega arith) d))
+  ]
+
+  pub reached : (n p : ℕ) → p ≤ n → ((j : ℕ) → j < p → slower j ≡ true) → p ≤ firstFrom slower 0 n
+  reached n p b h = reached-from 0 n p (omega arith) (omega arith) (λ j c d. h j d)

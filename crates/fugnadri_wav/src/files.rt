@@ -13,14 +13,14 @@ pub extern "C" fn fugnadri_wav_read(
     channels: &mut u8,
     rate: &mut u32,
     start: &mut usize,
-    length: &mut usize,
+    size: &mut usize,
 ) -> u8
     ensures { λ r. ⌜ r ≡ numberOf (foundIn (now (file .entry))) ⌝ }
     ensures { λ _. ⌜ now (kind .exit) ≡ codeOf (waveOf (foundIn (now (file .entry))) .kind) ⌝ }
     ensures { λ _. ⌜ now (channels .exit) ≡ waveOf (foundIn (now (file .entry))) .channels ⌝ }
     ensures { λ _. ⌜ now (rate .exit) ≡ waveOf (foundIn (now (file .entry))) .rate ⌝ }
     ensures { λ _. ⌜ now (start .exit) ≡ waveOf (foundIn (now (file .entry))) .start ⌝ }
-    ensures { λ _. ⌜ now (length .exit) ≡ waveOf (foundIn (now (file .entry))) .length ⌝ }
+    ensures { λ _. ⌜ now (size .exit) ≡ waveOf (foundIn (now (file .entry))) .length ⌝ }
 {
     let found = wav::read(file);
     let w = wave(found);
@@ -29,7 +29,7 @@ pub extern "C" fn fugnadri_wav_read(
     *channels = w.channels;
     *rate = w.rate;
     *start = w.start;
-    *length = w.length;
+    *size = w.length;
     number(found)
 }
 

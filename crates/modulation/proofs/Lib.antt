@@ -1,9 +1,7 @@
 pub mod Held
 pub mod Paces
 pub mod Ready
-pub mod Pieces
 pub mod Terms
-pub mod Quintic
 pub mod Wander
 pub mod Generators
 pub mod Kept

@@ -3,26 +3,13 @@
 use mathlib.Core.Path.{refl}
 use mathlib.Core.Bool.{Bool, true, false, _&&_, cond}
 use Prim.Native.Nat.{ℕ}
-use native.Mathlib.Nat.{mul-le-mul-right, le-of-mul-le-mul-right}
-use native.Mathlib.Omega.{arith}
 use lib.Dec.{T}
 use lib.IntN.{pos}
 use lib.Ieee.{Float, fin, binary64, add, sub, mul, le}
 use lib.Ieee.Fits.{and-l, and-r}
-use lib.Ieee.Positive.{den, den-pos}
 use lib.Ieee.Scale.{finite}
-use Rattle.interval.proofs.Signed.{ring, under, of-under}
-use Rattle.interval.proofs.Between.{Between, between, point, sum-between, difference-between}
+use Rattle.interval.proofs.Between.{Between, point, widen, sum-between, difference-between}
 use Rattle.interval.proofs.Products.{product-between}
-
-le-le : (x y z : Float) → T (finite x) → T (finite y) → T (finite z) → T (le x y) → T (le y z) → T (le x z)
-le-le x y z p q r h k =
-    of-under x z p r
-    (le-of-mul-le-mul-right (simp ring (omega (arith, simp ring at (mul-le-mul-right (den z) (under x y p q h)), simp ring at (mul-le-mul-right (den x) (under y z q r k))))) (den-pos y))
-
-widened : {a b x : Float} (l h : Float) → T (finite l) → T (finite h) → T (le l a) → T (le b h) → Between a b x → Between l h x
-widened {a} {b} {x} l h p q u v w =
-    between p q (le-le l a x p (w .above .first) (w .above .second) u (w .above .order)) (le-le x b h (w .below .first) (w .below .second) q (w .below .order) v)
 
 pub data Term : Type 0 where
   var : ℕ → Term
@@ -109,4 +96,4 @@ module _ (σ : ℕ → Ends) (ρ : ℕ → Float) (inside : (i : ℕ) → Betwee
   lies-between e {l} {h} t =
       let (fixed, safe, fits) = three (real (record { low = l; high = h })) (sure σ e) (le l (ends σ e .low) && le (ends σ e .high) h) t in
       let (p, q) = reals (record { low = l; high = h }) fixed in
-      widened l h p q (and-l (le l (ends σ e .low)) (le (ends σ e .high) h) fits) (and-r (le l (ends σ e .low)) (le (ends σ e .high) h) fits) (bounded e safe)
+      widen (bounded e safe) p q (and-l (le l (ends σ e .low)) (le (ends σ e .high) h) fits) (and-r (le l (ends σ e .low)) (le (ends σ e .high) h) fits)

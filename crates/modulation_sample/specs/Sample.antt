@@ -8,6 +8,10 @@ use Rattle.modulation_params.specs.declared.ModulationParams.{ModulationParams}
 use Rattle.modulation_engine.specs.declared.ModulationEngine.{ModulationEngine}
 use Rattle.modulation_sample.specs.declared.StereoDelayOffset.{StereoDelayOffset}
 
+-- 001's StereoDelayOffset::default
+abbrev pub defaultOffset : StereoDelayOffset
+defaultOffset = record { left = numbers.zero; right = numbers.zero }
+
 -- 0.5, which is WOW_DRIFT_TARGETS_PER_CYCLE too
 abbrev pub half : Float
 half = ofBits binary64 0x3fe0_0000_0000_0000

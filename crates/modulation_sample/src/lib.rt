@@ -4,7 +4,7 @@ ghost use mathlib.Core.Bool.{_&&_};
 ghost use lib.Dec.{eqb};
 ghost use lib.Ieee as Ieee;
 ghost use lib.Ieee.{binary64};
-ghost use Rattle.modulation_sample.specs.Sample.{multiplierOf, offsetOf, steppedBy};
+ghost use Rattle.modulation_sample.specs.Sample.{defaultOffset, multiplierOf, offsetOf, steppedBy};
 use modulation_engine::ModulationEngine;
 use modulation_params::ModulationParams;
 use patterns::bits_of;
@@ -25,6 +25,16 @@ pub enum Offset {
 pub struct Next {
     pub engine: ModulationEngine,
     pub offset: Offset,
+}
+
+// 001's StereoDelayOffset::default.
+pub fn default_offset() -> StereoDelayOffset
+    ensures { λ r. ⌜ r ≡ defaultOffset ⌝ }
+{
+    StereoDelayOffset {
+        left: 0.0,
+        right: 0.0,
+    }
 }
 
 // Full drift permits an oscillator to wander by half an octave.

@@ -24,10 +24,10 @@ pub struct Turn {
 }
 
 // G2. At most 2^24, so that a weight and the length are both f32 values.
-pub fn length_ok(length: u32) -> bool
-    ensures { λ r. ⌜ r ≡ lengthOk length ⌝ }
+pub fn length_ok(crossfade: u32) -> bool
+    ensures { λ r. ⌜ r ≡ lengthOk crossfade ⌝ }
 {
-    length <= 16777216
+    crossfade <= 16777216
 }
 
 // G2. At most the length, and below it where a fade runs.
@@ -63,14 +63,14 @@ pub fn step(state: Fade, asked: QualityMode) -> Turn
 }
 
 // Q3. Opening, with its one quality.
-pub fn open(quality: QualityMode, length: u32) -> Fade
-    ensures { λ r. ⌜ r ≡ openOf quality length ⌝ }
+pub fn open(quality: QualityMode, crossfade: u32) -> Fade
+    ensures { λ r. ⌜ r ≡ openOf quality crossfade ⌝ }
 {
     Fade {
         current: quality,
         target: quality,
-        place: length,
-        length: length,
+        place: crossfade,
+        length: crossfade,
     }
 }
 

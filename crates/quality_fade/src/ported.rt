@@ -33,14 +33,14 @@ fn plain(state: Fade) -> bool
     }
 }
 
-fn left(current: QualityMode, target: QualityMode, place: u32, length: u32) -> Fade
-    ensures { λ r. ⌜ r ≡ fadeOf current target place length ⌝ }
+fn left(current: QualityMode, target: QualityMode, place: u32, crossfade: u32) -> Fade
+    ensures { λ r. ⌜ r ≡ fadeOf current target place crossfade ⌝ }
 {
     Fade {
         current: current,
         target: target,
         place: place,
-        length: length,
+        length: crossfade,
     }
 }
 

@@ -1,9 +1,14 @@
--- 000's QualityMode: the four qualities, and the taps and phases of each one's table (01, 'Tables and the bank'). Definitions only.
+-- 000's QualityMode: the four qualities, its default, and the taps and phases of each one's table (01, 'Tables and the
+-- bank'). Definitions only.
 use Prim.Native.Nat.{ℕ}
 use mathlib.Core.Bool.{Bool}
 use lib.Dec.{eqb}
 use Rattle.quality_mode.specs.declared.QualityMode.{QualityMode}
 use Rattle.quality_mode.specs.declared.QualityMode.the-variants.{Draft, Normal, Hq, Ultra}
+
+-- the one that 000 marks as its default
+abbrev pub defaultQuality : QualityMode
+defaultQuality = Hq
 
 -- the place in 000's list, from 0
 abbrev pub codeOf : QualityMode → ℕ

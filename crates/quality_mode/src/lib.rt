@@ -1,6 +1,6 @@
-// 000's QualityMode: the four qualities by their numbers, and the taps and phases of each one's table.
+// 000's QualityMode: the four qualities by their numbers, its default, and the taps and phases of each one's table.
 ghost use mathlib.Core.Path.{_≡_};
-ghost use Rattle.quality_mode.specs.Quality.{codeOf, sameQ, tapsOf, phasesOf};
+ghost use Rattle.quality_mode.specs.Quality.{defaultQuality, codeOf, sameQ, tapsOf, phasesOf};
 ghost use Rattle.quality_mode.specs.Names.{namedOf};
 
 pub enum QualityMode {
@@ -13,6 +13,13 @@ pub enum QualityMode {
 pub enum Named {
     Quality(QualityMode),
     Refused(u8),
+}
+
+// 000's QualityMode::default.
+pub fn default_quality() -> QualityMode
+    ensures { λ r. ⌜ r ≡ defaultQuality ⌝ }
+{
+    QualityMode::Hq
 }
 
 // The place in 000's list, from 0: what a quality is called where only numbers cross.

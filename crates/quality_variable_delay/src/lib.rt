@@ -84,12 +84,12 @@ pub fn refusal(
     ensures { λ r. ⌜ r ≡ verdict bank lent state len input delay «playback_rate» ⌝ }
 {
     let n = state.accepted;
-    let length = ring::length_for(state.maximum, state.margin);
+    let needed = ring::length_for(state.maximum, state.margin);
     let t1 = both(
-        length != 0,
+        needed != 0,
         both(quality_fade::length_ok(state.crossfade_samples), bank),
     );
-    let t2 = both(len == length, lent);
+    let t2 = both(len == needed, lent);
     let t3 = both(n <= 68719476736, quality_fade::place_ok(fading(state)));
     let t4 = magnitude::is_finite_f32(input);
     let t5 = both(magnitude::is_finite(delay), delay >= 0.0);

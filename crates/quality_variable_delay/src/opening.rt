@@ -33,12 +33,12 @@ pub fn open(
 pub fn reset_refusal(state: QualityVariableDelayF32, len: usize) -> u8
     ensures { λ r. ⌜ r ≡ resetVerdict state len ⌝ }
 {
-    let length = ring::length_for(state.maximum, state.margin);
+    let needed = ring::length_for(state.maximum, state.margin);
     let t1 = super::both(
-        length != 0,
+        needed != 0,
         quality_fade::length_ok(state.crossfade_samples),
     );
-    let t2 = len == length;
+    let t2 = len == needed;
     let t3 = super::both(
         state.accepted <= 68719476736,
         quality_fade::place_ok(super::fading(state)),

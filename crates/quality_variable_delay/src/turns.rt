@@ -11,10 +11,10 @@ ghost use Rattle.quality_variable_delay.specs.Reader.{weightOf, mixedOf,
 use quality_fade::Turn;
 
 // `from + (to - from) * mix.min(1.0)`
-fn mix(from: f32, to: f32, weight: u32, length: u32) -> f32
-    ensures { λ r. ⌜ r ≡ mixedOf from to (weightOf weight length) ⌝ }
+fn mix(from: f32, to: f32, weight: u32, crossfade: u32) -> f32
+    ensures { λ r. ⌜ r ≡ mixedOf from to (weightOf weight crossfade) ⌝ }
 {
-    let share = std::num::nearest_u32_to_f32(weight) / std::num::nearest_u32_to_f32(length);
+    let share = std::num::nearest_u32_to_f32(weight) / std::num::nearest_u32_to_f32(crossfade);
     from + (to - from) * order::min_f32(share, 1.0)
 }
 

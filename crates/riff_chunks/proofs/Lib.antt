@@ -2,3 +2,4 @@ pub mod Names
 pub mod Steps
 pub mod Seen
 pub mod Turn
+pub mod Short

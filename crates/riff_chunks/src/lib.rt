@@ -1,10 +1,10 @@
 // W1. The walk over the chunks of a RIFF WAVE file: which of them run past the end, and where the first `fmt ` and the first `data` stand.
-// Any bytes and any end are taken: bytes that the file does not have count as 0.
+// Any bytes and any end are taken. An end behind the file is cut to it, so that a walk is never longer than the file.
 ghost use mathlib.Core.Path.{_≡_};
-ghost use Prim.Native.Nat.{_+_, _-_, _<_};
+ghost use Prim.Native.Nat.{_+_, _-_, _<_, min};
 ghost use Rattle.word_bytes.specs.Bytes.{bytesValue};
 ghost use Rattle.riff_chunks.specs.Chunks.{chunkAt};
-ghost use Rattle.riff_chunks.specs.Walk.{walkOf, leftAfter};
+ghost use Rattle.riff_chunks.specs.Walk.{walkTo, walkOf, leftAfter};
 
 mod spots;
 
@@ -31,9 +31,22 @@ pub struct Walked {
     pub samples: Spot,
 }
 
-// The chunks between the 12 bytes of a RIFF's beginning and its end. What is left before the end is counted, so that no sum can pass a word.
+// The chunks between the 12 bytes of a RIFF's beginning and its end, or the file's where that comes first.
 pub fn walk(file: &[u8], end: usize) -> Walked
     ensures { λ r. ⌜ r ≡ walkOf (now (file .entry)) end ⌝ }
+{
+    walk_to(file, earlier(end, file.len()))
+}
+
+fn earlier(end: usize, len: usize) -> usize
+    ensures { λ r. ⌜ r ≡ min end len ⌝ }
+{
+    if end < len { end } else { len }
+}
+
+// The same up to an end. What is left before the end is counted, so that no sum can pass a word.
+fn walk_to(file: &[u8], end: usize) -> Walked
+    ensures { λ r. ⌜ r ≡ walkTo (now (file .entry)) end ⌝ }
 {
     let mut left: usize = behind_start(end);
     let mut seen = unseen();

@@ -34,10 +34,10 @@ verdict own lent d len x y =
 
 -- The same on the length that `ring::length_for` gives, which is 0 where the settings are out of range: as the code tests it.
 abbrev pub dueOf : ℕ → Bool → Bool → ℕ → ℕ → Float → Float → ℕ
-dueOf length own lent len accepted x y =
+dueOf needed own lent len accepted x y =
     firstOf
-    (1 unless (not (eqb length 0) && own)
-    ∷ 2 unless (eqb len length && lent)
+    (1 unless (not (eqb needed 0) && own)
+    ∷ 2 unless (eqb len needed && lent)
     ∷ 3 unless leb accepted (2 ^ 36)
     ∷ 4 unless finite x
     ∷ 5 unless (finite y && le (fin false 0 (pos 0)) y)

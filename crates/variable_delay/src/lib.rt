@@ -48,9 +48,9 @@ pub fn accept(
     ensures { λ r. ⌜ now (ring .exit) ≡ ringAfter (verdict own lent state (length (now (ring .entry))) input delay) state (now (ring .entry)) input ⌝ }
 {
     let len = ring.len();
-    let length = ring::length_for(state.maximum, state.margin);
+    let needed = ring::length_for(state.maximum, state.margin);
     let i = state.accepted;
-    if passes(length, own, lent, len, i, input, delay) {
+    if passes(needed, own, lent, len, i, input, delay) {
         let at = (i & (len as u64 - 1)) as usize;
         ring[at] = input;
         return Accepted {
@@ -60,7 +60,7 @@ pub fn accept(
         };
     }
     Accepted {
-        refusal: due(length, own, lent, len, i, input, delay),
+        refusal: due(needed, own, lent, len, i, input, delay),
         count: 0,
         position: 0.0,
     }

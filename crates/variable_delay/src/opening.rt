@@ -25,9 +25,9 @@ pub fn reset(state: VariableDelay, ring: &mut [f64]) -> Opened
     ensures { λ r. ⌜ r ≡ resetOf state (length (now (ring .entry))) ⌝ }
     ensures { λ r. ⌜ now (ring .exit) ≡ ringReset state (now (ring .entry)) ⌝ }
 {
-    let length = ring::length_for(state.maximum, state.margin);
-    let t1 = length != 0;
-    let t2 = ring.len() == length;
+    let needed = ring::length_for(state.maximum, state.margin);
+    let t1 = needed != 0;
+    let t2 = ring.len() == needed;
     let t3 = state.accepted <= 68719476736;
     let no = answer::first(t1, t2, t3, true, true, true, true, true);
     if no != 0 {

@@ -16,13 +16,13 @@ pub fn refusal(
 ) -> u8
     ensures { λ r. ⌜ r ≡ verdict own lent state len input delay ⌝ }
 {
-    let length = ring::length_for(state.maximum, state.margin);
-    due(length, own, lent, len, state.accepted, input, delay)
+    let needed = ring::length_for(state.maximum, state.margin);
+    due(needed, own, lent, len, state.accepted, input, delay)
 }
 
 // The same for the length that the settings need, 0 where they are out of range.
 pub(crate) fn due(
-    length: usize,
+    needed: usize,
     own: bool,
     lent: bool,
     len: usize,
@@ -30,10 +30,10 @@ pub(crate) fn due(
     input: f64,
     delay: f64,
 ) -> u8
-    ensures { λ r. ⌜ r ≡ dueOf length own lent len accepted input delay ⌝ }
+    ensures { λ r. ⌜ r ≡ dueOf needed own lent len accepted input delay ⌝ }
 {
-    let t1 = both(length != 0, own);
-    let t2 = both(len == length, lent);
+    let t1 = both(needed != 0, own);
+    let t2 = both(len == needed, lent);
     let t3 = accepted <= 68719476736;
     let t4 = magnitude::is_finite(input);
     let t5 = both(magnitude::is_finite(delay), delay >= 0.0);
@@ -44,7 +44,7 @@ pub(crate) fn due(
 
 // Whether none is due, which asks less: a delay from 0 to 2^36 is finite, and a count below 2^36 is in range.
 pub(crate) fn passes(
-    length: usize,
+    needed: usize,
     own: bool,
     lent: bool,
     len: usize,
@@ -52,10 +52,10 @@ pub(crate) fn passes(
     input: f64,
     delay: f64,
 ) -> bool
-    ensures { λ r. ⌜ r ≡ eqb (dueOf length own lent len accepted input delay) 0 ⌝ }
+    ensures { λ r. ⌜ r ≡ eqb (dueOf needed own lent len accepted input delay) 0 ⌝ }
 {
-    let t1 = both(length != 0, own);
-    let t2 = both(len == length, lent);
+    let t1 = both(needed != 0, own);
+    let t2 = both(len == needed, lent);
     let t4 = both(
         magnitude::is_finite(input),
         magnitude::within(delay, 0.0, 68719476736.0),

@@ -36,9 +36,9 @@ pub fn reset(state: VariableDelay, ring: &mut [f32]) -> Opened
     ensures { λ r. ⌜ r ≡ resetOf state (length (now (ring .entry))) ⌝ }
     ensures { λ r. ⌜ now (ring .exit) ≡ ringReset state (now (ring .entry)) ⌝ }
 {
-    let length = ring::length_for(state.maximum, state.margin);
-    let t1 = length != 0;
-    let t2 = ring.len() == length;
+    let needed = ring::length_for(state.maximum, state.margin);
+    let t1 = needed != 0;
+    let t2 = ring.len() == needed;
     let t3 = state.accepted <= 68719476736;
     let no = answer::first(t1, t2, t3, true, true, true, true, true);
     if no != 0 {
@@ -67,9 +67,9 @@ pub fn refusal(
         return 0;
     }
     let n = state.accepted;
-    let length = ring::length_for(state.maximum, state.margin);
-    let t1 = both(length != 0, own);
-    let t2 = both(len == length, lent);
+    let needed = ring::length_for(state.maximum, state.margin);
+    let t1 = both(needed != 0, own);
+    let t2 = both(len == needed, lent);
     let t3 = n <= 68719476736;
     let t4 = magnitude::is_finite_f32(input);
     let t5 = both(magnitude::is_finite(delay), delay >= 0.0);

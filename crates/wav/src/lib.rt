@@ -38,7 +38,7 @@ pub fn read(file: &[u8]) -> Found
 {
     let size = word_bytes::low_first_u32(file, 4);
     let end = 8 + size as usize;
-    // Where the RIFF runs past the file there is no need to walk: up to 2^32 bytes that are not there would be.
+    // Where the RIFF runs past the file the number is known without a walk.
     if file.len() < end {
         return Found::Refused(past(is_wave(file)));
     }

@@ -2,7 +2,7 @@
 
 #[rustfmt::skip]
 extern "C" {
-    fn fugnadri_wav_read(file: *const u8, file_len: usize, kind: &mut u8, channels: &mut u8, rate: &mut u32, start: &mut usize, length: &mut usize) -> u8;
+    fn fugnadri_wav_read(file: *const u8, file_len: usize, kind: &mut u8, channels: &mut u8, rate: &mut u32, start: &mut usize, size: &mut usize) -> u8;
     fn fugnadri_wav_samples(kind: u8, channels: u8, channel: u8, part: *const u8, part_len: usize, out: *mut f64, out_len: usize) -> u8;
     fn fugnadri_wav_samples_f32(kind: u8, channels: u8, channel: u8, part: *const u8, part_len: usize, out: *mut f32, out_len: usize) -> u8;
 }

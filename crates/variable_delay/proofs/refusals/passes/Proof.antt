@@ -20,7 +20,7 @@ returns c =
       b .before .before .before .both2 .ensures,
       b .before .before .before .before .both .ensures,
     )
-    (none-due (a .length) (a .own) (a .lent) (a .len) (a .accepted) (a .input) (a .delay))
+    (none-due (a .needed) (a .own) (a .lent) (a .len) (a .accepted) (a .input) (a .delay))
 
 pub passes-spec : {M : Type 1} → statement M
 passes-spec =
