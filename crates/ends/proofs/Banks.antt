@@ -13,8 +13,7 @@ unfolding le f64
 set-rates = refl
 
 -- one set at the rate 1, fifty at the rate 2
-pub bank-rates :
-    bankVerdict (f64 0x3fef_ffff_ffff_ffff) 1081648 ∷ bankVerdict one 1081648
+pub bank-rates : bankVerdict (f64 0x3fef_ffff_ffff_ffff) 1081648 ∷ bankVerdict one 1081648
     ∷ bankVerdict (f64 0x4000_0000_0000_0000) 54082400 ∷ bankVerdict (f64 0x4000_0000_0000_0001) 54082400
     ∷ bankVerdict nan 0 ∷ []
     ≡ 1 ∷ 0 ∷ 0 ∷ 1 ∷ 1 ∷ []

@@ -47,8 +47,7 @@ unfolding steppedBy
 scales = refl
 
 -- G8, N3. The flutter generator is held to the same.
-pub flutter-generator :
-    stepped 9 0 ∷ stepped 10 0 ∷ stepped 11 0x3ff0_0000_0000_0001 ∷ stepped 12 0xbff0_0000_0000_0001
+pub flutter-generator : stepped 9 0 ∷ stepped 10 0 ∷ stepped 11 0x3ff0_0000_0000_0001 ∷ stepped 12 0xbff0_0000_0000_0001
     ∷ stepped 13 0x3ff0_0000_0000_0000 ∷ stepped 14 0x3ff5_9999_9999_999b ∷ []
     ≡ 3 ∷ 3 ∷ 3 ∷ 3 ∷ 3 ∷ 3 ∷ []
 unfolding steppedBy
@@ -66,15 +65,13 @@ unfolding rated f64
 set-rates = refl
 
 -- N9. 1 before 3: the sample rate that is kept, a setting of the step, a sample rate that is set; in each call.
-pub order :
-    steppedBy off defaultParams ∷ steppedBy (with 3 0) (paramsOf nan one one one one one one one)
+pub order : steppedBy off defaultParams ∷ steppedBy (with 3 0) (paramsOf nan one one one one one one one)
     ∷ steppedBy (with 3 0) defaultParams ∷ []
     ≡ 1 ∷ 1 ∷ 3 ∷ []
 unfolding steppedBy
 order = refl
 
-pub set-order :
-    rated off rate-8000 ∷ rated (with 3 0) zero ∷ rated (with 3 0) rate-8000 ∷ seeded off
+pub set-order : rated off rate-8000 ∷ rated (with 3 0) zero ∷ rated (with 3 0) rate-8000 ∷ seeded off
     ∷ seeded (with 3 0) ∷ restarted off ∷ restarted (with 3 0) ∷ []
     ≡ 1 ∷ 1 ∷ 3 ∷ 1 ∷ 3 ∷ 1 ∷ 3 ∷ []
 unfolding rated seeded restarted f64

@@ -10,8 +10,7 @@ use Rattle.fugnadri_wav.specs.Doors.{kindOf, channelsOf}
 use Rattle.ends.specs.Files.{format, formatted, ofKind, refused, coded}
 
 -- 13. A `fmt ` has at least 16 bytes; 15 and 17 have a pad byte.
-pub fmt-sizes :
-    refused (formatted 14 (take 14 (format 1 1 2 16)) 4) ∷ refused (formatted 15 (format 1 1 2 16) 4)
+pub fmt-sizes : refused (formatted 14 (take 14 (format 1 1 2 16)) 4) ∷ refused (formatted 15 (format 1 1 2 16) 4)
     ∷ refused (formatted 16 (format 1 1 2 16) 4) ∷ refused (formatted 17 (format 1 1 2 16 ++ (0 ∷ 0 ∷ [])) 4)
     ∷ refused (formatted 18 (format 1 1 2 16 ++ (0 ∷ 0 ∷ [])) 4) ∷ []
     ≡ 13 ∷ 13 ∷ 0 ∷ 0 ∷ 0 ∷ []
@@ -62,8 +61,7 @@ codes-in-24 = refl
 
 -- N1, N2, N9. A channel's samples: one or two channels, and one of that number; then whole frames, as many as are lent.
 -- 1 before 2.
-pub sample-channels :
-    verdict Pcm16 0 0 0 0 ∷ verdict Pcm16 1 0 6 3 ∷ verdict Pcm16 1 1 6 3
+pub sample-channels : verdict Pcm16 0 0 0 0 ∷ verdict Pcm16 1 0 6 3 ∷ verdict Pcm16 1 1 6 3
     ∷ verdict Pcm16 2 1 12 3 ∷ verdict Pcm16 2 2 12 3 ∷ verdict Pcm16 3 0 18 3 ∷ []
     ≡ 1 ∷ 0 ∷ 1 ∷ 0 ∷ 1 ∷ 1 ∷ []
 sample-channels = refl

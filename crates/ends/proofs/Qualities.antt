@@ -11,8 +11,7 @@ use Rattle.ends.specs.Readers.{asked, renewed, faded}
 
 -- N9. Each call has a fault fewer than the one above it: maximum delay, crossfade and the bank's rate by 1; the lengths
 -- of ring and bank by 2; count and fade place by 3; then the sample, the delay twice, the rate, and a full state.
-pub order :
-    asked (stateOf 16777209 0 (2 ^ 36 + 1) 0 1 16777217 16777217) 7 0 nan nan (inf false) nan
+pub order : asked (stateOf 16777209 0 (2 ^ 36 + 1) 0 1 16777217 16777217) 7 0 nan nan (inf false) nan
     ∷ asked (stateOf 0 0 (2 ^ 36 + 1) 0 1 16777217 16777217) 7 0 nan nan (inf false) nan
     ∷ asked (stateOf 0 0 (2 ^ 36 + 1) 0 1 9 9) 7 0 nan nan (inf false) nan
     ∷ asked (stateOf 0 0 (2 ^ 36 + 1) 0 1 9 9) 7 0 one nan (inf false) nan
@@ -30,8 +29,7 @@ pub order :
 unfolding asked f64
 order = refl
 
-pub reset-order :
-    renewed (stateOf 16777209 0 (2 ^ 36 + 1) 0 1 16777217 16777217) 7
+pub reset-order : renewed (stateOf 16777209 0 (2 ^ 36 + 1) 0 1 16777217 16777217) 7
     ∷ renewed (stateOf 0 0 (2 ^ 36 + 1) 0 1 16777217 16777217) 7
     ∷ renewed (stateOf 0 0 (2 ^ 36 + 1) 0 1 9 9) 7
     ∷ renewed (stateOf 0 0 (2 ^ 36 + 1) 0 1 9 9) 8
@@ -47,8 +45,8 @@ pub crossfades : map (faded 0 0 0) (0 ∷ 16777215 ∷ 16777216 ∷ 16777217 ∷
 unfolding asked f64
 crossfades = refl
 
-pub reset-crossfades :
-    map (λ (n : ℕ). renewed (stateOf 0 0 0 0 0 n n) 8) (0 ∷ 16777215 ∷ 16777216 ∷ 16777217 ∷ (2 ^ 32 - 1) ∷ [])
+pub reset-crossfades : map (λ (n : ℕ). renewed (stateOf 0 0 0 0 0 n n) 8)
+    (0 ∷ 16777215 ∷ 16777216 ∷ 16777217 ∷ (2 ^ 32 - 1) ∷ [])
     ≡ 0 ∷ 0 ∷ 0 ∷ 1 ∷ 1 ∷ []
 unfolding renewed
 reset-crossfades = refl
@@ -71,8 +69,7 @@ unfolding renewed
 reset-places = refl
 
 -- G6, N1, N2. The bank's rate is 1 to 2, and its sets are lent to the element.
-pub bank-rates :
-    map (λ t. asked (stateOf 0 0 0 0 0 0 0) 8 1081648 t one one one)
+pub bank-rates : map (λ t. asked (stateOf 0 0 0 0 0 0 0) 8 1081648 t one one one)
     (across 0x3ff0_0000_0000_0000 0x4000_0000_0000_0000)
     ≡ 1 ∷ 0 ∷ 2 ∷ 1 ∷ 1 ∷ 1 ∷ 1 ∷ []
 unfolding asked f64
@@ -84,8 +81,7 @@ unfolding asked f64
 bank-lengths = refl
 
 -- N3, N8. The state at 2^36 is valid and full.
-pub counts :
-    map (λ (n : ℕ). asked (stateOf 0 0 n 0 0 0 0) 8 1081648 one one one one)
+pub counts : map (λ (n : ℕ). asked (stateOf 0 0 n 0 0 0 0) 8 1081648 one one one one)
     ((2 ^ 36 - 1) ∷ (2 ^ 36) ∷ (2 ^ 36 + 1) ∷ [])
     ≡ 0 ∷ 8 ∷ 3 ∷ []
 unfolding asked f64

@@ -11,8 +11,7 @@ use Rattle.ends.specs.Readers.{calledBy, called, opened, restarted}
 
 -- N9. Each call has a fault fewer than the one above it: the settings, the ring's length, a count above 2^36, a NaN, an
 -- infinite delay, one above 2^36, and a full state.
-pub order :
-    called 16777209 0 7 (2 ^ 36 + 1) nan (inf false)
+pub order : called 16777209 0 7 (2 ^ 36 + 1) nan (inf false)
     ∷ called 0 0 7 (2 ^ 36 + 1) nan (inf false)
     ∷ called 0 0 8 (2 ^ 36 + 1) nan (inf false)
     ∷ called 0 0 8 (2 ^ 36) nan (inf false)
@@ -26,16 +25,14 @@ unfolding calledBy f64
 order = refl
 
 -- N9. A kernel's own settings give 1 and its table 2, before all that follows.
-pub kernel-order :
-    calledBy false false 0 0 8 (2 ^ 36 + 1) nan nan ∷ calledBy true false 0 0 8 (2 ^ 36 + 1) nan nan
+pub kernel-order : calledBy false false 0 0 8 (2 ^ 36 + 1) nan nan ∷ calledBy true false 0 0 8 (2 ^ 36 + 1) nan nan
     ∷ calledBy true true 0 0 8 0 one one ∷ []
     ≡ 1 ∷ 2 ∷ 0 ∷ []
 unfolding calledBy f64
 kernel-order = refl
 
 -- N9. A reset and an opening likewise; a full state may be reset.
-pub reset-order :
-    restarted 16777209 0 7 (2 ^ 36 + 1) ∷ restarted 0 0 7 (2 ^ 36 + 1) ∷ restarted 0 0 8 (2 ^ 36 + 1)
+pub reset-order : restarted 16777209 0 7 (2 ^ 36 + 1) ∷ restarted 0 0 7 (2 ^ 36 + 1) ∷ restarted 0 0 8 (2 ^ 36 + 1)
     ∷ restarted 0 0 8 (2 ^ 36) ∷ []
     ≡ 1 ∷ 2 ∷ 3 ∷ 0 ∷ []
 unfolding restarted

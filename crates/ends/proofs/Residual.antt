@@ -9,8 +9,7 @@ use Rattle.residual.specs.Report.{emptyReport}
 use Rattle.ends.specs.Reports.{reported, compared, carried, silence, ends24, placed}
 
 -- N9. Each call has a fault fewer than the one above it: a value, the lengths, the carried report, its number.
-pub order :
-    compared (reported (2 ^ 36 + 1) 0 (At 0) 0) (pos (2 ^ 23) ∷ []) []
+pub order : compared (reported (2 ^ 36 + 1) 0 (At 0) 0) (pos (2 ^ 23) ∷ []) []
     ∷ compared (reported (2 ^ 36 + 1) 0 (At 0) 0) silence []
     ∷ compared (reported (2 ^ 36 + 1) 0 (At 0) 0) silence silence
     ∷ compared (reported (2 ^ 36) 0 (At 0) 0) silence silence
@@ -30,8 +29,7 @@ unfolding compared
 other-values = refl
 
 -- 2. Lengths that differ; none is a length too.
-pub lengths :
-    compared emptyReport silence [] ∷ compared emptyReport [] silence ∷ compared emptyReport silence silence
+pub lengths : compared emptyReport silence [] ∷ compared emptyReport [] silence ∷ compared emptyReport silence silence
     ∷ compared emptyReport [] [] ∷ []
     ≡ 2 ∷ 2 ∷ 0 ∷ 0 ∷ []
 unfolding compared
@@ -69,8 +67,7 @@ pub sums : map (carried 5 3 (At 4)) (8 ∷ 9 ∷ 45 ∷ 46 ∷ []) ≡ 3 ∷ 0 �
 unfolding compared
 sums = refl
 
-pub largest-sums :
-    map (carried (2 ^ 36) (2 ^ 24 - 1) (At 0)) (((2 ^ 24 - 1) ^ 2 - 1) ∷ ((2 ^ 24 - 1) ^ 2)
+pub largest-sums : map (carried (2 ^ 36) (2 ^ 24 - 1) (At 0)) (((2 ^ 24 - 1) ^ 2 - 1) ∷ ((2 ^ 24 - 1) ^ 2)
     ∷ (2 ^ 36 * (2 ^ 24 - 1) ^ 2) ∷ (2 ^ 36 * (2 ^ 24 - 1) ^ 2 + 1) ∷ [])
     ≡ 3 ∷ 0 ∷ 0 ∷ 3 ∷ []
 unfolding compared

@@ -74,8 +74,8 @@ pub quotients : map (builtFor one) (f64 0x3f50_0000_0000_0000 ∷ f64 0x3f4f_fff
 unfolding builtFor f64
 quotients = refl
 
-pub quotients-halved :
-    map (builtFor (f64 0x4000_0000_0000_0000)) (f64 0x3f60_0000_0000_0000 ∷ f64 0x3f5f_ffff_ffff_ffff ∷ [])
+pub quotients-halved : map (builtFor (f64 0x4000_0000_0000_0000))
+    (f64 0x3f60_0000_0000_0000 ∷ f64 0x3f5f_ffff_ffff_ffff ∷ [])
     ≡ 0 ∷ 1 ∷ []
 unfolding builtFor f64
 quotients-halved = refl
@@ -87,8 +87,7 @@ lengths = refl
 pub order : tableVerdict 130 64 0 ∷ tableVerdict 32 4097 0 ∷ tableVerdict 32 64 0 ∷ [] ≡ 1 ∷ 1 ∷ 2 ∷ []
 order = refl
 
-pub slice-order :
-    sampleVerdict 130 64 0 one ∷ sampleVerdict 32 64 0 nan ∷ sampleVerdict 32 64 0 one
+pub slice-order : sampleVerdict 130 64 0 one ∷ sampleVerdict 32 64 0 nan ∷ sampleVerdict 32 64 0 one
     ∷ sampleVerdict 32 64 2080 limit ∷ []
     ≡ 1 ∷ 1 ∷ 2 ∷ 0 ∷ []
 unfolding le f64

@@ -25,8 +25,7 @@ unfolding lengthFor placeOk size
 opened = refl
 
 -- A reset asks for none. Each state has a fault fewer than the one above it.
-pub reset-order :
-    renewed (stateOf 16777209 0 0 4 4 9 9) 7
+pub reset-order : renewed (stateOf 16777209 0 0 4 4 9 9) 7
     ∷ renewed (stateOf 0 0 0 4 4 9 9) 7
     ∷ renewed (stateOf 0 0 0 4 4 9 9) 8
     ∷ renewed (stateOf 0 0 0 3 4 0 9) 8

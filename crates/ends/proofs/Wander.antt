@@ -4,7 +4,8 @@ use mathlib.Core.Bool.{false, true}
 use mathlib.Core.List.{[], _∷_, map}
 use lib.Ieee.{neg, lt, le}
 use Rattle.elementary.specs.Answers.{refusalOf}
-use Rattle.oscillators.specs.Answers.{answeredBy, depthsOk, speedDeltaOf, advancePhaseOf, shapePrimitiveOf, oscillatorDelayOf, excursionOf, rateDeltaOf}
+use Rattle.oscillators.specs.Answers.{answeredBy, depthsOk, speedDeltaOf, advancePhaseOf}
+use Rattle.oscillators.specs.Answers.{shapePrimitiveOf, oscillatorDelayOf, excursionOf, rateDeltaOf}
 use Rattle.modulation_params.specs.Settings.{paramsOk}
 use Rattle.modulation_engine.specs.Engine.{numberOf, openedOf}
 use Rattle.engine_words.specs.Words.{paramsOf}
@@ -52,8 +53,8 @@ pub oscillator-rates : map (λ r. refusalOf (oscillatorDelayOf one r one one rat
 unfolding answeredBy le neg f64
 oscillator-rates = refl
 
-pub minimum-rates :
-    map (λ r. refusalOf (excursionOf one r rate-8000)) (across 0x3f50_624d_d2f1_a9fc 0x408f_4000_0000_0000)
+pub minimum-rates : map (λ r. refusalOf (excursionOf one r rate-8000))
+    (across 0x3f50_624d_d2f1_a9fc 0x408f_4000_0000_0000)
     ≡ 1 ∷ 0 ∷ 0 ∷ 1 ∷ 1 ∷ 1 ∷ 1 ∷ []
 unfolding answeredBy le neg f64
 minimum-rates = refl
