@@ -7,7 +7,8 @@
 
 The lines are those of 000's CubicFarrow in 000's order, done with this language's own doubles, which round as IEEE 754 says. A reader is a list of the
 samples accepted so far here, with no ring and no place in it. The samples are 1, 2, 3, 4, whose lines must be 01's; values at the edges of the format, NaNs
-and infinities; samples of 24 bits; and patterns drawn at random. There are more of them than the program reads at once, and a trailing part of three bytes.
+and infinities; samples of 24 bits; and patterns drawn at random. They fill three of the program's blocks and a part of a fourth, so that a program that
+stops after any of them is told; behind them stands a trailing part of three bytes.
 
 Needs Python 3.8 or newer and nothing else. The inputs come from a generator of its own with the seed below, so every run writes the same bytes.
 """
@@ -25,6 +26,7 @@ SEED = 0x9E3779B97F4A7C15
 ROOT = os.path.join(os.path.dirname(os.path.abspath(__file__)), "..", "..", "crates", "trace")
 RING = 8
 DELAY = 1.5
+BLOCK = 1024
 TRAILING = b"\x00\xF0\x3F"
 FOUR = """0 BFB0000000000000
 1 3FDC000000000000
@@ -75,13 +77,13 @@ def inputs():
     yield from [largest] * 5 + [F64.sign + largest] * 5 + [largest, F64.sign + largest] * 4     # sums past the largest value, and a way back
     yield from [zero, minus, minus, zero] * 3                                                   # an answer of -0.0
     yield from [8, 24, 40, 1, 3, 0, F64.sign + 8, F64.sign + 24] * 2                            # products halfway between two of the smallest values
-    for _ in range(200):
+    for _ in range(700):
         yield pattern(d.between(-2 ** 23, 2 ** 23) / 2 ** 23)
-    for _ in range(200):
+    for _ in range(700):
         yield d.float(F64, -60, 60)
-    for _ in range(200):
+    for _ in range(700):
         yield d.float(F64, -1074, -1000)
-    for _ in range(400):
+    for _ in range(1200):
         yield d.of(specials(F64) + nans(F64)) if d.bits(3) == 0 else d.pattern(F64)
 
 
@@ -99,6 +101,7 @@ def main(arguments):
     samples = list(inputs())
     made = list(lines(samples))
     assert "".join(made).startswith(FOUR), "the first four lines are not 01's"
+    assert 3 * BLOCK < len(samples) < 4 * BLOCK, "the samples are not three blocks and a part"
     files = {
         "stdin": struct.pack("<%dQ" % len(samples), *samples) + TRAILING,
         "stdout": "".join(made).encode("ascii"),

@@ -124,28 +124,32 @@ impl Session {
             change(&mut reader);
             reader
         };
-        let cases: Vec<(u8, QualityReader, &[f32], f64, u8)> = vec![
-            (1, with(|r| r.maximum = (1 << 24) - 7), sets, max, 0),
-            (1, with(|r| (r.crossfade_samples, r.crossfade_position) = (16_777_217, 0)), sets, max, 0),
-            (1, good.clone(), sets, 1.0f64.next_down(), 1),
-            (1, good.clone(), sets, f64::NAN, 2),
-            (1, good.clone(), sets, max, 4),
-            (1, with(|r| (r.current, r.ring) = (4, vec![])), sets, max, 255),
-            (2, with(|r| r.ring.truncate(r.ring.len() - 1)), sets, max, 0),
-            (2, with(|r| r.current = 4), short, max, 0),
-            (2, good.clone(), short, max, 0),
-            (3, with(|r| r.accepted = END as u64 + 1), sets, max, 0),
-            (3, with(|r| r.crossfade_position = r.crossfade_samples + 1), sets, max, 3),
-            (3, with(|r| (r.current, r.target, r.crossfade_position) = (0, 1, r.crossfade_samples)), sets, max, 1),
-            (3, with(|r| r.current = 4), sets, max, 0),
-            (3, with(|r| r.target = 255), sets, max, 0),
+        // what a call is refused by, and what a reset is, which is lent no bank and asks for no quality
+        let cases: Vec<([u8; 2], QualityReader, &[f32], f64, u8)> = vec![
+            ([1, 1], with(|r| r.maximum = (1 << 24) - 7), sets, max, 0),
+            ([1, 1], with(|r| (r.crossfade_samples, r.crossfade_position) = (16_777_217, 0)), sets, max, 0),
+            ([4, 0], with(|r| (r.crossfade_samples, r.crossfade_position, r.current, r.target) = (16_777_216, 0, 0, 1)), sets, max, 0),
+            ([1, 0], good.clone(), sets, 1.0f64.next_down(), 1),
+            ([1, 0], good.clone(), sets, f64::NAN, 2),
+            ([1, 0], good.clone(), sets, max, 4),
+            ([1, 2], with(|r| (r.current, r.ring) = (4, vec![])), sets, max, 255),
+            ([2, 2], with(|r| r.ring.truncate(r.ring.len() - 1)), sets, max, 0),
+            ([2, 3], with(|r| r.current = 4), short, max, 0),
+            ([2, 0], good.clone(), short, max, 0),
+            ([3, 3], with(|r| r.accepted = END as u64 + 1), sets, max, 0),
+            ([3, 3], with(|r| r.crossfade_position = r.crossfade_samples + 1), sets, max, 3),
+            ([3, 3], with(|r| (r.current, r.target, r.crossfade_position) = (0, 1, r.crossfade_samples)), sets, max, 1),
+            ([3, 3], with(|r| r.current = 4), sets, max, 0),
+            ([3, 3], with(|r| r.target = 255), sets, max, 0),
         ];
-        for (number, reader, sets, max, quality) in cases {
+        for (numbers, reader, sets, max, quality) in cases {
             let (mut after, mut answer) = (reader.clone(), f32::NAN);
             let given = after.process_rate_aware(sets, max, f32::NAN, -1.0, quality, f64::NAN, &mut answer);
-            let same = format!("{reader:?}") == format!("{after:?}");
-            if given != number || answer.to_bits() != 0 || !same {
-                println!("  number due {number}, given {given}: {:?}", (reader.current, reader.target, quality, max, sets.len()));
+            let kept = format!("{reader:?}") == format!("{after:?}");
+            let reset = after.reset();
+            let left = reset == 0 || format!("{reader:?}") == format!("{after:?}");
+            if [given, reset] != numbers || answer.to_bits() != 0 || !kept || !left {
+                println!("  numbers due {numbers:?}, given {:?}: {:?}", [given, reset], (reader.current, reader.target, quality, max, sets.len()));
                 self.hold(false, "a damaged state", None);
             }
         }

@@ -124,30 +124,33 @@ impl<T: Sinc> Session<T> {
         self.whole("reset");
     }
 
-    /// Settings, lengths and counts that an open reader never has: refused by 1, 2 and 3, and nothing changes.
+    /// Settings, lengths and counts that an open reader never has: refused by 1, 2 and 3, and nothing changes. A reset is lent no table.
     fn damaged(&mut self) {
         let Table { taps, phases, elements } = self.table.clone();
         let (count, ring) = self.port.parts();
         let (maximum, ring, count) = (self.maximum, ring.clone(), *count);
         let short = elements[1..].to_vec();
-        let cases: [(u8, usize, usize, &[T], usize, u64, usize); 9] = [
-            (1, taps, phases, &elements, (1 << 24) - 7, count, ring.len()),
-            (1, taps + 1, phases, &elements, maximum, count, ring.len()),
-            (1, 130, phases, &elements, maximum, count, ring.len()),
-            (1, taps, 1, &elements, maximum, count, ring.len()),
-            (1, taps, 4097, &elements, maximum, END as u64 + 1, 0),
-            (2, taps, phases, &short, maximum, count, ring.len()),
-            (2, taps, phases + 1, &elements, maximum, count, ring.len()),
-            (2, taps, phases, &elements, maximum, END as u64 + 1, ring.len() - 1),
-            (3, taps, phases, &elements, maximum, END as u64 + 1, ring.len()),
+        let cases: [([u8; 2], usize, usize, &[T], usize, u64, usize); 9] = [
+            ([1, 1], taps, phases, &elements, (1 << 24) - 7, count, ring.len()),
+            ([1, 0], taps + 1, phases, &elements, maximum, count, ring.len()),
+            ([1, 0], 130, phases, &elements, maximum, count, ring.len()),
+            ([1, 0], taps, 1, &elements, maximum, count, ring.len()),
+            ([1, 2], taps, 4097, &elements, maximum, END as u64 + 1, 0),
+            ([2, 0], taps, phases, &short, maximum, count, ring.len()),
+            ([2, 0], taps, phases + 1, &elements, maximum, count, ring.len()),
+            ([2, 2], taps, phases, &elements, maximum, END as u64 + 1, ring.len() - 1),
+            ([3, 3], taps, phases, &elements, maximum, END as u64 + 1, ring.len()),
         ];
-        for (number, taps, phases, table, maximum, accepted, length) in cases {
+        for (numbers, taps, phases, table, maximum, accepted, length) in cases {
             let (before, mut after, mut count, mut answer) = (&ring[..length], ring[..length].to_vec(), accepted, T::of(f64::NAN));
             let given = T::sinc_process(
                 maximum, self.margin, &mut count, &mut after, T::of(0.5), 1.0, table, taps, phases, &mut answer,
             );
             let kept = count == accepted && same(before, &after);
-            self.hold(given == number && answer.pattern() == 0 && kept, "a damaged state", T::of(0.5), 1.0);
+            self.hold(given == numbers[0] && answer.pattern() == 0 && kept, "a damaged state", T::of(0.5), 1.0);
+            let given = T::reset(maximum, self.margin, &mut count, &mut after);
+            let kept = given == 0 || count == accepted && same(before, &after);
+            self.hold(given == numbers[1] && kept, "a reset of a damaged state", T::of(0.0), 0.0);
         }
     }
 

@@ -1,0 +1,5 @@
+pub mod Floats
+pub mod Readers
+pub mod Wander
+pub mod Files
+pub mod Reports

@@ -1,0 +1,38 @@
+-- W13. A residual's report by its numbers, and what a call with it is refused by, 0 for nothing. Definitions only.
+use Prim.Native.Nat.{ℕ, _-_, _/_, _%_, _^_}
+use mathlib.Core.List.{List, [], _∷_}
+use lib.IntN.{ℤ, pos, negsuc}
+use Rattle.residual.specs.declared.Report.{Report}
+use Rattle.residual.specs.declared.Place.{Place}
+use Rattle.residual.specs.Refusals.{all24, reportOk, verdict, comparedOf}
+use Rattle.fugnadri_residual.specs.Words.{refusalOf, comparedFrom}
+
+-- The sum is handed in as two halves.
+abbrev pub reported : ℕ → ℕ → Place → ℕ → Report
+reported number largest place sum = record {
+  number = number;
+  largest = largest;
+  place = place;
+  high = sum / 2 ^ 64;
+  low = sum % 2 ^ 64;
+}
+
+unfoldable pub compared : Report → List ℤ → List ℤ → ℕ
+unfolding verdict all24 reportOk
+compared r xs ys = refusalOf (comparedOf r xs ys)
+
+-- With nothing more to compare.
+abbrev pub carried : ℕ → ℕ → Place → ℕ → ℕ
+carried number largest place sum = compared (reported number largest place sum) [] []
+
+-- One sample, and the ends of the 24-bit values: -2^23, the number next below it, 2^23 - 1, the number next above it.
+abbrev pub silence : List ℤ
+silence = pos 0 ∷ []
+
+abbrev pub ends24 : List ℤ
+ends24 = negsuc (2 ^ 23 - 1) ∷ negsuc (2 ^ 23) ∷ pos (2 ^ 23 - 1) ∷ pos (2 ^ 23) ∷ []
+
+-- At the C boundary: whether there is a place, and which.
+unfoldable pub placed : ℕ → ℕ → ℕ → ℕ
+unfolding verdict all24 reportOk
+placed number flag place = refusalOf (comparedFrom number 0 flag place 0 0 [] [])
