@@ -65,8 +65,13 @@ pub fn call_at_once<'a>(
         quality,
         rate,
     ) {
-        *sample = read(i, &mut ring[..], input, delay);
+        let y = read(i, &mut ring[..], input, delay);
+        // As in `doors::handing`: a store between the two makes the second a jump.
+        *sample = y;
         *accepted = i + 1;
+        if y != y {
+            *sample = patterns::one_nan_f32(y);
+        }
         return 0;
     }
     call_through(

@@ -1,0 +1,51 @@
+// C4, O3. A reader's answer and count through pointers; the refusal's number is handed back, 0 for none.
+ghost use mathlib.Core.Path.{_≡_};
+ghost use Rattle.answer.specs.Answers.{numberOf, valueOf, numberF32Of, valueF32Of};
+use answer::Answer;
+use answer::AnswerF32;
+
+// The sample is written, then the count, then a NaN's pattern: with a store between the two a compiler jumps over the second,
+// two instructions for a number, where it would else pick one of two floats in six.
+pub fn handed(a: Answer, count: u64, accepted: &mut u64, sample: &mut f64) -> u8
+    ensures { λ r. ⌜ r ≡ numberOf a ⌝ }
+    ensures { λ r. ⌜ now (sample .exit) ≡ valueOf a ⌝ }
+    ensures { λ r. ⌜ now (accepted .exit) ≡ count ⌝ }
+{
+    match a {
+        Answer::Sample(y) => {
+            *sample = y;
+            *accepted = count;
+            if y != y {
+                *sample = patterns::one_nan(y);
+            }
+            0
+        }
+        Answer::Refused(k) => {
+            *sample = 0.0;
+            *accepted = count;
+            k
+        }
+    }
+}
+
+pub fn handed_f32(a: AnswerF32, count: u64, accepted: &mut u64, sample: &mut f32) -> u8
+    ensures { λ r. ⌜ r ≡ numberF32Of a ⌝ }
+    ensures { λ r. ⌜ now (sample .exit) ≡ valueF32Of a ⌝ }
+    ensures { λ r. ⌜ now (accepted .exit) ≡ count ⌝ }
+{
+    match a {
+        AnswerF32::Sample(y) => {
+            *sample = y;
+            *accepted = count;
+            if y != y {
+                *sample = patterns::one_nan_f32(y);
+            }
+            0
+        }
+        AnswerF32::Refused(k) => {
+            *sample = 0.0;
+            *accepted = count;
+            k
+        }
+    }
+}
