@@ -1,11 +1,23 @@
-// C4, O3. A reader's answer and count through pointers; the refusal's number is handed back, 0 for none.
+// C4, O3. A reader's sample and count through pointers.
 ghost use mathlib.Core.Path.{_≡_};
 ghost use Rattle.answer.specs.Answers.{numberOf, valueOf, numberF32Of, valueF32Of};
 use answer::Answer;
 use answer::AnswerF32;
 
-// The sample is written, then the count, then a NaN's pattern: with a store between the two a compiler jumps over the second,
+// The sample, then the count, then a NaN's own pattern: with the count's store between them a compiler jumps over the last,
 // two instructions for a number, where it would else pick one of two floats in six.
+pub fn put(y: f64, count: u64, accepted: &mut u64, sample: &mut f64)
+    ensures { λ r. ⌜ now (sample .exit) ≡ y ⌝ }
+    ensures { λ r. ⌜ now (accepted .exit) ≡ count ⌝ }
+{
+    *sample = y;
+    *accepted = count;
+    if y != y {
+        *sample = patterns::one_nan(y);
+    }
+}
+
+// The same for a reader's answer, whose refusal's number is handed back, 0 for none.
 pub fn handed(a: Answer, count: u64, accepted: &mut u64, sample: &mut f64) -> u8
     ensures { λ r. ⌜ r ≡ numberOf a ⌝ }
     ensures { λ r. ⌜ now (sample .exit) ≡ valueOf a ⌝ }
@@ -13,11 +25,7 @@ pub fn handed(a: Answer, count: u64, accepted: &mut u64, sample: &mut f64) -> u8
 {
     match a {
         Answer::Sample(y) => {
-            *sample = y;
-            *accepted = count;
-            if y != y {
-                *sample = patterns::one_nan(y);
-            }
+            put(y, count, accepted, sample);
             0
         }
         Answer::Refused(k) => {
@@ -28,6 +36,17 @@ pub fn handed(a: Answer, count: u64, accepted: &mut u64, sample: &mut f64) -> u8
     }
 }
 
+pub fn put_f32(y: f32, count: u64, accepted: &mut u64, sample: &mut f32)
+    ensures { λ r. ⌜ now (sample .exit) ≡ y ⌝ }
+    ensures { λ r. ⌜ now (accepted .exit) ≡ count ⌝ }
+{
+    *sample = y;
+    *accepted = count;
+    if y != y {
+        *sample = patterns::one_nan_f32(y);
+    }
+}
+
 pub fn handed_f32(a: AnswerF32, count: u64, accepted: &mut u64, sample: &mut f32) -> u8
     ensures { λ r. ⌜ r ≡ numberF32Of a ⌝ }
     ensures { λ r. ⌜ now (sample .exit) ≡ valueF32Of a ⌝ }
@@ -35,11 +54,7 @@ pub fn handed_f32(a: AnswerF32, count: u64, accepted: &mut u64, sample: &mut f32
 {
     match a {
         AnswerF32::Sample(y) => {
-            *sample = y;
-            *accepted = count;
-            if y != y {
-                *sample = patterns::one_nan_f32(y);
-            }
+            put_f32(y, count, accepted, sample);
             0
         }
         AnswerF32::Refused(k) => {
