@@ -17,7 +17,8 @@
  *   4  the input sample is NaN or infinite                8  2^36 samples were accepted already
  *
  * They are tested in this order. `maximum`, `margin`, taps, phases, rates and the fade length are settings (1) wherever they are handed in.
- * A name that ends in _bits is the same call with floats as IEEE 754 patterns; a NaN is then 7FF8000000000000, or 7FC00000 for float.
+ * Of the NaNs only two patterns are handed out, as a float too: 7FF8000000000000, and 7FC00000 for float. A name that ends
+ * in _bits is the same call with floats as IEEE 754 patterns.
  */
 #ifndef FUGNADRI_H
 #define FUGNADRI_H
@@ -129,7 +130,7 @@ float fugnadri_clamp_f32(float a, float low, float high);
 /* Modulo 2^64; a shift by 64 or more gives 0. */
 uint64_t fugnadri_wrapping_mul(uint64_t a, uint64_t b);
 uint64_t fugnadri_shl(uint64_t a, uint64_t n);
-/* A float's pattern, with one pattern for every NaN, and the float of a pattern. */
+/* A float's pattern, with one pattern for every NaN, and the float of a pattern, with one NaN. */
 uint64_t fugnadri_bits_of(double x);
 double fugnadri_float_of(uint64_t n);
 uint32_t fugnadri_bits_of_f32(float a);
@@ -182,7 +183,9 @@ uint8_t fugnadri_quality_reset(size_t maximum, size_t margin, uint64_t *accepted
 /* One call at the bank's rate, or at a rate of its own, which is clamped. Refused by 1 to 6 or 8, with a rate of its own by 7 too; a refused call
  * forgets the quality that it asked for. */
 uint8_t fugnadri_quality_process(size_t maximum, size_t margin, uint64_t *accepted, uint8_t *current, uint8_t *target, uint32_t *crossfade_position, uint32_t crossfade_samples, float *ring, size_t ring_len, const float *sets, size_t sets_len, double max_rate, float input, double delay, uint8_t quality, float *sample);
+uint8_t fugnadri_quality_process_bits(size_t maximum, size_t margin, uint64_t *accepted, uint8_t *current, uint8_t *target, uint32_t *crossfade_position, uint32_t crossfade_samples, float *ring, size_t ring_len, const float *sets, size_t sets_len, double max_rate, float input, double delay, uint8_t quality, uint32_t *sample);
 uint8_t fugnadri_quality_process_rate_aware(size_t maximum, size_t margin, uint64_t *accepted, uint8_t *current, uint8_t *target, uint32_t *crossfade_position, uint32_t crossfade_samples, float *ring, size_t ring_len, const float *sets, size_t sets_len, double max_rate, float input, double delay, uint8_t quality, double playback_rate, float *sample);
+uint8_t fugnadri_quality_process_rate_aware_bits(size_t maximum, size_t margin, uint64_t *accepted, uint8_t *current, uint8_t *target, uint32_t *crossfade_position, uint32_t crossfade_samples, float *ring, size_t ring_len, const float *sets, size_t sets_len, double max_rate, float input, double delay, uint8_t quality, double playback_rate, uint32_t *sample);
 
 /* ---- libfugnadri_wav.a: RIFF WAVE files ----------------------------------------------------------------------------------------------------
  *

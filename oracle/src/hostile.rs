@@ -1,7 +1,7 @@
 //! Hostile calls of every export: any bits in every number, state, ring, table and length.
 //!
 //! `hostile SEED CALLS FROM LIMIT AGAIN`: the calls number FROM on, each export in its turn. Nothing may crash, and none may take longer than LIMIT seconds of the
-//! processor; after a refusal every byte that was lent is as it was, after an accepted call what it may not touch. A call's inputs come from the seed and its
+//! processor; after a refusal every byte that was lent is as it was, after an accepted call what it may not touch; no NaN is handed out but the one. A call's inputs come from the seed and its
 //! number alone, so a fault names both behind the command AGAIN. `hostile list` writes the exports' names.
 // The emulator that runs this on Arm cannot open what Rust's own `main` opens.
 #![no_main]
@@ -12,6 +12,7 @@ mod hostile {
     pub mod draw;
     pub mod memory;
     pub mod numbers;
+    pub mod on_purpose;
     pub mod outside;
     pub mod pool;
     pub mod readers;
@@ -26,7 +27,7 @@ mod hostile {
     pub mod wav;
 }
 
-use hostile::{bank, numbers, outside, pool::Memory, readers, residual, tables, tally::Tally, turn::Turn, wander, watch, wav};
+use hostile::{bank, numbers, on_purpose, outside, pool::Memory, readers, residual, tables, tally::Tally, turn::Turn, wander, watch, wav};
 use std::time::{Duration, Instant};
 
 /// An export, and one hostile call of it, which gives the number that it answered: 0 for none, and where there is none.
@@ -50,6 +51,9 @@ pub extern "C" fn main(_: i32, _: *const *const u8) -> i32 {
     let (seed, calls, from, limit) = (word(1), word(2), word(3), word(4));
     let again = std::env::args().nth(5).unwrap_or_default();
     watch::start(seed, exports.iter().map(|(name, _)| *name).collect(), limit, again);
+    if from == 0 {
+        on_purpose::run();
+    }
     let memory = Memory::new(seed);
     let mut tally = Tally::new(exports.len());
     let (start, mut told, mut sum) = (Instant::now(), Instant::now(), 0u64);

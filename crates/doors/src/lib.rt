@@ -1,4 +1,5 @@
-// C4. What the static libraries' exports share: an answer and an opening taken apart into plain numbers, 0 where nothing is refused.
+// C4, O3. What the static libraries' exports share: an answer and an opening taken apart into plain numbers, 0 where nothing
+// is refused. Here a sample leaves as a float, so here a NaN gets its pattern (`patterns::one_nan`).
 ghost use mathlib.Core.Path.{_≡_};
 ghost use Rattle.answer.specs.Answers.{numberOf, valueOf, numberF32Of, valueF32Of};
 ghost use Rattle.variable_delay.specs.Opening as opening;
@@ -7,6 +8,7 @@ use answer::Answer;
 use answer::AnswerF32;
 use variable_delay::Opened;
 
+pub mod handing; // a reader's answer and count through pointers
 pub mod values; // the same for the elementary functions and the oscillators
 
 pub fn number(a: Answer) -> u8
@@ -23,7 +25,7 @@ pub fn value(a: Answer) -> f64
     ensures { λ r. ⌜ r ≡ valueOf a ⌝ }
 {
     match a {
-        Answer::Sample(v) => v,
+        Answer::Sample(v) => patterns::one_nan(v),
         Answer::Refused(_) => 0.0,
     }
 }
@@ -41,7 +43,7 @@ pub fn value_f32(a: AnswerF32) -> f32
     ensures { λ r. ⌜ r ≡ valueF32Of a ⌝ }
 {
     match a {
-        AnswerF32::Sample(v) => v,
+        AnswerF32::Sample(v) => patterns::one_nan_f32(v),
         AnswerF32::Refused(_) => 0.0,
     }
 }

@@ -9,8 +9,7 @@ ghost use Rattle.lagrange.specs.Kernel.{tapsOk};
 ghost use Rattle.farrow8.specs.Kernel.{farrowAt};
 ghost use Rattle.doors.specs.Doors.{stateOf};
 ghost use Rattle.fugnadri.specs.Doors.{called, ringLeft};
-use doors::number;
-use doors::value;
+use doors::handing::handed;
 use variable_delay::VariableDelay;
 
 #[no_mangle]
@@ -36,9 +35,7 @@ pub extern "C" fn fugnadri_cubic_process(
     let p = cubic_delay::process_sample(state, &mut ring[..], input, delay);
     let after = p.state;
     let a = p.answer;
-    *accepted = after.accepted;
-    *sample = value(a);
-    number(a)
+    handed(a, after.accepted, accepted, sample)
 }
 
 #[no_mangle]
@@ -65,9 +62,7 @@ pub extern "C" fn fugnadri_lagrange_process(
     let p = lagrange_delay::process_sample(state, &mut ring[..], input, delay, taps);
     let after = p.state;
     let a = p.answer;
-    *accepted = after.accepted;
-    *sample = value(a);
-    number(a)
+    handed(a, after.accepted, accepted, sample)
 }
 
 #[no_mangle]
@@ -93,7 +88,5 @@ pub extern "C" fn fugnadri_farrow8_process(
     let p = farrow8_delay::process_sample(state, &mut ring[..], input, delay);
     let after = p.state;
     let a = p.answer;
-    *accepted = after.accepted;
-    *sample = value(a);
-    number(a)
+    handed(a, after.accepted, accepted, sample)
 }

@@ -2,4 +2,5 @@
 // as a pointer. A quality is its place in 000's list, from 0. No enum, no struct. Each function is total.
 pub mod bank;
 pub mod quality;
+pub mod quality_bits;
 pub mod quality_openings;

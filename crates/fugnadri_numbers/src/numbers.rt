@@ -1,4 +1,5 @@
-// Floor 1 for a caller in another language. A NaN that is handed out here has no pattern of its own: `bits` says which one it is given.
+// Floor 1 for a caller in another language. O3: where an argument's NaN could go through as it is, `patterns::one_nan` stands
+// before it; narrowing, the fused steps and the root hand out the constant by themselves.
 ghost use mathlib.Core.Path.{_≡_};
 ghost use Prim.Native.Nat.{_*_, _%_, _^_};
 ghost use lib.Ieee.{binary32, binary64};
@@ -51,7 +52,7 @@ pub extern "C" fn fugnadri_floor(x: f64) -> i64
 pub extern "C" fn fugnadri_fraction(x: f64) -> f64
     ensures { λ r. ⌜ r ≡ fractionOf x ⌝ }
 {
-    integer_part::fraction(x)
+    patterns::one_nan(integer_part::fraction(x))
 }
 
 // Rust's f64::max.
@@ -59,7 +60,7 @@ pub extern "C" fn fugnadri_fraction(x: f64) -> f64
 pub extern "C" fn fugnadri_max(x: f64, least: f64) -> f64
     ensures { λ r. ⌜ r ≡ larger x least ⌝ }
 {
-    order::max(x, least)
+    patterns::one_nan(order::max(x, least))
 }
 
 // Rust's f64::min.
@@ -67,7 +68,7 @@ pub extern "C" fn fugnadri_max(x: f64, least: f64) -> f64
 pub extern "C" fn fugnadri_min(x: f64, most: f64) -> f64
     ensures { λ r. ⌜ r ≡ smaller x most ⌝ }
 {
-    order::min(x, most)
+    patterns::one_nan(order::min(x, most))
 }
 
 // Rust's f32::min.
@@ -75,7 +76,7 @@ pub extern "C" fn fugnadri_min(x: f64, most: f64) -> f64
 pub extern "C" fn fugnadri_min_f32(a: f32, b: f32) -> f32
     ensures { λ r. ⌜ r ≡ smaller a b ⌝ }
 {
-    order::min_f32(a, b)
+    patterns::one_nan_f32(order::min_f32(a, b))
 }
 
 // Rust's f64::clamp.
@@ -83,7 +84,7 @@ pub extern "C" fn fugnadri_min_f32(a: f32, b: f32) -> f32
 pub extern "C" fn fugnadri_clamp(x: f64, low: f64, high: f64) -> f64
     ensures { λ r. ⌜ r ≡ clamped x low high ⌝ }
 {
-    order::clamp(x, low, high)
+    patterns::one_nan(order::clamp(x, low, high))
 }
 
 // Rust's f32::clamp.
@@ -91,7 +92,7 @@ pub extern "C" fn fugnadri_clamp(x: f64, low: f64, high: f64) -> f64
 pub extern "C" fn fugnadri_clamp_f32(a: f32, low: f32, high: f32) -> f32
     ensures { λ r. ⌜ r ≡ clamped a low high ⌝ }
 {
-    order::clamp_f32(a, low, high)
+    patterns::one_nan_f32(order::clamp_f32(a, low, high))
 }
 
 // M3. Rust's u64::wrapping_mul.

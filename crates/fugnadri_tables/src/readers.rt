@@ -5,8 +5,7 @@ ghost use lib.Ieee.{binary64, toBits};
 ghost use Rattle.answer.specs.Answers.{numberOf, valueOf};
 ghost use Rattle.fugnadri_tables.specs.Doors.{called, ringLeft};
 ghost use Rattle.doors.specs.Doors.{stateOf};
-use doors::number;
-use doors::value;
+use doors::handing::handed;
 use variable_delay::VariableDelay;
 
 #[no_mangle]
@@ -35,9 +34,7 @@ pub extern "C" fn fugnadri_windowed_sinc_process<'a>(
     let p = sinc_delay::process_sample(state, &mut ring[..], input, delay, table, taps, phases);
     let after = p.state;
     let a = p.answer;
-    *accepted = after.accepted;
-    *sample = value(a);
-    number(a)
+    handed(a, after.accepted, accepted, sample)
 }
 
 #[no_mangle]

@@ -4,8 +4,7 @@ ghost use lib.Ieee.{binary32, toBits};
 ghost use Rattle.answer.specs.Answers.{numberF32Of, valueF32Of};
 ghost use Rattle.fugnadri_tables.specs.Doors.{calledF32, ringLeft};
 ghost use Rattle.doors.specs.Doors.{stateOf};
-use doors::number_f32;
-use doors::value_f32;
+use doors::handing::handed_f32;
 use variable_delay::VariableDelay;
 
 #[no_mangle]
@@ -34,9 +33,7 @@ pub extern "C" fn fugnadri_windowed_sinc_f32_process<'a>(
     let p = sinc_delay_f32::process_sample(state, &mut ring[..], input, delay, table, taps, phases);
     let after = p.state;
     let a = p.answer;
-    *accepted = after.accepted;
-    *sample = value_f32(a);
-    number_f32(a)
+    handed_f32(a, after.accepted, accepted, sample)
 }
 
 #[no_mangle]

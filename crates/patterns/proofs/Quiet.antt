@@ -29,12 +29,16 @@ writes-number nan h = absurd (true≢false h)
 writes-number (inf s) h = tt
 writes-number (fin s m e) h = tt
 
--- ---- reading: the pattern without its sign lies above the infinity's
+-- ---- the constant 0.0 / 0.0 is the NaN, and so every NaN
 zero-by-zero : (f : Format) → div f (ofBits f 0) (ofBits f 0) ≡ nan
 unfolding div ofBits
 zero-by-zero binary32 = refl
 zero-by-zero binary64 = refl
 
+pub one-nan : (f : Format) (x : Float) → ne x x ≡ true → div f (ofBits f 0) (ofBits f 0) ≡ x
+one-nan f x h = zero-by-zero f ∙ sym (differs-from-itself x (passes (ne x x) h))
+
+-- ---- reading: the pattern without its sign lies above the infinity's
 is-nan : (x : Float) → isNan x ≡ true → nan ≡ x
 unfolding isNan
 is-nan nan h = refl

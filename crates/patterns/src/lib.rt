@@ -1,8 +1,29 @@
-// O3. Bit patterns of floats, in and out. A compiled NaN may have any NaN's pattern, so a NaN is tested for and its pattern written here: the ones that
-// are handed out are 7FF8000000000000 and 7FC00000.
+// O3. Bit patterns of floats, in and out, and the NaN that leaves as a float. A compiled NaN may have any NaN's pattern,
+// so a NaN is tested for: the ones that are handed out are 7FF8000000000000 and 7FC00000.
 ghost use mathlib.Core.Path.{_≡_};
 ghost use lib.Ieee as Ieee;
 ghost use lib.Ieee.{binary32, binary64};
+
+// The number itself, and for every NaN the one that is handed out. The logic has one NaN, so this is no change there;
+// compiled, `0.0 / 0.0` is a constant, and its pattern 7FF8000000000000 (`oracle/hostile` looks at it).
+pub fn one_nan(y: f64) -> f64
+    ensures { λ r. ⌜ r ≡ y ⌝ }
+{
+    if y != y {
+        return 0.0 / 0.0;
+    }
+    y
+}
+
+// The same for f32: 7FC00000.
+pub fn one_nan_f32(b: f32) -> f32
+    ensures { λ r. ⌜ r ≡ b ⌝ }
+{
+    if b != b {
+        return 0.0 / 0.0;
+    }
+    b
+}
 
 // Rust's f64::to_bits, with one NaN.
 pub fn bits_of(x: f64) -> u64

@@ -11,6 +11,7 @@ ghost use Rattle.quality_codes.specs.Codes.{stateOf};
 ghost use Rattle.quality_codes.specs.Calls.{calledOf, ringCalled};
 use super::plainly;
 use super::through::call_through;
+use doors::handing::put_f32;
 
 // K1. Stores sample i, at the place that a mask of the ring's length gives, and reads behind it.
 fn read(i: u64, ring: &mut [f32], input: f32, delay: f64) -> f32
@@ -65,8 +66,8 @@ pub fn call_at_once<'a>(
         quality,
         rate,
     ) {
-        *sample = read(i, &mut ring[..], input, delay);
-        *accepted = i + 1;
+        let y = read(i, &mut ring[..], input, delay);
+        put_f32(y, i + 1, accepted, sample);
         return 0;
     }
     call_through(

@@ -65,12 +65,26 @@ fn fill<'a>(row: &mut [f64], settings: Settings, window: &'a [f64], phase: usize
     gain
 }
 
+// Whether no quotient by the sum is a NaN: it is a number other than zero, and then every coefficient is one.
+fn plain(gain: f64) -> bool {
+    if magnitude::is_finite(gain) { gain != 0.0 } else { false }
+}
+
+// O3. A table's element leaves as a float, so a NaN is the one that is handed out.
+fn quotient(x: f64, gain: f64, plain: bool) -> f64
+    ensures { λ r. ⌜ r ≡ div binary64 x gain ⌝ }
+{
+    let y = x / gain;
+    if plain { y } else { patterns::one_nan(y) }
+}
+
 fn divide(row: &mut [f64], gain: f64)
     ensures { λ _. ⌜ now (row .exit) ≡ map (λ (x : Float). div binary64 x gain) (now (row .entry)) ⌝ }
 {
+    let plain = plain(gain);
     let mut k: usize = 0;
     while k < row.len() {
-        row[k] = row[k] / gain;
+        row[k] = quotient(row[k], gain, plain);
         k += 1;
     }
 }

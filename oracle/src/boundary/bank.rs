@@ -33,9 +33,17 @@ extern "C" {
         maximum: usize, margin: usize, accepted: &mut u64, current: &mut u8, target: &mut u8, crossfade_position: &mut u32, crossfade_samples: u32,
         ring: *mut f32, ring_len: usize, sets: *const f32, sets_len: usize, max_rate: f64, input: f32, delay: f64, quality: u8, sample: &mut f32,
     ) -> u8;
+    fn fugnadri_quality_process_bits(
+        maximum: usize, margin: usize, accepted: &mut u64, current: &mut u8, target: &mut u8, crossfade_position: &mut u32, crossfade_samples: u32,
+        ring: *mut f32, ring_len: usize, sets: *const f32, sets_len: usize, max_rate: f64, input: f32, delay: f64, quality: u8, sample: &mut u32,
+    ) -> u8;
     fn fugnadri_quality_process_rate_aware(
         maximum: usize, margin: usize, accepted: &mut u64, current: &mut u8, target: &mut u8, crossfade_position: &mut u32, crossfade_samples: u32,
         ring: *mut f32, ring_len: usize, sets: *const f32, sets_len: usize, max_rate: f64, input: f32, delay: f64, quality: u8, playback_rate: f64, sample: &mut f32,
+    ) -> u8;
+    fn fugnadri_quality_process_rate_aware_bits(
+        maximum: usize, margin: usize, accepted: &mut u64, current: &mut u8, target: &mut u8, crossfade_position: &mut u32, crossfade_samples: u32,
+        ring: *mut f32, ring_len: usize, sets: *const f32, sets_len: usize, max_rate: f64, input: f32, delay: f64, quality: u8, playback_rate: f64, sample: &mut u32,
     ) -> u8;
 }
 
@@ -104,12 +112,35 @@ impl QualityReader {
     }
 
     #[inline]
+    pub fn process_bits(&mut self, sets: &[f32], max_rate: f64, input: f32, delay: f64, quality: u8, sample: &mut u32) -> u8 {
+        unsafe {
+            fugnadri_quality_process_bits(
+                self.maximum, self.margin, &mut self.accepted, &mut self.current, &mut self.target, &mut self.crossfade_position, self.crossfade_samples,
+                self.ring.as_mut_ptr(), self.ring.len(), sets.as_ptr(), sets.len(), max_rate, input, delay, quality, sample,
+            )
+        }
+    }
+
+    #[inline]
     #[allow(clippy::too_many_arguments)]
     pub fn process_rate_aware(
         &mut self, sets: &[f32], max_rate: f64, input: f32, delay: f64, quality: u8, playback_rate: f64, sample: &mut f32,
     ) -> u8 {
         unsafe {
             fugnadri_quality_process_rate_aware(
+                self.maximum, self.margin, &mut self.accepted, &mut self.current, &mut self.target, &mut self.crossfade_position, self.crossfade_samples,
+                self.ring.as_mut_ptr(), self.ring.len(), sets.as_ptr(), sets.len(), max_rate, input, delay, quality, playback_rate, sample,
+            )
+        }
+    }
+
+    #[inline]
+    #[allow(clippy::too_many_arguments)]
+    pub fn process_rate_aware_bits(
+        &mut self, sets: &[f32], max_rate: f64, input: f32, delay: f64, quality: u8, playback_rate: f64, sample: &mut u32,
+    ) -> u8 {
+        unsafe {
+            fugnadri_quality_process_rate_aware_bits(
                 self.maximum, self.margin, &mut self.accepted, &mut self.current, &mut self.target, &mut self.crossfade_position, self.crossfade_samples,
                 self.ring.as_mut_ptr(), self.ring.len(), sets.as_ptr(), sets.len(), max_rate, input, delay, quality, playback_rate, sample,
             )

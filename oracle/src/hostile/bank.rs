@@ -7,6 +7,7 @@ use super::{
     shapes::Shape,
     tables::built,
     turn::Turn,
+    value::Value,
 };
 use crate::Export;
 use boundary::{self as b, QualityReader};
@@ -22,8 +23,14 @@ pub const EXPORTS: &[Export] = &[
         opened(t, |reader| reader.open(quality))
     }),
     ("fugnadri_quality_reset", |t| opened(t, |reader| reader.reset())),
-    ("fugnadri_quality_process", |t| process(t, false)),
-    ("fugnadri_quality_process_rate_aware", |t| process(t, true)),
+    ("fugnadri_quality_process", |t| process(t, |r, c, _, v: &mut f32| r.process(c.sets, c.max_rate, c.input, c.delay, c.quality, v))),
+    ("fugnadri_quality_process_bits", |t| process(t, |r, c, _, v: &mut u32| r.process_bits(c.sets, c.max_rate, c.input, c.delay, c.quality, v))),
+    ("fugnadri_quality_process_rate_aware", |t| {
+        process(t, |r, c, rate, v: &mut f32| r.process_rate_aware(c.sets, c.max_rate, c.input, c.delay, c.quality, rate, v))
+    }),
+    ("fugnadri_quality_process_rate_aware_bits", |t| {
+        process(t, |r, c, rate, v: &mut u32| r.process_rate_aware_bits(c.sets, c.max_rate, c.input, c.delay, c.quality, rate, v))
+    }),
 ];
 
 fn choose(t: &mut Turn) -> u8 {
@@ -82,7 +89,16 @@ fn opened(t: &mut Turn, call: impl FnOnce(&mut QualityReader) -> u8) -> u8 {
     number
 }
 
-fn process(t: &mut Turn, rate_aware: bool) -> u8 {
+/// What every call is handed beside the reader.
+struct Call<'a> {
+    sets: &'a [f32],
+    max_rate: f64,
+    input: f32,
+    delay: f64,
+    quality: u8,
+}
+
+fn process<V: Value>(t: &mut Turn, call: impl FnOnce(&mut QualityReader, Call, f64, &mut V) -> u8) -> u8 {
     let (mut reader, ring) = reader(t);
     let before = numbers(&reader);
     let r = &mut t.random;
@@ -90,19 +106,20 @@ fn process(t: &mut Turn, rate_aware: bool) -> u8 {
     // 0.02 * SETS is a little more than so many steps
     let right = b::bank_length(max_rate).min(SETS * SET + 1);
     let sets = t.memory.sets.last::<f32>(r.length(right, SETS * SET + 1));
-    let input = if r.one_in(16) { r.float32() } else { r.sample() as f32 };
+    let input = match r.word() % 16 {
+        0 => r.float32(),
+        1 => r.pick(&[f32::MAX, -f32::MAX]),
+        _ => r.sample() as f32,
+    };
     let (delay, quality) = (r.delay(ring.slice().len()), r.count(0, 3) as u8);
     let rate = if r.one_in(16) { r.float() } else { r.ranged(1.0, max_rate) };
-    let number = t.value(|_, v| match rate_aware {
-        true => reader.process_rate_aware(sets, max_rate, input, delay, quality, rate, v),
-        false => reader.process(sets, max_rate, input, delay, quality, v),
-    });
+    let number = t.value(|_, v| call(&mut reader, Call { sets, max_rate, input, delay, quality }, rate, v));
     let after = numbers(&reader);
     t.hold((after.0, after.1, after.2, after.7) == (before.0, before.1, before.2, before.7), "something beside the state is written");
     t.hold(number == 0 || after == before, "a refused call has changed the state");
     t.hold(number != 0 || after.4 <= 3 && after.5 == quality, "an accepted call does not have the quality that it asked for as its target");
     left(t, number, &ring, before.3, after.3, input);
     t.saw(reader.current);
-    t.saw(reader.crossfade_position);
+    t.saw(reader.crossfade_position as usize);
     number
 }

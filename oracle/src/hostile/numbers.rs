@@ -1,6 +1,6 @@
-//! The number functions: they refuse nothing. Where a pattern is handed out, a NaN is the one pattern.
+//! The number functions: they refuse nothing.
 
-use super::{turn::Turn, value::Value};
+use super::turn::Turn;
 use crate::Export;
 use boundary as b;
 
@@ -22,7 +22,6 @@ macro_rules! bits {
         ($symbol, |t: &mut Turn| {
             let r = &mut t.random;
             let bits = $call($(r.$draw().to_bits()),*);
-            t.hold(!bits.odd(), "a NaN is handed out as another pattern");
             t.saw(bits);
             0
         })
@@ -46,17 +45,24 @@ pub const EXPORTS: &[Export] = &[
     plain!("fugnadri_min_f32", b::min_f32, float32, float32),
     plain!("fugnadri_clamp", b::clamp, float, float, float),
     plain!("fugnadri_clamp_f32", b::clamp_f32, float32, float32, float32),
-    plain!("fugnadri_wrapping_mul", b::wrapping_mul, whole, whole),
-    plain!("fugnadri_shl", b::shl, whole, whole),
+    // whole numbers, and no patterns of floats
+    ("fugnadri_wrapping_mul", |t| {
+        let answer = b::wrapping_mul(t.random.whole(), t.random.whole());
+        t.saw(answer as i64);
+        0
+    }),
+    ("fugnadri_shl", |t| {
+        let answer = b::shl(t.random.whole(), t.random.whole());
+        t.saw(answer as i64);
+        0
+    }),
     ("fugnadri_bits_of", |t| {
         let bits = b::bits_of(t.random.float());
-        t.hold(!bits.odd(), "a NaN is handed out as another pattern");
         t.saw(bits);
         0
     }),
     ("fugnadri_bits_of_f32", |t| {
         let bits = b::bits_of_f32(t.random.float32());
-        t.hold(!bits.odd(), "a NaN is handed out as another pattern");
         t.saw(bits);
         0
     }),

@@ -87,6 +87,6 @@ fn compare(t: &mut Turn) -> u8 {
     t.hold(number == due(&before, &xs, &ys), "another refusal is due");
     t.hold(after == if number == 0 { carried(before, &xs, &ys) } else { before }, "the report is another");
     t.hold(a.zone_kept() && c.zone_kept() && a.slice() == xs && c.slice() == ys, "a stretch has changed");
-    [after.number, after.largest.into(), after.placed.into(), after.high, after.low].iter().for_each(|n| t.saw(*n));
+    [after.number, after.largest.into(), after.placed.into(), after.high, after.low].iter().for_each(|n| t.saw(*n as i64));
     number
 }

@@ -28,9 +28,10 @@ impl<'a> Turn<'a> {
         }
     }
 
-    /// Takes an answer into the sum; every NaN alike.
+    /// Takes an answer into the sum, every NaN alike. A float or a pattern that is a NaN must be the one that is handed out.
     #[inline]
     pub fn saw<T: Value>(&mut self, answer: T) {
+        self.hold(!answer.odd(), "a NaN is handed out as another pattern");
         self.sum = (self.sum.rotate_left(5) ^ answer.alike()).wrapping_mul(0x9E37_79B9_7F4A_7C15);
     }
 
@@ -45,7 +46,6 @@ impl<'a> Turn<'a> {
         self.hold(number <= 8, "the answer is no refusal's number");
         self.hold(low.bits() == T::of(word).bits() && high.bits() == T::of(word).bits(), "something beside the value is written");
         self.hold(number == 0 || value.bits() == 0, "a refused call's value is not 0.0");
-        self.hold(!value.odd(), "a NaN is handed out as another pattern");
         let value = *value;
         self.saw(value);
         number

@@ -4,11 +4,12 @@
 pub trait Value: Copy {
     fn of(word: u64) -> Self;
     fn bits(self) -> u64;
-    /// A pattern of a NaN other than the one that is handed out.
+    /// A NaN other than the one that is handed out. Of floats in the linked libraries alone: without optimisation the
+    /// processor itself divides 0.0 by 0.0, and gives its own NaN.
     fn odd(self) -> bool {
         false
     }
-    /// The bits, and the same for every NaN that is a float.
+    /// The bits, and the same for every NaN that is a float: for what the original's side would hand out.
     fn alike(self) -> u64 {
         self.bits()
     }
@@ -20,6 +21,9 @@ impl Value for f64 {
     }
     fn bits(self) -> u64 {
         self.to_bits()
+    }
+    fn odd(self) -> bool {
+        cfg!(linked) && self.to_bits().odd()
     }
     fn alike(self) -> u64 {
         if self.is_nan() {
@@ -36,6 +40,9 @@ impl Value for f32 {
     }
     fn bits(self) -> u64 {
         self.to_bits().into()
+    }
+    fn odd(self) -> bool {
+        cfg!(linked) && self.to_bits().odd()
     }
     fn alike(self) -> u64 {
         if self.is_nan() {

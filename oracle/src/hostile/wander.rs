@@ -62,7 +62,7 @@ fn call(t: &mut Turn, call: impl FnOnce(&mut Turn, &mut [u64; 15]) -> u8) -> u8 
     t.hold(number <= 8, "the answer is no refusal's number");
     t.hold(lent.zone_kept(), "something beside the words is written");
     if number == 0 {
-        words.iter().for_each(|word| t.saw(*word));
+        words.iter().for_each(|word| t.saw(*word as i64));
     } else {
         t.hold(*words == before, "a refused call has changed a word");
     }

@@ -11,4 +11,5 @@ unfolding ofBits
 returns-2 c = sym (ap valueOf (c .enum-told .given .1))
 
 pub value-spec : {M : Type 1} → statement M
-value-spec = tie.close (tie.spec (λ c. search needs) (λ c. search needs) (λ c. search needs) returns-2)
+value-spec =
+    tie.close (tie.spec (λ c. search needs) (λ c κs. search needs) (λ c. search needs) (λ c. search needs) returns-2)

@@ -29,14 +29,26 @@ returns-2 c =
 
 returns-3 : tie.Need-returns-3
 returns-3 c =
-    let a = c .before .before .before .before .before .args in
-    addend-not-plain (a .a) (a .b) (a .c) (both (c .before .before .before)) (neither (c .before)) .1 (c .if3 .left)
+    let d = c .before in
+    let a = d .before .before .before .before .before .args in
+    c .one-nan .ensures ∙ addend-not-plain (a .a) (a .b) (a .c) (both (d .before .before .before)) (neither (d .before)) .1 (d .if3 .left)
 
 returns-4 : tie.Need-returns-4
 returns-4 c =
-    let a = c .before .before .args in
-    factor-not-plain (a .a) (a .b) (a .c) (sym (c .before .both-plain .ensures) ∙ c .if1 .left)
+    let d = c .before in
+    let a = d .before .before .args in
+    c .one-nan2 .ensures ∙ factor-not-plain (a .a) (a .b) (a .c) (sym (d .before .both-plain .ensures) ∙ d .if1 .left)
 
 pub by-cases-spec : {M : Type 1} → statement M
 by-cases-spec =
-    tie.close (tie.spec (λ c κs. search needs) (λ c κs. search needs) fused-plain-requires (λ c. search needs) returns-2 returns-3 returns-4)
+    tie.close
+    (tie.spec
+    (λ c κs. search needs)
+    (λ c κs. search needs)
+    fused-plain-requires
+    (λ c. search needs)
+    returns-2
+    (λ c κs. search needs)
+    returns-3
+    (λ c κs. search needs)
+    returns-4)

@@ -30,12 +30,13 @@ asked c = let a = start c .args in ready (length (now (a .sets))) (a .top) (a .m
 read-requires : tie.Need-read-requires
 read-requires c κs = asked (c .before)
 
-add-accepted : tie.Need-add-accepted
-add-accepted c = omega (arith, asked (c .before .before .before .before) .0)
+add-put-f32 : tie.Need-add-put-f32
+add-put-f32 c = omega (arith, asked (c .before .before .before .before) .0)
 
 returns : tie.Need-returns
 returns c =
-    let r = c .before .before in
+    let w = c .put-f32 .ensures in
+    let r = c .before .before .before .before .before in
     let t = r .before .before in
     let a = start t .args in
     let p = told t in
@@ -43,8 +44,8 @@ returns c =
     called (now (a .sets)) (a .top) (a .maximum) (a .margin) (now (a .accepted)) (now (a .current)) (now (a .target)) (now (a .place)) (a .crossfade) (now (a .ring)) (a .input) (a .delay) (a .quality) (a .rate) (p .0) (p .1) (p .2) (p .3) in
     let l =
     left (now (a .sets)) (a .top) (a .maximum) (a .margin) (now (a .accepted)) (now (a .current)) (now (a .target)) (now (a .place)) (a .crossfade) (now (a .ring)) (a .input) (a .delay) (a .quality) (a .rate) (p .0) (p .1) (p .2) (p .3) in
-    (ap (λ v. v .number) (sym e), (r .read .ensures .0 ∙ ap (λ v. v .sample) (sym e), (ap (λ v. v .state .accepted) (sym e), (ap (λ v. v .state .current) (sym e), (ap (λ v. v .state .target) (sym e), (ap (λ v. v .state .place) (sym e), r .read .ensures .1 ∙ sym l))))))
+    (ap (λ v. v .number) (sym e), (w .0 ∙ r .read .ensures .0 ∙ ap (λ v. v .sample) (sym e), (w .1 ∙ ap (λ v. v .state .accepted) (sym e), (ap (λ v. v .state .current) (sym e), (ap (λ v. v .state .target) (sym e), (ap (λ v. v .state .place) (sym e), r .read .ensures .1 ∙ sym l))))))
 
 pub call-at-once-spec : {M : Type 1} → statement M
 call-at-once-spec =
-    tie.close (tie.spec (λ c κs. search needs) read-requires add-accepted (λ c. search needs) returns (λ c κs. search needs) (λ c. search needs) (λ c. search needs))
+    tie.close (tie.spec (λ c κs. search needs) read-requires add-put-f32 (λ c κs. search needs) (λ c. search needs) returns (λ c κs. search needs) (λ c. search needs) (λ c. search needs))

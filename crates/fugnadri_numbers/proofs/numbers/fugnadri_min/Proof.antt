@@ -1,0 +1,7 @@
+-- `fugnadri_numbers::numbers::fugnadri_min` meets its contract: what the calls ensure, one put into the other; none of them
+-- asks anything. Assumes nothing.
+use Rattle.fugnadri_numbers.proofs.numbers.fugnadri_min.Statement.{statement}
+use Rattle.fugnadri_numbers.proofs.numbers.fugnadri_min.Tie as tie
+
+pub fugnadri-min-spec : {M : Type 1} → statement M
+fugnadri-min-spec = tie.close (tie.spec (λ c κs. tt) (λ c κs. tt) (λ c. cc))
