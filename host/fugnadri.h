@@ -8,8 +8,9 @@
  * Lent memory: a slice is a pointer to its first element and a length in elements. A pointer is never null (of an empty slice it may be any other
  * aligned address) and what is written through must not overlap anything else that is lent in the same call.
  *
- * Answers: where a function returns uint8_t, that is the refusal's number, 0 for none. A refused call writes 0.0 through its last pointer(s), the
- * sample or value, and leaves the state and every lent element as they were. Each function is proved to answer as said for all arguments.
+ * Answers: where a function returns uint8_t, that is the refusal's number, 0 for none. A refused call writes 0 through each pointer to an answer (a
+ * sample, a value, offsets, a choice of sets, a file's part) and leaves a state, also one that it was to open, and every lent element as they were.
+ * Each function is proved to answer as said for all arguments.
  *
  *   1  a setting or an argument is outside its range      5  the delay is NaN, infinite or below zero
  *   2  a lent ring or table has not the needed length     6  the delay is above 2^36
@@ -170,7 +171,7 @@ size_t fugnadri_bank_length(double max_rate);
 size_t fugnadri_bank_steps(double max_rate);
 double fugnadri_bank_set_rate(double max_rate, size_t set);
 /* Which sets a rate reads, counted from 0: `which` is 0 for the safe one alone, 1 for the tighter alone, 2 for both, mixed by `blend`. Refused by
- * 1, and then all four are zero. */
+ * 1 (max_rate) or 7 (rate), and then all four are zero. */
 uint8_t fugnadri_bank_choose(double max_rate, double rate, size_t *safe, size_t *tighter, uint8_t *which, float *blend);
 /* Build one set of a rate, or the whole bank. Refused by 1 or 2. */
 uint8_t fugnadri_bank_build_set(double rate, float *set, size_t set_len);

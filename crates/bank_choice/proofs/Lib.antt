@@ -1,3 +1,4 @@
+pub mod NoNan
 pub mod Spans
 pub mod Ceilings
 pub mod Gaps

@@ -1,13 +1,17 @@
 -- T4. 000's SincBankF32::sample up to the reading: which two sets a rate reads, counted from 0, and how they are blended. Definitions only.
 use Prim.Native.Nat.{ℕ, zero, suc, _+_, _-_, min}
-use mathlib.Core.Bool.{Bool, true, false, cond, _&&_}
+use mathlib.Core.Bool.{Bool, true, false, not, cond, _&&_}
 use lib.Dec.{eqb}
 use lib.IntN.{pos, negsuc}
-use lib.Ieee.{Float, fin, binary64, sub, div, lt, le}
+use lib.Ieee.{Float, fin, binary64, sub, div, lt, le, isNan}
+use mathlib.Core.List.{[], _∷_}
+use Rattle.refusal_order.specs.Order.{_unless_, firstOf}
 use Rattle.rounding.specs.Operations.{narrowed}
 use Rattle.order.specs.Choice.{clamped}
 use Rattle.sinc_settings.specs.Ranges.{zero-f, one-f}
 use Rattle.bank_choice.specs.declared.Choice.{Choice}
+use Rattle.bank_choice.specs.declared.Selected.{Selected}
+use Rattle.bank_choice.specs.declared.Selected.the-variants.{Sets, Refused}
 use Rattle.bank_choice.specs.Rates.{bankOk, stepsOf, rateOf}
 
 -- `set.rate < rate`, of set k counted from 0
@@ -55,6 +59,8 @@ chosenOf top rate =
     let safe = min (partitionOf top n r) (n - 1) in
     madeOf safe (min (safe + 1) (n - 1)) r (rateOf top n (safe + 1)) (lowerOf top n safe)
 
+-- ---- out of range too
+
 -- out of the bank's range: nothing is chosen
 abbrev pub noChoice : Choice
 noChoice = record { safe = 0; tighter = 0; which = 0; blend = zero-f }
@@ -65,3 +71,23 @@ pickChoice false a b = b
 
 abbrev pub choiceOf : Float → Float → Choice
 choiceOf top rate = pickChoice (bankOk top) (chosenOf top rate) noChoice
+
+-- N1, N7. The refusal that is due, 0 for none: the bank's rate first, then a rate that is a NaN.
+abbrev pub chooseVerdict : Float → Float → ℕ
+chooseVerdict top rate = firstOf (1 unless bankOk top ∷ 7 unless not (isNan rate) ∷ [])
+
+abbrev pub selectedBy : ℕ → Choice → Selected
+selectedBy zero c = Sets c
+selectedBy (suc k) c = Refused (suc k)
+
+abbrev pub selectedOf : Float → Float → Selected
+selectedOf top rate = selectedBy (chooseVerdict top rate) (chosenOf top rate)
+
+-- C4. 01's number for each case, 0 for a choice; and the choice, of which a refusal has none.
+abbrev pub numberOf : Selected → ℕ
+numberOf (Sets c) = 0
+numberOf (Refused k) = k
+
+abbrev pub choiceIn : Selected → Choice
+choiceIn (Sets c) = c
+choiceIn (Refused k) = noChoice

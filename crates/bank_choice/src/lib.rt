@@ -5,10 +5,11 @@ mod search; // how many of them are slower than a rate
 pub use rates::set_rate;
 pub use rates::steps;
 ghost use mathlib.Core.Path.{_≡_};
-ghost use mathlib.Core.Bool.{true};
+ghost use mathlib.Core.Bool.{true, not};
+ghost use lib.Ieee.{isNan};
 ghost use Prim.Native.Nat.{min};
 ghost use Rattle.bank_choice.specs.Rates.{bankOk};
-ghost use Rattle.bank_choice.specs.Choosing.{lowerOf, whichOf, chosenOf, choiceOf};
+ghost use Rattle.bank_choice.specs.Choosing.{lowerOf, whichOf, chosenOf, choiceOf, chooseVerdict, selectedOf};
 
 // Which sets a rate reads, counted from 0: by `which` the safe set alone (0), the tighter alone (1), or both (2), blended.
 pub struct Choice {
@@ -16,6 +17,19 @@ pub struct Choice {
     pub tighter: usize,
     pub which: u8,
     pub blend: f32,
+}
+
+// A choice, or the number of a refusal.
+pub enum Selected {
+    Sets(Choice),
+    Refused(u8),
+}
+
+// N7. Only a NaN differs from itself.
+pub fn is_number(x: f64) -> bool
+    ensures { λ r. ⌜ r ≡ not (isNan x) ⌝ }
+{
+    x == x
 }
 
 fn at_most(x: usize, top: usize) -> usize
@@ -66,8 +80,9 @@ fn chosen(max_rate: f64, rate: f64) -> Choice
     }
 }
 
-// Which sets a rate reads; all zero where the bank's rate is out of its range. A NaN gives what the same lines give.
-pub fn choose(max_rate: f64, rate: f64) -> Choice
+// Which sets a rate reads, for the readers, which have tested both rates. All zero where the bank's rate is out of its
+// range; a NaN gives what the same lines give.
+pub fn choice_or_zero(max_rate: f64, rate: f64) -> Choice
     ensures { λ r. ⌜ r ≡ choiceOf «max_rate» rate ⌝ }
 {
     if magnitude::within(max_rate, 1.0, 2.0) {
@@ -79,5 +94,28 @@ pub fn choose(max_rate: f64, rate: f64) -> Choice
             which: 0,
             blend: 0.0,
         }
+    }
+}
+
+// N1, N7. 0, or the refusal that is due: 1 for the bank's rate, then 7 for a rate that is a NaN.
+fn refusal(max_rate: f64, rate: f64) -> u8
+    ensures { λ r. ⌜ r ≡ chooseVerdict «max_rate» rate ⌝ }
+{
+    if magnitude::within(max_rate, 1.0, 2.0) {
+        if is_number(rate) { 0 } else { 7 }
+    } else {
+        1
+    }
+}
+
+// Which sets a rate reads, or the number of the refusal.
+pub fn choose(max_rate: f64, rate: f64) -> Selected
+    ensures { λ r. ⌜ r ≡ selectedOf «max_rate» rate ⌝ }
+{
+    let no = refusal(max_rate, rate);
+    if no == 0 {
+        Selected::Sets(choice_or_zero(max_rate, rate))
+    } else {
+        Selected::Refused(no)
     }
 }

@@ -1,17 +1,20 @@
 -- T4, T5. 000's SincBankF32::sample over lent sets: what a quality reads at a rate. Definitions only.
 use Prim.Native.Nat.{ℕ, zero, suc, _+_, _*_}
-use mathlib.Core.Bool.{Bool, true, _&&_, cond}
-use mathlib.Core.List.{List}
-use lib.Dec.{leb}
+use mathlib.Core.Bool.{Bool, true, not, _&&_, cond}
+use mathlib.Core.List.{List, [], _∷_}
+use lib.Dec.{eqb, leb}
 use lib.ListN.{length, take, drop}
-use lib.Ieee.{Float, binary32, add, sub, mul}
-use Rattle.answer.specs.Answers.{zero-f}
+use lib.Ieee.{Float, binary32, add, sub, mul, isNan}
+use Rattle.answer.specs.declared.AnswerF32.{AnswerF32}
+use Rattle.answer.specs.Answers.{zero-f, answerF32Of}
+use Rattle.refusal_order.specs.Order.{_unless_, firstOf}
 use Rattle.ring.specs.Places.{positionOk}
 use Rattle.cubic_farrow_f32.specs.Draft.{draftAt}
 use Rattle.sinc_read_f32.specs.Reading.{sincF32At}
+use Rattle.bank_choice.specs.Rates.{bankOk}
 use Rattle.bank_choice.specs.Choosing.{chosenOf}
 use Rattle.bank_choice.specs.declared.Choice.{Choice}
-use Rattle.sinc_bank_f32.specs.Sets.{setLength}
+use Rattle.sinc_bank_f32.specs.Sets.{setLength, bankLength}
 use Rattle.sinc_bank_f32.specs.Parts.{partOf}
 use Rattle.quality_mode.specs.declared.QualityMode.{QualityMode}
 use Rattle.quality_mode.specs.declared.QualityMode.the-variants.{Draft, Normal, Hq, Ultra}
@@ -60,3 +63,17 @@ heldOk c Ultra n = setsOk c n
 -- G3. Zero where the bank has not the sets of the choice, and outside the positions' range.
 abbrev pub readOf : Choice → QualityMode → List Float → List Float → ℕ → Float → Float
 readOf c q sets xs count p = cond (heldOk c q (length sets) && positionOk p) (chosenAt c q sets xs count p) zero-f
+
+-- N1, N2, N7. The refusal that is due, 0 for none, whatever quality is asked for: the bank's rate and the position, the
+-- bank's length, a rate that is a NaN.
+abbrev pub sampleVerdict : Float → Float → ℕ → Float → ℕ
+sampleVerdict top rate len p =
+    firstOf
+    (1 unless (bankOk top && positionOk p)
+    ∷ 2 unless eqb len (bankLength top)
+    ∷ 7 unless not (isNan rate)
+    ∷ [])
+
+abbrev pub sampledOf : List Float → Float → Float → QualityMode → List Float → ℕ → Float → AnswerF32
+sampledOf sets top rate q xs count p =
+    answerF32Of (sampleVerdict top rate (length sets) p) (bankAt sets top rate q xs count p)

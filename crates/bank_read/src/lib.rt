@@ -2,10 +2,17 @@
 mod lent; // one set's table, or two blended
 
 ghost use mathlib.Core.Path.{_≡_};
-ghost use Rattle.bank_choice.specs.Choosing.{choiceOf};
-ghost use Rattle.bank_read.specs.Bank.{setsOk, readOf};
+ghost use mathlib.Core.Bool.{_&&_};
+ghost use Rattle.bank_read.specs.Bank.{setsOk, readOf, sampleVerdict, sampledOf};
+use answer::AnswerF32;
 use bank_choice::Choice;
 use quality_mode::QualityMode;
+
+fn both(a: bool, b: bool) -> bool
+    ensures { λ r. ⌜ r ≡ (a && b) ⌝ }
+{
+    if a { b } else { false }
+}
 
 fn sets_ok(choice: Choice, len: usize) -> bool
     ensures { λ r. ⌜ r ≡ setsOk choice len ⌝ }
@@ -18,7 +25,8 @@ fn sets_ok(choice: Choice, len: usize) -> bool
     }
 }
 
-// What a quality reads by a choice of sets; zero where the bank has not those sets, and outside the positions' range. Draft looks at no set.
+// What a quality reads by a choice of sets, for the readers, which have tested already: zero where the bank has not
+// those sets, and outside the positions' range. Draft looks at no set.
 pub fn read<'a>(
     sets: &'a [f32],
     choice: Choice,
@@ -40,7 +48,21 @@ pub fn read<'a>(
     0.0
 }
 
-// What a quality reads at a rate. Draft makes no choice: choosing divides.
+// N1, N2, N7. 0, or the refusal that is due: the bank's rate and the position in range, the bank's length, and a rate
+// that is no NaN.
+fn refusal(max_rate: f64, rate: f64, len: usize, position: f64) -> u8
+    ensures { λ r. ⌜ r ≡ sampleVerdict «max_rate» rate len position ⌝ }
+{
+    let t1 = both(
+        magnitude::within(max_rate, 1.0, 2.0),
+        ring::position_ok(position),
+    );
+    let t2 = len == sinc_bank_f32::bank_length(max_rate);
+    let t7 = bank_choice::is_number(rate);
+    answer::first(t1, t2, true, true, true, true, t7, true)
+}
+
+// What a quality reads at a rate, of a whole bank, or the number of the refusal.
 pub fn sample<'a>(
     sets: &'a [f32],
     max_rate: f64,
@@ -49,12 +71,10 @@ pub fn sample<'a>(
     source: &'a [f32],
     count: u64,
     position: f64,
-) -> f32
-    ensures { λ r. ⌜ r ≡ readOf (choiceOf «max_rate» rate) quality (now (sets .entry)) (now (source .entry)) count position ⌝ }
+) -> AnswerF32
+    ensures { λ r. ⌜ r ≡ sampledOf (now (sets .entry)) «max_rate» rate quality (now (source .entry)) count position ⌝ }
 {
-    if quality_mode::same(quality, QualityMode::Draft) {
-        return cubic_farrow_f32::read(source, count, position);
-    }
-    let choice = bank_choice::choose(max_rate, rate);
-    read(sets, choice, quality, source, count, position)
+    let no = refusal(max_rate, rate, sets.len(), position);
+    let choice = bank_choice::choice_or_zero(max_rate, rate);
+    answer::answered_f32(no, read(sets, choice, quality, source, count, position))
 }

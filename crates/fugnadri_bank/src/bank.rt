@@ -1,12 +1,13 @@
 // T3, T4. The bank: how many sets and f32 it needs, each set's rate, its building, and the choice for a rate.
 ghost use mathlib.Core.Path.{_≡_};
-ghost use mathlib.Core.Bool.{cond};
 ghost use lib.ListN.{length};
 ghost use Rattle.windowed_sinc.specs.Table.{tableAfter};
-ghost use Rattle.bank_choice.specs.Rates.{bankOk, setsOf, setRateOf};
-ghost use Rattle.bank_choice.specs.Choosing.{choiceOf};
+ghost use Rattle.bank_choice.specs.Rates.{setsOf, setRateOf};
+ghost use Rattle.bank_choice.specs.Choosing.{selectedOf, choiceIn, numberOf as refusalOf};
 ghost use Rattle.sinc_bank_f32.specs.Sets.{setOf, bankOf, bankLength};
 ghost use Rattle.sinc_bank_f32.specs.Building.{setVerdict, bankVerdict, builtBy, numberOf};
+use bank_choice::Choice;
+use bank_choice::Selected;
 use sinc_bank_f32::Built;
 
 #[no_mangle]
@@ -31,7 +32,30 @@ pub extern "C" fn fugnadri_bank_set_rate(max_rate: f64, set: usize) -> f64
     bank_choice::set_rate(max_rate, set)
 }
 
-// 1 where the bank's rate is out of its range, and then zeros; else 0.
+fn refusal(s: Selected) -> u8
+    ensures { λ r. ⌜ r ≡ refusalOf s ⌝ }
+{
+    match s {
+        Selected::Sets(_) => 0,
+        Selected::Refused(k) => k,
+    }
+}
+
+fn choice(s: Selected) -> Choice
+    ensures { λ r. ⌜ r ≡ choiceIn s ⌝ }
+{
+    match s {
+        Selected::Sets(c) => c,
+        Selected::Refused(_) => Choice {
+            safe: 0,
+            tighter: 0,
+            which: 0,
+            blend: 0.0,
+        },
+    }
+}
+
+// 1 where the bank's rate is out of its range, 7 where the rate is a NaN, and then zeros; else 0.
 #[no_mangle]
 pub extern "C" fn fugnadri_bank_choose(
     max_rate: f64,
@@ -41,22 +65,19 @@ pub extern "C" fn fugnadri_bank_choose(
     which: &mut u8,
     blend: &mut f32,
 ) -> u8
-    ensures { λ r. ⌜ r ≡ cond (bankOk «max_rate») 0 1 ⌝ }
-    ensures { λ r. ⌜ now (safe .exit) ≡ choiceOf «max_rate» rate .safe ⌝ }
-    ensures { λ r. ⌜ now (tighter .exit) ≡ choiceOf «max_rate» rate .tighter ⌝ }
-    ensures { λ r. ⌜ now (which .exit) ≡ choiceOf «max_rate» rate .which ⌝ }
-    ensures { λ r. ⌜ now (blend .exit) ≡ choiceOf «max_rate» rate .blend ⌝ }
+    ensures { λ r. ⌜ r ≡ refusalOf (selectedOf «max_rate» rate) ⌝ }
+    ensures { λ r. ⌜ now (safe .exit) ≡ choiceIn (selectedOf «max_rate» rate) .safe ⌝ }
+    ensures { λ r. ⌜ now (tighter .exit) ≡ choiceIn (selectedOf «max_rate» rate) .tighter ⌝ }
+    ensures { λ r. ⌜ now (which .exit) ≡ choiceIn (selectedOf «max_rate» rate) .which ⌝ }
+    ensures { λ r. ⌜ now (blend .exit) ≡ choiceIn (selectedOf «max_rate» rate) .blend ⌝ }
 {
-    let c = bank_choice::choose(max_rate, rate);
+    let s = bank_choice::choose(max_rate, rate);
+    let c = choice(s);
     *safe = c.safe;
     *tighter = c.tighter;
     *which = c.which;
     *blend = c.blend;
-    if magnitude::within(max_rate, 1.0, 2.0) {
-        0
-    } else {
-        1
-    }
+    refusal(s)
 }
 
 #[no_mangle]

@@ -70,6 +70,8 @@ impl ModulationEngine {
         let flutter = self.flutter_drift;
         let wow = wow.set_seed(seed);
         let flutter = flutter.set_seed(xorshift::flutter_seed(seed));
+        let wow = wow.random;
+        let flutter = flutter.random;
         self.wow_drift = wow;
         self.flutter_drift = flutter;
         handed_back(refusal, self)
@@ -83,6 +85,8 @@ impl ModulationEngine {
         let flutter = self.flutter_drift;
         let wow = wow.reset();
         let flutter = flutter.reset();
+        let wow = wow.random;
+        let flutter = flutter.random;
         self.wow_phase = 0.0;
         self.flutter_phase = 0.0;
         self.wow_drift = wow;

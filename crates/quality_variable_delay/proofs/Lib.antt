@@ -1,4 +1,3 @@
-pub mod Rates
 pub mod Taken
 pub mod Refused
 pub mod Lent

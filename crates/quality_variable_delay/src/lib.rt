@@ -12,10 +12,9 @@ pub use opening::open;
 pub use opening::reset;
 pub use opening::reset_refusal;
 ghost use mathlib.Core.Path.{_≡_};
-ghost use mathlib.Core.Bool.{_&&_, not};
+ghost use mathlib.Core.Bool.{_&&_};
 ghost use Prim.Native.Nat.{_<_, _^_};
 ghost use lib.ListN.{length};
-ghost use lib.Ieee.{isNan};
 ghost use Rattle.variable_delay.specs.Reader.{stored, positionOf};
 ghost use Rattle.quality_variable_delay.specs.State.{fadePart};
 ghost use Rattle.quality_variable_delay.specs.Reader.{verdict};
@@ -48,13 +47,6 @@ fn both(a: bool, b: bool) -> bool
     ensures { λ r. ⌜ r ≡ (a && b) ⌝ }
 {
     if a { b } else { false }
-}
-
-// N7. Only a NaN differs from itself.
-fn is_number(x: f64) -> bool
-    ensures { λ r. ⌜ r ≡ not (isNan x) ⌝ }
-{
-    x == x
 }
 
 // What the state holds of its qualities.
@@ -94,7 +86,7 @@ pub fn refusal(
     let t4 = magnitude::is_finite_f32(input);
     let t5 = both(magnitude::is_finite(delay), delay >= 0.0);
     let t6 = delay <= 68719476736.0;
-    let t7 = is_number(playback_rate);
+    let t7 = bank_choice::is_number(playback_rate);
     let t8 = n < 68719476736;
     answer::first(t1, t2, t3, t4, t5, t6, t7, t8)
 }

@@ -41,7 +41,7 @@ pub(crate) fn served(
                 if delay >= 0.0 {
                     if delay <= 68719476736.0 {
                         if magnitude::is_finite_f32(input) {
-                            if super::is_number(playback_rate) {
+                            if bank_choice::is_number(playback_rate) {
                                 return filled(state.maximum, state.margin, len, max_rate, lent);
                             }
                         }

@@ -9,6 +9,7 @@ ghost use Rattle.sinc_bank_f32.specs.Sets.{setLength};
 ghost use Rattle.bank_read.specs.Bank.{bankAt};
 ghost use Rattle.quality_variable_delay.specs.Reader.{weightOf, mixedOf, outputOf};
 use quality_fade::Turn;
+use quality_mode::QualityMode;
 
 // `from + (to - from) * mix.min(1.0)`
 fn mix(from: f32, to: f32, weight: u32, crossfade: u32) -> f32
@@ -18,7 +19,8 @@ fn mix(from: f32, to: f32, weight: u32, crossfade: u32) -> f32
     from + (to - from) * order::min_f32(share, 1.0)
 }
 
-// What a turn reads. A mixed call's two readings share the choice of sets.
+// What a turn reads. A mixed call's two readings share the choice of sets; a plain one in Draft makes none, since
+// choosing divides.
 pub(crate) fn output<'a>(
     turn: Turn,
     sets: &'a [f32],
@@ -35,10 +37,14 @@ pub(crate) fn output<'a>(
     let to = turn.to;
     let left = turn.state;
     if turn.mixed {
-        let choice = bank_choice::choose(max_rate, rate);
-        let a = bank_read::read(sets, choice, from, source, count, position);
-        let b = bank_read::read(sets, choice, to, source, count, position);
+        let shared = bank_choice::choice_or_zero(max_rate, rate);
+        let a = bank_read::read(sets, shared, from, source, count, position);
+        let b = bank_read::read(sets, shared, to, source, count, position);
         return mix(a, b, turn.weight, left.length);
     }
-    bank_read::sample(sets, max_rate, to, rate, source, count, position)
+    if quality_mode::same(to, QualityMode::Draft) {
+        return cubic_farrow_f32::read(source, count, position);
+    }
+    let choice = bank_choice::choice_or_zero(max_rate, rate);
+    bank_read::read(sets, choice, to, source, count, position)
 }

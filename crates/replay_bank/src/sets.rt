@@ -18,7 +18,7 @@ pub fn rate(max_rate: f64, set: u64) -> Words {
 
 // Which sets a rate reads, and the blend where it reads both: the original has no other.
 pub fn choice(max_rate: f64, rate: f64) -> Words {
-    let c = bank_choice::choose(max_rate, rate);
+    let c = bank_choice::choice_or_zero(max_rate, rate);
     Words {
         first: packed(small(c.safe), small(c.tighter), c.which),
         second: if c.which == 2 {

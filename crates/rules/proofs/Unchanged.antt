@@ -1,6 +1,7 @@
 -- D1c. Whatever is refused, by the number that is handed out (C4): the state and every lent element are what they were. One line for each kind of public function.
 -- Assumes nothing.
 use mathlib.Core.Path.{_≡_, refl}
+use mathlib.Core.Bool.{Bool, true, false, cond}
 use mathlib.Core.List.{List}
 use Prim.Native.Nat.{ℕ, zero, suc}
 use lib.Ieee.{Float}
@@ -17,8 +18,13 @@ use Rattle.sinc_settings.specs.declared.Settings.{Settings}
 use Rattle.windowed_sinc.specs.Table as table
 use Rattle.windowed_sinc_f32.specs.Table as single
 use Rattle.sinc_bank_f32.specs.Building as bank
+use Rattle.xorshift.specs.Draws.{zero as zero-f}
+use Rattle.smooth_random.specs.Ranges.{validOf}
+use Rattle.smooth_random.specs.Drawing as drawing
 use Rattle.smooth_random.specs.Drift as drift
 use Rattle.smooth_random.specs.declared.SmoothRandom.{SmoothRandom}
+use Rattle.smooth_random.specs.declared.Drawn.{Drawn}
+use Rattle.smooth_random.specs.declared.Renewed.{Renewed}
 use Rattle.modulation_engine.specs.Engine as engine
 use Rattle.modulation.specs.Step as stepping
 use Rattle.modulation.specs.Runs.{leftBy}
@@ -68,6 +74,23 @@ bank-built (suc k) top made xs h = refl
 pub drifted : (v : ℕ) (r : SmoothRandom) (rate-hz sample-rate : Float) → (drift.answer v r rate-hz sample-rate .refusal ≡ 0 → ⊥) → drift.answer v r rate-hz sample-rate .random ≡ r
 drifted zero r rate-hz sample-rate h = absurd (h refl)
 drifted (suc k) r rate-hz sample-rate h = refl
+
+-- set_seed, reset and the draws of a generator
+pub renewed : (r after : SmoothRandom) → (drift.renewed r after .refusal ≡ 0 → ⊥) → drift.renewed r after .random ≡ r
+renewed r after = go (validOf r)
+  where
+    go : (b : Bool) → let a : Renewed = cond b (record { random = after; refusal = 0 }) (record { random = r; refusal = 3 }) in
+        (a .refusal ≡ 0 → ⊥) → a .random ≡ r
+    go true h = absurd (h refl)
+    go false h = refl
+
+pub drawn : (r : SmoothRandom) (d : Drawn) → d .refusal ≡ 0 → (drawing.drawn r d .refusal ≡ 0 → ⊥) → drawing.drawn r d .random ≡ r
+drawn r d e = go (validOf r)
+  where
+    go : (b : Bool) → let a : Drawn = cond b d (record { random = r; value = zero-f; refusal = 3 }) in
+        (a .refusal ≡ 0 → ⊥) → a .random ≡ r
+    go true h = absurd (h e)
+    go false h = refl
 
 pub stepped : (v : ℕ) (e : ModulationEngine) (p : ModulationParams) → (stepping.numberOf (stepping.nextBy v e p .offset) ≡ 0 → ⊥) → stepping.nextBy v e p .engine ≡ e
 stepped zero e p h = absurd (h refl)

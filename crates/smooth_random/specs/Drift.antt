@@ -8,8 +8,9 @@ use Rattle.xorshift.specs.Xorshift.{stepOf}
 use Rattle.xorshift.specs.Seeds.{seedOf}
 use Rattle.xorshift.specs.Draws as draws
 use Rattle.xorshift.specs.Draws.{one, bipolarOf, scaleOf}
-use Rattle.smooth_random.specs.Ranges.{verdict}
+use Rattle.smooth_random.specs.Ranges.{validOf, verdict}
 use Rattle.smooth_random.specs.declared.SmoothRandom.{SmoothRandom}
+use Rattle.smooth_random.specs.declared.Renewed.{Renewed}
 use Rattle.smooth_random.specs.declared.Next.{Next}
 
 -- From the initial seed three draws: the two targets, then the scale of the segment between them.
@@ -29,6 +30,10 @@ newOf seed = started (seedOf seed)
 -- Setting the seed already held does nothing, even mid-sequence; the seeds are compared after the replacement of 0.
 abbrev pub setSeedOf : SmoothRandom → ℕ → SmoothRandom
 setSeedOf r seed = cond (eqb (seedOf seed) (r .«initial_seed»)) r (newOf seed)
+
+-- N3. A state out of range is refused by 3, and handed back as it was; else the new one is.
+abbrev pub renewed : SmoothRandom → SmoothRandom → Renewed
+renewed r after = cond (validOf r) (record { random = after; refusal = 0 }) (record { random = r; refusal = 3 })
 
 -- 001's quintic: 0 at 0, 1 at 1, and level at both.
 unfoldable pub quinticOf : Float → Float

@@ -1,3 +1,3 @@
-pub mod Drawing
 pub mod Ranges
+pub mod Drawing
 pub mod Drift

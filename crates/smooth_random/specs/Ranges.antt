@@ -3,6 +3,8 @@ use Prim.Native.Nat.{ℕ}
 use mathlib.Core.Bool.{Bool, not, _&&_, cond}
 use lib.Dec.{eqb}
 use lib.Ieee.{Float, binary64, ofBits, neg, lt, le}
+use mathlib.Core.List.{[], _∷_}
+use Rattle.refusal_order.specs.Order.{_unless_, firstOf}
 use Rattle.xorshift.specs.Draws.{zero, one}
 use Rattle.smooth_random.specs.declared.SmoothRandom.{SmoothRandom}
 
@@ -50,4 +52,4 @@ argumentsOf rate-hz sample-rate = within zero mostTargets rate-hz && within leas
 -- 0 where the call is accepted; an argument outside its range gives 1, a state 3, and of both the lower.
 unfoldable pub verdict : SmoothRandom → Float → Float → ℕ
 unfolding validOf
-verdict r rate-hz sample-rate = cond (argumentsOf rate-hz sample-rate) (cond (validOf r) 0 3) 1
+verdict r rate-hz sample-rate = firstOf (1 unless argumentsOf rate-hz sample-rate ∷ 3 unless validOf r ∷ [])

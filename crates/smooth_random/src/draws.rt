@@ -2,11 +2,40 @@
 use super::Drawn;
 use super::SmoothRandom;
 ghost use mathlib.Core.Path.{_≡_};
-ghost use Rattle.smooth_random.specs.Drawing.{bipolarDrawn, scaleDrawn};
+ghost use Rattle.smooth_random.specs.Drawing.{bipolarDrawn, scaleDrawn, drawn};
 
 impl SmoothRandom {
     // A number from -1 to 1.
-    pub fn random_bipolar(mut self) -> Drawn
+    pub fn random_bipolar(self) -> Drawn
+        ensures { λ r. ⌜ r ≡ drawn self (bipolarDrawn self) ⌝ }
+    {
+        self.answered(self.bipolar())
+    }
+
+    // A number from 0.65 to 1.35.
+    pub fn random_segment_rate_scale(self) -> Drawn
+        ensures { λ r. ⌜ r ≡ drawn self (scaleDrawn self) ⌝ }
+    {
+        self.answered(self.scale())
+    }
+
+    // N3. The draw, or the refusal of a state that is out of range.
+    fn answered(self, draw: Drawn) -> Drawn
+        ensures { λ r. ⌜ r ≡ drawn self draw ⌝ }
+    {
+        if self.valid() {
+            draw
+        } else {
+            Drawn {
+                random: self,
+                value: 0.0,
+                refusal: 3,
+            }
+        }
+    }
+
+    // A draw without the test, for a step of the drift, which has made it already.
+    pub(crate) fn bipolar(mut self) -> Drawn
         ensures { λ r. ⌜ r ≡ bipolarDrawn self ⌝ }
     {
         let x = xorshift::step(self.state);
@@ -14,11 +43,11 @@ impl SmoothRandom {
         Drawn {
             random: self,
             value: xorshift::bipolar(x),
+            refusal: 0,
         }
     }
 
-    // A number from 0.65 to 1.35.
-    pub fn random_segment_rate_scale(mut self) -> Drawn
+    pub(crate) fn scale(mut self) -> Drawn
         ensures { λ r. ⌜ r ≡ scaleDrawn self ⌝ }
     {
         let y = xorshift::step(self.state);
@@ -26,6 +55,7 @@ impl SmoothRandom {
         Drawn {
             random: self,
             value: xorshift::scale(y),
+            refusal: 0,
         }
     }
 }

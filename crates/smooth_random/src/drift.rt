@@ -68,9 +68,9 @@ impl SmoothRandom {
     fn turn(self) -> SmoothRandom
         ensures { λ r. ⌜ r ≡ turned self ⌝ }
     {
-        let first = self.random_bipolar();
+        let first = self.bipolar();
         let once = first.random;
-        let second = once.random_segment_rate_scale();
+        let second = once.scale();
         let mut random = second.random;
         random.position = self.position - 1.0;
         random.current = self.next;

@@ -1,12 +1,13 @@
 // 001's SmoothRandom: a generator, the two targets that it drew last, and the way from one to the other.
 // F8. Each method takes the state by value and hands it back, with the number where there is one.
+// N3. Each refuses a state that is out of range, and hands it back as it was.
 mod draws; // the numbers that are made of the generator
 mod drift; // a step from one target towards the next
+mod seeds; // from a seed, by another seed, and from the start again
 
 ghost use mathlib.Core.Path.{_≡_};
 ghost use mathlib.Core.Bool.{_&&_};
 ghost use Rattle.smooth_random.specs.Ranges.{validOf};
-ghost use Rattle.smooth_random.specs.Drift.{newOf, resetOf, setSeedOf};
 
 pub struct SmoothRandom {
     pub initial_seed: u64,
@@ -17,10 +18,17 @@ pub struct SmoothRandom {
     pub segment_rate_scale: f64,
 }
 
-// A draw: the generator afterwards, and the number.
+// A draw: the generator afterwards, the number, and 0 or the number of a refusal.
 pub struct Drawn {
     pub random: SmoothRandom,
     pub value: f64,
+    pub refusal: u8,
+}
+
+// A reset, or another seed: the state afterwards, and 0 or the number of a refusal.
+pub struct Renewed {
+    pub random: SmoothRandom,
+    pub refusal: u8,
 }
 
 // A step of the drift: the state afterwards, the value before it, and 0 or the number of a refusal.
@@ -37,51 +45,6 @@ fn both(a: bool, b: bool) -> bool
 }
 
 impl SmoothRandom {
-    pub fn new(seed: u64) -> SmoothRandom
-        ensures { λ r. ⌜ r ≡ newOf seed ⌝ }
-    {
-        let seed = xorshift::normalized_seed(seed);
-        let result = SmoothRandom {
-            initial_seed: seed,
-            state: seed,
-            current: 0.0,
-            next: 0.0,
-            position: 0.0,
-            segment_rate_scale: 1.0,
-        };
-        result.reset()
-    }
-
-    // M2. Setting the seed already held does nothing.
-    pub fn set_seed(mut self, seed: u64) -> SmoothRandom
-        ensures { λ r. ⌜ r ≡ setSeedOf self seed ⌝ }
-    {
-        let seed = xorshift::normalized_seed(seed);
-        if seed == self.initial_seed {
-            return self;
-        }
-        self.initial_seed = seed;
-        self.reset()
-    }
-
-    // M3. Draws three times.
-    pub fn reset(mut self) -> SmoothRandom
-        ensures { λ r. ⌜ r ≡ resetOf self ⌝ }
-    {
-        self.state = self.initial_seed;
-        let first = self.random_bipolar();
-        let once = first.random;
-        let second = once.random_bipolar();
-        let twice = second.random;
-        let third = twice.random_segment_rate_scale();
-        let mut random = third.random;
-        random.current = first.value;
-        random.next = second.value;
-        random.segment_rate_scale = third.value;
-        random.position = 0.0;
-        random
-    }
-
     // G8. Whether every field is in its range.
     pub fn valid(self) -> bool
         ensures { λ r. ⌜ r ≡ validOf self ⌝ }

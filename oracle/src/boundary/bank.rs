@@ -69,7 +69,8 @@ pub fn bank_set_rate(max_rate: f64, set: usize) -> f64 {
 }
 
 pub fn bank_choose(max_rate: f64, rate: f64) -> (u8, Choice) {
-    let mut c = Choice::default();
+    // nothing is 0 before, so that what is not written shows
+    let mut c = Choice { safe: usize::MAX, tighter: usize::MAX, which: u8::MAX, blend: f32::INFINITY };
     let number = unsafe { fugnadri_bank_choose(max_rate, rate, &mut c.safe, &mut c.tighter, &mut c.which, &mut c.blend) };
     (number, c)
 }

@@ -18,7 +18,8 @@ pub struct WavePart {
 }
 
 pub fn wav_read(file: &[u8]) -> (u8, WavePart) {
-    let mut w = WavePart::default();
+    // nothing is 0 before, so that what is not written shows
+    let mut w = WavePart { kind: u8::MAX, channels: u8::MAX, rate: u32::MAX, start: usize::MAX, length: usize::MAX };
     let number = unsafe { fugnadri_wav_read(file.as_ptr(), file.len(), &mut w.kind, &mut w.channels, &mut w.rate, &mut w.start, &mut w.length) };
     (number, w)
 }

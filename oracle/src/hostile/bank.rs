@@ -34,9 +34,12 @@ pub const EXPORTS: &[Export] = &[
 ];
 
 fn choose(t: &mut Turn) -> u8 {
-    let (number, c) = b::bank_choose(t.random.ranged(1.0, 2.0), t.random.ranged(1.0, 2.0));
+    let (max_rate, rate) = (t.random.ranged(1.0, 2.0), t.random.ranged(1.0, 2.0));
+    let (number, c) = b::bank_choose(max_rate, rate);
+    let due = if !(1.0..=2.0).contains(&max_rate) { 1 } else { 7 * rate.is_nan() as u8 };
+    t.hold(number == due, "another refusal is due");
     let zero = (c.safe, c.tighter, c.which, c.blend.to_bits()) == (0, 0, 0, 0);
-    t.hold(number <= 8 && (number == 0 || zero), "a refused choice is not zero");
+    t.hold(number == 0 || zero, "a refused choice is not zero");
     t.saw(c.safe);
     t.saw(c.tighter);
     t.saw(c.which);

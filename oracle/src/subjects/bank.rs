@@ -111,9 +111,15 @@ fn refused(context: &mut Context) {
     let random = &mut context.random;
     for bad in [f64::NAN, 1.0f64.next_down(), 2.0f64.next_up(), f64::INFINITY, f64::NEG_INFINITY, 0.0, -1.0] {
         let mut few = [0.5f32; 7];
-        let numbers = [boundary::bank_build(bad, &mut few), boundary::bank_build_set(bad, &mut few), boundary::bank_choose(bad, 1.0).0];
-        if numbers != [1; 3] || few != [0.5; 7] || boundary::bank_steps(bad) != 0 || boundary::bank_length(bad) != 0 {
-            stop("a rate out of range", (bad, numbers));
+        let chosen = [boundary::bank_choose(bad, 1.0), boundary::bank_choose(bad, f64::NAN)];
+        let numbers = [boundary::bank_build(bad, &mut few), boundary::bank_build_set(bad, &mut few)];
+        if numbers != [1; 2] || chosen != [(1, Choice::default()); 2] || few != [0.5; 7] || boundary::bank_steps(bad) != 0 || boundary::bank_length(bad) != 0 {
+            stop("a rate out of range", (bad, numbers, chosen));
+        }
+    }
+    for max in [1.0, 2.0, 1.0 + random.unit()] {
+        if boundary::bank_choose(max, f64::NAN) != (7, Choice::default()) {
+            stop("a rate that is a NaN", (max, boundary::bank_choose(max, f64::NAN)));
         }
     }
     for length in [0, 1, random.within(2, 1000) as usize, SET - 1, SET + 1] {
@@ -131,6 +137,7 @@ fn refused(context: &mut Context) {
         }
     }
     context.count("bank", "builds refused", 34, None);
+    context.count("bank", "choices refused", 17, None);
 }
 
 pub fn run(context: &mut Context) {

@@ -3,7 +3,7 @@ use borrow.Author.Needs.{needs}
 use mathlib.Core.Path.{sym, _∙_}
 use mathlib.Core.Bool.{false≢true}
 use lib.Ieee.{ofBits}
-use Rattle.quality_variable_delay.proofs.Rates.{no-nan}
+use Rattle.bank_choice.proofs.NoNan.{no-nan}
 use Rattle.quality_codes.proofs.plainly.in_range.Statement.{statement}
 use Rattle.quality_codes.proofs.plainly.in_range.Tie as tie
 

@@ -1,14 +1,10 @@
--- `smooth_random::SmoothRandom::set_seed` meets its contract: the definition at what the comparison found. Assumes nothing.
-use borrow.Author.Tests.{eq-eqb, ne-eqb}
+-- `smooth_random::SmoothRandom::set_seed` meets its contract: the new state, as it is handed back. Assumes nothing.
 use borrow.Author.Needs.{needs}
 use Rattle.smooth_random.proofs.SmoothRandom.set_seed.Statement.{statement}
 use Rattle.smooth_random.proofs.SmoothRandom.set_seed.Tie as tie
 
 returns : tie.Need-returns
-returns c = rw (← c .before .before .normalized-seed .ensures, eq-eqb _ _ (c .if1 .taken))
-
-returns-2 : tie.Need-returns-2
-returns-2 c = let test = c .before in rw (c .reset .ensures, ← test .before .before .normalized-seed .ensures, ne-eqb _ _ (test .if1 .left))
+returns c = rw (c .handed-back .ensures, c .before .seeded .ensures)
 
 pub set-seed-spec : {M : Type 1} → statement M
-set-seed-spec = tie.close (tie.spec (λ c κs. search needs) returns (λ c κs. search needs) returns-2)
+set-seed-spec = tie.close (tie.spec (λ c κs. search needs) (λ c κs. search needs) returns)

@@ -6,7 +6,7 @@ use Rattle.smooth_random.proofs.SmoothRandom.turn.Tie as tie
 
 returns : tie.Need-returns
 unfolding turned
-returns c = rw (c .before .before .random-segment-rate-scale .ensures, c .before .before .before .before .random-bipolar .ensures)
+returns c = rw (c .before .before .scale .ensures, c .before .before .before .before .bipolar .ensures)
 
 pub turn-spec : {M : Type 1} → statement M
 turn-spec = tie.close (tie.spec (λ c κs. search needs) (λ c κs. search needs) returns)
