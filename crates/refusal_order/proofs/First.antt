@@ -73,5 +73,5 @@ lowest ts c k = (given, λ w. first-given ts k w ∙ counted-number 1 ts c k w �
   where
     given : firstOf ts ≡ suc k → First ts k
     given e = let w = given-first ts k e in
-      let same : w .0 ≡ k = omega (arith, counted-number 1 ts c (w .0) (w .1 .0), w .1 .1) in
-      rw same at (w .1 .0)
+        let same : w .0 ≡ k = omega (arith, counted-number 1 ts c (w .0) (w .1 .0), w .1 .1) in
+        rw same at (w .1 .0)

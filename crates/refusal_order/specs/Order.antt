@@ -8,7 +8,6 @@ use lib.ListN.{getD}
 
 -- A line of the table: the number that is given unless the test holds.
 infix 68 _unless_
-
 pub data Test : Type 0 where
   _unless_ : ℕ → Bool → Test
 
