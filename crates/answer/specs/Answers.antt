@@ -3,14 +3,11 @@ use Prim.Native.Nat.{ℕ, zero, suc}
 use mathlib.Core.Bool.{false}
 use lib.Ieee.{Float, fin}
 use lib.IntN.{pos}
+pub use Rattle.constants.specs.Numbers.{zero-f}
 use Rattle.answer.specs.declared.Answer.{Answer}
 use Rattle.answer.specs.declared.AnswerF32.{AnswerF32}
 use Rattle.answer.specs.declared.Answer.the-variants as f64
 use Rattle.answer.specs.declared.AnswerF32.the-variants as f32
-
--- +0.0, in either format
-abbrev pub zero-f : Float
-zero-f = fin false 0 (pos 0)
 
 -- The answer of a refusal number and a sample: the sample counts where the number is 0.
 abbrev pub answerOf : ℕ → Float → Answer

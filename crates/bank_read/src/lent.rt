@@ -8,6 +8,7 @@ ghost use Rattle.sinc_bank_f32.specs.Sets.{setLength};
 ghost use Rattle.sinc_bank_f32.specs.Parts.{pickSlice};
 ghost use Rattle.bank_read.specs.Bank.{setAt, tableAt, blended, tablesAt, setsOk};
 use bank_choice::Choice;
+use constants::SET_LENGTH;
 use fused_chain::Pair;
 use quality_mode::QualityMode;
 
@@ -81,8 +82,8 @@ fn set_at(sets: &[f32], k: usize) -> &[f32]
     requires { ⌜ (k + 1) * 1081648 ≤ length (now sets) ⌝ }
     ensures { λ r. ⌜ now r ≡ setAt (now (sets .entry)) k ⌝ }
 {
-    let a = k * 1081648;
-    let e = a + 1081648;
+    let a = k * SET_LENGTH;
+    let e = a + SET_LENGTH;
     &sets[a..e]
 }
 

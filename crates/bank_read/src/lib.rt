@@ -6,18 +6,14 @@ ghost use mathlib.Core.Bool.{_&&_};
 ghost use Rattle.bank_read.specs.Bank.{setsOk, readOf, sampleVerdict, sampledOf};
 use answer::AnswerF32;
 use bank_choice::Choice;
+use constants::SET_LENGTH;
 use quality_mode::QualityMode;
-
-fn both(a: bool, b: bool) -> bool
-    ensures { λ r. ⌜ r ≡ (a && b) ⌝ }
-{
-    if a { b } else { false }
-}
+use refusal_order::both;
 
 fn sets_ok(choice: Choice, len: usize) -> bool
     ensures { λ r. ⌜ r ≡ setsOk choice len ⌝ }
 {
-    let n = len / 1081648;
+    let n = len / SET_LENGTH;
     if choice.safe < n {
         choice.tighter < n
     } else {

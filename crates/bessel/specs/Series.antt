@@ -3,6 +3,7 @@ use Prim.Native.Nat.{ℕ, zero, suc, _^_}
 use mathlib.Core.Bool.{Bool, false, cond}
 use lib.IntN.{pos}
 use lib.Ieee.{Float, fin, binary64, round, add, mul, div, lt, ofInt}
+pub use Rattle.constants.specs.Numbers.{one-f}
 
 -- `term *= y / (k * k)`
 abbrev pub termOf : Float → ℕ → Float → Float
@@ -19,9 +20,6 @@ sumAfter (suc n) k y sum term =
     let next = termOf y (suc k) term in
     let more = add binary64 sum next in
     cond (ends more next) more (sumAfter n (suc k) y more next)
-
-abbrev pub one-f : Float
-one-f = fin false 1 (pos 0)
 
 abbrev pub four-f : Float
 four-f = fin false 1 (pos 2)

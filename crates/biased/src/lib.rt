@@ -6,6 +6,7 @@ ghost use lib.Dec.{leb};
 ghost use lib.Ieee.{binary64, add};
 ghost use Rattle.biased.specs.Sums.{allTaken, Advanced};
 ghost use Rattle.biased.specs.Beginning.{endsFor, noBias, withBias};
+use refusal_order::both;
 
 // A bias, and the ends between which a biased sum is taken.
 struct Ends {
@@ -89,13 +90,6 @@ pub fn with_bias(sum: f64) -> Start
 pub struct Added {
     pub fine: bool,
     pub sum: f64,
-}
-
-// Both tests are made, so that tests that follow each other are made at once.
-fn both(a: bool, b: bool) -> bool
-    ensures { λ r. ⌜ r ≡ (a && b) ⌝ }
-{
-    if a { b } else { false }
 }
 
 // Four products added to a biased sum. They are fine where no sum between leaves the ends.

@@ -4,15 +4,10 @@ use mathlib.Core.Bool.{false, cond}
 use mathlib.Core.List.{List}
 use lib.IntN.{pos, _+ℤ_, _-ℤ_}
 use lib.Ieee.{Float, Format, fin, binary64, add, sub, mul, div, neg}
+pub use Rattle.constants.specs.Numbers.{zero-f, one-f as one, two-f as two}
 use Rattle.ring.specs.Taps.{tapOf}
 use Rattle.ring.specs.Places.{positionOk}
 use Rattle.integer_part.specs.Parts.{floorOf, fractionOf}
-
-abbrev pub one : Float
-one = fin false 1 (pos 0)
-
-abbrev pub two : Float
-two = fin false 1 (pos 1)
 
 abbrev pub six : Float
 six = fin false 3 (pos 1)
@@ -41,4 +36,4 @@ cubicAt xs count p =
 
 -- G3. Outside the positions' range `read` gives zero, and `sample` refuses by 1.
 abbrev pub readOf : List Float → ℕ → Float → Float
-readOf xs count p = cond (positionOk p) (cubicAt xs count p) (fin false 0 (pos 0))
+readOf xs count p = cond (positionOk p) (cubicAt xs count p) zero-f

@@ -4,6 +4,7 @@ use mathlib.Core.Bool.{false, cond}
 use mathlib.Core.List.{List}
 use lib.IntN.{pos, _+ℤ_, _-ℤ_}
 use lib.Ieee.{Float, fin, binary32}
+use Rattle.constants.specs.Numbers.{zero-f}
 use Rattle.rounding.specs.Operations.{narrowed}
 use Rattle.ring.specs.Taps.{tapOf}
 use Rattle.ring.specs.Places.{positionOk}
@@ -18,4 +19,4 @@ draftAt xs count p =
 
 -- G3. Outside the positions' range the reading is zero.
 abbrev pub readOf : List Float → ℕ → Float → Float
-readOf xs count p = cond (positionOk p) (draftAt xs count p) (fin false 0 (pos 0))
+readOf xs count p = cond (positionOk p) (draftAt xs count p) zero-f

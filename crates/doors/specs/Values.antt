@@ -2,9 +2,10 @@
 use mathlib.Core.Bool.{false}
 use lib.IntN.{pos}
 use lib.Ieee.{Float, fin}
+use Rattle.constants.specs.Numbers.{zero-f}
 use Rattle.elementary.specs.declared.Answer.{Answer}
 use Rattle.elementary.specs.declared.Answer.the-variants.{Value, Refused}
 
 abbrev pub valueOf : Answer → Float
 valueOf (Value v) = v
-valueOf (Refused n) = fin false 0 (pos 0)
+valueOf (Refused n) = zero-f

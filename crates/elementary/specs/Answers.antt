@@ -3,6 +3,7 @@ use mathlib.Core.Bool.{false, cond}
 use Prim.Native.Nat.{ℕ, _+_, _%_}
 use lib.IntN.{pos, negsuc}
 use lib.Ieee.{Float, fin, binary64, neg, add, sub, mul, lt, ofBits}
+pub use Rattle.constants.specs.Numbers.{one-f as one, two-f as two}
 use Rattle.elementary.specs.declared.Answer.{Answer}
 use Rattle.elementary.specs.declared.Answer.the-variants.{Value, Refused}
 use Rattle.polynomials.specs.Horner.{sineNear, cosineNear, powerNear}
@@ -27,12 +28,6 @@ sineAt x = cond (atMost 1 x) (sineNear x) (pick (fourth (turns x)) (reduced x))
 unfoldable pub cosineAt : Float → Float
 unfolding cosineNear pick fourth turns reduced
 cosineAt x = cond (atMost 1 x) (cosineNear x) (pick ((fourth (turns x) + 1) % 4) (reduced x))
-
-abbrev pub one : Float
-one = fin false 1 (pos 0)
-
-abbrev pub two : Float
-two = fin false 1 (pos 1)
 
 abbrev pub half : Float
 half = fin false 1 (negsuc 0)

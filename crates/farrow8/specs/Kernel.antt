@@ -4,6 +4,7 @@ use mathlib.Core.Bool.{false, cond}
 use mathlib.Core.List.{List, [], _∷_}
 use lib.IntN.{ℤ, pos, _+ℤ_, _-ℤ_}
 use lib.Ieee.{Float, fin, binary64}
+use Rattle.constants.specs.Numbers.{zero-f}
 use Rattle.rounding.specs.Operations.{fused}
 use Rattle.ring.specs.Taps.{tapOf}
 use Rattle.ring.specs.Places.{positionOk}
@@ -36,4 +37,4 @@ unfolding polynomialOf
 farrowAt xs count p = polynomialOf (tapsAt xs count (floorOf p)) (fractionOf p)
 
 abbrev pub readOf : List Float → ℕ → Float → Float
-readOf xs count p = cond (positionOk p) (farrowAt xs count p) (fin false 0 (pos 0))
+readOf xs count p = cond (positionOk p) (farrowAt xs count p) zero-f

@@ -1,10 +1,10 @@
 // A run of taps with its sum kept biased: nothing but one addition a tap waits for another. It is for taps behind the middle, where the sum keeps its size.
 ghost use Rattle.fused_chain.specs.Blocks.{Ready, Runs};
 use crate::Run;
-use crate::taps::both;
 use crate::taps::multiplied;
 use biased::advance;
 use biased::with_bias;
+use refusal_order::both;
 
 // The turns from `from` on, four at a time, up to `to` at most, as far as the sum keeps its size and its sign.
 pub(crate) fn biased_run<'a>(

@@ -8,6 +8,7 @@ ghost use Rattle.fused_chain.specs.Chain.{coefficientOf};
 ghost use Rattle.fused_step.specs.Steps.{Numbers};
 ghost use Rattle.fused_chain.specs.Blocks.{Product, Multiplied};
 use fused_step::are_numbers;
+use refusal_order::both;
 
 // A sample and its coefficient.
 pub(crate) struct Tap {
@@ -28,13 +29,6 @@ pub(crate) struct Products {
 pub(crate) struct Moved {
     pub(crate) fine: bool,
     pub(crate) sum: f64,
-}
-
-// Both tests are made, so that tests that follow each other are made at once.
-pub(crate) fn both(a: bool, b: bool) -> bool
-    ensures { λ r. ⌜ r ≡ (a && b) ⌝ }
-{
-    if a { b } else { false }
 }
 
 pub(crate) fn tap_at<'a>(

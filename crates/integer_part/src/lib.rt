@@ -5,6 +5,7 @@ ghost use lib.Ieee as Ieee;
 ghost use lib.Ieee.{binary64};
 ghost use Rattle.magnitude.specs.Bounds.{AtMost};
 ghost use Rattle.integer_part.specs.Parts.{floorOf, fractionOf};
+use constants::LIMIT_F64;
 
 // Rust's `x as i64`: towards zero, an end of the range where x lies past it, and 0 at a NaN.
 fn truncated(x: f64) -> i64
@@ -54,7 +55,7 @@ fn floored(x: f64) -> f64
 pub fn floor(x: f64) -> i64
     ensures { λ r. ⌜ r ≡ floorOf x ⌝ }
 {
-    if magnitude::within(x, -68719476736.0, 68719476736.0) {
+    if magnitude::within(x, -LIMIT_F64, LIMIT_F64) {
         floored(x) as i64
     } else {
         beyond(x)
@@ -65,7 +66,7 @@ pub fn floor(x: f64) -> i64
 pub fn fraction(x: f64) -> f64
     ensures { λ r. ⌜ r ≡ fractionOf x ⌝ }
 {
-    if magnitude::within(x, -68719476736.0, 68719476736.0) {
+    if magnitude::within(x, -LIMIT_F64, LIMIT_F64) {
         x - floored(x)
     } else {
         x - std::num::nearest_i64_to_f64(beyond(x))

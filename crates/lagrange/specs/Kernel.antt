@@ -5,6 +5,7 @@ use mathlib.Core.List.{List}
 use lib.Dec.{eqb, leb}
 use lib.IntN.{ℤ, pos, _+ℤ_, _-ℤ_}
 use lib.Ieee.{Float, fin, binary64, add, sub, mul, ofInt}
+pub use Rattle.constants.specs.Numbers.{zero-f}
 use Rattle.loops.specs.Loops.{fold}
 use Rattle.lagrange_factors.specs.Weight.{weight, floats}
 use Rattle.ring.specs.Taps.{tapOf}
@@ -14,9 +15,6 @@ use Rattle.integer_part.specs.Parts.{floorOf}
 -- G5. Taps: even, 2 to 16.
 abbrev pub tapsOk : ℕ → Bool
 tapsOk taps = leb taps 16 && leb 2 taps && eqb (taps % 2) 0
-
-abbrev pub zero-f : Float
-zero-f = fin false 0 (pos 0)
 
 abbrev pub num : ℕ → Float
 num n = ofInt binary64 (pos n)

@@ -6,6 +6,7 @@ use mathlib.Core.Bool.{Bool, false, cond}
 use lib.Dec.{eqb}
 use lib.IntN.{ℤ, pos, natAbs, _-ℤ_, _*ℤ_}
 use lib.Ieee.{Float, fin, binary64, sub, mul, div, ofInt}
+use Rattle.constants.specs.Numbers.{one-f}
 
 -- what the loop does with numbers
 pub record Arithmetic (A : Type 0) : Type 0 where
@@ -29,7 +30,7 @@ weight a local k (suc j) = factor a local k j (weight a local k j)
 abbrev pub floats : Arithmetic Float
 floats =
     record {
-      one = fin false 1 (pos 0);
+      one = one-f;
       number = λ n. ofInt binary64 (pos n);
       less = sub binary64;
       times = mul binary64;

@@ -8,12 +8,7 @@ use modulation_params::ModulationParams;
 use modulation_sample::Next;
 use modulation_sample::Offset;
 use oscillator_ranges as ranges;
-
-fn both(a: bool, b: bool) -> bool
-    ensures { λ r. ⌜ r ≡ (a && b) ⌝ }
-{
-    if a { b } else { false }
-}
+use refusal_order::both;
 
 // The delay offsets in samples, left and right; then one sample on.
 pub fn next(engine: ModulationEngine, params: ModulationParams) -> Next

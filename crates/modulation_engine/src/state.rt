@@ -4,12 +4,7 @@ ghost use mathlib.Core.Bool.{_&&_};
 ghost use Rattle.modulation_engine.specs.Engine.{phasesOk, validEngine, verdict};
 use crate::ModulationEngine;
 use oscillator_ranges as ranges;
-
-fn both(a: bool, b: bool) -> bool
-    ensures { λ r. ⌜ r ≡ (a && b) ⌝ }
-{
-    if a { b } else { false }
-}
+use refusal_order::both;
 
 impl ModulationEngine {
     // G8. Both phases in their range.

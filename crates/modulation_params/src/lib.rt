@@ -3,6 +3,7 @@ ghost use mathlib.Core.Path.{_≡_};
 ghost use mathlib.Core.Bool.{_&&_};
 ghost use Rattle.modulation_params.specs.Settings.{paramsOk, defaultParams};
 use oscillator_ranges as ranges;
+use refusal_order::both;
 
 pub struct ModulationParams {
     pub wow_rate_hz: f64,
@@ -17,12 +18,6 @@ pub struct ModulationParams {
     pub drift_amount: f64,
     // Symmetric left/right modulation phase displacement, 0 to 1 for 0 to 180 degrees.
     pub stereo_amount: f64,
-}
-
-fn both(a: bool, b: bool) -> bool
-    ensures { λ r. ⌜ r ≡ (a && b) ⌝ }
-{
-    if a { b } else { false }
 }
 
 // 001's ModulationParams::default.

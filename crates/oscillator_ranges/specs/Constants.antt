@@ -1,5 +1,6 @@
 -- The numbers of 001, each by its bit pattern, and beside it as 001 writes it. A quotient of two literals is rounded once. Definitions only.
 use lib.Ieee.{Float, binary64, ofBits, div}
+pub use Rattle.constants.specs.Numbers.{zero-bits as zero, one-bits as one}
 
 -- std::f64::consts::TAU
 abbrev pub tau : Float
@@ -8,13 +9,6 @@ tau = ofBits binary64 0x4019_21fb_5444_2d18
 -- std::f64::consts::SQRT_2
 abbrev pub sqrt2 : Float
 sqrt2 = ofBits binary64 0x3ff6_a09e_667f_3bcd
-
--- 0.0 and 1.0
-abbrev pub zero : Float
-zero = ofBits binary64 0
-
-abbrev pub one : Float
-one = ofBits binary64 0x3ff0_0000_0000_0000
 
 -- 3.0 and 5.0
 abbrev pub three : Float

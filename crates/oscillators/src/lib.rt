@@ -6,15 +6,10 @@ ghost use Rattle.oscillators.specs.Answers.{answeredBy, speedDeltaOf, ad
 use elementary::Answer;
 use oscillator_ranges as ranges;
 use oscillator_ranges::TAU;
+use refusal_order::both;
 
 // The greatest magnitude of a shape: the rounded square reaches it at phase zero.
 pub const MAX_SHAPE_PRIMITIVE: f64 = 7.0 / 6.0;
-
-fn both(a: bool, b: bool) -> bool
-    ensures { λ r. ⌜ r ≡ (a && b) ⌝ }
-{
-    if a { b } else { false }
-}
 
 // The value, or refusal 1 where what was asked is out of range.
 fn answered(ok: bool, value: f64) -> Answer

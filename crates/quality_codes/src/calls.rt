@@ -3,13 +3,13 @@ ghost use mathlib.Core.Path.{_≡_};
 ghost use Rattle.quality_codes.specs.Calls.{takenApart, calledOf, ringCalled};
 use super::Called;
 use super::Coded;
-use super::codes::both;
 use super::codes::decode;
 use super::codes::encode;
 use super::codes::fields_ok;
 use super::codes::mode;
 use super::odd;
 use quality_variable_delay::ProcessedQ;
+use refusal_order::both;
 
 fn apart(p: ProcessedQ) -> Called
     ensures { λ r. ⌜ r ≡ takenApart p ⌝ }

@@ -5,6 +5,7 @@ ghost use Rattle.quality_codes.specs.Codes.{modeOf, decoded, coded, fiel
 use super::Coded;
 use quality_mode::QualityMode;
 use quality_variable_delay::QualityVariableDelayF32;
+use refusal_order::both;
 
 pub fn mode(code: u8) -> QualityMode
     ensures { λ r. ⌜ r ≡ modeOf code ⌝ }
@@ -47,12 +48,6 @@ pub fn encode(d: QualityVariableDelayF32) -> Coded
         place: d.crossfade_position,
         crossfade: d.crossfade_samples,
     }
-}
-
-pub fn both(a: bool, b: bool) -> bool
-    ensures { λ r. ⌜ r ≡ (a && b) ⌝ }
-{
-    if a { b } else { false }
 }
 
 pub fn fields_ok(s: Coded) -> bool

@@ -6,6 +6,7 @@ ghost use lib.Dec.{eqb};
 ghost use Rattle.magnitude.specs.Bounds.{AtMost};
 ghost use Rattle.bank_choice.specs.Rates.{bankOk, ceilingOf, stepsOf};
 ghost use Rattle.sinc_bank_f32.specs.Sets.{setLength};
+use constants::SET_LENGTH;
 
 // Whether n is the ceiling of x, and at least 1: x lies above the number before it and not above n.
 fn counted(x: f64, n: u64) -> bool
@@ -31,8 +32,8 @@ fn counted(x: f64, n: u64) -> bool
 pub(crate) fn fits(top: f64, lent: usize) -> bool
     ensures { λ r. ⌜ (r ≡ true → (bankOk top ≡ true) × (eqb lent (stepsOf top * setLength) ≡ true)) ⌝ }
 {
-    let n = lent / 1081648;
-    if n * 1081648 == lent {
+    let n = lent / SET_LENGTH;
+    if n * SET_LENGTH == lent {
         if magnitude::within(top, 1.0, 2.0) {
             return counted((top - 1.0) / 0.02, n as u64);
         }

@@ -9,12 +9,12 @@ mod through; // a call whose numbers come and go through pointers
 
 pub use calls::call;
 pub use draft::call_at_once;
+use refusal_order::both;
 pub use renewing::renew;
 pub use through::call_through;
 ghost use mathlib.Core.Path.{_≡_};
 ghost use mathlib.Core.Bool.{cond};
 ghost use Rattle.quality_codes.specs.Codes.{oddNumber};
-use codes::both;
 
 // A quality reader's state: `place` and `crossfade` are 000's crossfade_position and crossfade_samples.
 pub struct Coded {

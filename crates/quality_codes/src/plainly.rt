@@ -12,6 +12,8 @@ ghost use Rattle.sinc_bank_f32.specs.Sets.{setLength};
 ghost use Rattle.quality_variable_delay.specs.Bank.{dueOf};
 ghost use Rattle.quality_codes.specs.Codes.{decoded, stateOf};
 use super::lent;
+use constants::LIMIT;
+use constants::LIMIT_F64;
 
 // Whether all three qualities are Draft and the fade's numbers in range.
 fn draft(current: u8, target: u8, quality: u8, place: u32, crossfade: u32) -> bool
@@ -33,9 +35,9 @@ fn draft(current: u8, target: u8, quality: u8, place: u32, crossfade: u32) -> bo
 fn in_range(accepted: u64, input: f32, delay: f64, rate: f64) -> bool
     ensures { λ r. ⌜ (r ≡ true → (accepted < 2 ^ 36) × (le (fin false 0 (pos 0)) delay ≡ true) × (le delay (fin false 1 (pos 36)) ≡ true) × (finite input ≡ true) × (not (isNan rate) ≡ true)) ⌝ }
 {
-    if accepted < 68719476736 {
+    if accepted < LIMIT {
         if delay >= 0.0 {
-            if delay <= 68719476736.0 {
+            if delay <= LIMIT_F64 {
                 if magnitude::is_finite_f32(input) {
                     return rate == rate;
                 }

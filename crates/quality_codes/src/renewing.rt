@@ -4,12 +4,12 @@ ghost use lib.ListN.{length};
 ghost use Rattle.quality_codes.specs.Calls.{openedApart, renewedOf, ringRenewed};
 use super::Called;
 use super::Coded;
-use super::codes::both;
 use super::codes::decode;
 use super::codes::encode;
 use super::codes::fields_ok;
 use super::odd;
 use quality_variable_delay::Opened;
+use refusal_order::both;
 
 fn opened_apart(state: Coded, o: Opened) -> Called
     ensures { λ r. ⌜ r ≡ openedApart state o ⌝ }

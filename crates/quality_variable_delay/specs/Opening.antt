@@ -5,6 +5,7 @@ use mathlib.Core.List.{List, [], _∷_}
 use lib.Dec.{eqb, leb}
 use lib.ListN.{length}
 use lib.Ieee.{Float}
+use Rattle.constants.specs.Numbers.{limit}
 use Rattle.refusal_order.specs.Order.{_unless_, firstOf}
 use Rattle.ring.specs.Length.{settingsOk, lengthFor}
 use Rattle.variable_delay.specs.Opening.{clearedBy}
@@ -23,7 +24,7 @@ resetVerdict d len =
     firstOf
     (1 unless (settingsOk (d .maximum) (d .margin) && lengthOk (d .«crossfade_samples»))
     ∷ 2 unless eqb len (lengthFor (d .maximum) (d .margin))
-    ∷ 3 unless (leb (d .accepted) (2 ^ 36) && placeOk (fadePart d))
+    ∷ 3 unless (leb (d .accepted) limit && placeOk (fadePart d))
     ∷ [])
 
 -- Q3. The count is zero, the target is current, and the place is the length.

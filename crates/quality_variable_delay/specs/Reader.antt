@@ -7,6 +7,7 @@ use lib.Dec.{eqb, leb, ltb}
 use lib.IntN.{pos}
 use lib.Ieee.{Float, fin, binary32, add, sub, mul, div, le, ofInt, isNan}
 use lib.Ieee.Scale.{finite}
+use Rattle.constants.specs.Numbers.{zero-f, limit, limit-f}
 use Rattle.refusal_order.specs.Order.{_unless_, firstOf}
 use Rattle.answer.specs.Answers.{answerF32Of}
 use Rattle.order.specs.Choice.{smaller}
@@ -28,12 +29,12 @@ verdict bank lent d len x y rate =
     firstOf
     (1 unless (settingsOk (d .maximum) (d .margin) && (lengthOk (d .«crossfade_samples») && bank))
     ∷ 2 unless (eqb len (lengthFor (d .maximum) (d .margin)) && lent)
-    ∷ 3 unless (leb (d .accepted) (2 ^ 36) && placeOk (fadePart d))
+    ∷ 3 unless (leb (d .accepted) limit && placeOk (fadePart d))
     ∷ 4 unless finite x
-    ∷ 5 unless (finite y && le (fin false 0 (pos 0)) y)
-    ∷ 6 unless le y (fin false 1 (pos 36))
+    ∷ 5 unless (finite y && le zero-f y)
+    ∷ 6 unless le y limit-f
     ∷ 7 unless not (isNan rate)
-    ∷ 8 unless ltb (d .accepted) (2 ^ 36)
+    ∷ 8 unless ltb (d .accepted) limit
     ∷ [])
 
 -- `(crossfade_position + 1) as f32 / crossfade_samples as f32`, at most 1

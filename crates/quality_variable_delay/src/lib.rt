@@ -19,8 +19,11 @@ ghost use Rattle.variable_delay.specs.Reader.{stored, positionOf};
 ghost use Rattle.quality_variable_delay.specs.State.{fadePart};
 ghost use Rattle.quality_variable_delay.specs.Reader.{verdict};
 use answer::AnswerF32;
+use constants::LIMIT;
+use constants::LIMIT_F64;
 use quality_fade::Fade;
 use quality_mode::QualityMode;
+use refusal_order::both;
 
 // F1. The qualities are fields, written anew where a fade starts or ends.
 pub struct QualityVariableDelayF32 {
@@ -41,12 +44,6 @@ pub enum Opened {
 pub struct ProcessedQ {
     pub state: QualityVariableDelayF32,
     pub answer: AnswerF32,
-}
-
-fn both(a: bool, b: bool) -> bool
-    ensures { λ r. ⌜ r ≡ (a && b) ⌝ }
-{
-    if a { b } else { false }
 }
 
 // What the state holds of its qualities.
@@ -82,12 +79,12 @@ pub fn refusal(
         both(quality_fade::length_ok(state.crossfade_samples), bank),
     );
     let t2 = both(len == needed, lent);
-    let t3 = both(n <= 68719476736, quality_fade::place_ok(fading(state)));
+    let t3 = both(n <= LIMIT, quality_fade::place_ok(fading(state)));
     let t4 = magnitude::is_finite_f32(input);
     let t5 = both(magnitude::is_finite(delay), delay >= 0.0);
-    let t6 = delay <= 68719476736.0;
+    let t6 = delay <= LIMIT_F64;
     let t7 = bank_choice::is_number(playback_rate);
-    let t8 = n < 68719476736;
+    let t8 = n < LIMIT;
     answer::first(t1, t2, t3, t4, t5, t6, t7, t8)
 }
 

@@ -4,7 +4,9 @@ ghost use lib.ListN.{length};
 ghost use Rattle.quality_variable_delay.specs.Opening.{resetVerdict, renewed, fresh, resetOf, ringReset};
 use super::Opened;
 use super::QualityVariableDelayF32;
+use constants::LIMIT;
 use quality_mode::QualityMode;
+use refusal_order::both;
 
 // 000's QualityVariableDelayF32::new over a lent ring: refuses by 1 or 2, or zeroes the ring.
 pub fn open(
@@ -34,13 +36,13 @@ pub fn reset_refusal(state: QualityVariableDelayF32, len: usize) -> u8
     ensures { λ r. ⌜ r ≡ resetVerdict state len ⌝ }
 {
     let needed = ring::length_for(state.maximum, state.margin);
-    let t1 = super::both(
+    let t1 = both(
         needed != 0,
         quality_fade::length_ok(state.crossfade_samples),
     );
     let t2 = len == needed;
-    let t3 = super::both(
-        state.accepted <= 68719476736,
+    let t3 = both(
+        state.accepted <= LIMIT,
         quality_fade::place_ok(super::fading(state)),
     );
     answer::first(t1, t2, t3, true, true, true, true, true)

@@ -8,6 +8,8 @@ ghost use Rattle.bank_choice.specs.Rates.{bankOk, stepsOf};
 ghost use Rattle.sinc_bank_f32.specs.Sets.{setLength};
 ghost use Rattle.quality_variable_delay.specs.Bank.{dueOf};
 use super::QualityVariableDelayF32;
+use constants::LIMIT;
+use constants::LIMIT_F64;
 
 // Whether a ring of `len` and a bank of `lent` f32 have the lengths that their settings need. What is empty has no settings.
 fn filled(maximum: usize, margin: usize, len: usize, max_rate: f64, lent: usize) -> bool
@@ -35,11 +37,11 @@ pub(crate) fn served(
 ) -> bool
     ensures { λ r. ⌜ (r ≡ true → dueOf lent «max_rate» state len input delay «playback_rate» ≡ 0) ⌝ }
 {
-    if state.accepted < 68719476736 {
+    if state.accepted < LIMIT {
         if quality_fade::length_ok(state.crossfade_samples) {
             if quality_fade::place_ok(super::fading(state)) {
                 if delay >= 0.0 {
-                    if delay <= 68719476736.0 {
+                    if delay <= LIMIT_F64 {
                         if magnitude::is_finite_f32(input) {
                             if bank_choice::is_number(playback_rate) {
                                 return filled(state.maximum, state.margin, len, max_rate, lent);

@@ -2,9 +2,7 @@
 use mathlib.Core.Bool.{false, cond}
 use lib.IntN.{pos}
 use lib.Ieee.{Float, nan, inf, fin, binary64, add, rem, lt}
-
-abbrev pub zero : Float
-zero = fin false 0 (pos 0)
+pub use Rattle.constants.specs.Numbers.{zero-f as zero}
 
 -- f64::abs
 abbrev pub absoluteOf : Float → Float

@@ -6,6 +6,7 @@ use lib.Dec.{leb, ltb, eqb}
 use lib.IntN.{ℤ, pos, negsuc}
 use lib.Signed.{leZ}
 use lib.ListN.{length}
+use Rattle.constants.specs.Numbers.{limit}
 use Rattle.refusal_order.specs.Order.{_unless_, firstOf}
 use Rattle.residual.specs.declared.Report.{Report}
 use Rattle.residual.specs.declared.Place.{Place}
@@ -31,7 +32,7 @@ abbrev pub sumOk : ℕ → ℕ → ℕ → Bool
 sumOk n l s = leb (l * l) s && leb s (n * (l * l))
 
 unfoldable pub reportOk : Report → Bool
-reportOk r = leb (r .number) (2 ^ 36) && (leb (r .largest) (2 ^ 24 - 1) && (placeOk (r .place) (r .number) && sumOk (r .number) (r .largest) (sumOf r)))
+reportOk r = leb (r .number) limit && (leb (r .largest) (2 ^ 24 - 1) && (placeOk (r .place) (r .number) && sumOk (r .number) (r .largest) (sumOf r)))
 
 -- 1 a value outside 24 bits, 2 unequal lengths, 3 the carried report, 8 past 2^36 samples; 0 for none.
 unfoldable pub verdict : Report → List ℤ → List ℤ → ℕ
@@ -40,7 +41,7 @@ verdict r xs ys =
     (1 unless (all24 xs && all24 ys)
     ∷ 2 unless eqb (length xs) (length ys)
     ∷ 3 unless reportOk r
-    ∷ 8 unless leb (r .number + length xs) (2 ^ 36)
+    ∷ 8 unless leb (r .number + length xs) limit
     ∷ [])
 
 -- A refused call adds nothing: the caller's report is still the report.

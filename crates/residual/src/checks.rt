@@ -6,12 +6,8 @@ ghost use lib.Dec.{leb};
 ghost use Rattle.residual.specs.Refusals.{in24, all24, placeOk, reportOk, verdict};
 use crate::Place;
 use crate::Report;
-
-fn both(a: bool, b: bool) -> bool
-    ensures { λ r. ⌜ r ≡ (a && b) ⌝ }
-{
-    if a { b } else { false }
-}
+use constants::LIMIT;
+use refusal_order::both;
 
 fn in_24(x: i32) -> bool
     ensures { λ r. ⌜ r ≡ in24 x ⌝ }
@@ -71,7 +67,7 @@ fn at_most(high: u64, low: u64, number: u64, square: u64) -> bool
 fn report_ok(r: Report) -> bool
     ensures { λ b. ⌜ b ≡ reportOk r ⌝ }
 {
-    if r.number > 68719476736 {
+    if r.number > LIMIT {
         return false;
     }
     if r.largest > 16777215 {
@@ -90,10 +86,10 @@ fn report_ok(r: Report) -> bool
 fn fits(number: u64, more: usize) -> bool
     ensures { λ r. ⌜ r ≡ leb (number + more) (2 ^ 36) ⌝ }
 {
-    if number > 68719476736 {
+    if number > LIMIT {
         return false;
     }
-    more as u64 <= 68719476736 - number
+    more as u64 <= LIMIT - number
 }
 
 pub(crate) fn due(report: Report, a: &[i32], b: &[i32]) -> u8

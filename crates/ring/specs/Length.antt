@@ -6,6 +6,7 @@ use lib.Dec.{leb}
 use lib.IntN.{pos}
 use lib.ListN.{replicate}
 use lib.Ieee.{Float, fin, size}
+use Rattle.constants.specs.Numbers.{zero-f}
 
 -- maximum delay + 2 × margin + 8
 abbrev pub need : ℕ → ℕ → ℕ
@@ -21,4 +22,4 @@ settingsOk delay margin = leb (need delay margin) (2 ^ 24)
 
 -- K1. Opening zeroes the ring: +0.0 at every place.
 abbrev pub zeros : ℕ → List Float
-zeros n = replicate n (fin false 0 (pos 0))
+zeros n = replicate n zero-f

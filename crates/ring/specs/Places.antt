@@ -4,11 +4,12 @@ use mathlib.Core.Bool.{Bool, true, false, _&&_, cond}
 use lib.Dec.{leb, eqb}
 use lib.IntN.{ℤ, pos, negsuc}
 use lib.Ieee.{Float, fin, le}
+use Rattle.constants.specs.Numbers.{limit-f, minus-limit-f}
 use Rattle.ring.specs.declared.Start.{Start}
 
 -- finite, from -2^36 to 2^36
 abbrev pub positionOk : Float → Bool
-positionOk p = le (fin true 1 (pos 36)) p && le p (fin false 1 (pos 36))
+positionOk p = le minus-limit-f p && le p limit-f
 
 -- an index modulo the length, and 0 in an empty ring
 abbrev pub placeOf : ℕ → ℕ → ℕ

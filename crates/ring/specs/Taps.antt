@@ -7,6 +7,7 @@ use lib.Dec.{leb, ltb}
 use lib.IntN.{ℤ, pos, negsuc}
 use lib.ListN.{length, getD}
 use lib.Ieee.{Float, nan, fin}
+use Rattle.constants.specs.Numbers.{zero-f}
 
 -- Where a tap lies: held with its value, not yet written, ahead of the newest, or overwritten.
 pub data Tap : Type 0 where
@@ -25,9 +26,9 @@ tapAt xs count (pos k) = pick (ltb k count) (pick (leb count (k + length xs)) (h
 -- A tap that is not held counts as zero.
 abbrev pub valueOf : Tap → Float
 valueOf (held x) = x
-valueOf unwritten = fin false 0 (pos 0)
-valueOf ahead = fin false 0 (pos 0)
-valueOf overwritten = fin false 0 (pos 0)
+valueOf unwritten = zero-f
+valueOf ahead = zero-f
+valueOf overwritten = zero-f
 
 abbrev pub tapOf : List Float → ℕ → ℤ → Float
 tapOf xs count i = valueOf (tapAt xs count i)

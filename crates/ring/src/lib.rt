@@ -2,6 +2,7 @@
 mod single; // the same for samples of single precision
 mod taps; // where a tap stands, and what it reads
 
+use constants::LIMIT_F64;
 pub use single::clear_f32;
 pub use single::tap_f32;
 pub use taps::tap;
@@ -100,5 +101,5 @@ pub fn run_start(len: usize, count: u64, index: i64, taps: u64) -> Start
 pub fn position_ok(position: f64) -> bool
     ensures { λ r. ⌜ r ≡ positionOk position ⌝ }
 {
-    magnitude::within(position, -68719476736.0, 68719476736.0)
+    magnitude::within(position, -LIMIT_F64, LIMIT_F64)
 }

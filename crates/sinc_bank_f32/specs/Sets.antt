@@ -5,15 +5,12 @@ use mathlib.Core.List.{List, _++_}
 use lib.IntN.{pos, negsuc}
 use lib.ListN.{take, drop}
 use lib.Ieee.{Float, fin}
+pub use Rattle.constants.specs.Numbers.{setLength}
 use Rattle.loops.specs.Loops.{rows}
 use Rattle.sinc_settings.specs.declared.Settings.{Settings}
 use Rattle.sinc_settings.specs.Refusals.{forRate}
 use Rattle.windowed_sinc_f32.specs.Table.{tableF32Of}
 use Rattle.bank_choice.specs.Rates.{bankOk, stepsOf, rateOf}
-
--- 163920 + 393312 + 524416
-abbrev pub setLength : ℕ
-setLength = 1081648
 
 -- the f64 nearest to 0.995
 abbrev pub passband : Float

@@ -1,6 +1,7 @@
 // T3, T5. 000's SincBankF32 over lent slices: the sets of a bank are built in their places, and the part of a set that a quality reads is handed back.
 mod parts; // the part of a set that is to be read
 
+use constants::SET_LENGTH;
 pub use parts::chosen;
 ghost use mathlib.Core.Path.{_≡_};
 ghost use mathlib.Core.Bool.{true};
@@ -48,7 +49,7 @@ fn write_set(rate: f64, set: &mut [f32])
 {
     write_part(80, 2048, rate, 12.0, &mut set[..], 0, 163920);
     write_part(96, 4096, rate, 14.0, &mut set[..], 163920, 557232);
-    write_part(128, 4096, rate, 16.0, &mut set[..], 557232, 1081648);
+    write_part(128, 4096, rate, 16.0, &mut set[..], 557232, SET_LENGTH);
 }
 
 // One set in its place: 0, or the refusal that is due, which leaves the slice.
@@ -59,7 +60,7 @@ pub fn build_set(rate: f64, set: &mut [f32]) -> u8
     if !magnitude::within(rate, 1.0, 2.0) {
         return 1;
     }
-    if set.len() != 1081648 {
+    if set.len() != SET_LENGTH {
         return 2;
     }
     write_set(rate, &mut set[..]);
@@ -70,7 +71,7 @@ pub fn build_set(rate: f64, set: &mut [f32]) -> u8
 pub fn bank_length(max_rate: f64) -> usize
     ensures { λ r. ⌜ r ≡ bankLength «max_rate» ⌝ }
 {
-    bank_choice::steps(max_rate) * 1081648
+    bank_choice::steps(max_rate) * SET_LENGTH
 }
 
 // Lends each set's part of the bank to `write_set`.
@@ -100,6 +101,6 @@ pub fn build(max_rate: f64, sets: &mut [f32]) -> Built
     if sets.len() != bank_length(max_rate) {
         return Built::Refused(2);
     }
-    write_sets(max_rate, n, 1081648, &mut sets[..]);
+    write_sets(max_rate, n, SET_LENGTH, &mut sets[..]);
     Built::Sets(n)
 }

@@ -1,6 +1,7 @@
 // T5. The part of one of two lent sets that a quality reads.
 ghost use mathlib.Core.Path.{_≡_};
 ghost use Rattle.sinc_bank_f32.specs.Parts.{startOf, endOf, lentOf, chosenOf};
+use constants::SET_LENGTH;
 use quality_mode::QualityMode;
 
 fn start(quality: QualityMode) -> usize
@@ -21,7 +22,7 @@ fn end(quality: QualityMode) -> usize
         QualityMode::Draft => 0,
         QualityMode::Normal => 163920,
         QualityMode::Hq => 557232,
-        QualityMode::Ultra => 1081648,
+        QualityMode::Ultra => SET_LENGTH,
     }
 }
 
@@ -31,7 +32,7 @@ fn part<'a>(set: &'a [f32], quality: QualityMode) -> &'a [f32]
 {
     let a = start(quality);
     let e = end(quality);
-    if set.len() == 1081648 {
+    if set.len() == SET_LENGTH {
         return &set[a..e];
     }
     &set[0..0]

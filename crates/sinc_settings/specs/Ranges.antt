@@ -4,16 +4,8 @@ use mathlib.Core.Bool.{Bool, false, _&&_}
 use lib.Dec.{eqb, leb}
 use lib.IntN.{pos, negsuc}
 use lib.Ieee.{Float, fin, lt, le}
+pub use Rattle.constants.specs.Numbers.{zero-f, one-f, two-f}
 use Rattle.sinc_settings.specs.declared.Settings.{Settings}
-
-abbrev pub zero-f : Float
-zero-f = fin false 0 (pos 0)
-
-abbrev pub one-f : Float
-one-f = fin false 1 (pos 0)
-
-abbrev pub two-f : Float
-two-f = fin false 1 (pos 1)
 
 -- even, 4 to 128
 abbrev pub tapsOk : ℕ → Bool

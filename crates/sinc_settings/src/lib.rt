@@ -3,6 +3,7 @@ ghost use mathlib.Core.Path.{_≡_};
 ghost use mathlib.Core.Bool.{_&&_};
 ghost use Rattle.sinc_settings.specs.Ranges.{tapsOk, phasesOk, settingsOk, rateOk, passbandOk};
 ghost use Rattle.sinc_settings.specs.Refusals.{tableVerdict, verdict, forRate, rateVerdict};
+use refusal_order::both;
 
 // 000's four arguments.
 pub struct Settings {
@@ -10,12 +11,6 @@ pub struct Settings {
     pub phases: usize,
     pub cutoff: f64,
     pub beta: f64,
-}
-
-fn both(a: bool, b: bool) -> bool
-    ensures { λ r. ⌜ r ≡ (a && b) ⌝ }
-{
-    if a { b } else { false }
 }
 
 // Even, 4 to 128.

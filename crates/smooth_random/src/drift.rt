@@ -1,7 +1,7 @@
 // M5. One step of the drift: the value at the position, then the position moved on.
 use super::Next;
 use super::SmoothRandom;
-use super::both;
+use refusal_order::both;
 ghost use mathlib.Core.Path.{_≡_};
 ghost use Rattle.smooth_random.specs.Ranges.{verdict};
 ghost use Rattle.smooth_random.specs.Drift.{valueAt, advanced, turned, nextOf};

@@ -8,6 +8,7 @@ mod seeds; // from a seed, by another seed, and from the start again
 ghost use mathlib.Core.Path.{_≡_};
 ghost use mathlib.Core.Bool.{_&&_};
 ghost use Rattle.smooth_random.specs.Ranges.{validOf};
+use refusal_order::both;
 
 pub struct SmoothRandom {
     pub initial_seed: u64,
@@ -36,12 +37,6 @@ pub struct Next {
     pub random: SmoothRandom,
     pub value: f64,
     pub refusal: u8,
-}
-
-fn both(a: bool, b: bool) -> bool
-    ensures { λ r. ⌜ r ≡ (a && b) ⌝ }
-{
-    if a { b } else { false }
 }
 
 impl SmoothRandom {

@@ -5,6 +5,7 @@ use mathlib.Core.List.{List, [], _∷_}
 use lib.Dec.{eqb, leb}
 use lib.ListN.{length}
 use lib.Ieee.{Float}
+use Rattle.constants.specs.Numbers.{limit}
 use Rattle.refusal_order.specs.Order.{_unless_, firstOf}
 use Rattle.ring.specs.Length.{settingsOk, lengthFor, zeros}
 use Rattle.variable_delay.specs.declared.VariableDelay.{VariableDelay}
@@ -21,7 +22,7 @@ resetVerdict d len =
     firstOf
     (1 unless settingsOk (d .maximum) (d .margin)
     ∷ 2 unless eqb len (lengthFor (d .maximum) (d .margin))
-    ∷ 3 unless leb (d .accepted) (2 ^ 36)
+    ∷ 3 unless leb (d .accepted) limit
     ∷ [])
 
 -- The reader that a verdict leaves, and its ring: a refusal leaves every element (D1c).

@@ -8,6 +8,7 @@ use lib.IntN.{pos}
 use lib.ListN.{length, set}
 use lib.Ieee.{Float, fin, binary64, sub, le, ofInt}
 use lib.Ieee.Scale.{finite}
+use Rattle.constants.specs.Numbers.{zero-f, limit, limit-f}
 use Rattle.refusal_order.specs.Order.{_unless_, firstOf}
 use Rattle.answer.specs.Answers.{answerOf}
 use Rattle.ring.specs.Length.{settingsOk, lengthFor}
@@ -25,11 +26,11 @@ verdict own lent d len x y =
     firstOf
     (1 unless (settingsOk (d .maximum) (d .margin) && own)
     ∷ 2 unless (eqb len (lengthFor (d .maximum) (d .margin)) && lent)
-    ∷ 3 unless leb (d .accepted) (2 ^ 36)
+    ∷ 3 unless leb (d .accepted) limit
     ∷ 4 unless finite x
-    ∷ 5 unless (finite y && le (fin false 0 (pos 0)) y)
-    ∷ 6 unless le y (fin false 1 (pos 36))
-    ∷ 8 unless ltb (d .accepted) (2 ^ 36)
+    ∷ 5 unless (finite y && le zero-f y)
+    ∷ 6 unless le y limit-f
+    ∷ 8 unless ltb (d .accepted) limit
     ∷ [])
 
 -- The same on the length that `ring::length_for` gives, which is 0 where the settings are out of range: as the code tests it.
@@ -38,11 +39,11 @@ dueOf needed own lent len accepted x y =
     firstOf
     (1 unless (not (eqb needed 0) && own)
     ∷ 2 unless (eqb len needed && lent)
-    ∷ 3 unless leb accepted (2 ^ 36)
+    ∷ 3 unless leb accepted limit
     ∷ 4 unless finite x
-    ∷ 5 unless (finite y && le (fin false 0 (pos 0)) y)
-    ∷ 6 unless le y (fin false 1 (pos 36))
-    ∷ 8 unless ltb accepted (2 ^ 36)
+    ∷ 5 unless (finite y && le zero-f y)
+    ∷ 6 unless le y limit-f
+    ∷ 8 unless ltb accepted limit
     ∷ [])
 
 -- K1. Accepted sample i goes to place i modulo the length.
@@ -65,7 +66,7 @@ stateAfter (suc k) d = d
 -- What the kernel is handed: the samples accepted with this one, and the position.
 abbrev pub acceptedOf : ℕ → VariableDelay → Float → Accepted
 acceptedOf zero d y = record { refusal = 0; count = d .accepted + 1; position = positionOf (d .accepted) y }
-acceptedOf (suc k) d y = record { refusal = suc k; count = 0; position = fin false 0 (pos 0) }
+acceptedOf (suc k) d y = record { refusal = suc k; count = 0; position = zero-f }
 
 -- A call: refused with the state as it was, or stored, then read.
 abbrev pub processedBy : Reading → ℕ → VariableDelay → List Float → Float → Float → Processed

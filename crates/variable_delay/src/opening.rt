@@ -4,6 +4,7 @@ ghost use lib.ListN.{length};
 ghost use Rattle.variable_delay.specs.Opening.{openedOf, ringOpened, resetOf, ringReset};
 use super::Opened;
 use super::VariableDelay;
+use constants::LIMIT;
 
 // 000's VariableDelay::new over a lent ring: refuses by 1 or 2, or zeroes the ring.
 pub fn open(maximum: usize, margin: usize, ring: &mut [f64]) -> Opened
@@ -28,7 +29,7 @@ pub fn reset(state: VariableDelay, ring: &mut [f64]) -> Opened
     let needed = ring::length_for(state.maximum, state.margin);
     let t1 = needed != 0;
     let t2 = ring.len() == needed;
-    let t3 = state.accepted <= 68719476736;
+    let t3 = state.accepted <= LIMIT;
     let no = answer::first(t1, t2, t3, true, true, true, true, true);
     if no != 0 {
         return Opened::Refused(no);

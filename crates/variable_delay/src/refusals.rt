@@ -4,6 +4,9 @@ ghost use mathlib.Core.Bool.{_&&_};
 ghost use lib.Dec.{eqb};
 ghost use Rattle.variable_delay.specs.Reader.{verdict, dueOf};
 use super::VariableDelay;
+use constants::LIMIT;
+use constants::LIMIT_F64;
+use refusal_order::both;
 
 // The refusal that is due, in 01's order, and 0 for none.
 pub fn refusal(
@@ -34,11 +37,11 @@ pub(crate) fn due(
 {
     let t1 = both(needed != 0, own);
     let t2 = both(len == needed, lent);
-    let t3 = accepted <= 68719476736;
+    let t3 = accepted <= LIMIT;
     let t4 = magnitude::is_finite(input);
     let t5 = both(magnitude::is_finite(delay), delay >= 0.0);
-    let t6 = delay <= 68719476736.0;
-    let t8 = accepted < 68719476736;
+    let t6 = delay <= LIMIT_F64;
+    let t8 = accepted < LIMIT;
     answer::first(t1, t2, t3, t4, t5, t6, true, t8)
 }
 
@@ -58,13 +61,7 @@ pub(crate) fn passes(
     let t2 = both(len == needed, lent);
     let t4 = both(
         magnitude::is_finite(input),
-        magnitude::within(delay, 0.0, 68719476736.0),
+        magnitude::within(delay, 0.0, LIMIT_F64),
     );
-    both(both(t1, t2), both(accepted < 68719476736, t4))
-}
-
-fn both(a: bool, b: bool) -> bool
-    ensures { λ r. ⌜ r ≡ (a && b) ⌝ }
-{
-    if a { b } else { false }
+    both(both(t1, t2), both(accepted < LIMIT, t4))
 }

@@ -7,6 +7,9 @@ ghost use lib.ListN.{length};
 ghost use Rattle.variable_delay.specs.Reader.{verdict, acceptedOf, ringAfter};
 ghost use Rattle.variable_delay.specs.Opening.{openedOf, ringOpened, resetOf, ringReset};
 use answer::AnswerF32;
+use constants::LIMIT;
+use constants::LIMIT_F64;
+use refusal_order::both;
 use variable_delay::Accepted;
 use variable_delay::Opened;
 use variable_delay::VariableDelay;
@@ -39,7 +42,7 @@ pub fn reset(state: VariableDelay, ring: &mut [f32]) -> Opened
     let needed = ring::length_for(state.maximum, state.margin);
     let t1 = needed != 0;
     let t2 = ring.len() == needed;
-    let t3 = state.accepted <= 68719476736;
+    let t3 = state.accepted <= LIMIT;
     let no = answer::first(t1, t2, t3, true, true, true, true, true);
     if no != 0 {
         return Opened::Refused(no);
@@ -70,18 +73,12 @@ pub fn refusal(
     let needed = ring::length_for(state.maximum, state.margin);
     let t1 = both(needed != 0, own);
     let t2 = both(len == needed, lent);
-    let t3 = n <= 68719476736;
+    let t3 = n <= LIMIT;
     let t4 = magnitude::is_finite_f32(input);
     let t5 = both(magnitude::is_finite(delay), delay >= 0.0);
-    let t6 = delay <= 68719476736.0;
-    let t8 = n < 68719476736;
+    let t6 = delay <= LIMIT_F64;
+    let t8 = n < LIMIT;
     answer::first(t1, t2, t3, t4, t5, t6, true, t8)
-}
-
-fn both(a: bool, b: bool) -> bool
-    ensures { λ r. ⌜ r ≡ (a && b) ⌝ }
-{
-    if a { b } else { false }
 }
 
 // Refuses, or stores the sample: what is left is to read at the position.

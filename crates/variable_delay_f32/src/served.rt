@@ -2,6 +2,8 @@
 ghost use mathlib.Core.Path.{_≡_};
 ghost use mathlib.Core.Bool.{true};
 ghost use Rattle.variable_delay.specs.Reader.{verdict};
+use constants::LIMIT;
+use constants::LIMIT_F64;
 use variable_delay::VariableDelay;
 
 // Whether nothing is to be refused. A delay between two finite numbers is finite; a ring that is empty has no settings.
@@ -17,9 +19,9 @@ pub(crate) fn served(
 {
     if own {
         if lent {
-            if state.accepted < 68719476736 {
+            if state.accepted < LIMIT {
                 if delay >= 0.0 {
-                    if delay <= 68719476736.0 {
+                    if delay <= LIMIT_F64 {
                         if magnitude::is_finite_f32(input) {
                             if len != 0 {
                                 return len == ring::length_for(state.maximum, state.margin);

@@ -7,7 +7,7 @@ ghost use lib.ListN.{length};
 ghost use Rattle.wav.specs.Wave.{isWave, riffSize};
 ghost use mathlib.Core.List.{[], _∷_};
 ghost use Rattle.refusal_order.specs.Order.{_unless_, firstOf};
-use crate::format::both;
+use refusal_order::both;
 use word_bytes::low_first_u32;
 
 // 9. `RIFF`, `WAVE` and a RIFF size that holds the latter.

@@ -3,6 +3,7 @@ ghost use mathlib.Core.Path.{_≡_};
 ghost use mathlib.Core.Bool.{_&&_, _||_};
 ghost use Rattle.wav.specs.Format.{listed, kindOf, wholeFrames, formatOk};
 use crate::SampleKind;
+use refusal_order::both;
 use short_words::two;
 
 // 13.
@@ -55,12 +56,6 @@ fn whole_frames(size: usize, frame: usize) -> bool
         return false;
     }
     size % frame == 0
-}
-
-pub fn both(a: bool, b: bool) -> bool
-    ensures { λ r. ⌜ r ≡ a && b ⌝ }
-{
-    if a { b } else { false }
 }
 
 fn either(a: bool, b: bool) -> bool

@@ -2,16 +2,8 @@
 use Prim.Native.Nat.{ℕ, _/_, _^_}
 use lib.IntN.{pos}
 use lib.Ieee.{Float, binary64, ofBits, ofInt, add, sub, mul, div}
+pub use Rattle.constants.specs.Numbers.{zero-bits as zero, one-bits as one, two-bits as two}
 use Rattle.xorshift.specs.Xorshift.{valueOf}
-
-abbrev pub zero : Float
-zero = ofBits binary64 0
-
-abbrev pub one : Float
-one = ofBits binary64 0x3ff0_0000_0000_0000
-
-abbrev pub two : Float
-two = ofBits binary64 0x4000_0000_0000_0000
 
 -- 1.0 / 2^53
 abbrev pub scale53 : Float

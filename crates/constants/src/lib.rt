@@ -1,0 +1,9 @@
+// The numbers of 01 that several rooms name, for code. Their page for definitions is specs/Numbers.antt.
+
+// 2^36: as many samples may be accepted, and as far back may a delay reach (01, 'Ranges').
+pub const LIMIT: u64 = 68719476736;
+
+pub const LIMIT_F64: f64 = 68719476736.0;
+
+// The f32 of a bank's set: 163920 for Normal, 393312 for Hq, 524416 for Ultra (T3).
+pub const SET_LENGTH: usize = 1081648;
