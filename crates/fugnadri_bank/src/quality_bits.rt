@@ -26,31 +26,31 @@ pub extern "C" fn fugnadri_quality_process_bits<'a>(
 ) -> u8
     ensures { λ r. ⌜ r ≡ (calledOf (now (sets .entry)) «max_rate»
         (stateOf maximum margin (now (accepted .entry)) (now (current .entry)) (now (target .entry))
-            (now («crossfade_position» .entry)) «crossfade_samples»)
+        (now («crossfade_position» .entry)) «crossfade_samples»)
         (now (ring .entry)) input delay quality «max_rate») .number ⌝ }
     ensures { λ r. ⌜ now (sample .exit) ≡ toBits binary32 ((calledOf (now (sets .entry)) «max_rate»
         (stateOf maximum margin (now (accepted .entry)) (now (current .entry)) (now (target .entry))
-            (now («crossfade_position» .entry)) «crossfade_samples»)
+        (now («crossfade_position» .entry)) «crossfade_samples»)
         (now (ring .entry)) input delay quality «max_rate») .sample) ⌝ }
     ensures { λ r. ⌜ now (accepted .exit) ≡ (calledOf (now (sets .entry)) «max_rate»
         (stateOf maximum margin (now (accepted .entry)) (now (current .entry)) (now (target .entry))
-            (now («crossfade_position» .entry)) «crossfade_samples»)
+        (now («crossfade_position» .entry)) «crossfade_samples»)
         (now (ring .entry)) input delay quality «max_rate») .state .accepted ⌝ }
     ensures { λ r. ⌜ now (current .exit) ≡ (calledOf (now (sets .entry)) «max_rate»
         (stateOf maximum margin (now (accepted .entry)) (now (current .entry)) (now (target .entry))
-            (now («crossfade_position» .entry)) «crossfade_samples»)
+        (now («crossfade_position» .entry)) «crossfade_samples»)
         (now (ring .entry)) input delay quality «max_rate») .state .current ⌝ }
     ensures { λ r. ⌜ now (target .exit) ≡ (calledOf (now (sets .entry)) «max_rate»
         (stateOf maximum margin (now (accepted .entry)) (now (current .entry)) (now (target .entry))
-            (now («crossfade_position» .entry)) «crossfade_samples»)
+        (now («crossfade_position» .entry)) «crossfade_samples»)
         (now (ring .entry)) input delay quality «max_rate») .state .target ⌝ }
     ensures { λ r. ⌜ now («crossfade_position» .exit) ≡ (calledOf (now (sets .entry)) «max_rate»
         (stateOf maximum margin (now (accepted .entry)) (now (current .entry)) (now (target .entry))
-            (now («crossfade_position» .entry)) «crossfade_samples»)
+        (now («crossfade_position» .entry)) «crossfade_samples»)
         (now (ring .entry)) input delay quality «max_rate») .state .place ⌝ }
     ensures { λ r. ⌜ now (ring .exit) ≡ ringCalled (now (sets .entry)) «max_rate»
         (stateOf maximum margin (now (accepted .entry)) (now (current .entry)) (now (target .entry))
-            (now («crossfade_position» .entry)) «crossfade_samples»)
+        (now («crossfade_position» .entry)) «crossfade_samples»)
         (now (ring .entry)) input delay quality «max_rate» ⌝ }
 {
     let mut y: f32 = 0.0;
@@ -94,31 +94,31 @@ pub extern "C" fn fugnadri_quality_process_rate_aware_bits<'a>(
 ) -> u8
     ensures { λ r. ⌜ r ≡ (calledOf (now (sets .entry)) «max_rate»
         (stateOf maximum margin (now (accepted .entry)) (now (current .entry)) (now (target .entry))
-            (now («crossfade_position» .entry)) «crossfade_samples»)
+        (now («crossfade_position» .entry)) «crossfade_samples»)
         (now (ring .entry)) input delay quality «playback_rate») .number ⌝ }
     ensures { λ r. ⌜ now (sample .exit) ≡ toBits binary32 ((calledOf (now (sets .entry)) «max_rate»
         (stateOf maximum margin (now (accepted .entry)) (now (current .entry)) (now (target .entry))
-            (now («crossfade_position» .entry)) «crossfade_samples»)
+        (now («crossfade_position» .entry)) «crossfade_samples»)
         (now (ring .entry)) input delay quality «playback_rate») .sample) ⌝ }
     ensures { λ r. ⌜ now (accepted .exit) ≡ (calledOf (now (sets .entry)) «max_rate»
         (stateOf maximum margin (now (accepted .entry)) (now (current .entry)) (now (target .entry))
-            (now («crossfade_position» .entry)) «crossfade_samples»)
+        (now («crossfade_position» .entry)) «crossfade_samples»)
         (now (ring .entry)) input delay quality «playback_rate») .state .accepted ⌝ }
     ensures { λ r. ⌜ now (current .exit) ≡ (calledOf (now (sets .entry)) «max_rate»
         (stateOf maximum margin (now (accepted .entry)) (now (current .entry)) (now (target .entry))
-            (now («crossfade_position» .entry)) «crossfade_samples»)
+        (now («crossfade_position» .entry)) «crossfade_samples»)
         (now (ring .entry)) input delay quality «playback_rate») .state .current ⌝ }
     ensures { λ r. ⌜ now (target .exit) ≡ (calledOf (now (sets .entry)) «max_rate»
         (stateOf maximum margin (now (accepted .entry)) (now (current .entry)) (now (target .entry))
-            (now («crossfade_position» .entry)) «crossfade_samples»)
+        (now («crossfade_position» .entry)) «crossfade_samples»)
         (now (ring .entry)) input delay quality «playback_rate») .state .target ⌝ }
     ensures { λ r. ⌜ now («crossfade_position» .exit) ≡ (calledOf (now (sets .entry)) «max_rate»
         (stateOf maximum margin (now (accepted .entry)) (now (current .entry)) (now (target .entry))
-            (now («crossfade_position» .entry)) «crossfade_samples»)
+        (now («crossfade_position» .entry)) «crossfade_samples»)
         (now (ring .entry)) input delay quality «playback_rate») .state .place ⌝ }
     ensures { λ r. ⌜ now (ring .exit) ≡ ringCalled (now (sets .entry)) «max_rate»
         (stateOf maximum margin (now (accepted .entry)) (now (current .entry)) (now (target .entry))
-            (now («crossfade_position» .entry)) «crossfade_samples»)
+        (now («crossfade_position» .entry)) «crossfade_samples»)
         (now (ring .entry)) input delay quality «playback_rate» ⌝ }
 {
     let mut y: f32 = 0.0;

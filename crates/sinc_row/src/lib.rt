@@ -67,7 +67,11 @@ fn fill<'a>(row: &mut [f64], settings: Settings, window: &'a [f64], phase: usize
 
 // Whether no quotient by the sum is a NaN: it is a number other than zero, and then every coefficient is one.
 fn plain(gain: f64) -> bool {
-    if magnitude::is_finite(gain) { gain != 0.0 } else { false }
+    if magnitude::is_finite(gain) {
+        gain != 0.0
+    } else {
+        false
+    }
 }
 
 // O3. A table's element leaves as a float, so a NaN is the one that is handed out.
