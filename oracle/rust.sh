@@ -51,9 +51,9 @@ doors() { sed -n 's/^\(fugnadri[a-z_0-9]*\):.*/\1/p' "$root/crates.txt"; }
 
 build_boundary() {
     signatures "$root"/crates/fugnadri*/src/*.rt >"$out/exported"
-    signatures "$root/oracle/src/boundary.rs" "$root"/oracle/src/boundary/*.rs >"$out/declared"
+    signatures "$root/host/src/boundary.rs" "$root"/host/src/boundary/*.rs >"$out/declared"
     if ! cmp -s "$out/exported" "$out/declared"; then
-        echo "$me: what crates/fugnadri* export (<) is not what oracle/src/boundary.rs and boundary/ declare (>):" >&2
+        echo "$me: what crates/fugnadri* export (<) is not what host/src/boundary.rs and boundary/ declare (>):" >&2
         diff "$out/exported" "$out/declared" | grep '^[<>]' >&2
         exit 1
     fi
@@ -68,7 +68,7 @@ build_boundary() {
 
 build_boundary_crate() { # FOLDER of the static libraries
     # shellcheck disable=SC2046
-    build rlib boundary "$root/oracle/src/boundary.rs" -L "native=$1" $(doors | sed 's/^/-l static=/')
+    build rlib boundary "$root/host/src/boundary.rs" -L "native=$1" $(doors | sed 's/^/-l static=/')
 }
 
 # host/'s crate as the crate `host`, with what the comparison looks at (host/src/compare.rs).
