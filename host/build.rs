@@ -6,8 +6,6 @@ const LIBRARIES: [&str; 7] = ["fugnadri_wav", "fugnadri_residual", "fugnadri_ban
 
 fn main() {
     println!("cargo:rerun-if-env-changed=FUGNADRI_LIB");
-    println!("cargo:rerun-if-changed=../oracle/src/boundary.rs");
-    println!("cargo:rerun-if-changed=../oracle/src/boundary");
     let target = env::var("TARGET").unwrap_or_default();
     if !target.starts_with("x86_64-") || !target.contains("-linux-") {
         refuse(&format!("the static libraries are x86-64 code for Linux and this build is for {target}: build with --target x86_64-unknown-linux-gnu"));

@@ -15,7 +15,7 @@ build_checked() { # leaves $out/libboundary.rlib over $out/libchecked.a
         --no-default-config -c -x ir "$out/checked.ll" -o "$out/checked.o" -fPIC -O0 2>"$out/checked.log" || failed "the checked module does not compile: see target/hostile/checked.log"
     rm -f "$out/libchecked.a"
     "$own/toolchain/bin/llvm-ar" rcs "$out/libchecked.a" "$out/checked.o"
-    build rlib boundary "$root/oracle/src/boundary.rs" -L "native=$out" -l static=checked
+    build rlib boundary "$root/host/src/boundary.rs" -L "native=$out" -l static=checked
 }
 
 # The module of the third way, as $out/module.bc.

@@ -1,4 +1,4 @@
-# oracle/rust.sh: what oracle/run, oracle/store and bench/run share. Sourced, with `root` (the repository) and `me` (the command) set.
+# oracle/rust.sh: what oracle/run, oracle/store, bench/run and host/test share. Sourced, with `root` (the repository) and `me` (the command) set.
 # Builds Rust for x86-64 and runs it: plainly on x86-64, by oracle/fetch-rust and the kit's emulator on Arm. Writes below target/oracle alone.
 
 out=$root/target/oracle
@@ -14,22 +14,35 @@ failed() { echo "$me: $1" >&2; exit 1; }
 
 # Names what is missing before anything is made.
 find_all() {
-    command -v rt >/dev/null || missing "there is no rt on the PATH: put the Rattle kit's bin folder there"
-    kit=$(dirname "$(dirname "$(rt doc)")")
+    find_kit
     for f in lib modulation; do
         [ -f "$(original_file "$f")" ] || missing "the original is not at ${WOW_SRC:-../shared/docs/src}: set WOW_SRC to the folder that has crates/wow-dsp/src/$f.rs (or $f.rs.txt)"
     done
     mkdir -p "$out"
+    find_rust
+}
+
+find_kit() {
+    command -v rt >/dev/null || missing "there is no rt on the PATH: put the Rattle kit's bin folder there"
+    kit=$(dirname "$(dirname "$(rt doc)")")
+}
+
+# The compilers for x86-64, and how a program of theirs is started: `compile`, `compile_c`, `launch`.
+find_rust() {
     case $(uname -m) in
     x86_64)
         command -v rustc >/dev/null || missing "there is no rustc on the PATH: install Rust, one whose integers have is_multiple_of"
         command -v cc >/dev/null || missing "there is no cc on the PATH, by which rustc links: install a C compiler"
         compile() { rustc "$@"; }
+        compile_c() { cc "$@"; }
         launch() { "$@"; } ;;
     aarch64)
-        [ -x "$out/rust-x64/rustc-x64" ] || "$root/oracle/fetch-rust" "$out/rust-x64" || exit 2
-        compile() { "$root/target/oracle/rust-x64/rustc-x64" "$@"; }
-        launch() { "$root/target/oracle/rust-x64/run-x64" "$@"; } ;;
+        find_kit
+        fetched=$root/target/oracle/rust-x64 # one without a C compiler is older than this
+        [ -x "$fetched/cc-x64" ] || { rm -rf "$fetched" && "$root/oracle/fetch-rust" "$fetched"; } || exit 2
+        compile() { "$fetched/rustc-x64" "$@"; }
+        compile_c() { "$fetched/cc-x64" "$@"; }
+        launch() { "$fetched/run-x64" "$@"; } ;;
     *) missing "this machine is $(uname -m): this runs on x86_64 and aarch64" ;;
     esac
 }
@@ -51,9 +64,9 @@ doors() { sed -n 's/^\(fugnadri[a-z_0-9]*\):.*/\1/p' "$root/crates.txt"; }
 
 build_boundary() {
     signatures "$root"/crates/fugnadri*/src/*.rt >"$out/exported"
-    signatures "$root/oracle/src/boundary.rs" "$root"/oracle/src/boundary/*.rs >"$out/declared"
+    signatures "$root/host/src/boundary.rs" "$root"/host/src/boundary/*.rs >"$out/declared"
     if ! cmp -s "$out/exported" "$out/declared"; then
-        echo "$me: what crates/fugnadri* export (<) is not what oracle/src/boundary.rs and boundary/ declare (>):" >&2
+        echo "$me: what crates/fugnadri* export (<) is not what host/src/boundary.rs and boundary/ declare (>):" >&2
         diff "$out/exported" "$out/declared" | grep '^[<>]' >&2
         exit 1
     fi
@@ -68,7 +81,7 @@ build_boundary() {
 
 build_boundary_crate() { # FOLDER of the static libraries
     # shellcheck disable=SC2046
-    build rlib boundary "$root/oracle/src/boundary.rs" -L "native=$1" $(doors | sed 's/^/-l static=/')
+    build rlib boundary "$root/host/src/boundary.rs" -L "native=$1" $(doors | sed 's/^/-l static=/')
 }
 
 # host/'s crate as the crate `host`, with what the comparison looks at (host/src/compare.rs).

@@ -13,7 +13,6 @@
 //! What is proved is what the libraries do with what they are handed. This crate itself is plain Rust: it chooses lengths, lends, and hands on.
 
 #[allow(dead_code, unused_imports, clippy::too_many_arguments)]
-#[path = "../../oracle/src/boundary.rs"]
 mod boundary;
 #[cfg(compare)]
 pub mod compare;

@@ -1,8 +1,8 @@
 //! The static libraries' exported functions: one safe function for each.
 //!
 //! The only place that declares them for Rust, with boundary/. `oracle/run` holds these lines to the
-//! signatures in crates/fugnadri* before it builds, and its subjects call every one; host/ takes them in as
-//! a module. Each function there is total (no `requires`), so a call is safe at every argument.
+//! signatures in crates/fugnadri* before it builds, and its subjects call every one; oracle/ and bench/ build
+//! this file as a crate of its own. Each function there is total (no `requires`), so a call is safe at every argument.
 
 #[path = "boundary/bank.rs"]
 mod bank;
