@@ -24,6 +24,14 @@ pub opened : map (λ (q : ℕ). renewedOf (codeOk q) (freshOf 0 0 q 9) 8 .number
 unfolding lengthFor placeOk size
 opened = refl
 
+pub open-order : renewedOf (codeOk 4) (freshOf 0 0 4 9) 7 .number
+    ∷ renewedOf (codeOk 3) (freshOf 0 0 3 16777217) 7 .number
+    ∷ renewedOf (codeOk 3) (freshOf 0 0 3 9) 7 .number
+    ∷ renewedOf (codeOk 3) (freshOf 0 0 3 16777216) 8 .number ∷ []
+    ≡ 1 ∷ 1 ∷ 2 ∷ 0 ∷ []
+unfolding lengthFor placeOk size
+open-order = refl
+
 -- A reset asks for none. Each state has a fault fewer than the one above it.
 pub reset-order : renewed (stateOf 16777209 0 0 4 4 9 9) 7
     ∷ renewed (stateOf 0 0 0 4 4 9 9) 7

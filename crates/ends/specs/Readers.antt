@@ -46,15 +46,22 @@ lagrangeCalled taps = calledBy (lagrange.tapsOk taps) true 0 0 8 0 one one
 abbrev pub lagrangeSampled : ℕ → Float → ℕ
 lagrangeSampled taps position = cond (lagrange.tapsOk taps && positionOk position) 0 1
 
--- A table of its own length, built from settings, and one of 12 f64 for a maximum rate.
-unfoldable pub built : ℕ → ℕ → Float → Float → ℕ
+-- A table of `len` elements, built from settings and, of 4 taps and 2 phases, for a maximum rate; and each of its own
+-- length.
+unfoldable pub builtIn : ℕ → ℕ → Float → Float → ℕ → ℕ
 unfolding le
-built taps phases cutoff beta =
-    table.verdict (record { taps = taps; phases = phases; cutoff = cutoff; beta = beta }) (tableLength taps phases)
+builtIn taps phases cutoff beta len =
+    table.verdict (record { taps = taps; phases = phases; cutoff = cutoff; beta = beta }) len
 
-unfoldable pub builtFor : Float → Float → ℕ
+abbrev pub built : ℕ → ℕ → Float → Float → ℕ
+built taps phases cutoff beta = builtIn taps phases cutoff beta (tableLength taps phases)
+
+unfoldable pub builtForIn : Float → Float → ℕ → ℕ
 unfolding le lt div
-builtFor rate passband = rateVerdict (forRate 4 2 rate passband one) rate passband 12
+builtForIn rate passband len = rateVerdict (forRate 4 2 rate passband one) rate passband len
+
+abbrev pub builtFor : Float → Float → ℕ
+builtFor rate passband = builtForIn rate passband 12
 
 -- A call of the reader whose quality may change, lent a bank of `lent` f32 for the maximum rate `top`, and its reset.
 -- The settings 0 and 0 want a ring of 8, and the rate 1 a bank of 1081648.
