@@ -11,7 +11,10 @@ pub fn process_sample(state: VariableDelay, ring: &mut [f64], input: f64, delay:
     ensures { λ r. ⌜ r ≡ processed cubicAt state (now (ring .entry)) input delay ⌝ }
     ensures { λ r. ⌜ now (ring .exit) ≡ ringAfter (verdict true true state (length (now (ring .entry))) input delay) state (now (ring .entry)) input ⌝ }
 {
-    let a = variable_delay::accept(state, true, true, &mut ring[..], input, delay);
+    // A cubic has no settings of its own and no lent table, so these two tests pass.
+    let no_settings = true;
+    let no_table = true;
+    let a = variable_delay::accept(state, no_settings, no_table, &mut ring[..], input, delay);
     let no = a.refusal;
     if no != 0 {
         return Processed {

@@ -1,2 +1,3 @@
 pub mod Doors
+pub mod Left
 pub mod Values

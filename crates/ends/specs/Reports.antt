@@ -5,7 +5,7 @@ use lib.IntN.{ℤ, pos, negsuc}
 use Rattle.residual.specs.declared.Report.{Report}
 use Rattle.residual.specs.declared.Place.{Place}
 use Rattle.residual.specs.Refusals.{all24, reportOk, verdict, comparedOf}
-use Rattle.fugnadri_residual.specs.Words.{refusalOf, comparedFrom}
+use Rattle.fugnadri_residual.specs.Words.{refusalOf, numbers, leftFrom}
 
 -- The sum is handed in as two halves.
 abbrev pub reported : ℕ → ℕ → Place → ℕ → Report
@@ -35,4 +35,4 @@ ends24 = negsuc (2 ^ 23 - 1) ∷ negsuc (2 ^ 23) ∷ pos (2 ^ 23 - 1) ∷ pos (2
 -- At the C boundary: whether there is a place, and which.
 unfoldable pub placed : ℕ → ℕ → ℕ → ℕ
 unfolding verdict all24 reportOk
-placed number flag place = refusalOf (comparedFrom number 0 flag place 0 0 [] [])
+placed number flag place = (leftFrom (numbers number 0 flag place 0 0) [] []) .refusal

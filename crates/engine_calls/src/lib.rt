@@ -1,19 +1,14 @@
 // M1, M2, M5. The engine's calls on its 15 words: the answer is the refusal's number, 0 for none, and a refused call leaves the very words (D1c).
 ghost use mathlib.Core.Path.{_≡_};
-ghost use Rattle.modulation_engine.specs.Engine.{openedOf, setSampleRateOf, setSeedOf, resetOf, numberOf};
-ghost use Rattle.modulation.specs.Step.{nextOf};
-ghost use Rattle.modulation.specs.Step.{numberOf as refusalOf};
-ghost use Rattle.modulation.specs.Runs.{leftBy};
-ghost use Rattle.engine_words.specs.Words.{engineOf, wordsLeft};
-ghost use Rattle.engine_doors.specs.Doors.{leftOf, rightOf};
+ghost use Rattle.modulation_engine.specs.Engine.{openedOf, setSampleRateOf, setSeedOf, resetOf};
+ghost use Rattle.engine_calls.specs.Left.{renews, renewedBy, steps, steppedBy};
 use engine_words::engine_of;
 use engine_words::words_left;
 use modulation_engine::ModulationEngine;
 use modulation_params::ModulationParams;
 
 pub fn new(sample_rate: f64, seed: u64, words: &mut [u64; 15]) -> u8
-    ensures { λ r. ⌜ r ≡ numberOf (openedOf «sample_rate» seed) ⌝ }
-    ensures { λ r. ⌜ now (words .exit) ≡ wordsLeft (numberOf (openedOf «sample_rate» seed)) (leftBy (openedOf «sample_rate» seed) (engineOf (now (words .entry)))) (now (words .entry)) ⌝ }
+    ensures { λ r. ⌜ renews r (now (words .exit)) ≡ renewedBy (λ e. openedOf «sample_rate» seed) (now (words .entry)) ⌝ }
 {
     let before = engine_of(*words);
     let opened = ModulationEngine::new(sample_rate, seed);
@@ -24,8 +19,7 @@ pub fn new(sample_rate: f64, seed: u64, words: &mut [u64; 15]) -> u8
 }
 
 pub fn set_sample_rate(words: &mut [u64; 15], sample_rate: f64) -> u8
-    ensures { λ r. ⌜ r ≡ numberOf (setSampleRateOf (engineOf (now (words .entry))) «sample_rate») ⌝ }
-    ensures { λ r. ⌜ now (words .exit) ≡ wordsLeft (numberOf (setSampleRateOf (engineOf (now (words .entry))) «sample_rate»)) (leftBy (setSampleRateOf (engineOf (now (words .entry))) «sample_rate») (engineOf (now (words .entry)))) (now (words .entry)) ⌝ }
+    ensures { λ r. ⌜ renews r (now (words .exit)) ≡ renewedBy (λ e. setSampleRateOf e «sample_rate») (now (words .entry)) ⌝ }
 {
     let before = engine_of(*words);
     let opened = before.set_sample_rate(sample_rate);
@@ -36,8 +30,7 @@ pub fn set_sample_rate(words: &mut [u64; 15], sample_rate: f64) -> u8
 }
 
 pub fn set_seed(words: &mut [u64; 15], seed: u64) -> u8
-    ensures { λ r. ⌜ r ≡ numberOf (setSeedOf (engineOf (now (words .entry))) seed) ⌝ }
-    ensures { λ r. ⌜ now (words .exit) ≡ wordsLeft (numberOf (setSeedOf (engineOf (now (words .entry))) seed)) (leftBy (setSeedOf (engineOf (now (words .entry))) seed) (engineOf (now (words .entry)))) (now (words .entry)) ⌝ }
+    ensures { λ r. ⌜ renews r (now (words .exit)) ≡ renewedBy (λ e. setSeedOf e seed) (now (words .entry)) ⌝ }
 {
     let before = engine_of(*words);
     let opened = before.set_seed(seed);
@@ -48,8 +41,7 @@ pub fn set_seed(words: &mut [u64; 15], seed: u64) -> u8
 }
 
 pub fn reset(words: &mut [u64; 15]) -> u8
-    ensures { λ r. ⌜ r ≡ numberOf (resetOf (engineOf (now (words .entry)))) ⌝ }
-    ensures { λ r. ⌜ now (words .exit) ≡ wordsLeft (numberOf (resetOf (engineOf (now (words .entry))))) (leftBy (resetOf (engineOf (now (words .entry)))) (engineOf (now (words .entry)))) (now (words .entry)) ⌝ }
+    ensures { λ r. ⌜ renews r (now (words .exit)) ≡ renewedBy (λ e. resetOf e) (now (words .entry)) ⌝ }
 {
     let before = engine_of(*words);
     let opened = before.reset();
@@ -61,10 +53,8 @@ pub fn reset(words: &mut [u64; 15]) -> u8
 
 // The offsets of the two sides through pointers, 0.0 where the step is refused.
 pub fn next(words: &mut [u64; 15], params: ModulationParams, left: &mut f64, right: &mut f64) -> u8
-    ensures { λ r. ⌜ r ≡ refusalOf (nextOf (engineOf (now (words .entry))) params .offset) ⌝ }
-    ensures { λ r. ⌜ now (words .exit) ≡ wordsLeft (refusalOf (nextOf (engineOf (now (words .entry))) params .offset)) (nextOf (engineOf (now (words .entry))) params .engine) (now (words .entry)) ⌝ }
-    ensures { λ r. ⌜ now (left .exit) ≡ leftOf (nextOf (engineOf (now (words .entry))) params .offset) ⌝ }
-    ensures { λ r. ⌜ now (right .exit) ≡ rightOf (nextOf (engineOf (now (words .entry))) params .offset) ⌝ }
+    ensures { λ r. ⌜ steps r (now (words .exit)) (now (left .exit)) (now (right .exit))
+        ≡ steppedBy params (now (words .entry)) ⌝ }
 {
     let before = engine_of(*words);
     let next = modulation::next(before, params);

@@ -1,14 +1,12 @@
 // O3. The calls of `readers`, with the sample handed out as a pattern. They go through `readers`, so that each reader is called at one place and is compiled into it.
 ghost use mathlib.Core.Path.{_≡_};
-ghost use mathlib.Core.Bool.{true};
-ghost use lib.Ieee.{binary64, toBits};
-ghost use Rattle.answer.specs.Answers.{numberOf, valueOf};
-ghost use Rattle.variable_delay.specs.Reader.{processed};
+ghost use lib.Ieee.{binary64};
 ghost use Rattle.cubic_farrow.specs.Cubic.{cubicAt};
-ghost use Rattle.lagrange.specs.Kernel.{tapsOk};
+ghost use Rattle.lagrange.specs.Kernel.{tapsOk, lagrangeAt};
 ghost use Rattle.farrow8.specs.Kernel.{farrowAt};
 ghost use Rattle.doors.specs.Doors.{stateOf};
-ghost use Rattle.fugnadri.specs.Doors.{called, ringLeft};
+ghost use Rattle.doors.specs.Left.{leaves, inBits};
+ghost use Rattle.fugnadri.specs.Doors.{leftWith, leftOf};
 use crate::readers::fugnadri_cubic_process;
 use crate::readers::fugnadri_farrow8_process;
 use crate::readers::fugnadri_lagrange_process;
@@ -23,10 +21,8 @@ pub extern "C" fn fugnadri_cubic_process_bits(
     delay: f64,
     sample: &mut u64,
 ) -> u8
-    ensures { λ r. ⌜ r ≡ numberOf ((processed cubicAt (stateOf maximum margin (now (accepted .entry))) (now (ring .entry)) input delay) .answer) ⌝ }
-    ensures { λ r. ⌜ now (sample .exit) ≡ toBits binary64 (valueOf ((processed cubicAt (stateOf maximum margin (now (accepted .entry))) (now (ring .entry)) input delay) .answer)) ⌝ }
-    ensures { λ r. ⌜ now (accepted .exit) ≡ (processed cubicAt (stateOf maximum margin (now (accepted .entry))) (now (ring .entry)) input delay) .state .accepted ⌝ }
-    ensures { λ r. ⌜ now (ring .exit) ≡ ringLeft true (stateOf maximum margin (now (accepted .entry))) (now (ring .entry)) input delay ⌝ }
+    ensures { λ r. ⌜ leaves r (now (sample .exit)) (now (accepted .exit)) (now (ring .exit))
+        ≡ inBits binary64 (leftOf cubicAt (stateOf maximum margin (now (accepted .entry))) (now (ring .entry)) input delay) ⌝ }
 {
     let mut value = 0.0;
     let no = fugnadri_cubic_process(
@@ -53,10 +49,8 @@ pub extern "C" fn fugnadri_lagrange_process_bits(
     taps: u64,
     sample: &mut u64,
 ) -> u8
-    ensures { λ r. ⌜ r ≡ numberOf ((called taps (stateOf maximum margin (now (accepted .entry))) (now (ring .entry)) input delay) .answer) ⌝ }
-    ensures { λ r. ⌜ now (sample .exit) ≡ toBits binary64 (valueOf ((called taps (stateOf maximum margin (now (accepted .entry))) (now (ring .entry)) input delay) .answer)) ⌝ }
-    ensures { λ r. ⌜ now (accepted .exit) ≡ (called taps (stateOf maximum margin (now (accepted .entry))) (now (ring .entry)) input delay) .state .accepted ⌝ }
-    ensures { λ r. ⌜ now (ring .exit) ≡ ringLeft (tapsOk taps) (stateOf maximum margin (now (accepted .entry))) (now (ring .entry)) input delay ⌝ }
+    ensures { λ r. ⌜ leaves r (now (sample .exit)) (now (accepted .exit)) (now (ring .exit))
+        ≡ inBits binary64 (leftWith (tapsOk taps) (lagrangeAt taps) (stateOf maximum margin (now (accepted .entry))) (now (ring .entry)) input delay) ⌝ }
 {
     let mut value = 0.0;
     let no = fugnadri_lagrange_process(
@@ -83,10 +77,8 @@ pub extern "C" fn fugnadri_farrow8_process_bits(
     delay: f64,
     sample: &mut u64,
 ) -> u8
-    ensures { λ r. ⌜ r ≡ numberOf ((processed farrowAt (stateOf maximum margin (now (accepted .entry))) (now (ring .entry)) input delay) .answer) ⌝ }
-    ensures { λ r. ⌜ now (sample .exit) ≡ toBits binary64 (valueOf ((processed farrowAt (stateOf maximum margin (now (accepted .entry))) (now (ring .entry)) input delay) .answer)) ⌝ }
-    ensures { λ r. ⌜ now (accepted .exit) ≡ (processed farrowAt (stateOf maximum margin (now (accepted .entry))) (now (ring .entry)) input delay) .state .accepted ⌝ }
-    ensures { λ r. ⌜ now (ring .exit) ≡ ringLeft true (stateOf maximum margin (now (accepted .entry))) (now (ring .entry)) input delay ⌝ }
+    ensures { λ r. ⌜ leaves r (now (sample .exit)) (now (accepted .exit)) (now (ring .exit))
+        ≡ inBits binary64 (leftOf farrowAt (stateOf maximum margin (now (accepted .entry))) (now (ring .entry)) input delay) ⌝ }
 {
     let mut value = 0.0;
     let no = fugnadri_farrow8_process(

@@ -1,14 +1,12 @@
 // K1. One call of a delay reader: the state's numbers and the ring go in, the refusal's number comes back, 0 for none; the sample, 0.0 where there is none, and the
 // count through pointers.
 ghost use mathlib.Core.Path.{_≡_};
-ghost use mathlib.Core.Bool.{true};
-ghost use Rattle.answer.specs.Answers.{numberOf, valueOf};
-ghost use Rattle.variable_delay.specs.Reader.{processed};
 ghost use Rattle.cubic_farrow.specs.Cubic.{cubicAt};
-ghost use Rattle.lagrange.specs.Kernel.{tapsOk};
+ghost use Rattle.lagrange.specs.Kernel.{tapsOk, lagrangeAt};
 ghost use Rattle.farrow8.specs.Kernel.{farrowAt};
 ghost use Rattle.doors.specs.Doors.{stateOf};
-ghost use Rattle.fugnadri.specs.Doors.{called, ringLeft};
+ghost use Rattle.doors.specs.Left.{leaves};
+ghost use Rattle.fugnadri.specs.Doors.{leftWith, leftOf};
 use doors::handing::handed;
 use variable_delay::VariableDelay;
 
@@ -22,10 +20,8 @@ pub extern "C" fn fugnadri_cubic_process(
     delay: f64,
     sample: &mut f64,
 ) -> u8
-    ensures { λ r. ⌜ r ≡ numberOf ((processed cubicAt (stateOf maximum margin (now (accepted .entry))) (now (ring .entry)) input delay) .answer) ⌝ }
-    ensures { λ r. ⌜ now (sample .exit) ≡ valueOf ((processed cubicAt (stateOf maximum margin (now (accepted .entry))) (now (ring .entry)) input delay) .answer) ⌝ }
-    ensures { λ r. ⌜ now (accepted .exit) ≡ (processed cubicAt (stateOf maximum margin (now (accepted .entry))) (now (ring .entry)) input delay) .state .accepted ⌝ }
-    ensures { λ r. ⌜ now (ring .exit) ≡ ringLeft true (stateOf maximum margin (now (accepted .entry))) (now (ring .entry)) input delay ⌝ }
+    ensures { λ r. ⌜ leaves r (now (sample .exit)) (now (accepted .exit)) (now (ring .exit))
+        ≡ leftOf cubicAt (stateOf maximum margin (now (accepted .entry))) (now (ring .entry)) input delay ⌝ }
 {
     let state = VariableDelay {
         maximum: maximum,
@@ -49,10 +45,8 @@ pub extern "C" fn fugnadri_lagrange_process(
     taps: u64,
     sample: &mut f64,
 ) -> u8
-    ensures { λ r. ⌜ r ≡ numberOf ((called taps (stateOf maximum margin (now (accepted .entry))) (now (ring .entry)) input delay) .answer) ⌝ }
-    ensures { λ r. ⌜ now (sample .exit) ≡ valueOf ((called taps (stateOf maximum margin (now (accepted .entry))) (now (ring .entry)) input delay) .answer) ⌝ }
-    ensures { λ r. ⌜ now (accepted .exit) ≡ (called taps (stateOf maximum margin (now (accepted .entry))) (now (ring .entry)) input delay) .state .accepted ⌝ }
-    ensures { λ r. ⌜ now (ring .exit) ≡ ringLeft (tapsOk taps) (stateOf maximum margin (now (accepted .entry))) (now (ring .entry)) input delay ⌝ }
+    ensures { λ r. ⌜ leaves r (now (sample .exit)) (now (accepted .exit)) (now (ring .exit))
+        ≡ leftWith (tapsOk taps) (lagrangeAt taps) (stateOf maximum margin (now (accepted .entry))) (now (ring .entry)) input delay ⌝ }
 {
     let state = VariableDelay {
         maximum: maximum,
@@ -75,10 +69,8 @@ pub extern "C" fn fugnadri_farrow8_process(
     delay: f64,
     sample: &mut f64,
 ) -> u8
-    ensures { λ r. ⌜ r ≡ numberOf ((processed farrowAt (stateOf maximum margin (now (accepted .entry))) (now (ring .entry)) input delay) .answer) ⌝ }
-    ensures { λ r. ⌜ now (sample .exit) ≡ valueOf ((processed farrowAt (stateOf maximum margin (now (accepted .entry))) (now (ring .entry)) input delay) .answer) ⌝ }
-    ensures { λ r. ⌜ now (accepted .exit) ≡ (processed farrowAt (stateOf maximum margin (now (accepted .entry))) (now (ring .entry)) input delay) .state .accepted ⌝ }
-    ensures { λ r. ⌜ now (ring .exit) ≡ ringLeft true (stateOf maximum margin (now (accepted .entry))) (now (ring .entry)) input delay ⌝ }
+    ensures { λ r. ⌜ leaves r (now (sample .exit)) (now (accepted .exit)) (now (ring .exit))
+        ≡ leftOf farrowAt (stateOf maximum margin (now (accepted .entry))) (now (ring .entry)) input delay ⌝ }
 {
     let state = VariableDelay {
         maximum: maximum,

@@ -1,8 +1,9 @@
 // Q1, Q2. A call of the reader whose quality may change: the state's numbers, the ring and the bank's sets go in, the refusal's number comes back, 0 for none; the sample,
 // 0.0 where there is none, and what of the state a call changes, through pointers.
 ghost use mathlib.Core.Path.{_≡_};
+ghost use Rattle.doors.specs.Left.{leaves};
 ghost use Rattle.quality_codes.specs.Codes.{stateOf};
-ghost use Rattle.quality_codes.specs.Calls.{calledOf, ringCalled};
+ghost use Rattle.quality_codes.specs.Left.{changed, leftBy};
 
 #[no_mangle]
 pub extern "C" fn fugnadri_quality_process<'a>(
@@ -21,13 +22,13 @@ pub extern "C" fn fugnadri_quality_process<'a>(
     quality: u8,
     sample: &mut f32,
 ) -> u8
-    ensures { λ r. ⌜ r ≡ (calledOf (now (sets .entry)) «max_rate» (stateOf maximum margin (now (accepted .entry)) (now (current .entry)) (now (target .entry)) (now («crossfade_position» .entry)) «crossfade_samples») (now (ring .entry)) input delay quality «max_rate») .number ⌝ }
-    ensures { λ r. ⌜ now (sample .exit) ≡ (calledOf (now (sets .entry)) «max_rate» (stateOf maximum margin (now (accepted .entry)) (now (current .entry)) (now (target .entry)) (now («crossfade_position» .entry)) «crossfade_samples») (now (ring .entry)) input delay quality «max_rate») .sample ⌝ }
-    ensures { λ r. ⌜ now (accepted .exit) ≡ (calledOf (now (sets .entry)) «max_rate» (stateOf maximum margin (now (accepted .entry)) (now (current .entry)) (now (target .entry)) (now («crossfade_position» .entry)) «crossfade_samples») (now (ring .entry)) input delay quality «max_rate») .state .accepted ⌝ }
-    ensures { λ r. ⌜ now (current .exit) ≡ (calledOf (now (sets .entry)) «max_rate» (stateOf maximum margin (now (accepted .entry)) (now (current .entry)) (now (target .entry)) (now («crossfade_position» .entry)) «crossfade_samples») (now (ring .entry)) input delay quality «max_rate») .state .current ⌝ }
-    ensures { λ r. ⌜ now (target .exit) ≡ (calledOf (now (sets .entry)) «max_rate» (stateOf maximum margin (now (accepted .entry)) (now (current .entry)) (now (target .entry)) (now («crossfade_position» .entry)) «crossfade_samples») (now (ring .entry)) input delay quality «max_rate») .state .target ⌝ }
-    ensures { λ r. ⌜ now («crossfade_position» .exit) ≡ (calledOf (now (sets .entry)) «max_rate» (stateOf maximum margin (now (accepted .entry)) (now (current .entry)) (now (target .entry)) (now («crossfade_position» .entry)) «crossfade_samples») (now (ring .entry)) input delay quality «max_rate») .state .place ⌝ }
-    ensures { λ r. ⌜ now (ring .exit) ≡ ringCalled (now (sets .entry)) «max_rate» (stateOf maximum margin (now (accepted .entry)) (now (current .entry)) (now (target .entry)) (now («crossfade_position» .entry)) «crossfade_samples») (now (ring .entry)) input delay quality «max_rate» ⌝ }
+    ensures { λ r. ⌜ leaves r (now (sample .exit))
+        (changed (now (accepted .exit)) (now (current .exit)) (now (target .exit)) (now («crossfade_position» .exit)))
+        (now (ring .exit))
+        ≡ leftBy (now (sets .entry)) «max_rate»
+        (stateOf maximum margin (now (accepted .entry)) (now (current .entry)) (now (target .entry))
+        (now («crossfade_position» .entry)) «crossfade_samples»)
+        (now (ring .entry)) input delay quality «max_rate» ⌝ }
 {
     quality_codes::call_through(
         maximum,
@@ -66,13 +67,13 @@ pub extern "C" fn fugnadri_quality_process_rate_aware<'a>(
     playback_rate: f64,
     sample: &mut f32,
 ) -> u8
-    ensures { λ r. ⌜ r ≡ (calledOf (now (sets .entry)) «max_rate» (stateOf maximum margin (now (accepted .entry)) (now (current .entry)) (now (target .entry)) (now («crossfade_position» .entry)) «crossfade_samples») (now (ring .entry)) input delay quality «playback_rate») .number ⌝ }
-    ensures { λ r. ⌜ now (sample .exit) ≡ (calledOf (now (sets .entry)) «max_rate» (stateOf maximum margin (now (accepted .entry)) (now (current .entry)) (now (target .entry)) (now («crossfade_position» .entry)) «crossfade_samples») (now (ring .entry)) input delay quality «playback_rate») .sample ⌝ }
-    ensures { λ r. ⌜ now (accepted .exit) ≡ (calledOf (now (sets .entry)) «max_rate» (stateOf maximum margin (now (accepted .entry)) (now (current .entry)) (now (target .entry)) (now («crossfade_position» .entry)) «crossfade_samples») (now (ring .entry)) input delay quality «playback_rate») .state .accepted ⌝ }
-    ensures { λ r. ⌜ now (current .exit) ≡ (calledOf (now (sets .entry)) «max_rate» (stateOf maximum margin (now (accepted .entry)) (now (current .entry)) (now (target .entry)) (now («crossfade_position» .entry)) «crossfade_samples») (now (ring .entry)) input delay quality «playback_rate») .state .current ⌝ }
-    ensures { λ r. ⌜ now (target .exit) ≡ (calledOf (now (sets .entry)) «max_rate» (stateOf maximum margin (now (accepted .entry)) (now (current .entry)) (now (target .entry)) (now («crossfade_position» .entry)) «crossfade_samples») (now (ring .entry)) input delay quality «playback_rate») .state .target ⌝ }
-    ensures { λ r. ⌜ now («crossfade_position» .exit) ≡ (calledOf (now (sets .entry)) «max_rate» (stateOf maximum margin (now (accepted .entry)) (now (current .entry)) (now (target .entry)) (now («crossfade_position» .entry)) «crossfade_samples») (now (ring .entry)) input delay quality «playback_rate») .state .place ⌝ }
-    ensures { λ r. ⌜ now (ring .exit) ≡ ringCalled (now (sets .entry)) «max_rate» (stateOf maximum margin (now (accepted .entry)) (now (current .entry)) (now (target .entry)) (now («crossfade_position» .entry)) «crossfade_samples») (now (ring .entry)) input delay quality «playback_rate» ⌝ }
+    ensures { λ r. ⌜ leaves r (now (sample .exit))
+        (changed (now (accepted .exit)) (now (current .exit)) (now (target .exit)) (now («crossfade_position» .exit)))
+        (now (ring .exit))
+        ≡ leftBy (now (sets .entry)) «max_rate»
+        (stateOf maximum margin (now (accepted .entry)) (now (current .entry)) (now (target .entry))
+        (now («crossfade_position» .entry)) «crossfade_samples»)
+        (now (ring .entry)) input delay quality «playback_rate» ⌝ }
 {
     quality_codes::call_at_once(
         maximum,

@@ -1,9 +1,8 @@
 // Q3. The reader whose quality may change, opened and reset: the refusal's number, 0 for none; the state's numbers through pointers, as they were where it is refused.
 ghost use mathlib.Core.Path.{_≡_};
-ghost use mathlib.Core.Bool.{true};
-ghost use lib.ListN.{length};
-ghost use Rattle.quality_codes.specs.Codes.{codeOk, stateOf};
-ghost use Rattle.quality_codes.specs.Calls.{renewedOf, ringRenewed, freshOf, unlessRefused};
+ghost use Rattle.doors.specs.Left.{renews};
+ghost use Rattle.quality_codes.specs.Codes.{stateOf};
+ghost use Rattle.quality_codes.specs.Left.{changed, openedLeft, resetLeft};
 use quality_codes::Coded;
 
 #[no_mangle]
@@ -18,12 +17,12 @@ pub extern "C" fn fugnadri_quality_open(
     crossfade_position: &mut u32,
     ring: &mut [f32],
 ) -> u8
-    ensures { λ r. ⌜ r ≡ (renewedOf (codeOk quality) (freshOf maximum margin quality «crossfade_samples») (length (now (ring .entry)))) .number ⌝ }
-    ensures { λ r. ⌜ now (accepted .exit) ≡ unlessRefused ((renewedOf (codeOk quality) (freshOf maximum margin quality «crossfade_samples») (length (now (ring .entry)))) .number) (now (accepted .entry)) ((renewedOf (codeOk quality) (freshOf maximum margin quality «crossfade_samples») (length (now (ring .entry)))) .state .accepted) ⌝ }
-    ensures { λ r. ⌜ now (current .exit) ≡ unlessRefused ((renewedOf (codeOk quality) (freshOf maximum margin quality «crossfade_samples») (length (now (ring .entry)))) .number) (now (current .entry)) ((renewedOf (codeOk quality) (freshOf maximum margin quality «crossfade_samples») (length (now (ring .entry)))) .state .current) ⌝ }
-    ensures { λ r. ⌜ now (target .exit) ≡ unlessRefused ((renewedOf (codeOk quality) (freshOf maximum margin quality «crossfade_samples») (length (now (ring .entry)))) .number) (now (target .entry)) ((renewedOf (codeOk quality) (freshOf maximum margin quality «crossfade_samples») (length (now (ring .entry)))) .state .target) ⌝ }
-    ensures { λ r. ⌜ now («crossfade_position» .exit) ≡ unlessRefused ((renewedOf (codeOk quality) (freshOf maximum margin quality «crossfade_samples») (length (now (ring .entry)))) .number) (now («crossfade_position» .entry)) ((renewedOf (codeOk quality) (freshOf maximum margin quality «crossfade_samples») (length (now (ring .entry)))) .state .place) ⌝ }
-    ensures { λ r. ⌜ now (ring .exit) ≡ ringRenewed (codeOk quality) (freshOf maximum margin quality «crossfade_samples») (now (ring .entry)) ⌝ }
+    ensures { λ r. ⌜ renews r
+        (changed (now (accepted .exit)) (now (current .exit)) (now (target .exit)) (now («crossfade_position» .exit)))
+        (now (ring .exit))
+        ≡ openedLeft
+        (changed (now (accepted .entry)) (now (current .entry)) (now (target .entry)) (now («crossfade_position» .entry)))
+        maximum margin quality «crossfade_samples» (now (ring .entry)) ⌝ }
 {
     let state = Coded {
         maximum: maximum,
@@ -57,12 +56,13 @@ pub extern "C" fn fugnadri_quality_reset(
     crossfade_samples: u32,
     ring: &mut [f32],
 ) -> u8
-    ensures { λ r. ⌜ r ≡ (renewedOf true (stateOf maximum margin (now (accepted .entry)) (now (current .entry)) (now (target .entry)) (now («crossfade_position» .entry)) «crossfade_samples») (length (now (ring .entry)))) .number ⌝ }
-    ensures { λ r. ⌜ now (accepted .exit) ≡ (renewedOf true (stateOf maximum margin (now (accepted .entry)) (now (current .entry)) (now (target .entry)) (now («crossfade_position» .entry)) «crossfade_samples») (length (now (ring .entry)))) .state .accepted ⌝ }
-    ensures { λ r. ⌜ now (current .exit) ≡ (renewedOf true (stateOf maximum margin (now (accepted .entry)) (now (current .entry)) (now (target .entry)) (now («crossfade_position» .entry)) «crossfade_samples») (length (now (ring .entry)))) .state .current ⌝ }
-    ensures { λ r. ⌜ now (target .exit) ≡ (renewedOf true (stateOf maximum margin (now (accepted .entry)) (now (current .entry)) (now (target .entry)) (now («crossfade_position» .entry)) «crossfade_samples») (length (now (ring .entry)))) .state .target ⌝ }
-    ensures { λ r. ⌜ now («crossfade_position» .exit) ≡ (renewedOf true (stateOf maximum margin (now (accepted .entry)) (now (current .entry)) (now (target .entry)) (now («crossfade_position» .entry)) «crossfade_samples») (length (now (ring .entry)))) .state .place ⌝ }
-    ensures { λ r. ⌜ now (ring .exit) ≡ ringRenewed true (stateOf maximum margin (now (accepted .entry)) (now (current .entry)) (now (target .entry)) (now («crossfade_position» .entry)) «crossfade_samples») (now (ring .entry)) ⌝ }
+    ensures { λ r. ⌜ renews r
+        (changed (now (accepted .exit)) (now (current .exit)) (now (target .exit)) (now («crossfade_position» .exit)))
+        (now (ring .exit))
+        ≡ resetLeft
+        (stateOf maximum margin (now (accepted .entry)) (now (current .entry)) (now (target .entry))
+        (now («crossfade_position» .entry)) «crossfade_samples»)
+        (now (ring .entry)) ⌝ }
 {
     let state = Coded {
         maximum: maximum,

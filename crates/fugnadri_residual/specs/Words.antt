@@ -11,15 +11,37 @@ use Rattle.residual.specs.declared.Compared.{Compared}
 use Rattle.residual.specs.declared.Compared.the-variants as compared
 use Rattle.residual.specs.Refusals.{comparedOf}
 
+pub record Numbers : Type 0 where
+  pub number : ℕ
+  pub largest : ℕ
+  pub placed : ℕ
+  pub place : ℕ
+  pub high : ℕ
+  pub low : ℕ
+
+abbrev pub numbers : ℕ → ℕ → ℕ → ℕ → ℕ → ℕ → Numbers
+numbers number largest placed place high low = record { number = number; largest = largest; placed = placed; place = place; high = high; low = low }
+
 -- A `placed` above 1 stands for a place that is below no number: it is refused by 3.
 abbrev pub placeFrom : ℕ → ℕ → Place
 placeFrom placed k = cond (eqb placed 0) Nowhere (At (cond (eqb placed 1) k (2 ^ 64 - 1)))
 
-abbrev pub reportFrom : ℕ → ℕ → ℕ → ℕ → ℕ → ℕ → Report
-reportFrom n l p k h w = record { number = n; largest = l; place = placeFrom p k; high = h; low = w }
+abbrev pub reportFrom : Numbers → Report
+reportFrom n = record {
+  number = n .number;
+  largest = n .largest;
+  place = placeFrom (n .placed) (n .place);
+  high = n .high;
+  low = n .low;
+}
 
-abbrev pub comparedFrom : ℕ → ℕ → ℕ → ℕ → ℕ → ℕ → List ℤ → List ℤ → Compared
-comparedFrom n l p k h w xs ys = comparedOf (reportFrom n l p k h w) xs ys
+abbrev pub placedOf : Place → ℕ
+placedOf Nowhere = 0
+placedOf (At k) = 1
+
+abbrev pub indexOr : Place → ℕ → ℕ
+indexOr Nowhere n = n
+indexOr (At k) n = k
 
 -- 0 for no refusal
 abbrev pub refusalOf : Compared → ℕ
@@ -27,34 +49,21 @@ refusalOf (compared.Carried r) = 0
 refusalOf (compared.Refused k) = k
 
 -- The numbers as they are left: those of the report carried on, and all as they were where the call is refused.
-abbrev pub numberLeft : Compared → ℕ → ℕ
-numberLeft (compared.Carried r) n = r .number
-numberLeft (compared.Refused k) n = n
+abbrev pub numbersLeft : Numbers → Compared → Numbers
+numbersLeft n (compared.Carried r) =
+    numbers (r .number) (r .largest) (placedOf (r .place)) (indexOr (r .place) (n .place)) (r .high) (r .low)
+numbersLeft n (compared.Refused k) = n
 
-abbrev pub largestLeft : Compared → ℕ → ℕ
-largestLeft (compared.Carried r) n = r .largest
-largestLeft (compared.Refused k) n = n
+-- What a call leaves: the refusal's number, which it returns, and the numbers.
+pub record Left : Type 0 where
+  pub refusal : ℕ
+  pub report : Numbers
 
-abbrev pub placedOf : Place → ℕ
-placedOf Nowhere = 0
-placedOf (At k) = 1
+abbrev pub leaves : ℕ → Numbers → Left
+leaves refusal report = record { refusal = refusal; report = report }
 
-abbrev pub placedLeft : Compared → ℕ → ℕ
-placedLeft (compared.Carried r) n = placedOf (r .place)
-placedLeft (compared.Refused k) n = n
+abbrev pub leftBy : Numbers → Compared → Left
+leftBy n c = leaves (refusalOf c) (numbersLeft n c)
 
-abbrev pub indexOr : Place → ℕ → ℕ
-indexOr Nowhere n = n
-indexOr (At k) n = k
-
-abbrev pub placeLeft : Compared → ℕ → ℕ
-placeLeft (compared.Carried r) n = indexOr (r .place) n
-placeLeft (compared.Refused k) n = n
-
-abbrev pub highLeft : Compared → ℕ → ℕ
-highLeft (compared.Carried r) n = r .high
-highLeft (compared.Refused k) n = n
-
-abbrev pub lowLeft : Compared → ℕ → ℕ
-lowLeft (compared.Carried r) n = r .low
-lowLeft (compared.Refused k) n = n
+abbrev pub leftFrom : Numbers → List ℤ → List ℤ → Left
+leftFrom n xs ys = leftBy n (comparedOf (reportFrom n) xs ys)

@@ -1,7 +1,7 @@
 // W13. The static library's export of the residual: numbers pass through pointers, a slice as a pointer and a length. No enum, no struct. It is total, and its contract is that of
 // `residual::compare`.
 ghost use mathlib.Core.Path.{_≡_};
-ghost use Rattle.fugnadri_residual.specs.Words.{placeFrom, comparedFrom, refusalOf, numberLeft, largestLeft, placedOf, placedLeft, indexOr, placeLeft, highLeft, lowLeft};
+ghost use Rattle.fugnadri_residual.specs.Words.{placeFrom, placedOf, indexOr, numbers, leaves, leftFrom};
 use residual::Compared;
 use residual::Place;
 use residual::Report;
@@ -48,13 +48,13 @@ pub extern "C" fn fugnadri_residual_compare(
     a: &[i32],
     b: &[i32],
 ) -> u8
-    ensures { λ r. ⌜ r ≡ refusalOf (comparedFrom (now (number .entry)) (now (largest .entry)) (now (placed .entry)) (now (place .entry)) (now (high .entry)) (now (low .entry)) (now (a .entry)) (now (b .entry))) ⌝ }
-    ensures { λ r. ⌜ now (number .exit) ≡ numberLeft (comparedFrom (now (number .entry)) (now (largest .entry)) (now (placed .entry)) (now (place .entry)) (now (high .entry)) (now (low .entry)) (now (a .entry)) (now (b .entry))) (now (number .entry)) ⌝ }
-    ensures { λ r. ⌜ now (largest .exit) ≡ largestLeft (comparedFrom (now (number .entry)) (now (largest .entry)) (now (placed .entry)) (now (place .entry)) (now (high .entry)) (now (low .entry)) (now (a .entry)) (now (b .entry))) (now (largest .entry)) ⌝ }
-    ensures { λ r. ⌜ now (placed .exit) ≡ placedLeft (comparedFrom (now (number .entry)) (now (largest .entry)) (now (placed .entry)) (now (place .entry)) (now (high .entry)) (now (low .entry)) (now (a .entry)) (now (b .entry))) (now (placed .entry)) ⌝ }
-    ensures { λ r. ⌜ now (place .exit) ≡ placeLeft (comparedFrom (now (number .entry)) (now (largest .entry)) (now (placed .entry)) (now (place .entry)) (now (high .entry)) (now (low .entry)) (now (a .entry)) (now (b .entry))) (now (place .entry)) ⌝ }
-    ensures { λ r. ⌜ now (high .exit) ≡ highLeft (comparedFrom (now (number .entry)) (now (largest .entry)) (now (placed .entry)) (now (place .entry)) (now (high .entry)) (now (low .entry)) (now (a .entry)) (now (b .entry))) (now (high .entry)) ⌝ }
-    ensures { λ r. ⌜ now (low .exit) ≡ lowLeft (comparedFrom (now (number .entry)) (now (largest .entry)) (now (placed .entry)) (now (place .entry)) (now (high .entry)) (now (low .entry)) (now (a .entry)) (now (b .entry))) (now (low .entry)) ⌝ }
+    ensures { λ r. ⌜ leaves r
+        (numbers (now (number .exit)) (now (largest .exit)) (now (placed .exit)) (now (place .exit)) (now (high .exit))
+        (now (low .exit)))
+        ≡ leftFrom
+        (numbers (now (number .entry)) (now (largest .entry)) (now (placed .entry)) (now (place .entry)) (now (high .entry))
+        (now (low .entry)))
+        (now (a .entry)) (now (b .entry)) ⌝ }
 {
     let report = Report {
         number: *number,

@@ -1,10 +1,10 @@
 // K1. One call of a delay reader over a lent table: the state's numbers, the ring and the table go in, the refusal's number comes back, 0 for none; the sample, 0.0 where
 // there is none, and the count through pointers. `_bits` hands the sample out as a pattern (O3).
 ghost use mathlib.Core.Path.{_≡_};
-ghost use lib.Ieee.{binary64, toBits};
-ghost use Rattle.answer.specs.Answers.{numberOf, valueOf};
-ghost use Rattle.fugnadri_tables.specs.Doors.{called, ringLeft};
+ghost use lib.Ieee.{binary64};
+ghost use Rattle.fugnadri_tables.specs.Doors.{leftOf};
 ghost use Rattle.doors.specs.Doors.{stateOf};
+ghost use Rattle.doors.specs.Left.{leaves, inBits};
 use doors::handing::handed;
 use variable_delay::VariableDelay;
 
@@ -21,10 +21,9 @@ pub extern "C" fn fugnadri_windowed_sinc_process<'a>(
     phases: usize,
     sample: &mut f64,
 ) -> u8
-    ensures { λ r. ⌜ r ≡ numberOf ((called (stateOf maximum margin (now (accepted .entry))) (now (ring .entry)) input delay (now (table .entry)) taps phases) .answer) ⌝ }
-    ensures { λ r. ⌜ now (sample .exit) ≡ valueOf ((called (stateOf maximum margin (now (accepted .entry))) (now (ring .entry)) input delay (now (table .entry)) taps phases) .answer) ⌝ }
-    ensures { λ r. ⌜ now (accepted .exit) ≡ (called (stateOf maximum margin (now (accepted .entry))) (now (ring .entry)) input delay (now (table .entry)) taps phases) .state .accepted ⌝ }
-    ensures { λ r. ⌜ now (ring .exit) ≡ ringLeft (stateOf maximum margin (now (accepted .entry))) (now (ring .entry)) input delay (now (table .entry)) taps phases ⌝ }
+    ensures { λ r. ⌜ leaves r (now (sample .exit)) (now (accepted .exit)) (now (ring .exit))
+        ≡ leftOf (stateOf maximum margin (now (accepted .entry))) (now (ring .entry)) input delay
+        (now (table .entry)) taps phases ⌝ }
 {
     let state = VariableDelay {
         maximum: maximum,
@@ -50,10 +49,9 @@ pub extern "C" fn fugnadri_windowed_sinc_process_bits<'a>(
     phases: usize,
     sample: &mut u64,
 ) -> u8
-    ensures { λ r. ⌜ r ≡ numberOf ((called (stateOf maximum margin (now (accepted .entry))) (now (ring .entry)) input delay (now (table .entry)) taps phases) .answer) ⌝ }
-    ensures { λ r. ⌜ now (sample .exit) ≡ toBits binary64 (valueOf ((called (stateOf maximum margin (now (accepted .entry))) (now (ring .entry)) input delay (now (table .entry)) taps phases) .answer)) ⌝ }
-    ensures { λ r. ⌜ now (accepted .exit) ≡ (called (stateOf maximum margin (now (accepted .entry))) (now (ring .entry)) input delay (now (table .entry)) taps phases) .state .accepted ⌝ }
-    ensures { λ r. ⌜ now (ring .exit) ≡ ringLeft (stateOf maximum margin (now (accepted .entry))) (now (ring .entry)) input delay (now (table .entry)) taps phases ⌝ }
+    ensures { λ r. ⌜ leaves r (now (sample .exit)) (now (accepted .exit)) (now (ring .exit))
+        ≡ inBits binary64 (leftOf (stateOf maximum margin (now (accepted .entry))) (now (ring .entry)) input delay
+        (now (table .entry)) taps phases) ⌝ }
 {
     let mut y: f64 = 0.0;
     let no = fugnadri_windowed_sinc_process(

@@ -1,9 +1,9 @@
 // K1. The calls of `readers` for samples and tables of single precision.
 ghost use mathlib.Core.Path.{_≡_};
-ghost use lib.Ieee.{binary32, toBits};
-ghost use Rattle.answer.specs.Answers.{numberF32Of, valueF32Of};
-ghost use Rattle.fugnadri_tables.specs.Doors.{calledF32, ringLeft};
+ghost use lib.Ieee.{binary32};
+ghost use Rattle.fugnadri_tables.specs.Doors.{leftF32Of};
 ghost use Rattle.doors.specs.Doors.{stateOf};
+ghost use Rattle.doors.specs.Left.{leaves, inBits};
 use doors::handing::handed_f32;
 use variable_delay::VariableDelay;
 
@@ -20,10 +20,9 @@ pub extern "C" fn fugnadri_windowed_sinc_f32_process<'a>(
     phases: usize,
     sample: &mut f32,
 ) -> u8
-    ensures { λ r. ⌜ r ≡ numberF32Of ((calledF32 (stateOf maximum margin (now (accepted .entry))) (now (ring .entry)) input delay (now (table .entry)) taps phases) .answer) ⌝ }
-    ensures { λ r. ⌜ now (sample .exit) ≡ valueF32Of ((calledF32 (stateOf maximum margin (now (accepted .entry))) (now (ring .entry)) input delay (now (table .entry)) taps phases) .answer) ⌝ }
-    ensures { λ r. ⌜ now (accepted .exit) ≡ (calledF32 (stateOf maximum margin (now (accepted .entry))) (now (ring .entry)) input delay (now (table .entry)) taps phases) .state .accepted ⌝ }
-    ensures { λ r. ⌜ now (ring .exit) ≡ ringLeft (stateOf maximum margin (now (accepted .entry))) (now (ring .entry)) input delay (now (table .entry)) taps phases ⌝ }
+    ensures { λ r. ⌜ leaves r (now (sample .exit)) (now (accepted .exit)) (now (ring .exit))
+        ≡ leftF32Of (stateOf maximum margin (now (accepted .entry))) (now (ring .entry)) input delay
+        (now (table .entry)) taps phases ⌝ }
 {
     let state = VariableDelay {
         maximum: maximum,
@@ -49,10 +48,9 @@ pub extern "C" fn fugnadri_windowed_sinc_f32_process_bits<'a>(
     phases: usize,
     sample: &mut u32,
 ) -> u8
-    ensures { λ r. ⌜ r ≡ numberF32Of ((calledF32 (stateOf maximum margin (now (accepted .entry))) (now (ring .entry)) input delay (now (table .entry)) taps phases) .answer) ⌝ }
-    ensures { λ r. ⌜ now (sample .exit) ≡ toBits binary32 (valueF32Of ((calledF32 (stateOf maximum margin (now (accepted .entry))) (now (ring .entry)) input delay (now (table .entry)) taps phases) .answer)) ⌝ }
-    ensures { λ r. ⌜ now (accepted .exit) ≡ (calledF32 (stateOf maximum margin (now (accepted .entry))) (now (ring .entry)) input delay (now (table .entry)) taps phases) .state .accepted ⌝ }
-    ensures { λ r. ⌜ now (ring .exit) ≡ ringLeft (stateOf maximum margin (now (accepted .entry))) (now (ring .entry)) input delay (now (table .entry)) taps phases ⌝ }
+    ensures { λ r. ⌜ leaves r (now (sample .exit)) (now (accepted .exit)) (now (ring .exit))
+        ≡ inBits binary32 (leftF32Of (stateOf maximum margin (now (accepted .entry))) (now (ring .entry)) input delay
+        (now (table .entry)) taps phases) ⌝ }
 {
     let mut y: f32 = 0.0;
     let no = fugnadri_windowed_sinc_f32_process(

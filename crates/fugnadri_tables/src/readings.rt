@@ -2,10 +2,11 @@
 // a pattern (O3).
 ghost use mathlib.Core.Path.{_≡_};
 ghost use lib.ListN.{length};
-ghost use lib.Ieee.{binary32, binary64, toBits};
-ghost use Rattle.answer.specs.Answers.{answerOf, answerF32Of, numberOf, valueOf, numberF32Of, valueF32Of};
+ghost use lib.Ieee.{binary32, binary64};
+ghost use Rattle.answer.specs.Answers.{answerOf, answerF32Of};
 ghost use Rattle.sinc_read.specs.Reading.{sampleVerdict, readOf};
 ghost use Rattle.sinc_read_f32.specs.Reading as single;
+ghost use Rattle.doors.specs.Left.{tells, toldBy, toldF32By, toldInBits};
 use doors::number;
 use doors::number_f32;
 use doors::value;
@@ -21,8 +22,9 @@ pub extern "C" fn fugnadri_windowed_sinc_sample<'a>(
     position: f64,
     sample: &mut f64,
 ) -> u8
-    ensures { λ r. ⌜ r ≡ numberOf (answerOf (sampleVerdict taps phases (length (now (table .entry))) position) (readOf (now (table .entry)) taps phases (now (source .entry)) count position)) ⌝ }
-    ensures { λ r. ⌜ now (sample .exit) ≡ valueOf (answerOf (sampleVerdict taps phases (length (now (table .entry))) position) (readOf (now (table .entry)) taps phases (now (source .entry)) count position)) ⌝ }
+    ensures { λ r. ⌜ tells r (now (sample .exit))
+        ≡ toldBy (answerOf (sampleVerdict taps phases (length (now (table .entry))) position)
+        (readOf (now (table .entry)) taps phases (now (source .entry)) count position)) ⌝ }
 {
     let a = sinc_read::sample(table, taps, phases, source, count, position);
     *sample = value(a);
@@ -39,8 +41,9 @@ pub extern "C" fn fugnadri_windowed_sinc_sample_bits<'a>(
     position: f64,
     sample: &mut u64,
 ) -> u8
-    ensures { λ r. ⌜ r ≡ numberOf (answerOf (sampleVerdict taps phases (length (now (table .entry))) position) (readOf (now (table .entry)) taps phases (now (source .entry)) count position)) ⌝ }
-    ensures { λ r. ⌜ now (sample .exit) ≡ toBits binary64 (valueOf (answerOf (sampleVerdict taps phases (length (now (table .entry))) position) (readOf (now (table .entry)) taps phases (now (source .entry)) count position))) ⌝ }
+    ensures { λ r. ⌜ tells r (now (sample .exit))
+        ≡ toldInBits binary64 (toldBy (answerOf (sampleVerdict taps phases (length (now (table .entry))) position)
+        (readOf (now (table .entry)) taps phases (now (source .entry)) count position))) ⌝ }
 {
     let a = sinc_read::sample(table, taps, phases, source, count, position);
     *sample = patterns::bits_of(value(a));
@@ -57,8 +60,9 @@ pub extern "C" fn fugnadri_windowed_sinc_f32_sample<'a>(
     position: f64,
     sample: &mut f32,
 ) -> u8
-    ensures { λ r. ⌜ r ≡ numberF32Of (answerF32Of (sampleVerdict taps phases (length (now (table .entry))) position) (single.readOf (now (table .entry)) taps phases (now (source .entry)) count position)) ⌝ }
-    ensures { λ r. ⌜ now (sample .exit) ≡ valueF32Of (answerF32Of (sampleVerdict taps phases (length (now (table .entry))) position) (single.readOf (now (table .entry)) taps phases (now (source .entry)) count position)) ⌝ }
+    ensures { λ r. ⌜ tells r (now (sample .exit))
+        ≡ toldF32By (answerF32Of (sampleVerdict taps phases (length (now (table .entry))) position)
+        (single.readOf (now (table .entry)) taps phases (now (source .entry)) count position)) ⌝ }
 {
     let a = sinc_read_f32::sample(table, taps, phases, source, count, position);
     *sample = value_f32(a);
@@ -75,8 +79,9 @@ pub extern "C" fn fugnadri_windowed_sinc_f32_sample_bits<'a>(
     position: f64,
     sample: &mut u32,
 ) -> u8
-    ensures { λ r. ⌜ r ≡ numberF32Of (answerF32Of (sampleVerdict taps phases (length (now (table .entry))) position) (single.readOf (now (table .entry)) taps phases (now (source .entry)) count position)) ⌝ }
-    ensures { λ r. ⌜ now (sample .exit) ≡ toBits binary32 (valueF32Of (answerF32Of (sampleVerdict taps phases (length (now (table .entry))) position) (single.readOf (now (table .entry)) taps phases (now (source .entry)) count position))) ⌝ }
+    ensures { λ r. ⌜ tells r (now (sample .exit))
+        ≡ toldInBits binary32 (toldF32By (answerF32Of (sampleVerdict taps phases (length (now (table .entry))) position)
+        (single.readOf (now (table .entry)) taps phases (now (source .entry)) count position))) ⌝ }
 {
     let a = sinc_read_f32::sample(table, taps, phases, source, count, position);
     *sample = patterns::bits_of_f32(value_f32(a));

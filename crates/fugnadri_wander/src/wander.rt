@@ -1,41 +1,34 @@
 // M1, M2, M5. 001's engine: its state goes in and out as 15 words (crates/engine_words, crates/engine_calls), the settings as eight floats. The answer is the refusal's number, 0 for
 // none; a refused call leaves the very words (D1c).
 ghost use mathlib.Core.Path.{_≡_};
-ghost use Rattle.modulation_engine.specs.Engine.{openedOf, setSampleRateOf, setSeedOf, resetOf, numberOf};
-ghost use Rattle.modulation.specs.Step.{nextOf};
-ghost use Rattle.modulation.specs.Step.{numberOf as refusalOf};
-ghost use Rattle.modulation.specs.Runs.{leftBy};
-ghost use Rattle.engine_words.specs.Words.{engineOf, wordsLeft, paramsOf};
-ghost use Rattle.engine_doors.specs.Doors.{leftOf, rightOf};
+ghost use Rattle.modulation_engine.specs.Engine.{openedOf, setSampleRateOf, setSeedOf, resetOf};
+ghost use Rattle.engine_words.specs.Words.{paramsOf};
+ghost use Rattle.engine_calls.specs.Left.{renews, renewedBy, steps, steppedBy};
 
 #[no_mangle]
 pub extern "C" fn fugnadri_engine_new(sample_rate: f64, seed: u64, words: &mut [u64; 15]) -> u8
-    ensures { λ r. ⌜ r ≡ numberOf (openedOf «sample_rate» seed) ⌝ }
-    ensures { λ r. ⌜ now (words .exit) ≡ wordsLeft (numberOf (openedOf «sample_rate» seed)) (leftBy (openedOf «sample_rate» seed) (engineOf (now (words .entry)))) (now (words .entry)) ⌝ }
+    ensures { λ r. ⌜ renews r (now (words .exit)) ≡ renewedBy (λ e. openedOf «sample_rate» seed) (now (words .entry)) ⌝ }
 {
     engine_calls::new(sample_rate, seed, words)
 }
 
 #[no_mangle]
 pub extern "C" fn fugnadri_engine_set_sample_rate(words: &mut [u64; 15], sample_rate: f64) -> u8
-    ensures { λ r. ⌜ r ≡ numberOf (setSampleRateOf (engineOf (now (words .entry))) «sample_rate») ⌝ }
-    ensures { λ r. ⌜ now (words .exit) ≡ wordsLeft (numberOf (setSampleRateOf (engineOf (now (words .entry))) «sample_rate»)) (leftBy (setSampleRateOf (engineOf (now (words .entry))) «sample_rate») (engineOf (now (words .entry)))) (now (words .entry)) ⌝ }
+    ensures { λ r. ⌜ renews r (now (words .exit)) ≡ renewedBy (λ e. setSampleRateOf e «sample_rate») (now (words .entry)) ⌝ }
 {
     engine_calls::set_sample_rate(words, sample_rate)
 }
 
 #[no_mangle]
 pub extern "C" fn fugnadri_engine_set_seed(words: &mut [u64; 15], seed: u64) -> u8
-    ensures { λ r. ⌜ r ≡ numberOf (setSeedOf (engineOf (now (words .entry))) seed) ⌝ }
-    ensures { λ r. ⌜ now (words .exit) ≡ wordsLeft (numberOf (setSeedOf (engineOf (now (words .entry))) seed)) (leftBy (setSeedOf (engineOf (now (words .entry))) seed) (engineOf (now (words .entry)))) (now (words .entry)) ⌝ }
+    ensures { λ r. ⌜ renews r (now (words .exit)) ≡ renewedBy (λ e. setSeedOf e seed) (now (words .entry)) ⌝ }
 {
     engine_calls::set_seed(words, seed)
 }
 
 #[no_mangle]
 pub extern "C" fn fugnadri_engine_reset(words: &mut [u64; 15]) -> u8
-    ensures { λ r. ⌜ r ≡ numberOf (resetOf (engineOf (now (words .entry)))) ⌝ }
-    ensures { λ r. ⌜ now (words .exit) ≡ wordsLeft (numberOf (resetOf (engineOf (now (words .entry))))) (leftBy (resetOf (engineOf (now (words .entry)))) (engineOf (now (words .entry)))) (now (words .entry)) ⌝ }
+    ensures { λ r. ⌜ renews r (now (words .exit)) ≡ renewedBy (λ e. resetOf e) (now (words .entry)) ⌝ }
 {
     engine_calls::reset(words)
 }
@@ -55,10 +48,9 @@ pub extern "C" fn fugnadri_engine_next(
     left: &mut f64,
     right: &mut f64,
 ) -> u8
-    ensures { λ r. ⌜ r ≡ refusalOf (nextOf (engineOf (now (words .entry))) (paramsOf «wow_rate_hz» «wow_depth_cents» «wow_shape» «flutter_rate_hz» «flutter_depth_cents» «flutter_shape» «drift_amount» «stereo_amount») .offset) ⌝ }
-    ensures { λ r. ⌜ now (words .exit) ≡ wordsLeft (refusalOf (nextOf (engineOf (now (words .entry))) (paramsOf «wow_rate_hz» «wow_depth_cents» «wow_shape» «flutter_rate_hz» «flutter_depth_cents» «flutter_shape» «drift_amount» «stereo_amount») .offset)) (nextOf (engineOf (now (words .entry))) (paramsOf «wow_rate_hz» «wow_depth_cents» «wow_shape» «flutter_rate_hz» «flutter_depth_cents» «flutter_shape» «drift_amount» «stereo_amount») .engine) (now (words .entry)) ⌝ }
-    ensures { λ r. ⌜ now (left .exit) ≡ leftOf (nextOf (engineOf (now (words .entry))) (paramsOf «wow_rate_hz» «wow_depth_cents» «wow_shape» «flutter_rate_hz» «flutter_depth_cents» «flutter_shape» «drift_amount» «stereo_amount») .offset) ⌝ }
-    ensures { λ r. ⌜ now (right .exit) ≡ rightOf (nextOf (engineOf (now (words .entry))) (paramsOf «wow_rate_hz» «wow_depth_cents» «wow_shape» «flutter_rate_hz» «flutter_depth_cents» «flutter_shape» «drift_amount» «stereo_amount») .offset) ⌝ }
+    ensures { λ r. ⌜ steps r (now (words .exit)) (now (left .exit)) (now (right .exit))
+        ≡ steppedBy (paramsOf «wow_rate_hz» «wow_depth_cents» «wow_shape» «flutter_rate_hz» «flutter_depth_cents»
+        «flutter_shape» «drift_amount» «stereo_amount») (now (words .entry)) ⌝ }
 {
     let params = engine_words::settings_of(
         wow_rate_hz,

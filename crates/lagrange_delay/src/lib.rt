@@ -18,7 +18,9 @@ pub fn process_sample(
     ensures { λ r. ⌜ now (ring .exit) ≡ ringAfter (verdict (tapsOk taps) true state (length (now (ring .entry))) input delay) state (now (ring .entry)) input ⌝ }
 {
     let own = lagrange::taps_ok(taps);
-    let a = variable_delay::accept(state, own, true, &mut ring[..], input, delay);
+    // No table is lent, so its test passes.
+    let no_table = true;
+    let a = variable_delay::accept(state, own, no_table, &mut ring[..], input, delay);
     let no = a.refusal;
     if no != 0 {
         return Processed {

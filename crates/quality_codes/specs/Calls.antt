@@ -1,5 +1,5 @@
 -- A quality reader's call, opening and reset on plain numbers: quality_variable_delay's where every number names a quality, else refused with nothing changed. Definitions only.
-use Prim.Native.Nat.{ℕ, zero, suc}
+use Prim.Native.Nat.{ℕ}
 use mathlib.Core.Bool.{Bool, true, false, _&&_}
 use mathlib.Core.List.{List}
 use lib.ListN.{length}
@@ -48,10 +48,6 @@ renewedOf asked s len = pickCalled (asked && fieldsOk s) (openedApart s (resetOf
 abbrev pub ringRenewed : Bool → Coded → List Float → List Float
 ringRenewed asked s xs = pickRing (asked && fieldsOk s) (ringReset (decoded s) xs) xs
 
--- Opening: a state that has accepted nothing and holds its one quality. What stood where the opened state is to stand is kept by a refusal.
+-- Opening: a state that has accepted nothing and holds its one quality.
 abbrev pub freshOf : ℕ → ℕ → ℕ → ℕ → Coded
 freshOf maximum margin quality crossfade = record { maximum = maximum; margin = margin; accepted = 0; current = quality; target = quality; place = crossfade; crossfade = crossfade }
-
-abbrev pub unlessRefused : ℕ → ℕ → ℕ → ℕ
-unlessRefused zero before after = after
-unlessRefused (suc k) before after = before

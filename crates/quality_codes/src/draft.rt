@@ -7,8 +7,9 @@ ghost use lib.ListN.{length};
 ghost use Rattle.ring.specs.Places.{positionOk};
 ghost use Rattle.cubic_farrow_f32.specs.Draft.{draftAt};
 ghost use Rattle.variable_delay.specs.Reader.{stored, positionOf};
+ghost use Rattle.doors.specs.Left.{leaves};
 ghost use Rattle.quality_codes.specs.Codes.{stateOf};
-ghost use Rattle.quality_codes.specs.Calls.{calledOf, ringCalled};
+ghost use Rattle.quality_codes.specs.Left.{changed, leftBy};
 use super::plainly;
 use super::through::call_through;
 use doors::handing::put_f32;
@@ -41,13 +42,13 @@ pub fn call_at_once<'a>(
     rate: f64,
     sample: &mut f32,
 ) -> u8
-    ensures { λ r. ⌜ r ≡ (calledOf (now (sets .entry)) top (stateOf maximum margin (now (accepted .entry)) (now (current .entry)) (now (target .entry)) (now (place .entry)) crossfade) (now (ring .entry)) input delay quality rate) .number ⌝ }
-    ensures { λ r. ⌜ now (sample .exit) ≡ (calledOf (now (sets .entry)) top (stateOf maximum margin (now (accepted .entry)) (now (current .entry)) (now (target .entry)) (now (place .entry)) crossfade) (now (ring .entry)) input delay quality rate) .sample ⌝ }
-    ensures { λ r. ⌜ now (accepted .exit) ≡ (calledOf (now (sets .entry)) top (stateOf maximum margin (now (accepted .entry)) (now (current .entry)) (now (target .entry)) (now (place .entry)) crossfade) (now (ring .entry)) input delay quality rate) .state .accepted ⌝ }
-    ensures { λ r. ⌜ now (current .exit) ≡ (calledOf (now (sets .entry)) top (stateOf maximum margin (now (accepted .entry)) (now (current .entry)) (now (target .entry)) (now (place .entry)) crossfade) (now (ring .entry)) input delay quality rate) .state .current ⌝ }
-    ensures { λ r. ⌜ now (target .exit) ≡ (calledOf (now (sets .entry)) top (stateOf maximum margin (now (accepted .entry)) (now (current .entry)) (now (target .entry)) (now (place .entry)) crossfade) (now (ring .entry)) input delay quality rate) .state .target ⌝ }
-    ensures { λ r. ⌜ now (place .exit) ≡ (calledOf (now (sets .entry)) top (stateOf maximum margin (now (accepted .entry)) (now (current .entry)) (now (target .entry)) (now (place .entry)) crossfade) (now (ring .entry)) input delay quality rate) .state .place ⌝ }
-    ensures { λ r. ⌜ now (ring .exit) ≡ ringCalled (now (sets .entry)) top (stateOf maximum margin (now (accepted .entry)) (now (current .entry)) (now (target .entry)) (now (place .entry)) crossfade) (now (ring .entry)) input delay quality rate ⌝ }
+    ensures { λ r. ⌜ leaves r (now (sample .exit))
+        (changed (now (accepted .exit)) (now (current .exit)) (now (target .exit)) (now (place .exit)))
+        (now (ring .exit))
+        ≡ leftBy (now (sets .entry)) top
+        (stateOf maximum margin (now (accepted .entry)) (now (current .entry)) (now (target .entry))
+        (now (place .entry)) crossfade)
+        (now (ring .entry)) input delay quality rate ⌝ }
 {
     let i = *accepted;
     if plainly::plain(

@@ -1,7 +1,8 @@
 // A call whose state comes and goes through pointers: what it leaves of the state is written, the sample, 0.0 where there is none, too, and the refusal's number handed back.
 ghost use mathlib.Core.Path.{_≡_};
+ghost use Rattle.doors.specs.Left.{leaves};
 ghost use Rattle.quality_codes.specs.Codes.{stateOf};
-ghost use Rattle.quality_codes.specs.Calls.{calledOf, ringCalled};
+ghost use Rattle.quality_codes.specs.Left.{changed, leftBy};
 use super::Coded;
 use super::calls::call;
 
@@ -22,13 +23,13 @@ pub fn call_through<'a>(
     rate: f64,
     sample: &mut f32,
 ) -> u8
-    ensures { λ r. ⌜ r ≡ (calledOf (now (sets .entry)) top (stateOf maximum margin (now (accepted .entry)) (now (current .entry)) (now (target .entry)) (now (place .entry)) crossfade) (now (ring .entry)) input delay quality rate) .number ⌝ }
-    ensures { λ r. ⌜ now (sample .exit) ≡ (calledOf (now (sets .entry)) top (stateOf maximum margin (now (accepted .entry)) (now (current .entry)) (now (target .entry)) (now (place .entry)) crossfade) (now (ring .entry)) input delay quality rate) .sample ⌝ }
-    ensures { λ r. ⌜ now (accepted .exit) ≡ (calledOf (now (sets .entry)) top (stateOf maximum margin (now (accepted .entry)) (now (current .entry)) (now (target .entry)) (now (place .entry)) crossfade) (now (ring .entry)) input delay quality rate) .state .accepted ⌝ }
-    ensures { λ r. ⌜ now (current .exit) ≡ (calledOf (now (sets .entry)) top (stateOf maximum margin (now (accepted .entry)) (now (current .entry)) (now (target .entry)) (now (place .entry)) crossfade) (now (ring .entry)) input delay quality rate) .state .current ⌝ }
-    ensures { λ r. ⌜ now (target .exit) ≡ (calledOf (now (sets .entry)) top (stateOf maximum margin (now (accepted .entry)) (now (current .entry)) (now (target .entry)) (now (place .entry)) crossfade) (now (ring .entry)) input delay quality rate) .state .target ⌝ }
-    ensures { λ r. ⌜ now (place .exit) ≡ (calledOf (now (sets .entry)) top (stateOf maximum margin (now (accepted .entry)) (now (current .entry)) (now (target .entry)) (now (place .entry)) crossfade) (now (ring .entry)) input delay quality rate) .state .place ⌝ }
-    ensures { λ r. ⌜ now (ring .exit) ≡ ringCalled (now (sets .entry)) top (stateOf maximum margin (now (accepted .entry)) (now (current .entry)) (now (target .entry)) (now (place .entry)) crossfade) (now (ring .entry)) input delay quality rate ⌝ }
+    ensures { λ r. ⌜ leaves r (now (sample .exit))
+        (changed (now (accepted .exit)) (now (current .exit)) (now (target .exit)) (now (place .exit)))
+        (now (ring .exit))
+        ≡ leftBy (now (sets .entry)) top
+        (stateOf maximum margin (now (accepted .entry)) (now (current .entry)) (now (target .entry))
+        (now (place .entry)) crossfade)
+        (now (ring .entry)) input delay quality rate ⌝ }
 {
     let state = Coded {
         maximum: maximum,

@@ -7,7 +7,7 @@ returns c =
     let engine = c .before .before .before .before .before .before .before .engine-of .ensures in
     let step = c .before .before .before .before .before .before .next .ensures in
     let number = c .before .before .before .before .refusal .ensures in
-    (rw (number, step, engine), (rw (c .before .before .words-left .ensures, number, step, engine), (rw (c .before .left-of .ensures, step, engine), rw (c .right-of .ensures, step, engine))))
+    rw (c .before .before .words-left .ensures, c .before .left-of .ensures, c .right-of .ensures, number, step, engine)
 
 pub next-spec : {M : Type 1} → statement M
 next-spec = tie.close (tie.spec (λ c κs. tt) (λ c κs. tt) (λ c κs. tt) (λ c κs. tt) (λ c κs. tt) (λ c κs. tt) returns)

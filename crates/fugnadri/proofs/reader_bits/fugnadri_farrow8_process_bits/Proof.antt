@@ -1,12 +1,13 @@
--- `fugnadri::reader_bits::fugnadri_farrow8_process_bits` meets its contract: what the two calls ensure, one put into the other. Assumes nothing.
+-- `fugnadri::reader_bits::fugnadri_farrow8_process_bits` meets its contract: what the call without `_bits` leaves, its sample as a
+-- pattern. Assumes nothing.
 use borrow.Author.Needs.{needs}
-use mathlib.Core.Path.{_∙_, ap}
-use lib.Ieee.{binary64, toBits}
+use lib.Ieee.{binary64}
+use Rattle.doors.proofs.Leaving.{in-bits}
 use Rattle.fugnadri.proofs.reader_bits.fugnadri_farrow8_process_bits.Statement.{statement}
 use Rattle.fugnadri.proofs.reader_bits.fugnadri_farrow8_process_bits.Tie as tie
 
 returns : tie.Need-returns
-returns c = let e = c .before .before .before .fugnadri-farrow8-process .ensures in (e .0, (c .bits-of .ensures ∙ ap (toBits binary64) (e .1 .0), (e .1 .1 .0, e .1 .1 .1)))
+returns c = in-bits binary64 (c .before .before .before .fugnadri-farrow8-process .ensures) (c .bits-of .ensures)
 
 pub fugnadri-farrow8-process-bits-spec : {M : Type 1} → statement M
 fugnadri-farrow8-process-bits-spec = tie.close (tie.spec (λ c κs. tt) (λ c κs. tt) (λ c. search needs) returns)

@@ -1,14 +1,13 @@
 -- `fugnadri_bank::quality_bits::fugnadri_quality_process_rate_aware_bits` meets its contract: what the call ensures, its sample as
 -- a pattern. Assumes nothing.
 use borrow.Author.Needs.{needs}
-use mathlib.Core.Path.{_∙_, ap}
-use lib.Ieee.{binary32, toBits}
+use lib.Ieee.{binary32}
+use Rattle.doors.proofs.Leaving.{in-bits}
 use Rattle.fugnadri_bank.proofs.quality_bits.fugnadri_quality_process_rate_aware_bits.Statement.{statement}
 use Rattle.fugnadri_bank.proofs.quality_bits.fugnadri_quality_process_rate_aware_bits.Tie as tie
 
 returns : tie.Need-returns
-returns c = let e = c .before .before .before .call-through .ensures in
-    (e .0, (c .bits-of-f32 .ensures ∙ ap (toBits binary32) (e .1 .0), e .1 .1))
+returns c = in-bits binary32 (c .before .before .before .call-through .ensures) (c .bits-of-f32 .ensures)
 
 pub fugnadri-quality-process-rate-aware-bits-spec : {M : Type 1} → statement M
 fugnadri-quality-process-rate-aware-bits-spec = tie.close (tie.spec (λ c κs. search needs) (λ c κs. search needs) (λ c. search needs) returns)

@@ -1,14 +1,14 @@
--- `fugnadri_tables::readings::fugnadri_windowed_sinc_f32_sample_bits` meets its contract: what the calls ensure, one put into the other; none of them asks anything. Assumes nothing.
-use mathlib.Core.Path.{_∙_, ap}
-use lib.Ieee.{binary32, toBits}
+-- `fugnadri_tables::readings::fugnadri_windowed_sinc_f32_sample_bits` meets its contract: the answer that the reading gives, its sample as a pattern. Assumes nothing.
+use lib.Ieee.{binary32}
 use Rattle.answer.specs.Answers.{numberF32Of, valueF32Of}
+use Rattle.doors.proofs.Leaving.{told, told-in-bits}
 use Rattle.fugnadri_tables.proofs.readings.fugnadri_windowed_sinc_f32_sample_bits.Statement.{statement}
 use Rattle.fugnadri_tables.proofs.readings.fugnadri_windowed_sinc_f32_sample_bits.Tie as tie
 
 returns : tie.Need-returns
 returns c =
-    let e = c .before .before .before .sample .ensures in
-    (c .number-f32 .ensures ∙ ap numberF32Of e, c .before .bits-of-f32 .ensures ∙ ap (toBits binary32) (c .before .before .value-f32 .ensures ∙ ap valueF32Of e))
+    let t = told numberF32Of valueF32Of (c .before .before .before .sample .ensures) (c .number-f32 .ensures) (c .before .before .value-f32 .ensures) in
+    told-in-bits binary32 t (c .before .bits-of-f32 .ensures)
 
 pub fugnadri-windowed-sinc-f32-sample-bits-spec : {M : Type 1} → statement M
 fugnadri-windowed-sinc-f32-sample-bits-spec = tie.close (tie.spec (λ c κs. tt) (λ c κs. tt) (λ c κs. tt) (λ c κs. tt) returns)

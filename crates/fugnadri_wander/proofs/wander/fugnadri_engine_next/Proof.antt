@@ -5,8 +5,7 @@ use Rattle.fugnadri_wander.proofs.wander.fugnadri_engine_next.Tie as ti
 returns : tie.Need-returns
 returns c =
     let p = c .before .before .before .before .settings-of .ensures in
-    let next = c .next .ensures in
-    (rw (next .0, p), (rw (next .1 .0, p), (rw (next .1 .1 .0, p), rw (next .1 .1 .1, p))))
+    rw (c .next .ensures, p)
 
 pub fugnadri-engine-next-spec : {M : Type 1} → statement M
 fugnadri-engine-next-spec = tie.close (tie.spec (λ c κs. tt) (λ c κs. tt) returns)

@@ -44,7 +44,7 @@ returns c =
     called (now (a .sets)) (a .top) (a .maximum) (a .margin) (now (a .accepted)) (now (a .current)) (now (a .target)) (now (a .place)) (a .crossfade) (now (a .ring)) (a .input) (a .delay) (a .quality) (a .rate) (p .0) (p .1) (p .2) (p .3) in
     let l =
     left (now (a .sets)) (a .top) (a .maximum) (a .margin) (now (a .accepted)) (now (a .current)) (now (a .target)) (now (a .place)) (a .crossfade) (now (a .ring)) (a .input) (a .delay) (a .quality) (a .rate) (p .0) (p .1) (p .2) (p .3) in
-    (ap (λ v. v .number) (sym e), (w .0 ∙ r .read .ensures .0 ∙ ap (λ v. v .sample) (sym e), (w .1 ∙ ap (λ v. v .state .accepted) (sym e), (ap (λ v. v .state .current) (sym e), (ap (λ v. v .state .target) (sym e), (ap (λ v. v .state .place) (sym e), r .read .ensures .1 ∙ sym l))))))
+    rw (w .0, w .1, r .read .ensures .0, r .read .ensures .1, e, l)
 
 pub call-at-once-spec : {M : Type 1} → statement M
 call-at-once-spec =

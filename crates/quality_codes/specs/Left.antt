@@ -1,0 +1,45 @@
+-- What a call of a quality reader through pointers leaves, and what an opening or a reset leaves: of the state the four numbers
+-- that it changes. Definitions only.
+use Prim.Native.Nat.{ℕ, zero, suc}
+use mathlib.Core.Bool.{Bool, true}
+use mathlib.Core.List.{List}
+use lib.ListN.{length}
+use lib.Ieee.{Float}
+use Rattle.doors.specs.Left.{Left, leaves, Renewed, renews}
+use Rattle.quality_codes.specs.declared.Coded.{Coded}
+use Rattle.quality_codes.specs.declared.Called.{Called}
+use Rattle.quality_codes.specs.Codes.{codeOk}
+use Rattle.quality_codes.specs.Calls.{calledOf, ringCalled, renewedOf, ringRenewed, freshOf}
+
+pub record Changed : Type 0 where
+  pub accepted : ℕ
+  pub current : ℕ
+  pub target : ℕ
+  pub place : ℕ
+
+abbrev pub changed : ℕ → ℕ → ℕ → ℕ → Changed
+changed accepted current target place = record { accepted = accepted; current = current; target = target; place = place }
+
+abbrev pub changedOf : Coded → Changed
+changedOf s = changed (s .accepted) (s .current) (s .target) (s .place)
+
+-- process_sample_rate_aware
+abbrev pub leftBy : List Float → Float → Coded → List Float → Float → Float → ℕ → Float → Left Float Changed
+leftBy sets top s xs x y q rate =
+    let c = calledOf sets top s xs x y q rate in
+    leaves (c .number) (c .sample) (changedOf (c .state)) (ringCalled sets top s xs x y q rate)
+
+-- reset, which asks for no quality
+abbrev pub resetLeft : Coded → List Float → Renewed Changed
+resetLeft s xs = let c = renewedOf true s (length xs) in renews (c .number) (changedOf (c .state)) (ringRenewed true s xs)
+
+-- Opening: a refusal keeps what stood there.
+abbrev pub unlessRefused : ℕ → Changed → Changed → Changed
+unlessRefused zero before after = after
+unlessRefused (suc k) before after = before
+
+abbrev pub openedLeft : Changed → ℕ → ℕ → ℕ → ℕ → List Float → Renewed Changed
+openedLeft before maximum margin quality crossfade xs =
+    let s = freshOf maximum margin quality crossfade in
+    let c = renewedOf (codeOk quality) s (length xs) in
+    renews (c .number) (unlessRefused (c .number) before (changedOf (c .state))) (ringRenewed (codeOk quality) s xs)
