@@ -1,2 +1,3 @@
 pub mod Signs
+pub mod Around
 pub mod Ways

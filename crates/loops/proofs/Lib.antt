@@ -1,5 +1,6 @@
 pub mod Folds
 pub mod Lists
+pub mod Writing
 pub mod Mapped
 pub mod Rows
 pub mod Filling

@@ -1,6 +1,6 @@
 -- Where the tests of a common call pass, nothing is to be refused: each of 01's is among them, or follows. Assumes nothing.
 use mathlib.Core.Path.{_≡_, refl, sym, _∙_, ap}
-use mathlib.Core.Bool.{Bool, true, false, cond}
+use mathlib.Core.Bool.{Bool, true, false, cond, false≢true}
 use Prim.Native.Nat.{ℕ, _^_, _<_}
 use native.Mathlib.Omega.{arith}
 use borrow.Author.Tests.{eqb-true, le-leb, lt-ltb}
@@ -24,3 +24,7 @@ pub none-due : (own lent : Bool) (d : VariableDelay) (len : ℕ) (x y : Float) (
 none-due own lent d len x y n o l room a b f some e h =
     let s = filled (settingsOk (d .maximum) (d .margin)) (lengthFor (d .maximum) (d .margin)) len n e some h in
     rw (s .0, o, s .1, l, le-leb (d .accepted) (2 ^ 36) (omega arith), f, delay-finite y a b, a, b, lt-ltb (d .accepted) (2 ^ 36) room)
+
+-- a call that a test led away from says nothing
+pub led-away : {A : Type 0} → false ≡ true → A
+led-away h = absurd (false≢true h)

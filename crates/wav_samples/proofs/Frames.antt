@@ -8,10 +8,10 @@ use native.Mathlib.Nat.{suc-mul, mul-le-mul-right, div-add-mod'}
 use native.Mathlib.Omega.{arith}
 use borrow.Author.Tests.{leb-true, ltb-true, eqb-true}
 use lib.Dec.{eqb, leb, ltb}
-use lib.Ieee.{Float}
+use lib.Ieee.{Float, Format}
 use Rattle.wav.specs.declared.SampleKind.{SampleKind}
 use Rattle.wav.specs.declared.SampleKind.the-variants.{Pcm16, Pcm24, Float32}
-use Rattle.wav_samples.specs.Samples.{widthOf}
+use Rattle.wav_samples.specs.Samples.{widthOf, sampleOf}
 use Rattle.wav_samples.specs.Filling.{frameOf, verdict, filledBy, Whole}
 
 pub few-bytes : (kind : SampleKind) (count : ℕ) → count ≤ 255 → frameOf kind count ≤ 1020
@@ -23,6 +23,10 @@ pub fewer-bytes : (kind : SampleKind) (a b : ℕ) → a < b → frameOf kind a <
 fewer-bytes Pcm16 a b h = omega arith
 fewer-bytes Pcm24 a b h = omega arith
 fewer-bytes Float32 a b h = omega arith
+
+-- the sample of frame k
+abbrev pub frameAt : Format → SampleKind → ℕ → ℕ → List ℕ → ℕ → Float
+frameAt f kind frame first b k = sampleOf f kind b (k * frame + first)
 
 pub place : {size n frame first : ℕ} (k : ℕ) → Whole size n frame first → k < n → k * frame + first < size
 place {frame = frame} k w h = omega (arith, w .all, w .inside, mul-le-mul-right frame h, suc-mul k frame)

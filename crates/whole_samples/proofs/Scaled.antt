@@ -4,14 +4,20 @@ use mathlib.Core.Bool.{Bool, true, false}
 use Prim.Native.Nat.{ℕ, suc, _-_, _*_, _%_, _^_, _≤_, _<_}
 use native.Mathlib.Nat.{mul-assoc, mul-pos}
 use borrow.Author.Tests.{le-leb, lt-leb}
+use lib.Dec.{T, le→leb}
 use lib.IntN.{pos, negsuc}
 use lib.Pow.{pow-pos}
-use lib.Ieee.{Float, nan, inf, fin, Format, prec, up, down, unlike, round, mul, ofInt}
+use lib.Ieee.{Float, nan, inf, fin, Format, prec, up, down, unlike, round, mul, ofInt, inFloat}
 use lib.Ieee.Back.{round-whole}
 use lib.Ieee.Exact.{HasValue}
 use lib.Ieee.Fits.{down-pos}
 use lib.Ieee.Scale.{round-same}
 use Rattle.whole_samples.specs.Whole.{wholeOf}
+
+-- what the cast asks of a whole number: the format's digits hold it
+pub held : (f : Format) (d : ℕ) → d ≤ 2 ^ prec f → T (inFloat f (pos d))
+unfolding inFloat
+held f d h = le→leb d (2 ^ prec f) h
 
 own-sign : (t : Bool) → unlike false t ≡ t
 own-sign true = refl

@@ -1,57 +1,35 @@
 -- `sinc_delay::process_sample` meets its contract: `accept` refuses, the table's settings and length among the reasons, or stores; what is read behind the stored
 -- sample is the table's reading, by the laws over any kernel's reading. Assumes nothing.
 use borrow.Author.Needs.{needs}
-use mathlib.Core.Path.{_≡_, _∙_}
-use mathlib.Core.Bool.{Bool, _&&_, not}
+use mathlib.Core.Path.{_∙_}
+use mathlib.Core.Bool.{_&&_}
 use lib.Dec.{eqb}
 use lib.ListN.{length}
 use denote.Ref.{now}
+use Rattle.answer.specs.Answers.{answerOf}
 use Rattle.sinc_settings.specs.Ranges.{tapsOk, phasesOk}
 use Rattle.sinc_settings.specs.Refusals.{tableLength}
 use Rattle.sinc_settings.proofs.Told.{told-apart, both-pass}
 use Rattle.sinc_read.specs.Reading.{sincAt}
-use Rattle.variable_delay.specs.Reader.{verdict}
-use Rattle.variable_delay.proofs.Settings.{unowned}
-use Rattle.variable_delay.proofs.Calls as calls
+use Rattle.variable_delay.proofs.Widths.{refused-call, taken-call}
+use Rattle.variable_delay.proofs.Calls.{made, silent}
 use Rattle.sinc_delay.proofs.process_sample.Statement.{statement}
 use Rattle.sinc_delay.proofs.process_sample.Tie as tie
-
--- the verdict on what `table_refusal` gave is the contract's
-as-due : (c : tie.After-accept)
-    → let s = c .before .before .before .before .before .args in
-    let no = c .before .before .table-refusal .result in
-    verdict (not (eqb no 1)) (not (eqb no 2)) (s .state) (length (now (s .ring))) (s .input) (s .delay)
-    ≡ verdict (tapsOk (s .taps) && phasesOk (s .phases)) (eqb (length (now (s .table))) (tableLength (s .taps) (s .phases))) (s .state) (length (now (s .ring))) (s .input) (s .delay)
-as-due c =
-    let s = c .before .before .before .before .before .args in
-    told-apart (tapsOk (s .taps) && phasesOk (s .phases)) (eqb (length (now (s .table))) (tableLength (s .taps) (s .phases)))
-    (λ (t u : Bool). verdict t u (s .state) (length (now (s .ring))) (s .input) (s .delay))
-    (unowned (s .state) (length (now (s .ring))) (s .input) (s .delay))
-    (c .before .before .table-refusal .ensures)
 
 returns : tie.Need-returns
 returns c =
     let a = c .before .before .before .before in
     let s = a .before .before .before .before .before .args in
-    let own = tapsOk (s .taps) && phasesOk (s .phases) in
-    let lent = eqb (length (now (s .table))) (tableLength (s .taps) (s .phases)) in
-    let e = rw (as-due a) at (a .accept .ensures) in
-    (rw (c .answered .ensures) (calls.refused-call (sincAt (now (s .table)) (s .taps) (s .phases)) own lent (s .state) (now (s .ring)) (s .input) (s .delay) (e .0) _ (c .before .if1 .taken)), e .1)
+    refused-call made answerOf silent (sincAt (now (s .table)) (s .taps) (s .phases)) (tapsOk (s .taps) && phasesOk (s .phases)) (eqb (length (now (s .table))) (tableLength (s .taps) (s .phases))) (s .state) (now (s .ring)) (s .input) (s .delay)
+    (λ f still. told-apart _ _ f still (a .before .before .table-refusal .ensures)) (a .accept .ensures) (c .before .if1 .taken) _ (c .answered .ensures)
 
 returns-2 : tie.Need-returns-2
 returns-2 c =
     let i = c .before .before .before in
     let a = i .before .before .before in
     let s = a .before .before .before .before .before .args in
-    let own = tapsOk (s .taps) && phasesOk (s .phases) in
-    let lent = eqb (length (now (s .table))) (tableLength (s .taps) (s .phases)) in
-    let e = rw (as-due a) at (a .accept .ensures) in
-    let none = i .if1 .left in
-    let read = sincAt (now (s .table)) (s .taps) (s .phases) in
-    let here = calls.position-ok read own lent (s .state) (now (s .ring)) (s .input) (s .delay) (e .0) none in
-    let p = calls.settings-ok read own lent (s .state) (now (s .ring)) (s .input) (s .delay) (e .0) none in
-    let q = calls.table-ok read own lent (s .state) (now (s .ring)) (s .input) (s .delay) (e .0) none in
-    (rw (c .answered2 .ensures) (calls.taken-call read own lent (s .state) (now (s .ring)) (s .input) (s .delay) (e .0) none (e .1) (c .before .read .ensures ∙ rw (both-pass p q, here))), e .1)
+    taken-call made answerOf silent (sincAt (now (s .table)) (s .taps) (s .phases)) (tapsOk (s .taps) && phasesOk (s .phases)) (eqb (length (now (s .table))) (tableLength (s .taps) (s .phases))) (s .state) (now (s .ring)) (s .input) (s .delay)
+    (λ f still. told-apart _ _ f still (a .before .before .table-refusal .ensures)) (a .accept .ensures) (i .if1 .left) (λ own lent here. c .before .read .ensures ∙ rw (both-pass own lent, here)) (c .answered2 .ensures)
 
 pub process-sample-spec : {M : Type 1} → statement M
 process-sample-spec = tie.close (tie.spec (λ c κs. search needs) (λ c κs. search needs) (λ c κs. search needs) (λ c. search needs) returns (λ c κs. search needs) (λ c κs. search needs) (λ c. search needs) returns-2)

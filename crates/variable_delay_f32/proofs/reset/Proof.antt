@@ -1,32 +1,22 @@
--- `variable_delay_f32::reset` meets its contract: by its refusal, or by the ring that `clear_f32` leaves. Assumes nothing.
+-- `variable_delay_f32::reset` meets its contract: by its refusal, or by the ring that `clear_f32` leaves, as in every width. Assumes nothing.
 use borrow.Author.Needs.{needs}
-use mathlib.Core.Path.{_≡_, refl, sym, _∙_}
-use mathlib.Core.Bool.{Bool, true}
-use Prim.Native.Nat.{_^_}
-use lib.Dec.{leb}
-use lib.ListN.{length}
 use denote.Ref.{now}
-use Rattle.answer.specs.Refusals.{lowestOf}
-use Rattle.variable_delay.specs.Opening.{resetVerdict}
-use Rattle.variable_delay.proofs.Settings.{settled}
-use Rattle.variable_delay.proofs.Refused.{not-opened, not-cleared}
+use Rattle.variable_delay.proofs.Resets.{not-reset, anew}
 use Rattle.variable_delay_f32.proofs.reset.Statement.{statement}
 use Rattle.variable_delay_f32.proofs.reset.Tie as tie
 
-verdict-is : (c : tie.After-first) → let a = c .before .before .before .before .args in c .first .result ≡ resetVerdict (a .state) (length (now (a .ring)))
-verdict-is c =
-    let s = c .before .before .before .before .args .state in
-    rw (c .first .ensures)
-    (settled (s .maximum) (s .margin) _ _ (λ (t u : Bool). lowestOf t u (leb (s .accepted) (2 ^ 36)) true true true true true) (λ t u. refl) (c .before .before .length-for .ensures))
-
 returns : tie.Need-returns
-returns c = (not-opened _ (verdict-is (c .before)) (c .if1 .taken) _, not-cleared _ (verdict-is (c .before)) (c .if1 .taken) _)
+returns c =
+    let f = c .before in
+    let s = f .before .before .before .before .args in
+    not-reset (s .state) (now (s .ring)) (f .before .before .length-for .ensures) (f .first .ensures) (c .if1 .taken)
 
 returns-2 : tie.Need-returns-2
 returns-2 c =
     let e = c .before .before .before .before in
-    let none = sym (verdict-is (e .before)) ∙ e .if1 .left in
-    (rw none, rw none (c .before .before .clear-f32 .ensures))
+    let f = e .before in
+    let s = f .before .before .before .before .args in
+    anew (s .state) (now (s .ring)) (f .before .before .length-for .ensures) (f .first .ensures) (e .if1 .left) (c .before .before .clear-f32 .ensures)
 
 pub reset-spec : {M : Type 1} → statement M
 reset-spec = tie.close (tie.spec (λ c κs. search needs) (λ c κs. search needs) returns (λ c κs. search needs) (λ c. search needs) returns-2)

@@ -1,21 +1,11 @@
 -- `whole_samples::pcm24_f32` meets its contract, by the law over the format and the width. Assumes nothing.
 use borrow.Author.Needs.{needs}
-use Prim.Native.Nat.{_-_, _%_, _^_}
-use lib.Dec.{le→leb}
 use native.Mathlib.Omega.{arith}
-use lib.Ieee.{binary32, ofBits, neg, inFloat}
+use lib.Ieee.{binary32, ofBits, neg}
 use mathlib.Core.Path.{refl}
-use Rattle.whole_samples.proofs.Scaled.{plus, minus}
+use Rattle.whole_samples.proofs.Scaled.{held, plus, minus}
 use Rattle.whole_samples.proofs.pcm24_f32.Statement.{statement}
 use Rattle.whole_samples.proofs.pcm24_f32.Tie as tie
-
-int-to-float-result : tie.Need-int-to-float-result
-unfolding inFloat
-int-to-float-result c = le→leb (c .before .before .args .n % 16777216) (2 ^ 24) (omega arith)
-
-int-to-float-result-2 : tie.Need-int-to-float-result-2
-unfolding inFloat
-int-to-float-result-2 c = le→leb (16777216 - c .before .before .args .n % 16777216) (2 ^ 24) (omega arith)
 
 returns : tie.Need-returns
 unfolding ofBits
@@ -26,4 +16,4 @@ unfolding ofBits neg
 returns-2 c = minus binary32 24 22 (c .before .before .args .n) _ refl refl (omega arith) (omega arith)
 
 pub pcm24-f32-spec : {M : Type 1} → statement M
-pcm24-f32-spec = tie.close (tie.spec int-to-float-result (λ c. search needs) int-to-float-result-2 returns returns-2)
+pcm24-f32-spec = tie.close (tie.spec (λ c. held binary32 _ (omega arith)) (λ c. search needs) (λ c. held binary32 _ (omega arith)) returns returns-2)

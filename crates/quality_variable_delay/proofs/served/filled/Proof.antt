@@ -1,6 +1,5 @@
 -- `quality_variable_delay::served::filled` meets its contract: a length that is not 0 is that of settings in range. Assumes nothing.
 use borrow.Author.Needs.{needs}
-use mathlib.Core.Bool.{false≢true}
 use borrow.Author.Tests.{eq-eqb}
 use Rattle.variable_delay_f32.proofs.Passing as passing
 use Rattle.quality_variable_delay.proofs.served.filled.Statement.{statement}
@@ -17,14 +16,5 @@ returns c =
     let b = passing.filled _ _ _ (c .bank-length .result) (c .bank-length .ensures) (lent .if2 .taken) h in
     (r .0, r .1, b .0, b .1)
 
-returns-2 : tie.Need-returns-2
-returns-2 c = λ h. absurd (false≢true h)
-
-returns-3 : tie.Need-returns-3
-returns-3 c = λ h. absurd (false≢true h)
-
-returns-4 : tie.Need-returns-4
-returns-4 c = λ h. absurd (false≢true h)
-
 pub filled-spec : {M : Type 1} → statement M
-filled-spec = tie.close (tie.spec (λ c κs. search needs) (λ c κs. search needs) returns returns-2 returns-3 returns-4)
+filled-spec = tie.close (tie.spec (λ c κs. search needs) (λ c κs. search needs) returns (λ c. passing.led-away) (λ c. passing.led-away) (λ c. passing.led-away))
