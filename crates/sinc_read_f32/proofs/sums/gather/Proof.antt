@@ -1,10 +1,5 @@
-<<<<<<< HEAD:crates/sinc_read_f32/proofs/sums/gather/Proof.antt
 -- `sinc_read_f32::sums::gather` meets its contract: the samples are written up to tap k. Assumes nothing.
-use mathlib.Core.Path.{_≡_, refl, sym, _∙_, ap, subst}
-=======
--- `sinc_read_f32::gather` meets its contract: the samples are written up to tap k. Assumes nothing.
 use mathlib.Core.Path.{sym, _∙_, ap, subst}
->>>>>>> kd:crates/sinc_read_f32/proofs/gather/Proof.antt
 use borrow.Author.Needs.{scaled-fits}
 use Prim.Native.Nat.{ℕ, _-_, _^_, _≤_}
 use native.Mathlib.Omega.{arith}
