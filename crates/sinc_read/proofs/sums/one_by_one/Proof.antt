@@ -1,4 +1,4 @@
--- `sinc_read::one_by_one` meets its contract: after k turns the sum is the fold of k turns. Assumes nothing.
+-- `sinc_read::sums::one_by_one` meets its contract: after k turns the sum is the fold of k turns. Assumes nothing.
 use mathlib.Core.Path.{_≡_, refl, sym, _∙_, ap, subst}
 use Prim.Native.Nat.{ℕ, _+_, _-_, _^_, _≤_}
 use native.Mathlib.Omega.{arith}
@@ -15,8 +15,8 @@ use Rattle.loops.proofs.Folds.{none, turn}
 use Rattle.ring.specs.Taps.{tapOf}
 use Rattle.sinc_read.specs.Sums.{tapTurn}
 use Rattle.sinc_phases.proofs.Between.{next-row}
-use Rattle.sinc_read.proofs.one_by_one.Statement.{statement}
-use Rattle.sinc_read.proofs.one_by_one.Tie as tie
+use Rattle.sinc_read.proofs.sums.one_by_one.Statement.{statement}
+use Rattle.sinc_read.proofs.sums.one_by_one.Tie as tie
 
 abbrev Inv-loop : tie.InvT-loop
 Inv-loop table taps phase blend source count first row next sum₀ k₀ sum k =

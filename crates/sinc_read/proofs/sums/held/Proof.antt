@@ -1,4 +1,4 @@
--- `sinc_read::held` meets its contract: one run or two, by the laws of `Around`. Assumes nothing.
+-- `sinc_read::sums::held` meets its contract: one run or two, by the laws of `Around`. Assumes nothing.
 use borrow.Author.Needs.{needs}
 use mathlib.Core.Path.{_∙_, ap}
 use Prim.Native.Nat.{_+_, _-_, _*_}
@@ -9,8 +9,8 @@ use denote.Ref.{now}
 use Rattle.loops.specs.Loops.{fold}
 use Rattle.sinc_read.specs.Sums.{runTurn}
 use Rattle.sinc_read.proofs.Around as around
-use Rattle.sinc_read.proofs.held.Statement.{statement}
-use Rattle.sinc_read.proofs.held.Tie as tie
+use Rattle.sinc_read.proofs.sums.held.Statement.{statement}
+use Rattle.sinc_read.proofs.sums.held.Tie as tie
 
 returns : tie.Need-returns
 unfolding ofBits

@@ -1,4 +1,4 @@
--- `sinc_read::run` meets its contract: after k turns the sum is the fold of k turns. Assumes nothing.
+-- `sinc_read::sums::run` meets its contract: after k turns the sum is the fold of k turns. Assumes nothing.
 use mathlib.Core.Path.{_≡_, refl, _∙_, ap}
 use Prim.Native.Nat.{_-_, _≤_}
 use native.Mathlib.Omega.{arith}
@@ -6,8 +6,8 @@ use denote.Ref.{now}
 use Rattle.loops.specs.Loops.{fold}
 use Rattle.loops.proofs.Folds.{none, turn}
 use Rattle.sinc_read.specs.Sums.{runTurn}
-use Rattle.sinc_read.proofs.run.Statement.{statement}
-use Rattle.sinc_read.proofs.run.Tie as tie
+use Rattle.sinc_read.proofs.sums.run.Statement.{statement}
+use Rattle.sinc_read.proofs.sums.run.Tie as tie
 
 abbrev Inv-loop : tie.InvT-loop
 Inv-loop table row next blend source place n start sum₀ k₀ sum k = (k ≤ n) × (sum ≡ fold (runTurn table row next blend source place) start k)
