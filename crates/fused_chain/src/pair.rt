@@ -5,12 +5,12 @@ ghost use lib.ListN.{length};
 ghost use Rattle.fused_chain.specs.Chain.{chainOf, runLength};
 use crate::abreast::biased_runs;
 use crate::abreast::plain_runs;
-use crate::ahead;
-use crate::chain;
-use crate::least;
-use crate::one_by_one;
-use crate::plainly;
-use crate::stretch;
+use crate::lengths::ahead;
+use crate::lengths::least;
+use crate::lengths::stretch;
+use crate::single::chain;
+use crate::turns::one_by_one;
+use crate::turns::plainly;
 use narrowing::narrow;
 
 // The sums of two chains.

@@ -1,4 +1,4 @@
--- `fused_chain::plainly` meets its contract: each run carries the sum on. Assumes nothing.
+-- `fused_chain::turns::plainly` meets its contract: each run carries the sum on. Assumes nothing.
 use borrow.Author.Needs.{needs}
 use mathlib.Core.Path.{subst}
 use Prim.Native.Nat.{ℕ, _-_, _≤_}
@@ -7,8 +7,8 @@ use native.Mathlib.Omega.{arith}
 use denote.Ref.{now}
 use Rattle.fused_chain.specs.Blocks.{Carries}
 use Rattle.fused_chain.proofs.Carrying.{less, stay, on}
-use Rattle.fused_chain.proofs.plainly.Statement.{statement}
-use Rattle.fused_chain.proofs.plainly.Tie as tie
+use Rattle.fused_chain.proofs.turns.plainly.Statement.{statement}
+use Rattle.fused_chain.proofs.turns.plainly.Tie as tie
 
 abbrev Inv-loop : tie.InvT-loop
 Inv-loop xs row0 row1 blend from to sum held₀ k₀ held k = (from ≤ k) × (k ≤ to) × (Carries xs row0 row1 blend from k sum held)

@@ -1,4 +1,4 @@
--- `fused_chain::one_by_one` meets its contract: the turns so far carry the sum. Assumes nothing.
+-- `fused_chain::turns::one_by_one` meets its contract: the turns so far carry the sum. Assumes nothing.
 use borrow.Author.Needs.{needs}
 use mathlib.Core.Path.{refl, subst}
 use Prim.Native.Nat.{_-_, _≤_}
@@ -7,8 +7,8 @@ use native.Mathlib.Omega.{arith}
 use denote.Ref.{now}
 use Rattle.fused_chain.specs.Blocks.{Carries}
 use Rattle.fused_chain.proofs.Carrying.{stay, on, once}
-use Rattle.fused_chain.proofs.one_by_one.Statement.{statement}
-use Rattle.fused_chain.proofs.one_by_one.Tie as tie
+use Rattle.fused_chain.proofs.turns.one_by_one.Statement.{statement}
+use Rattle.fused_chain.proofs.turns.one_by_one.Tie as tie
 
 abbrev Inv-loop : tie.InvT-loop
 Inv-loop xs row0 row1 blend from to sum held₀ k₀ held k = (from ≤ k) × (k ≤ to) × (Carries xs row0 row1 blend from k sum held)

@@ -1,4 +1,4 @@
--- `fused_chain::chain` meets its contract: each run carries the chain's sum on. Assumes nothing.
+-- `fused_chain::single::chain` meets its contract: each run carries the chain's sum on. Assumes nothing.
 use borrow.Author.Needs.{needs}
 use mathlib.Core.Path.{_≡_, sym, _∙_, ap, subst}
 use Prim.Native.Nat.{_-_, _≤_}
@@ -11,8 +11,8 @@ use Rattle.rounding.proofs.Own.{narrowed-own}
 use Rattle.fused_chain.specs.Chain.{turnOf, chainOf}
 use Rattle.fused_chain.specs.Blocks.{Carries}
 use Rattle.fused_chain.proofs.Carrying.{less, on}
-use Rattle.fused_chain.proofs.chain.Statement.{statement}
-use Rattle.fused_chain.proofs.chain.Tie as tie
+use Rattle.fused_chain.proofs.single.chain.Statement.{statement}
+use Rattle.fused_chain.proofs.single.chain.Tie as tie
 
 abbrev Inv-loop : tie.InvT-loop
 Inv-loop xs row0 row1 blend sum n middle wide held₀ k₀ held k = (k ≤ n) × (Carries xs row0 row1 blend 0 k sum held)

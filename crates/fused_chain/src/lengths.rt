@@ -1,0 +1,28 @@
+// How far a run goes.
+ghost use mathlib.Core.Path.{_≡_};
+ghost use Prim.Native.Nat.{_+_, _≤_, _<_, min};
+
+pub(crate) fn least(a: usize, b: usize) -> usize
+    ensures { λ r. ⌜ r ≡ min a b ⌝ }
+{
+    if a <= b { a } else { b }
+}
+
+// m turns on, or the end.
+pub(crate) fn ahead(k: usize, m: usize, n: usize) -> usize
+    requires { ⌜ k ≤ n ⌝ }
+    ensures { λ r. ⌜ r ≡ min (k + m) n ⌝ }
+{
+    if n - k < m { n } else { k + m }
+}
+
+// How far to go one by one where a quick run stopped: a zero stays for long, and silence is not slow.
+pub(crate) fn stretch(k: usize, n: usize, sum: f64) -> usize
+    requires { ⌜ k ≤ n ⌝ }
+    ensures { λ r. ⌜ (k ≤ r) × (r ≤ n) × (k < n → k < r) ⌝ }
+{
+    if sum == 0.0 {
+        return ahead(k, 32, n);
+    }
+    ahead(k, 4, n)
+}
