@@ -4,8 +4,8 @@ ghost use lib.ListN.{length};
 ghost use Rattle.answer.specs.Answers.{answerF32Of};
 ghost use Rattle.sinc_read.specs.Reading.{sampleVerdict};
 ghost use Rattle.sinc_read_f32.specs.Reading.{sincF32At, readOf};
-use crate::held;
-use crate::scattered;
+use crate::sums::held;
+use crate::sums::scattered;
 use answer::AnswerF32;
 
 // The reading at a position in range. Where every tap is held none is tested.

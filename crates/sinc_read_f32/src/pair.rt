@@ -4,8 +4,8 @@ ghost use lib.ListN.{length};
 ghost use Rattle.sinc_read.specs.Reading.{sampleVerdict};
 ghost use Rattle.sinc_read_f32.specs.Reading.{sincF32At, readOf};
 use crate::abreast::held;
-use crate::read;
-use crate::scattered;
+use crate::kernel::read;
+use crate::sums::scattered;
 use fused_chain::Pair;
 
 // The readings at a position in range.

@@ -1,4 +1,4 @@
--- `sinc_read_f32::gather` meets its contract: the samples are written up to tap k. Assumes nothing.
+-- `sinc_read_f32::sums::gather` meets its contract: the samples are written up to tap k. Assumes nothing.
 use mathlib.Core.Path.{_≡_, refl, sym, _∙_, ap, subst}
 use borrow.Author.Needs.{scaled-fits}
 use Prim.Native.Nat.{ℕ, _-_, _^_, _≤_}
@@ -15,8 +15,8 @@ use mir.ValLaws.{toZ-ofZ}
 use Rattle.loops.specs.Loops.{listOf}
 use Rattle.loops.proofs.Lists.{nothing, written, whole}
 use Rattle.ring.specs.Taps.{tapOf}
-use Rattle.sinc_read_f32.proofs.gather.Statement.{statement}
-use Rattle.sinc_read_f32.proofs.gather.Tie as tie
+use Rattle.sinc_read_f32.proofs.sums.gather.Statement.{statement}
+use Rattle.sinc_read_f32.proofs.sums.gather.Tie as tie
 
 -- the tap k behind the first
 abbrev from : List Float → ℕ → ℤ → ℕ → Float

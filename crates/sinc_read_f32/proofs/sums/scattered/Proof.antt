@@ -1,4 +1,4 @@
--- `sinc_read_f32::scattered` meets its contract: the front of the scratch holds the taps, and a chain reads it. Assumes nothing.
+-- `sinc_read_f32::sums::scattered` meets its contract: the front of the scratch holds the taps, and a chain reads it. Assumes nothing.
 use borrow.Author.Needs.{needs}
 use mathlib.Core.Path.{_≡_, _∙_, ap}
 use Prim.Native.Nat.{ℕ}
@@ -14,8 +14,8 @@ use Rattle.loops.proofs.Lists.{length-list}
 use Rattle.loops.proofs.Scratch.{length-front, front-fits}
 use Rattle.ring.specs.Taps.{tapOf}
 use Rattle.sinc_read_f32.proofs.Chains.{laid-out}
-use Rattle.sinc_read_f32.proofs.scattered.Statement.{statement}
-use Rattle.sinc_read_f32.proofs.scattered.Tie as tie
+use Rattle.sinc_read_f32.proofs.sums.scattered.Statement.{statement}
+use Rattle.sinc_read_f32.proofs.sums.scattered.Tie as tie
 
 -- the taps side by side
 abbrev begun : tie.After-gather → tie.Start

@@ -1,4 +1,4 @@
--- `sinc_read_f32::tap_after` meets its contract: the sum of the first tap and a small number is the machine's. Assumes nothing.
+-- `sinc_read_f32::sums::tap_after` meets its contract: the sum of the first tap and a small number is the machine's. Assumes nothing.
 use borrow.Author.Needs.{needs}
 use mathlib.Core.Path.{_≡_, sym, _∙_, ap, subst}
 use native.Mathlib.Omega.{arith}
@@ -10,8 +10,8 @@ use mir.ValLaws.{toZ-ofZ}
 use Rattle.ring.specs.Taps.{tapOf}
 use Rattle.integer_part.proofs.Signed.{sum-fits}
 use Rattle.integer_part.proofs.Shifted.{small}
-use Rattle.sinc_read_f32.proofs.tap_after.Statement.{statement}
-use Rattle.sinc_read_f32.proofs.tap_after.Tie as tie
+use Rattle.sinc_read_f32.proofs.sums.tap_after.Statement.{statement}
+use Rattle.sinc_read_f32.proofs.sums.tap_after.Tie as tie
 
 both : (c : tie.After-shared-slice-known) → let s = c .before in toZ w64 (ofZ w64 (s .args .first)) +ℤ toZ w64 (s .args .k) ≡ s .args .first +ℤ pos (s .args .k)
 both c = let s = c .before in rw (toZ-ofZ w64 (s .args .first) (s .fits .first), small (s .args .k) (omega arith))

@@ -1,10 +1,10 @@
--- `sinc_read_f32::over` meets its contract: the rows are longer than the samples. Assumes nothing.
+-- `sinc_read_f32::sums::over` meets its contract: the rows are longer than the samples. Assumes nothing.
 use borrow.Author.Needs.{needs}
 use mathlib.Core.Path.{_∙_}
 use denote.Ref.{now}
 use Rattle.sinc_read_f32.proofs.Chains.{one-chain}
-use Rattle.sinc_read_f32.proofs.over.Statement.{statement}
-use Rattle.sinc_read_f32.proofs.over.Tie as tie
+use Rattle.sinc_read_f32.proofs.sums.over.Statement.{statement}
+use Rattle.sinc_read_f32.proofs.sums.over.Tie as tie
 
 returns : tie.Need-returns
 returns c =

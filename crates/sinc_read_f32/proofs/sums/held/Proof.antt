@@ -1,11 +1,11 @@
--- `sinc_read_f32::held` meets its contract: the samples lie side by side, or up to the ring's end and on from its start. Assumes nothing.
+-- `sinc_read_f32::sums::held` meets its contract: the samples lie side by side, or up to the ring's end and on from its start. Assumes nothing.
 use borrow.Author.Needs.{needs}
 use mathlib.Core.Path.{_∙_}
 use native.Mathlib.Omega.{arith}
 use denote.Ref.{now}
 use Rattle.sinc_read_f32.proofs.Chains.{one-run, first-run, second-run}
-use Rattle.sinc_read_f32.proofs.held.Statement.{statement}
-use Rattle.sinc_read_f32.proofs.held.Tie as tie
+use Rattle.sinc_read_f32.proofs.sums.held.Statement.{statement}
+use Rattle.sinc_read_f32.proofs.sums.held.Tie as tie
 
 returns : tie.Need-returns
 returns c =
