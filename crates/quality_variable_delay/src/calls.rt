@@ -3,6 +3,7 @@ ghost use mathlib.Core.Path.{_≡_};
 ghost use Rattle.quality_variable_delay.specs.Bank.{dueOf, processed, ringLeft};
 use super::ProcessedQ;
 use super::QualityVariableDelayF32;
+use super::refusing::refusal;
 use super::served;
 use super::storing;
 use quality_mode::QualityMode;
@@ -20,7 +21,7 @@ pub fn due(
     ensures { λ r. ⌜ r ≡ dueOf lent «max_rate» state len input delay «playback_rate» ⌝ }
 {
     let needed = sinc_bank_f32::bank_length(max_rate);
-    super::refusal(
+    refusal(
         state,
         needed != 0,
         lent == needed,

@@ -4,6 +4,7 @@ ghost use lib.ListN.{length};
 ghost use Rattle.quality_variable_delay.specs.Opening.{resetVerdict, renewed, fresh, resetOf, ringReset};
 use super::Opened;
 use super::QualityVariableDelayF32;
+use super::state::fading;
 use constants::LIMIT;
 use quality_mode::QualityMode;
 use refusal_order::both;
@@ -43,7 +44,7 @@ pub fn reset_refusal(state: QualityVariableDelayF32, len: usize) -> u8
     let t2 = len == needed;
     let t3 = both(
         state.accepted <= LIMIT,
-        quality_fade::place_ok(super::fading(state)),
+        quality_fade::place_ok(fading(state)),
     );
     answer::first(t1, t2, t3, true, true, true, true, true)
 }
@@ -52,7 +53,7 @@ pub fn reset_refusal(state: QualityVariableDelayF32, len: usize) -> u8
 fn renew(state: QualityVariableDelayF32) -> QualityVariableDelayF32
     ensures { λ r. ⌜ r ≡ renewed state ⌝ }
 {
-    let fade = quality_fade::reset(super::fading(state));
+    let fade = quality_fade::reset(fading(state));
     let current = fade.current;
     let target = fade.target;
     QualityVariableDelayF32 {

@@ -8,6 +8,7 @@ ghost use Rattle.bank_choice.specs.Rates.{bankOk, stepsOf};
 ghost use Rattle.sinc_bank_f32.specs.Sets.{setLength};
 ghost use Rattle.quality_variable_delay.specs.Bank.{dueOf};
 use super::QualityVariableDelayF32;
+use super::state::fading;
 use constants::LIMIT;
 use constants::LIMIT_F64;
 
@@ -39,7 +40,7 @@ pub(crate) fn served(
 {
     if state.accepted < LIMIT {
         if quality_fade::length_ok(state.crossfade_samples) {
-            if quality_fade::place_ok(super::fading(state)) {
+            if quality_fade::place_ok(fading(state)) {
                 if delay >= 0.0 {
                     if delay <= LIMIT_F64 {
                         if magnitude::is_finite_f32(input) {

@@ -2,13 +2,14 @@
 ghost use mathlib.Core.Path.{_≡_};
 ghost use Prim.Native.Nat.{_+_, _<_, _^_};
 ghost use lib.ListN.{length};
-ghost use Rattle.variable_delay.specs.Reader.{stored};
+ghost use Rattle.variable_delay.specs.Reader.{stored, positionOf};
 ghost use Rattle.bank_read.specs.Bank.{bankAt};
 ghost use Rattle.quality_variable_delay.specs.State.{joined};
 ghost use Rattle.quality_variable_delay.specs.Reader.{processedBy};
 ghost use Rattle.quality_variable_delay.specs.Bank.{dueOf};
 use super::ProcessedQ;
 use super::QualityVariableDelayF32;
+use super::state::fading;
 use super::turns;
 use quality_fade::Fade;
 use quality_mode::QualityMode;
@@ -31,6 +32,17 @@ fn after(state: QualityVariableDelayF32, fade: Fade) -> QualityVariableDelayF32
     }
 }
 
+// K1. Stores sample i at its place, and gives the position to be read.
+fn store(i: u64, ring: &mut [f32], input: f32, delay: f64) -> f64
+    requires { ⌜ (i < 2 ^ 36) × (0 < length (now ring)) ⌝ }
+    ensures { λ r. ⌜ r ≡ positionOf i delay ⌝ }
+    ensures { λ r. ⌜ now (ring .exit) ≡ stored i (now (ring .entry)) input ⌝ }
+{
+    let at = ring::place(i, ring.len());
+    ring[at] = input;
+    (i as i64) as f64 - delay
+}
+
 // A call of which nothing is to be refused: stores the sample, then reads behind it.
 pub(crate) fn accepted<'a>(
     state: QualityVariableDelayF32,
@@ -47,8 +59,8 @@ pub(crate) fn accepted<'a>(
     ensures { λ r. ⌜ now (ring .exit) ≡ stored (state .accepted) (now (ring .entry)) input ⌝ }
 {
     let i = state.accepted;
-    let position = super::store(i, &mut ring[..], input, delay);
-    let turn = quality_fade::step(super::fading(state), quality);
+    let position = store(i, &mut ring[..], input, delay);
+    let turn = quality_fade::step(fading(state), quality);
     let left = turn.state;
     let y = turns::output(
         turn,

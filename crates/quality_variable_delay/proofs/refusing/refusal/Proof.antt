@@ -1,4 +1,4 @@
--- `quality_variable_delay::refusal` meets its contract: each test is the definition's, the first two by `settled`. Assumes nothing.
+-- `quality_variable_delay::refusing::refusal` meets its contract: each test is the definition's, the first two by `settled`. Assumes nothing.
 use borrow.Author.Needs.{needs}
 use mathlib.Core.Path.{refl}
 use mathlib.Core.Bool.{Bool, true, false, not, _&&_}
@@ -11,8 +11,8 @@ use Rattle.answer.specs.Refusals.{lowestOf}
 use Rattle.variable_delay.proofs.Settings.{settled}
 use Rattle.quality_fade.specs.Fade.{lengthOk, placeOk}
 use Rattle.quality_variable_delay.specs.State.{fadePart}
-use Rattle.quality_variable_delay.proofs.refusal.Statement.{statement}
-use Rattle.quality_variable_delay.proofs.refusal.Tie as tie
+use Rattle.quality_variable_delay.proofs.refusing.refusal.Statement.{statement}
+use Rattle.quality_variable_delay.proofs.refusing.refusal.Tie as tie
 
 returns : tie.Need-returns
 unfolding ofBits

@@ -1,4 +1,4 @@
--- `quality_variable_delay::store` meets its contract: the place lies inside the ring, and the count is small, so that both casts are exact. Assumes nothing.
+-- `quality_variable_delay::storing::store` meets its contract: the place lies inside the ring, and the count is small, so that both casts are exact. Assumes nothing.
 use borrow.Author.Needs.{needs, scaled-fits}
 use mathlib.Core.Path.{_≡_, _∙_}
 use Prim.Native.Nat.{_<_}
@@ -11,8 +11,8 @@ use mir.ValLaws.{toZ-ofZ}
 use denote.Ref.{now}
 use Rattle.integer_part.proofs.Step.{in-float}
 use Rattle.ring.proofs.Held.{place-mod, place-inside}
-use Rattle.quality_variable_delay.proofs.store.Statement.{statement}
-use Rattle.quality_variable_delay.proofs.store.Tie as tie
+use Rattle.quality_variable_delay.proofs.storing.store.Statement.{statement}
+use Rattle.quality_variable_delay.proofs.storing.store.Tie as tie
 
 inside : (c : tie.After-place) → c .place .result < length (now (c .before .before .args .ring))
 inside c = place-inside _ _ (c .before .before .pre .1) (c .place .ensures)

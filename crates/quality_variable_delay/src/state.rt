@@ -1,0 +1,18 @@
+// What a quality reader's state holds of its qualities.
+ghost use mathlib.Core.Path.{_≡_};
+ghost use Rattle.quality_variable_delay.specs.State.{fadePart};
+use super::QualityVariableDelayF32;
+use quality_fade::Fade;
+
+pub(crate) fn fading(state: QualityVariableDelayF32) -> Fade
+    ensures { λ r. ⌜ r ≡ fadePart state ⌝ }
+{
+    let current = state.current_quality;
+    let target = state.target_quality;
+    Fade {
+        current: current,
+        target: target,
+        place: state.crossfade_position,
+        length: state.crossfade_samples,
+    }
+}
