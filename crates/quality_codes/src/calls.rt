@@ -7,7 +7,7 @@ use super::codes::decode;
 use super::codes::encode;
 use super::codes::fields_ok;
 use super::codes::mode;
-use super::odd;
+use super::codes::odd;
 use quality_variable_delay::ProcessedQ;
 use refusal_order::both;
 

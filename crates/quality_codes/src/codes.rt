@@ -1,7 +1,7 @@
-// A quality as its number, and a quality reader's state as plain numbers.
+// A quality as its number, a quality reader's state as plain numbers, and the refusal where a number names no quality.
 ghost use mathlib.Core.Path.{_≡_};
-ghost use mathlib.Core.Bool.{_&&_};
-ghost use Rattle.quality_codes.specs.Codes.{modeOf, decoded, coded, fieldsOk};
+ghost use mathlib.Core.Bool.{_&&_, cond};
+ghost use Rattle.quality_codes.specs.Codes.{modeOf, decoded, coded, fieldsOk, oddNumber};
 use super::Coded;
 use quality_mode::QualityMode;
 use quality_variable_delay::QualityVariableDelayF32;
@@ -54,4 +54,18 @@ pub fn fields_ok(s: Coded) -> bool
     ensures { λ r. ⌜ r ≡ fieldsOk s ⌝ }
 {
     both(s.current <= 3, s.target <= 3)
+}
+
+fn number(test: bool, a: u8, b: u8) -> u8
+    ensures { λ r. ⌜ r ≡ cond test a b ⌝ }
+{
+    if test { a } else { b }
+}
+
+// The refusal where a number is above 3: 1 if it is the quality asked for; else 3, unless `v`, due else, is 1 or 2.
+pub(crate) fn odd(asked: bool, v: u8) -> u8
+    ensures { λ r. ⌜ r ≡ oddNumber asked v ⌝ }
+{
+    let early = number(both(1 <= v, v <= 2), v, 3);
+    number(asked, early, 1)
 }

@@ -1,4 +1,5 @@
-// A quality reader's call, opening and reset on plain numbers: a quality is its place in 000's list, from 0, and a number above 3 names none.
+// A quality reader's call, opening and reset on plain numbers: a quality is its place in 000's list, from 0, and a
+// number above 3 names none.
 mod calls; // a call
 mod codes; // a quality and a state as numbers
 mod draft; // a call that is plain in Draft
@@ -9,12 +10,8 @@ mod through; // a call whose numbers come and go through pointers
 
 pub use calls::call;
 pub use draft::call_at_once;
-use refusal_order::both;
 pub use renewing::renew;
 pub use through::call_through;
-ghost use mathlib.Core.Path.{_≡_};
-ghost use mathlib.Core.Bool.{cond};
-ghost use Rattle.quality_codes.specs.Codes.{oddNumber};
 
 // A quality reader's state: `place` and `crossfade` are 000's crossfade_position and crossfade_samples.
 pub struct Coded {
@@ -32,17 +29,4 @@ pub struct Called {
     pub state: Coded,
     pub number: u8,
     pub sample: f32,
-}
-
-fn number(test: bool, a: u8, b: u8) -> u8
-    ensures { λ r. ⌜ r ≡ cond test a b ⌝ }
-{
-    if test { a } else { b }
-}
-
-fn odd(asked: bool, v: u8) -> u8
-    ensures { λ r. ⌜ r ≡ oddNumber asked v ⌝ }
-{
-    let early = number(both(1 <= v, v <= 2), v, 3);
-    number(asked, early, 1)
 }

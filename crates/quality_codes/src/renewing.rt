@@ -7,7 +7,7 @@ use super::Coded;
 use super::codes::decode;
 use super::codes::encode;
 use super::codes::fields_ok;
-use super::odd;
+use super::codes::odd;
 use quality_variable_delay::Opened;
 use refusal_order::both;
 

@@ -8,7 +8,8 @@ use constants::LIMIT;
 use constants::LIMIT_F64;
 use refusal_order::both;
 
-// The refusal that is due, in 01's order, and 0 for none: `bank` says that the bank's rate is in range, `lent` that its sets have their length.
+// The refusal that is due, in 01's order, and 0 for none: `bank` says that the bank's rate is in range, `lent` that its
+// sets have their length.
 pub fn refusal(
     state: QualityVariableDelayF32,
     bank: bool,

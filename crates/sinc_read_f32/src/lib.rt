@@ -1,4 +1,5 @@
-// 000's WindowedSincF32 as a kernel: a table of f32 that a caller lends, read over a slice of f32, a count and a position.
+// 000's WindowedSincF32 as a kernel: a table of f32 that a caller lends, read over a slice of f32, a count and
+// a position.
 mod abreast; // two chains over taps that are all held
 mod kernel; // what is read and what is refused
 mod pair; // what two tables read at once

@@ -11,7 +11,8 @@ ghost use Rattle.ring.specs.Taps.{tapOf};
 ghost use Rattle.sinc_read_f32.specs.Sums.{tapTurn, runTurn};
 use fused_chain::chain;
 
-// The turns over samples side by side, from a sum on: rows of the table from two places on. The chain ends with its samples.
+// The turns over samples side by side, from a sum on: rows of the table from two places on. The chain ends with its
+// samples.
 fn over<'a>(
     samples: &'a [f32],
     table: &'a [f32],

@@ -1,6 +1,6 @@
--- `quality_codes::odd` meets its contract: by its two choices. Assumes nothing.
-use Rattle.quality_codes.proofs.odd.Statement.{statement}
-use Rattle.quality_codes.proofs.odd.Tie as tie
+-- `quality_codes::codes::odd` meets its contract: by its two choices. Assumes nothing.
+use Rattle.quality_codes.proofs.codes.odd.Statement.{statement}
+use Rattle.quality_codes.proofs.codes.odd.Tie as tie
 
 returns : tie.Need-returns
 returns c = rw (c .number2 .ensures, c .before .number .ensures, c .before .before .both .ensures)
