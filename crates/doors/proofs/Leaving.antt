@@ -1,5 +1,5 @@
--- What an export leaves, from what its calls ensure: over the kernel's reading, the width and the state's numbers, so that each
--- export cites one law. Assumes nothing.
+-- What an export leaves, from what its calls ensure: over the kernel's reading, the width and the state's numbers, so
+-- that each export cites one law. Assumes nothing.
 use mathlib.Core.Path.{_≡_, ap}
 use mathlib.Core.List.{List}
 use Prim.Native.Nat.{ℕ}

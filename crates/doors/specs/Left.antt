@@ -1,6 +1,6 @@
--- C4, O3. What a call of an export leaves, a record for each kind: the refusal's number, which it returns, 0 for none; the sample,
--- as a float or as a pattern; of the state what a call changes; the ring. A record is made of all that its export may write, so
--- that one equation gives it. Definitions only.
+-- C4, O3. What a call of an export leaves, a record for each kind: the refusal's number, which it returns, 0 for none;
+-- the sample, as a float or as a pattern; of the state what a call changes; the ring. A record is made of all that its
+-- export may write, so that one equation gives it (C1). Definitions only.
 use Prim.Native.Nat.{ℕ}
 use mathlib.Core.List.{List}
 use lib.ListN.{length}

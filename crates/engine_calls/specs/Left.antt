@@ -1,5 +1,5 @@
--- What a call of the engine on its 15 words leaves: the refusal's number, which it returns, 0 for none; the words, the very ones
--- where it is refused (D1c); of a step also the two sides' offsets. Definitions only.
+-- What a call of the engine on its 15 words leaves: the refusal's number, which it returns, 0 for none; the words, the
+-- very ones where it is refused (D1c); of a step also the two sides' offsets. Definitions only.
 use Prim.Native.Nat.{ℕ}
 use mathlib.Core.List.{List}
 use lib.Ieee.{Float}
@@ -38,4 +38,5 @@ steps number words left right = record { number = number; words = words; left = 
 abbrev pub steppedBy : ModulationParams → List ℕ → Stepped
 steppedBy params words =
     let n = nextOf (engineOf words) params in
-    steps (refusalOf (n .offset)) (wordsLeft (refusalOf (n .offset)) (n .engine) words) (leftOf (n .offset)) (rightOf (n .offset))
+    let number = refusalOf (n .offset) in
+    steps number (wordsLeft number (n .engine) words) (leftOf (n .offset)) (rightOf (n .offset))

@@ -8,7 +8,8 @@ use modulation_engine::ModulationEngine;
 use modulation_params::ModulationParams;
 
 pub fn new(sample_rate: f64, seed: u64, words: &mut [u64; 15]) -> u8
-    ensures { λ r. ⌜ renews r (now (words .exit)) ≡ renewedBy (λ e. openedOf «sample_rate» seed) (now (words .entry)) ⌝ }
+    ensures { λ r. ⌜ renews r (now (words .exit)) ≡
+        renewedBy (λ e. openedOf «sample_rate» seed) (now (words .entry)) ⌝ }
 {
     let before = engine_of(*words);
     let opened = ModulationEngine::new(sample_rate, seed);
@@ -19,7 +20,8 @@ pub fn new(sample_rate: f64, seed: u64, words: &mut [u64; 15]) -> u8
 }
 
 pub fn set_sample_rate(words: &mut [u64; 15], sample_rate: f64) -> u8
-    ensures { λ r. ⌜ renews r (now (words .exit)) ≡ renewedBy (λ e. setSampleRateOf e «sample_rate») (now (words .entry)) ⌝ }
+    ensures { λ r. ⌜ renews r (now (words .exit)) ≡
+        renewedBy (λ e. setSampleRateOf e «sample_rate») (now (words .entry)) ⌝ }
 {
     let before = engine_of(*words);
     let opened = before.set_sample_rate(sample_rate);

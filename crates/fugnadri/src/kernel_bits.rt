@@ -20,7 +20,8 @@ pub extern "C" fn fugnadri_cubic_sample_bits(
     sample: &mut u64,
 ) -> u8
     ensures { λ r. ⌜ tells r (now (sample .exit))
-        ≡ toldInBits binary64 (toldBy (answerOf (cond (positionOk position) 0 1) (cubic.readOf (now (source .entry)) count position))) ⌝ }
+        ≡ toldInBits binary64 (toldBy (answerOf (cond (positionOk position) 0 1)
+        (cubic.readOf (now (source .entry)) count position))) ⌝ }
 {
     let a = cubic_farrow::sample(source, count, position);
     *sample = patterns::bits_of(value(a));
@@ -52,7 +53,8 @@ pub extern "C" fn fugnadri_farrow8_sample_bits(
     sample: &mut u64,
 ) -> u8
     ensures { λ r. ⌜ tells r (now (sample .exit))
-        ≡ toldInBits binary64 (toldBy (answerOf (cond (positionOk position) 0 1) (farrow.readOf (now (source .entry)) count position))) ⌝ }
+        ≡ toldInBits binary64 (toldBy (answerOf (cond (positionOk position) 0 1)
+        (farrow.readOf (now (source .entry)) count position))) ⌝ }
 {
     let a = farrow8::sample(source, count, position);
     *sample = patterns::bits_of(value(a));

@@ -22,7 +22,8 @@ pub extern "C" fn fugnadri_cubic_process_bits(
     sample: &mut u64,
 ) -> u8
     ensures { λ r. ⌜ leaves r (now (sample .exit)) (now (accepted .exit)) (now (ring .exit))
-        ≡ inBits binary64 (leftOf cubicAt (stateOf maximum margin (now (accepted .entry))) (now (ring .entry)) input delay) ⌝ }
+        ≡ inBits binary64 (leftOf cubicAt
+        (stateOf maximum margin (now (accepted .entry))) (now (ring .entry)) input delay) ⌝ }
 {
     let mut value = 0.0;
     let no = fugnadri_cubic_process(
@@ -50,7 +51,8 @@ pub extern "C" fn fugnadri_lagrange_process_bits(
     sample: &mut u64,
 ) -> u8
     ensures { λ r. ⌜ leaves r (now (sample .exit)) (now (accepted .exit)) (now (ring .exit))
-        ≡ inBits binary64 (leftWith (tapsOk taps) (lagrangeAt taps) (stateOf maximum margin (now (accepted .entry))) (now (ring .entry)) input delay) ⌝ }
+        ≡ inBits binary64 (leftWith (tapsOk taps) (lagrangeAt taps)
+        (stateOf maximum margin (now (accepted .entry))) (now (ring .entry)) input delay) ⌝ }
 {
     let mut value = 0.0;
     let no = fugnadri_lagrange_process(
@@ -78,7 +80,8 @@ pub extern "C" fn fugnadri_farrow8_process_bits(
     sample: &mut u64,
 ) -> u8
     ensures { λ r. ⌜ leaves r (now (sample .exit)) (now (accepted .exit)) (now (ring .exit))
-        ≡ inBits binary64 (leftOf farrowAt (stateOf maximum margin (now (accepted .entry))) (now (ring .entry)) input delay) ⌝ }
+        ≡ inBits binary64 (leftOf farrowAt
+        (stateOf maximum margin (now (accepted .entry))) (now (ring .entry)) input delay) ⌝ }
 {
     let mut value = 0.0;
     let no = fugnadri_farrow8_process(

@@ -46,7 +46,8 @@ pub extern "C" fn fugnadri_lagrange_process(
     sample: &mut f64,
 ) -> u8
     ensures { λ r. ⌜ leaves r (now (sample .exit)) (now (accepted .exit)) (now (ring .exit))
-        ≡ leftWith (tapsOk taps) (lagrangeAt taps) (stateOf maximum margin (now (accepted .entry))) (now (ring .entry)) input delay ⌝ }
+        ≡ leftWith (tapsOk taps) (lagrangeAt taps)
+        (stateOf maximum margin (now (accepted .entry))) (now (ring .entry)) input delay ⌝ }
 {
     let state = VariableDelay {
         maximum: maximum,

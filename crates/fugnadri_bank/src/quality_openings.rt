@@ -21,7 +21,8 @@ pub extern "C" fn fugnadri_quality_open(
         (changed (now (accepted .exit)) (now (current .exit)) (now (target .exit)) (now («crossfade_position» .exit)))
         (now (ring .exit))
         ≡ openedLeft
-        (changed (now (accepted .entry)) (now (current .entry)) (now (target .entry)) (now («crossfade_position» .entry)))
+        (changed (now (accepted .entry)) (now (current .entry)) (now (target .entry))
+        (now («crossfade_position» .entry)))
         maximum margin quality «crossfade_samples» (now (ring .entry)) ⌝ }
 {
     let state = Coded {

@@ -20,7 +20,14 @@ pub record Numbers : Type 0 where
   pub low : ℕ
 
 abbrev pub numbers : ℕ → ℕ → ℕ → ℕ → ℕ → ℕ → Numbers
-numbers number largest placed place high low = record { number = number; largest = largest; placed = placed; place = place; high = high; low = low }
+numbers number largest placed place high low = record {
+  number = number;
+  largest = largest;
+  placed = placed;
+  place = place;
+  high = high;
+  low = low;
+}
 
 -- A `placed` above 1 stands for a place that is below no number: it is refused by 3.
 abbrev pub placeFrom : ℕ → ℕ → Place

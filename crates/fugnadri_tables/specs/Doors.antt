@@ -35,7 +35,8 @@ calledF32 d ring input delay table taps phases = processedF32By (sincF32At table
 -- What the call leaves.
 abbrev pub leftOf : VariableDelay → List Float → Float → Float → List Float → ℕ → ℕ → Left Float ℕ
 leftOf d ring input delay table taps phases =
-    leftBy (called d ring input delay table taps phases) (ringAfter (callVerdict d ring input delay table taps phases) d ring input)
+    leftBy (called d ring input delay table taps phases)
+    (ringAfter (callVerdict d ring input delay table taps phases) d ring input)
 
 abbrev pub leftF32Of : VariableDelay → List Float → Float → Float → List Float → ℕ → ℕ → Left Float ℕ
 leftF32Of d ring input delay table taps phases =

@@ -1,9 +1,8 @@
 // T1, N1, N2. A table built into a lent slice: the refusal's number, 0 for none.
 ghost use mathlib.Core.Path.{_≡_};
-ghost use lib.ListN.{length};
-ghost use Rattle.sinc_settings.specs.Refusals.{verdict, forRate, rateVerdict};
-ghost use Rattle.windowed_sinc.specs.Table.{tableOf, tableAfter, builtBy, numberOf};
+ghost use Rattle.windowed_sinc.specs.Table.{numberOf};
 ghost use Rattle.windowed_sinc_f32.specs.Table as single;
+ghost use Rattle.fugnadri_tables.specs.Building.{makes, madeBy, madeF32By, newOf, forRateOf};
 ghost use Rattle.fugnadri_tables.specs.Doors.{settingsOf};
 use sinc_settings::Settings;
 
@@ -33,8 +32,8 @@ pub extern "C" fn fugnadri_windowed_sinc_new(
     beta: f64,
     table: &mut [f64],
 ) -> u8
-    ensures { λ r. ⌜ r ≡ numberOf (builtBy (verdict (settingsOf taps phases cutoff beta) (length (now (table .entry)))) (settingsOf taps phases cutoff beta)) ⌝ }
-    ensures { λ r. ⌜ now (table .exit) ≡ tableAfter (verdict (settingsOf taps phases cutoff beta) (length (now (table .entry)))) (tableOf (settingsOf taps phases cutoff beta)) (now (table .entry)) ⌝ }
+    ensures { λ r. ⌜ makes r (now (table .exit))
+        ≡ newOf madeBy (settingsOf taps phases cutoff beta) (now (table .entry)) ⌝ }
 {
     let settings = Settings {
         taps: taps,
@@ -54,8 +53,8 @@ pub extern "C" fn fugnadri_windowed_sinc_for_max_rate(
     beta: f64,
     table: &mut [f64],
 ) -> u8
-    ensures { λ r. ⌜ r ≡ numberOf (builtBy (rateVerdict (forRate taps phases «max_rate» passband beta) «max_rate» passband (length (now (table .entry)))) (forRate taps phases «max_rate» passband beta)) ⌝ }
-    ensures { λ r. ⌜ now (table .exit) ≡ tableAfter (rateVerdict (forRate taps phases «max_rate» passband beta) «max_rate» passband (length (now (table .entry)))) (tableOf (forRate taps phases «max_rate» passband beta)) (now (table .entry)) ⌝ }
+    ensures { λ r. ⌜ makes r (now (table .exit))
+        ≡ forRateOf madeBy taps phases «max_rate» passband beta (now (table .entry)) ⌝ }
 {
     number(windowed_sinc::for_max_rate(taps, phases, max_rate, passband, beta, &mut table[..]))
 }
@@ -68,8 +67,8 @@ pub extern "C" fn fugnadri_windowed_sinc_f32_new(
     beta: f64,
     table: &mut [f32],
 ) -> u8
-    ensures { λ r. ⌜ r ≡ single.numberOf (single.builtBy (verdict (settingsOf taps phases cutoff beta) (length (now (table .entry)))) (settingsOf taps phases cutoff beta)) ⌝ }
-    ensures { λ r. ⌜ now (table .exit) ≡ tableAfter (verdict (settingsOf taps phases cutoff beta) (length (now (table .entry)))) (single.tableF32Of (settingsOf taps phases cutoff beta)) (now (table .entry)) ⌝ }
+    ensures { λ r. ⌜ makes r (now (table .exit))
+        ≡ newOf madeF32By (settingsOf taps phases cutoff beta) (now (table .entry)) ⌝ }
 {
     let settings = Settings {
         taps: taps,
@@ -89,8 +88,8 @@ pub extern "C" fn fugnadri_windowed_sinc_f32_for_max_rate(
     beta: f64,
     table: &mut [f32],
 ) -> u8
-    ensures { λ r. ⌜ r ≡ single.numberOf (single.builtBy (rateVerdict (forRate taps phases «max_rate» passband beta) «max_rate» passband (length (now (table .entry)))) (forRate taps phases «max_rate» passband beta)) ⌝ }
-    ensures { λ r. ⌜ now (table .exit) ≡ tableAfter (rateVerdict (forRate taps phases «max_rate» passband beta) «max_rate» passband (length (now (table .entry)))) (single.tableF32Of (forRate taps phases «max_rate» passband beta)) (now (table .entry)) ⌝ }
+    ensures { λ r. ⌜ makes r (now (table .exit))
+        ≡ forRateOf madeF32By taps phases «max_rate» passband beta (now (table .entry)) ⌝ }
 {
     number_f32(windowed_sinc_f32::for_max_rate(
         taps,

@@ -7,14 +7,16 @@ ghost use Rattle.engine_calls.specs.Left.{renews, renewedBy, steps, steppedBy};
 
 #[no_mangle]
 pub extern "C" fn fugnadri_engine_new(sample_rate: f64, seed: u64, words: &mut [u64; 15]) -> u8
-    ensures { λ r. ⌜ renews r (now (words .exit)) ≡ renewedBy (λ e. openedOf «sample_rate» seed) (now (words .entry)) ⌝ }
+    ensures { λ r. ⌜ renews r (now (words .exit)) ≡
+        renewedBy (λ e. openedOf «sample_rate» seed) (now (words .entry)) ⌝ }
 {
     engine_calls::new(sample_rate, seed, words)
 }
 
 #[no_mangle]
 pub extern "C" fn fugnadri_engine_set_sample_rate(words: &mut [u64; 15], sample_rate: f64) -> u8
-    ensures { λ r. ⌜ renews r (now (words .exit)) ≡ renewedBy (λ e. setSampleRateOf e «sample_rate») (now (words .entry)) ⌝ }
+    ensures { λ r. ⌜ renews r (now (words .exit)) ≡
+        renewedBy (λ e. setSampleRateOf e «sample_rate») (now (words .entry)) ⌝ }
 {
     engine_calls::set_sample_rate(words, sample_rate)
 }

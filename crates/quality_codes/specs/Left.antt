@@ -1,5 +1,5 @@
--- What a call of a quality reader through pointers leaves, and what an opening or a reset leaves: of the state the four numbers
--- that it changes. Definitions only.
+-- What a call of a quality reader through pointers leaves, and what an opening or a reset leaves: of the state the
+-- four numbers that it changes. Definitions only.
 use Prim.Native.Nat.{ℕ, zero, suc}
 use mathlib.Core.Bool.{Bool, true}
 use mathlib.Core.List.{List}
@@ -18,7 +18,12 @@ pub record Changed : Type 0 where
   pub place : ℕ
 
 abbrev pub changed : ℕ → ℕ → ℕ → ℕ → Changed
-changed accepted current target place = record { accepted = accepted; current = current; target = target; place = place }
+changed accepted current target place = record {
+  accepted = accepted;
+  current = current;
+  target = target;
+  place = place;
+}
 
 abbrev pub changedOf : Coded → Changed
 changedOf s = changed (s .accepted) (s .current) (s .target) (s .place)
@@ -31,7 +36,9 @@ leftBy sets top s xs x y q rate =
 
 -- reset, which asks for no quality
 abbrev pub resetLeft : Coded → List Float → Renewed Changed
-resetLeft s xs = let c = renewedOf true s (length xs) in renews (c .number) (changedOf (c .state)) (ringRenewed true s xs)
+resetLeft s xs =
+    let c = renewedOf true s (length xs) in
+    renews (c .number) (changedOf (c .state)) (ringRenewed true s xs)
 
 -- Opening: a refusal keeps what stood there.
 abbrev pub unlessRefused : ℕ → Changed → Changed → Changed

@@ -44,7 +44,9 @@ fn ring_lengths() {
 
 // N5, N6, N8. The refusal that is due, 0 for none.
 fn due(accepted: u64, delay: f64) -> u64 {
-    variable_delay::refusal(reader(accepted), true, true, 8, 1.0, delay) as u64
+    let no_settings = true;
+    let no_table = true;
+    variable_delay::refusal(reader(accepted), no_settings, no_table, 8, 1.0, delay) as u64
 }
 
 fn refusals() {

@@ -1,12 +1,12 @@
 -- `fugnadri_tables::tables::fugnadri_windowed_sinc_for_max_rate` meets its contract: what the calls ensure, one put into the other; none of them asks anything. Assumes nothing.
 use borrow.Author.Needs.{needs}
-use mathlib.Core.Path.{_∙_, ap}
 use Rattle.windowed_sinc.specs.Table.{numberOf}
+use Rattle.fugnadri_tables.proofs.Building.{made}
 use Rattle.fugnadri_tables.proofs.tables.fugnadri_windowed_sinc_for_max_rate.Statement.{statement}
 use Rattle.fugnadri_tables.proofs.tables.fugnadri_windowed_sinc_for_max_rate.Tie as tie
 
 returns : tie.Need-returns
-returns c = let e = c .before .before .before .for-max-rate .ensures in (c .number .ensures ∙ ap numberOf (e .0), e .1)
+returns c = made numberOf (c .before .before .before .for-max-rate .ensures) (c .number .ensures)
 
 pub fugnadri-windowed-sinc-for-max-rate-spec : {M : Type 1} → statement M
 fugnadri-windowed-sinc-for-max-rate-spec = tie.close (tie.spec (λ c κs. tt) (λ c κs. tt) (λ c. search needs) returns)
