@@ -1,15 +1,14 @@
 -- What a reader of a lent table gives, at either width, from the refusal that is due: where none is, its reading r; else zero, and an answer that has the refusal's
 -- number alone. Assumes nothing.
 use mathlib.Core.Path.{_≡_, refl, sym, _∙_, ap}
-use mathlib.Core.Bool.{Bool, true, _&&_, cond}
+use mathlib.Core.Bool.{Bool, _&&_, cond}
 use Prim.Native.Nat.{ℕ, zero, suc}
 use borrow.Author.Tests.{ne-eqb}
 use lib.Dec.{eqb}
 use lib.Ieee.{Float}
 use Rattle.answer.specs.Answers.{zero-f}
 use Rattle.ring.specs.Places.{positionOk}
-use Rattle.sinc_settings.specs.Ranges.{tapsOk, phasesOk}
-use Rattle.sinc_settings.specs.Refusals.{tableLength, tableVerdict}
+use Rattle.sinc_settings.specs.Refusals.{tableVerdict}
 use Rattle.sinc_read.specs.Reading.{sampleVerdict}
 use Rattle.sinc_read.proofs.Accepted.{same-test}
 
@@ -29,7 +28,3 @@ module _ (r : Float) (taps phases len : ℕ) (p : Float) where
 
   pub not-read : (v ≡ 0 → ⊥) → zero-f ≡ given
   not-read h = pick (ne-eqb v 0 h)
-
-  -- a reader's own tests say the same
-  pub read-in-range : tapsOk taps && phasesOk phases ≡ true → eqb len (tableLength taps phases) ≡ true → positionOk p ≡ true → given ≡ r
-  read-in-range a b c = rw (a, b, c)

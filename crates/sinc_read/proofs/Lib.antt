@@ -2,4 +2,3 @@ pub mod Accepted
 pub mod Around
 pub mod Ways
 pub mod Given
-pub mod Answered

@@ -1,3 +1,2 @@
 pub mod Chains
 pub mod Ways
-pub mod Answered
