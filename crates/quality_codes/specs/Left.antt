@@ -1,13 +1,12 @@
 -- What a call of a quality reader through pointers leaves, and what an opening or a reset leaves: of the state the
 -- four numbers that it changes. Definitions only.
 use Prim.Native.Nat.{ℕ, zero, suc}
-use mathlib.Core.Bool.{Bool, true}
+use mathlib.Core.Bool.{true}
 use mathlib.Core.List.{List}
 use lib.ListN.{length}
 use lib.Ieee.{Float}
 use Rattle.doors.specs.Left.{Left, leaves, Renewed, renews}
 use Rattle.quality_codes.specs.declared.Coded.{Coded}
-use Rattle.quality_codes.specs.declared.Called.{Called}
 use Rattle.quality_codes.specs.Codes.{codeOk}
 use Rattle.quality_codes.specs.Calls.{calledOf, ringCalled, renewedOf, ringRenewed, freshOf}
 

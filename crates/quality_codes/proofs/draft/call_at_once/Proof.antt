@@ -1,6 +1,6 @@
 -- `quality_codes::draft::call_at_once` meets its contract: a call that is plain in Draft by the law of `Drafted`, any other by `call_through`. Assumes nothing.
 use borrow.Author.Needs.{needs}
-use mathlib.Core.Path.{_≡_, sym, _∙_, ap}
+use mathlib.Core.Path.{_≡_}
 use mathlib.Core.Bool.{true}
 use Prim.Native.Nat.{_-_, _%_, _^_, _<_}
 use native.Mathlib.Omega.{arith}
