@@ -1,5 +1,5 @@
--- The numbers of 01 that several rooms name, for definitions. A float `fin s m e` is m × 2^e, below zero where s is true; zero, one and two are the same in
--- either format. Definitions only.
+-- The numbers of 01 that several rooms name, for definitions. A float `fin s m e` is m × 2^e, below zero where s is true;
+-- zero, one and two are the same in either format. Definitions only.
 use Prim.Native.Nat.{ℕ, _+_, _^_}
 use mathlib.Core.Bool.{true, false}
 use lib.IntN.{pos}
@@ -15,7 +15,8 @@ one-f = fin false 1 (pos 0)
 abbrev pub two-f : Float
 two-f = fin false 1 (pos 1)
 
--- The same by their f64 patterns, as a literal of the code is read: what the wandering computes is held to these (`same` in proofs/Patterns.antt).
+-- The same by their f64 patterns, as a literal of the code is read: what the wandering computes is held to these (`same`
+-- in proofs/Patterns.antt).
 abbrev pub zero-bits : Float
 zero-bits = ofBits binary64 0
 
@@ -25,7 +26,8 @@ one-bits = ofBits binary64 0x3ff0_0000_0000_0000
 abbrev pub two-bits : Float
 two-bits = ofBits binary64 0x4000_0000_0000_0000
 
--- 2^36: as many samples may be accepted, as far back may a delay reach, and as far on either side may a position lie (01, 'Ranges').
+-- 2^36: as many samples may be accepted, as far back may a delay reach, and as far on either side may a position lie
+-- (01, 'Ranges').
 abbrev pub limit : ℕ
 limit = 2 ^ 36
 

@@ -1,4 +1,5 @@
--- N9. The order of refusals, as a table: a number and its test on each line, from the first that is tested to the last. Definitions only.
+-- N9. The order of refusals, as a table: a number and its test on each line, from the first that is tested to the last.
+-- Definitions only.
 use Prim.Native.Nat.{ℕ, zero, suc, _<_}
 use mathlib.Core.Path.{_≡_}
 use mathlib.Core.Bool.{Bool, true, false, cond, _&&_}

@@ -1,4 +1,5 @@
-// N9. Which refusal is given where several are due: definitions and laws, for readers, tables, wander, files and the residual alike.
+// N9. Which refusal is given where several are due: definitions and laws, for readers, tables, wander, files and the
+// residual alike.
 ghost use mathlib.Core.Path.{_≡_};
 ghost use mathlib.Core.Bool.{_&&_};
 
