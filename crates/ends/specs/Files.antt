@@ -6,7 +6,8 @@ use Rattle.word_bytes.specs.Bytes.{lowBytes, bytesValue}
 use Rattle.riff_chunks.specs.Chunks.{chunksFrom, upTo, overrun, first}
 use Rattle.wav.specs.Format.{formatOk}
 use Rattle.wav.specs.Wave.{isWave, foundIn}
-use Rattle.fugnadri_wav.specs.Doors.{numberOf, waveOf, codeOf}
+use Rattle.sample_kind.specs.Kinds.{codeOf}
+use Rattle.fugnadri_wav.specs.Doors.{numberOf, waveOf}
 
 -- `RIFF`, `WAVE`, `fmt `, `data`, and a chunk that nobody knows, `note`
 abbrev pub riffLetters : List ℕ

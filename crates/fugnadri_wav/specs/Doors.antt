@@ -1,11 +1,10 @@
 -- W1. What stands in the exports' contracts: an answer as a number and plain numbers, zeros where it is a refusal, and a kind by its code. Definitions only.
 use Prim.Native.Nat.{ℕ}
 use mathlib.Core.Bool.{cond}
-use lib.Dec.{eqb, leb}
+use lib.Dec.{leb}
 use Rattle.wav.specs.declared.Found.{Found}
 use Rattle.wav.specs.declared.Found.the-variants as found
-use Rattle.wav.specs.declared.SampleKind.{SampleKind}
-use Rattle.wav.specs.declared.SampleKind.the-variants.{Pcm16, Pcm24, Float32}
+use Rattle.sample_kind.specs.declared.SampleKind.the-variants.{Pcm16}
 use Rattle.wav.specs.declared.Wave.{Wave}
 
 abbrev pub numberOf : Found → ℕ
@@ -15,15 +14,6 @@ numberOf (found.Refused k) = k
 abbrev pub waveOf : Found → Wave
 waveOf (found.Wave w) = w
 waveOf (found.Refused k) = record { kind = Pcm16; channels = 0; rate = 0; start = 0; length = 0 }
-
--- 0, 1 and 2 for the three kinds.
-abbrev pub codeOf : SampleKind → ℕ
-codeOf Pcm16 = 0
-codeOf Pcm24 = 1
-codeOf Float32 = 2
-
-abbrev pub kindOf : ℕ → SampleKind
-kindOf n = cond (eqb n 0) Pcm16 (cond (eqb n 1) Pcm24 Float32)
 
 -- A code that is none of the three has no channels, so that it is refused by 1.
 abbrev pub channelsOf : ℕ → ℕ → ℕ

@@ -1,9 +1,11 @@
 // W1. A file read: the refusal's number, 0 for none, and what was found, zeros where it is refused.
 ghost use mathlib.Core.Path.{_≡_};
+ghost use Rattle.sample_kind.specs.Kinds.{codeOf};
 ghost use Rattle.wav.specs.Wave.{foundIn};
-ghost use Rattle.fugnadri_wav.specs.Doors.{numberOf, waveOf, codeOf};
+ghost use Rattle.fugnadri_wav.specs.Doors.{numberOf, waveOf};
+use sample_kind::SampleKind;
+use sample_kind::code;
 use wav::Found;
-use wav::SampleKind;
 use wav::Wave;
 
 #[no_mangle]
@@ -54,15 +56,5 @@ fn wave(found: Found) -> Wave
             start: 0,
             length: 0,
         },
-    }
-}
-
-fn code(kind: SampleKind) -> u8
-    ensures { λ r. ⌜ r ≡ codeOf kind ⌝ }
-{
-    match kind {
-        SampleKind::Pcm16 => 0,
-        SampleKind::Pcm24 => 1,
-        SampleKind::Float32 => 2,
     }
 }

@@ -3,8 +3,9 @@ ghost use mathlib.Core.Path.{_≡_};
 ghost use lib.ListN.{length};
 ghost use lib.Ieee.{binary32, binary64};
 ghost use Rattle.wav_samples.specs.Filling.{verdict, filled};
-ghost use Rattle.fugnadri_wav.specs.Doors.{kindOf, channelsOf};
-use wav::SampleKind;
+ghost use Rattle.sample_kind.specs.Kinds.{kindOf};
+ghost use Rattle.fugnadri_wav.specs.Doors.{channelsOf};
+use sample_kind::of_code;
 use wav_samples::filling;
 
 #[no_mangle]
@@ -18,7 +19,7 @@ pub extern "C" fn fugnadri_wav_samples(
     ensures { λ r. ⌜ r ≡ verdict (kindOf kind) (channelsOf kind channels) channel (length (now (part .entry))) (length (now (out .entry))) ⌝ }
     ensures { λ _. ⌜ now (out .exit) ≡ filled binary64 (kindOf kind) (channelsOf kind channels) channel (now (part .entry)) (length (now (out .entry))) (now (out .entry)) ⌝ }
 {
-    let k = kind_of(kind);
+    let k = of_code(kind);
     let n = channels_of(kind, channels);
     filling::fill(k, n, channel, part, &mut out[..])
 }
@@ -34,21 +35,9 @@ pub extern "C" fn fugnadri_wav_samples_f32(
     ensures { λ r. ⌜ r ≡ verdict (kindOf kind) (channelsOf kind channels) channel (length (now (part .entry))) (length (now (out .entry))) ⌝ }
     ensures { λ _. ⌜ now (out .exit) ≡ filled binary32 (kindOf kind) (channelsOf kind channels) channel (now (part .entry)) (length (now (out .entry))) (now (out .entry)) ⌝ }
 {
-    let k = kind_of(kind);
+    let k = of_code(kind);
     let n = channels_of(kind, channels);
     filling::fill_f32(k, n, channel, part, &mut out[..])
-}
-
-fn kind_of(code: u8) -> SampleKind
-    ensures { λ r. ⌜ r ≡ kindOf code ⌝ }
-{
-    if code == 0 {
-        return SampleKind::Pcm16;
-    }
-    if code == 1 {
-        return SampleKind::Pcm24;
-    }
-    SampleKind::Float32
 }
 
 fn channels_of(code: u8, channels: u8) -> u8

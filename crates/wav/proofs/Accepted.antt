@@ -11,7 +11,7 @@ use Rattle.refusal_order.specs.Order.{_unless_, firstOf}
 use Rattle.riff_chunks.specs.declared.Walked.{Walked}
 use Rattle.riff_chunks.specs.Walk.{walkOf}
 use Rattle.wav.specs.declared.Found.the-variants as found
-use Rattle.wav.specs.declared.SampleKind.{SampleKind}
+use Rattle.sample_kind.specs.declared.SampleKind.{SampleKind}
 use Rattle.wav.specs.declared.Wave.{Wave}
 use Rattle.wav.specs.Format.{tag, channels, rate, block, bits, listed, kindOf, wholeFrames, formatOk}
 use Rattle.wav.specs.Wave.{verdict, riffSize, walkIn, partOf, fmtOf, isWave, within, waveIn, foundBy}

@@ -5,8 +5,8 @@ use mathlib.Core.List.{List}
 use lib.Dec.{eqb, leb, ltb}
 use lib.ListN.{take, drop}
 use Rattle.word_bytes.specs.Bytes.{bytesValue}
-use Rattle.wav.specs.declared.SampleKind.{SampleKind}
-use Rattle.wav.specs.declared.SampleKind.the-variants.{Pcm16, Pcm24, Float32}
+use Rattle.sample_kind.specs.declared.SampleKind.{SampleKind}
+use Rattle.sample_kind.specs.declared.SampleKind.the-variants.{Pcm16, Pcm24, Float32}
 
 -- The number of k bytes at a place.
 abbrev pub number : ℕ → List ℕ → ℕ → ℕ

@@ -2,8 +2,8 @@
 ghost use mathlib.Core.Path.{_≡_};
 ghost use mathlib.Core.Bool.{_&&_, _||_};
 ghost use Rattle.wav.specs.Format.{listed, kindOf, wholeFrames, formatOk};
-use crate::SampleKind;
 use refusal_order::both;
+use sample_kind::SampleKind;
 use short_words::two;
 
 // 13.

@@ -11,13 +11,7 @@ use first_tests::past;
 use first_tests::within;
 use format::format_ok;
 use format::kind_of;
-
-// PCM of 16 and 24 bits, IEEE float of 32.
-pub enum SampleKind {
-    Pcm16,
-    Pcm24,
-    Float32,
-}
+use sample_kind::SampleKind;
 
 // One or two channels; the samples' bytes are `length` bytes from `start` on.
 pub struct Wave {

@@ -9,20 +9,11 @@ use native.Mathlib.Omega.{arith}
 use borrow.Author.Tests.{leb-true, ltb-true, eqb-true}
 use lib.Dec.{eqb, leb, ltb}
 use lib.Ieee.{Float, Format}
-use Rattle.wav.specs.declared.SampleKind.{SampleKind}
-use Rattle.wav.specs.declared.SampleKind.the-variants.{Pcm16, Pcm24, Float32}
-use Rattle.wav_samples.specs.Samples.{widthOf, sampleOf}
-use Rattle.wav_samples.specs.Filling.{frameOf, verdict, filledBy, Whole}
-
-pub few-bytes : (kind : SampleKind) (count : ℕ) → count ≤ 255 → frameOf kind count ≤ 1020
-few-bytes Pcm16 count h = omega arith
-few-bytes Pcm24 count h = omega arith
-few-bytes Float32 count h = omega arith
-
-pub fewer-bytes : (kind : SampleKind) (a b : ℕ) → a < b → frameOf kind a < frameOf kind b
-fewer-bytes Pcm16 a b h = omega arith
-fewer-bytes Pcm24 a b h = omega arith
-fewer-bytes Float32 a b h = omega arith
+use Rattle.sample_kind.specs.declared.SampleKind.{SampleKind}
+use Rattle.sample_kind.specs.Kinds.{frameOf}
+use Rattle.sample_kind.proofs.Widths.{fewer-bytes}
+use Rattle.wav_samples.specs.Samples.{sampleOf}
+use Rattle.wav_samples.specs.Filling.{verdict, filledBy, Whole}
 
 -- the sample of frame k
 abbrev pub frameAt : Format → SampleKind → ℕ → ℕ → List ℕ → ℕ → Float

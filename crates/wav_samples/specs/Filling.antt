@@ -7,11 +7,9 @@ use lib.Dec.{eqb, leb, ltb}
 use lib.ListN.{length}
 use lib.Ieee.{Float, Format}
 use Rattle.loops.specs.Loops.{listOf}
-use Rattle.wav.specs.declared.SampleKind.{SampleKind}
-use Rattle.wav_samples.specs.Samples.{widthOf, sampleOf}
-
-abbrev pub frameOf : SampleKind → ℕ → ℕ
-frameOf kind channels = channels * widthOf kind
+use Rattle.sample_kind.specs.declared.SampleKind.{SampleKind}
+use Rattle.sample_kind.specs.Kinds.{widthOf, frameOf}
+use Rattle.wav_samples.specs.Samples.{sampleOf}
 
 -- 1: not one or two channels, or none of that number. 2: a part of `size` bytes that is not n whole frames.
 abbrev pub verdict : SampleKind → ℕ → ℕ → ℕ → ℕ → ℕ

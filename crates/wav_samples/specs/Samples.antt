@@ -2,16 +2,10 @@
 use Prim.Native.Nat.{ℕ}
 use mathlib.Core.List.{List}
 use lib.Ieee.{Float, Format, binary32, ofBits}
-use Rattle.wav.specs.declared.SampleKind.{SampleKind}
-use Rattle.wav.specs.declared.SampleKind.the-variants.{Pcm16, Pcm24, Float32}
+use Rattle.sample_kind.specs.declared.SampleKind.{SampleKind}
+use Rattle.sample_kind.specs.declared.SampleKind.the-variants.{Pcm16, Pcm24, Float32}
 use Rattle.wav.specs.Format.{number}
 use Rattle.whole_samples.specs.Whole.{wholeOf}
-
--- How many bytes a sample has.
-abbrev pub widthOf : SampleKind → ℕ
-widthOf Pcm16 = 2
-widthOf Pcm24 = 3
-widthOf Float32 = 4
 
 -- The sample whose first byte stands at a place; bytes that are missing count as 0, so past the end it is +0.0. An f32 is a value of both formats.
 abbrev pub sampleOf : Format → SampleKind → List ℕ → ℕ → Float

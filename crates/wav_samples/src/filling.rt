@@ -2,11 +2,11 @@
 ghost use mathlib.Core.Path.{_≡_};
 ghost use lib.ListN.{length};
 ghost use lib.Ieee.{binary32, binary64};
-ghost use Rattle.wav_samples.specs.Samples.{widthOf};
-ghost use Rattle.wav_samples.specs.Filling.{frameOf, verdict, framesOf, filled, Whole};
+ghost use Rattle.wav_samples.specs.Filling.{verdict, framesOf, filled, Whole};
 use crate::sample;
 use crate::sample_f32;
-use wav::SampleKind;
+use sample_kind::SampleKind;
+use sample_kind::frame_width;
 
 pub fn fill(kind: SampleKind, channels: u8, channel: u8, part: &[u8], out: &mut [f64]) -> u8
     ensures { λ r. ⌜ r ≡ verdict kind channels channel (length (now (part .entry))) (length (now (out .entry))) ⌝ }
@@ -16,8 +16,8 @@ pub fn fill(kind: SampleKind, channels: u8, channel: u8, part: &[u8], out: &mut 
     if refused != 0 {
         return refused;
     }
-    let frame = bytes_of(kind, channels);
-    let first = bytes_of(kind, channel);
+    let frame = frame_width(kind, channels);
+    let first = frame_width(kind, channel);
     fill_frames(kind, frame, first, part, &mut out[..]);
     0
 }
@@ -30,8 +30,8 @@ pub fn fill_f32(kind: SampleKind, channels: u8, channel: u8, part: &[u8], out: &
     if refused != 0 {
         return refused;
     }
-    let frame = bytes_of(kind, channels);
-    let first = bytes_of(kind, channel);
+    let frame = frame_width(kind, channels);
+    let first = frame_width(kind, channel);
     fill_frames_f32(kind, frame, first, part, &mut out[..]);
     0
 }
@@ -45,7 +45,7 @@ fn refusal(kind: SampleKind, channels: u8, channel: u8, size: usize, n: usize) -
     if channel >= channels {
         return 1;
     }
-    let frame = bytes_of(kind, channels);
+    let frame = frame_width(kind, channels);
     if size % frame != 0 {
         return 2;
     }
@@ -53,23 +53,6 @@ fn refusal(kind: SampleKind, channels: u8, channel: u8, size: usize, n: usize) -
         return 2;
     }
     0
-}
-
-// The bytes of as many samples.
-fn bytes_of(kind: SampleKind, count: u8) -> usize
-    ensures { λ r. ⌜ r ≡ frameOf kind count ⌝ }
-{
-    count as usize * width(kind)
-}
-
-fn width(kind: SampleKind) -> usize
-    ensures { λ r. ⌜ r ≡ widthOf kind ⌝ }
-{
-    match kind {
-        SampleKind::Pcm16 => 2,
-        SampleKind::Pcm24 => 3,
-        SampleKind::Float32 => 4,
-    }
 }
 
 fn fill_frames(kind: SampleKind, frame: usize, first: usize, part: &[u8], out: &mut [f64])

@@ -5,9 +5,9 @@ ghost use Rattle.wav_samples.specs.Samples.{sampleOf};
 
 pub mod filling;
 
+use sample_kind::SampleKind;
 use short_words::three;
 use short_words::two;
-use wav::SampleKind;
 use word_bytes::low_first_u32;
 
 // The sample whose first byte stands at a place of the part.

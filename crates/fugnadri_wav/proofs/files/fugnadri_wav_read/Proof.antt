@@ -1,7 +1,8 @@
 -- `fugnadri_wav::files::fugnadri_wav_read` meets its contract: what the calls ensure, one put into the other. Assumes nothing.
 use borrow.Author.Needs.{needs}
 use mathlib.Core.Path.{_∙_, ap}
-use Rattle.fugnadri_wav.specs.Doors.{numberOf, waveOf, codeOf}
+use Rattle.sample_kind.specs.Kinds.{codeOf}
+use Rattle.fugnadri_wav.specs.Doors.{numberOf, waveOf}
 use Rattle.fugnadri_wav.proofs.files.fugnadri_wav_read.Statement.{statement}
 use Rattle.fugnadri_wav.proofs.files.fugnadri_wav_read.Tie as tie
 
