@@ -1,5 +1,5 @@
 pub mod Names
 pub mod Steps
 pub mod Seen
-pub mod Turn
+pub mod ByTurns
 pub mod Short
