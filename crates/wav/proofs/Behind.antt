@@ -91,32 +91,36 @@ module _ (tagOf : List ℕ → ℕ → ℕ) (b c : List ℕ) where
       ∙ ap (λ (u : Walked). answerOf tagOf (isWave c) (within c) u (partOf c (u .format .body) (u .format .size))) v
 
   module _ (n : ℕ) (same : take n b ≡ take n c) (held : 8 + riffSize b ≤ length b) (holds : 8 + riffSize c ≤ length c)
-      where
-    size-same : 8 ≤ n → riffSize b ≡ riffSize c
-    size-same h = ap bytesValue (same-part n b c same 4 4 (omega arith))
+    where
+      size-same : 8 ≤ n → riffSize b ≡ riffSize c
+      size-same h = ap bytesValue (same-part n b c same 4 4 (omega arith))
 
-    wave-same : 12 ≤ n → 4 ≤ riffSize b → isWave b ≡ isWave c
-    unfolding isWave
-    wave-same h k =
-        let s = size-same (omega arith) in
-        rw (le-leb 12 (length b) (omega arith), le-leb 12 (length c) (omega arith),
-        same-part n b c same 0 4 (omega arith), same-part n b c same 8 4 (omega arith),
-        same-part n b c same 4 4 (omega arith))
+      wave-same : 12 ≤ n → 4 ≤ riffSize b → isWave b ≡ isWave c
+      unfolding isWave
+      wave-same h k =
+          let s = size-same (omega arith) in
+          rw (
+            le-leb 12 (length b) (omega arith),
+            le-leb 12 (length c) (omega arith),
+            same-part n b c same 0 4 (omega arith),
+            same-part n b c same 8 4 (omega arith),
+            same-part n b c same 4 4 (omega arith),
+          )
 
-    within-same : 8 ≤ n → walkIn b ≡ walkIn c → within b ≡ within c
-    within-same h v =
-        rw (le-leb (8 + riffSize b) (length b) held, le-leb (8 + riffSize c) (length c) holds)
-        (ap (λ (u : Walked). not (u .overruns)) v)
+      within-same : 8 ≤ n → walkIn b ≡ walkIn c → within b ≡ within c
+      within-same h v =
+          rw (le-leb (8 + riffSize b) (length b) held, le-leb (8 + riffSize c) (length c) holds)
+          (ap (λ (u : Walked). not (u .overruns)) v)
 
-    walk-same : 8 ≤ n
-        → walkedFrom riffSought (chunkAt bytesValue b) (8 + riffSize b) 12
-        ≡ walkedFrom riffSought (chunkAt bytesValue c) (8 + riffSize b) 12
-        → walkIn b ≡ walkIn c
-    walk-same h e =
-        walk-held b held
-        ∙ ap (seenOf riffSought (8 + riffSize b)) e
-        ∙ ap (λ (k : ℕ). walkTo riffSought (chunkAt bytesValue c) (8 + k)) (size-same h)
-        ∙ sym (walk-held c holds)
+      walk-same : 8 ≤ n
+          → walkedFrom riffSought (chunkAt bytesValue b) (8 + riffSize b) 12
+          ≡ walkedFrom riffSought (chunkAt bytesValue c) (8 + riffSize b) 12
+          → walkIn b ≡ walkIn c
+      walk-same h e =
+          walk-held b held
+          ∙ ap (seenOf riffSought (8 + riffSize b)) e
+          ∙ ap (λ (k : ℕ). walkTo riffSought (chunkAt bytesValue c) (8 + k)) (size-same h)
+          ∙ sym (walk-held c holds)
 
   -- W1d. Two files that are the same up to the RIFF's end, and hold it, are answered alike.
   pub behind-riff : take (8 + riffSize b) b ≡ take (8 + riffSize b) c → 8 + riffSize b ≤ length b
@@ -161,9 +165,9 @@ module _ (tagOf : List ℕ → ℕ → ℕ) (b c : List ℕ) where
       let reached = behind riffSought f (λ at. refl) end (riffSought .samples) end (leb (12 + 8) end) 12 there in
       let inside = fits (endIn b end) (riffSought .samples) _ (p .fits) (p .has-samples) in
       let v =
-            walk-same n same held holds (omega arith)
-            (same-up-to f (chunkAt bytesValue c) end riffSought refl (λ at. refl) n (alike n b c same) 12 there
-            (omega arith)) in
+      walk-same n same held holds (omega arith)
+      (same-up-to f (chunkAt bytesValue c) end riffSought refl (λ at. refl) n (alike n b c same) 12 there
+      (omega arith)) in
       same-answers (wave-same n same held holds (omega arith) (omega arith))
       (within-same n same held holds (omega arith) v) v body
     where

@@ -4,3 +4,4 @@ pub mod InHand
 pub mod Promised
 pub mod Alike
 pub mod Behind
+pub mod Wrapped

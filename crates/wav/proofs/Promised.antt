@@ -72,7 +72,7 @@ module _ (tagOf : List ℕ → ℕ → ℕ) (b : List ℕ) where
       let p = all-passed tagOf b z in
       let f = formatted (tagIn tagOf b) (fmtOf b) (walkIn b .format .size) (walkIn b .samples .size) (p .format-ok) in
       let frame-is : frameOf (waveIn tagOf b .kind) (waveIn tagOf b .channels) ≡ block (fmtOf b) =
-            rw (width-is (tagIn tagOf b) (bits (fmtOf b)) (f .is-listed)) (sym (f .block-is)) in
+      rw (width-is (tagIn tagOf b) (bits (fmtOf b)) (f .is-listed)) (sym (f .block-is)) in
       let cs = walkedFrom riffSought (chunkAt bytesValue b) (endIn b (8 + riffSize b)) 12 in
       let ends = fits (endIn b (8 + riffSize b)) (riffSought .samples) cs (p .fits) (p .has-samples) in
       let held = p .held in
