@@ -1,5 +1,5 @@
--- W1d. Bytes behind the RIFF's end, and bytes behind the first `data`'s body, do not show: both readings answer from the
--- bytes before. By the walk, which looks at none of them. Assumes nothing.
+-- W1d. Bytes behind the RIFF's end, and bytes behind the first `data`'s body, do not show: both readings answer from
+-- the bytes before. By the walk, which looks at none of them. Assumes nothing.
 use mathlib.Core.Path.{_≡_, refl, sym, ap, _∙_}
 use mathlib.Core.Bool.{Bool, true, false, true≢false, not, _&&_}
 use mathlib.Core.List.{List, [], _∷_, _++_}

@@ -1,5 +1,5 @@
--- W1a, W1b, W1j. What a reading promises, whatever tells its tag: each number of 9 to 13 exactly when, and the part whole
--- where none is due. By the table of tests and what they leave. Assumes nothing.
+-- W1a, W1b, W1j. What a reading promises, whatever tells its tag: each number of 9 to 13 exactly when, and the part
+-- whole where none is due. By the table of tests and what they leave. Assumes nothing.
 use mathlib.Core.Path.{_≡_, refl, sym, ap, _∙_}
 use mathlib.Core.Logic.{_↔_}
 use mathlib.Core.Bool.{Bool, true, false, true≢false, cond, _&&_, _||_}
