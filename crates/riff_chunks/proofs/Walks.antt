@@ -29,10 +29,11 @@ module _ (s : Sought) (chunkOf : ℕ → Chunk) (placed : Placed chunkOf) (end a
   unfolding overrun first
   skipped f n o = ap (seenOf s end) walked-one ∙ rw (o, f, n, and-false (s .ends))
 
-  -- W1h. The first of the format's identifier counts, whatever follows.
-  pub first-counts : eqb (chunkOf at .id) (s .format) ≡ true → walkFrom s chunkOf end at .format ≡ spotOf (chunkOf at)
+  -- W1h. The first of an identifier counts, whatever follows.
+  pub first-counts : (id : ℕ) → eqb (chunkOf at .id) id ≡ true
+      → first id (walkedFrom s chunkOf end at) ≡ spotOf (chunkOf at)
   unfolding first
-  first-counts f = ap (first (s .format)) walked-one ∙ rw f
+  first-counts id f = ap (first id) walked-one ∙ rw f
 
   -- W1h. The walk ends with the first chunk that ends it.
   pub ends-there : isLast s (chunkOf at) ≡ true → walkedFrom s chunkOf end at ≡ chunkOf at ∷ []

@@ -1,5 +1,5 @@
--- W1d. Bytes behind the RIFF's end, and bytes behind the first `data`'s body, do not show: both readings answer from
--- the bytes before. By the walk, which looks at none of them. Assumes nothing.
+-- W1d. Bytes behind the RIFF's end do not show, nor do bytes behind the first `data`'s body: where samples are found the
+-- bytes before them decide. For both readings, by the walk, which looks at no others. Assumes nothing.
 use mathlib.Core.Path.{_≡_, refl, sym, ap, _∙_}
 use mathlib.Core.Bool.{Bool, true, false, true≢false, not, _&&_}
 use mathlib.Core.List.{List, [], _∷_, _++_}
@@ -155,7 +155,7 @@ module _ (tagOf : List ℕ → ℕ → ℕ) (b c : List ℕ) where
           same-answers (wave-same n same held holds (omega arith) k) (within-same n same held holds (omega arith) v) v
           (λ q f g. body q f)
 
-  passed-alike : Passed tagOf b → (n : ℕ) → walkIn b .samples .body + walkIn b .samples .size ≤ n → take n b ≡ take n c
+  passed-alike : Passed tagOf b → (n : ℕ) → walkIn b .samples .body ≤ n → take n b ≡ take n c
       → 8 + riffSize c ≤ length c → foundBy tagOf b ≡ foundBy tagOf c
   passed-alike p n h same holds =
       let held = p .held in
@@ -185,14 +185,21 @@ module _ (tagOf : List ℕ → ℕ → ℕ) (b c : List ℕ) where
           let o = in-order riffSought f (λ at. refl) e refl refl e (leb (12 + 8) e) 12 x y in
           same-part n b c same (walkIn b .format .body) (walkIn b .format .size) (omega arith)
 
-  -- W1d. So are two that are the same up to the end of the part that holds samples, and hold the RIFF.
+  -- W1d. Where samples are found the bytes before them decide: another file with the same, that holds its RIFF, is
+  -- answered alike.
+  pub header-decides : (w : Wave) → foundBy tagOf b ≡ found.Wave w → take (w .start) b ≡ take (w .start) c
+      → 8 + riffSize c ≤ length c → foundBy tagOf c ≡ found.Wave w
+  header-decides w e same holds =
+      let o = wave-of (verdict tagOf b) (waveIn tagOf b) w e in
+      let l = ap (λ (v : Wave). v .start) (o .1) in
+      sym (passed-alike (all-passed tagOf b (o .0)) (w .start) (omega arith) same holds) ∙ e
+
+  -- W1d. So the bytes behind the part that holds samples do not show.
   pub behind-data : (w : Wave) → foundBy tagOf b ≡ found.Wave w
       → take (w .start + w .length) b ≡ take (w .start + w .length) c → 8 + riffSize c ≤ length c
       → foundBy tagOf c ≡ found.Wave w
   behind-data w e same holds =
-      let o = wave-of (verdict tagOf b) (waveIn tagOf b) w e in
-      let l = ap (λ (v : Wave). v .start + v .length) (o .1) in
-      sym (passed-alike (all-passed tagOf b (o .0)) (w .start + w .length) (omega arith) same holds) ∙ e
+      header-decides w e (same-part (w .start + w .length) b c same 0 (w .start) (omega arith)) holds
 
 -- W1d. Whatever follows a file that holds its RIFF, as in a larger buffer.
 pub longer : (tagOf : List ℕ → ℕ → ℕ) (b more : List ℕ) → 8 + riffSize b ≤ length b
