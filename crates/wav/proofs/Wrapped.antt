@@ -1,6 +1,6 @@
 -- W1. The two readings beside each other: where the tag is not FFFE they answer alike, the one that unwraps finds
--- whatever the plain one finds, and what it finds beyond that the plain one refuses by 13. By the tag, which is all that
--- they tell differently. Assumes nothing.
+-- whatever the plain one finds, and what it finds beyond that the plain one refuses by 13. By the tag, which is all
+-- that they tell differently. Assumes nothing.
 use mathlib.Core.Path.{_≡_, refl, sym, ap, _∙_}
 use mathlib.Core.Bool.{Bool, true, false, true≢false, cond}
 use mathlib.Core.List.{List, [], _∷_}
@@ -10,36 +10,14 @@ use borrow.Author.Tests.{eqb-true}
 use lib.Dec.{eqb}
 use Rattle.refusal_order.specs.Order.{_unless_, firstOf}
 use Rattle.refusal_order.proofs.First.{none}
-use Rattle.wav.specs.declared.Found.{Found}
 use Rattle.wav.specs.declared.Found.the-variants as found
 use Rattle.wav.specs.declared.Wave.{Wave}
-use Rattle.wav.specs.Format.{tag, channels, rate, bits, listed, kindOf, formatOk}
+use Rattle.wav.specs.Format.{tag, bits, listed, formatOk}
 use Rattle.wav.specs.Tags.{plainTag, wrapper, wraps, wrappedTag}
-use Rattle.wav.specs.Wave.{walkIn, fmtOf, isWave, within, tagIn, tests, verdict, waveIn, answered, foundBy}
-use Rattle.wav.specs.Wave.{foundIn, foundWrapped}
+use Rattle.wav.specs.Wave.{walkIn, fmtOf, isWave, within, tests, verdict, waveIn, answered, foundIn, foundWrapped}
 use Rattle.wav.proofs.Passed.{formatted, all-passed}
 use Rattle.wav.proofs.Promised.{wave-of}
-
--- Readings that tell the same tag answer alike.
-pub by-tag : (f g : List ℕ → ℕ → ℕ) (b : List ℕ) → tagIn f b ≡ tagIn g b → foundBy f b ≡ foundBy g b
-by-tag f g b e =
-    ap
-    (λ (t : ℕ). answered
-    (firstOf
-    (9 unless isWave b
-    ∷ 10 unless within b
-    ∷ 11 unless walkIn b .format .found
-    ∷ 12 unless walkIn b .samples .found
-    ∷ 13 unless formatOk t (fmtOf b) (walkIn b .format .size) (walkIn b .samples .size)
-    ∷ []))
-    (record {
-      kind = kindOf t (bits (fmtOf b));
-      channels = channels (fmtOf b);
-      rate = rate (fmtOf b);
-      start = walkIn b .samples .body;
-      length = walkIn b .samples .size;
-    }))
-    e
+use Rattle.wav.proofs.Answers.{by-tag}
 
 pub not-wrapped : (b : List ℕ) → eqb (tag (fmtOf b)) wrapper ≡ false → foundWrapped b ≡ foundIn b
 unfolding wraps
