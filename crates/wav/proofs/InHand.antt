@@ -10,12 +10,11 @@ use lib.ListN.{length}
 use Rattle.refusal_order.specs.Order.{_unless_, firstOf}
 use Rattle.riff_chunks.specs.declared.Walked.{Walked}
 use Rattle.riff_chunks.specs.Walk.{walkOf}
-use Rattle.sample_kind.specs.declared.SampleKind.{SampleKind}
 use Rattle.wav.specs.declared.Found.the-variants as found
 use Rattle.wav.specs.declared.Told.{Told}
 use Rattle.wav.specs.declared.Wave.{Wave}
-use Rattle.wav.specs.Format.{tag, channels, rate, block, bits, kindOf, formatOk}
-use Rattle.wav.specs.Wave.{riffSize, walkIn, partOf, fmtOf, isWave, tagIn, verdict, waveIn, answered, toldIn}
+use Rattle.wav.specs.Format.{tag, channels, block, bits, formatOk}
+use Rattle.wav.specs.Wave.{riffSize, walkIn, partOf, fmtOf, isWave, tagIn, testsOf, verdict, waveIn, answered, foundOf, foundBy, toldIn}
 
 pub refused : (k : ℕ) (w : Wave) → (k ≡ 0 → ⊥) → found.Refused k ≡ answered k w
 refused zero w h = absurd (h refl)
@@ -23,6 +22,13 @@ refused (suc k) w h = refl
 
 pub taken : (k : ℕ) (w : Wave) → k ≡ 0 → found.Wave w ≡ answered k w
 taken k w h = rw h
+
+-- the tests of `first`, in their order
+pub in-order : (wave inside : Bool) (t : ℕ) (f : List ℕ) (w : Walked) {t13 : Bool} {r : ℕ}
+    → t13 ≡ formatOk t f (w .format .size) (w .samples .size)
+    → r ≡ firstOf (9 unless wave ∷ 10 unless inside ∷ 11 unless w .format .found ∷ 12 unless w .samples .found ∷ 13 unless t13 ∷ [])
+    → r ≡ firstOf (testsOf wave inside t f w)
+in-order wave inside t f w p q = q ∙ rw p
 
 -- a RIFF that runs past the file
 pub past : (tagOf : List ℕ → ℕ → ℕ) (b : List ℕ) → length b < 8 + riffSize b
@@ -51,35 +57,12 @@ in-hand tagOf b size w f t s k l e =
       tag-is = e ∙ rw body (ap (λ (v : Walked). tagOf (fmtOf b) (v .format .size)) walk);
     }
 
--- the tests of `first`, in their order
-abbrev inOrder : Bool → Bool → Bool → Bool → Bool → ℕ
-inOrder t9 t10 t11 t12 t13 = firstOf (9 unless t9 ∷ 10 unless t10 ∷ 11 unless t11 ∷ 12 unless t12 ∷ 13 unless t13 ∷ [])
-
 module _ (tagOf : List ℕ → ℕ → ℕ) (b : List ℕ) (w : Walked) (f : List ℕ) (t : ℕ) (h : InHand tagOf b w f t) where
-  pub due : (t9 t10 t13 : Bool) (r : ℕ) → t9 ≡ isWave b → t10 ≡ leb (8 + riffSize b) (length b) && not (w .overruns)
-      → t13 ≡ formatOk t f (w .format .size) (w .samples .size)
-      → r ≡ inOrder t9 t10 (w .format .found) (w .samples .found) t13 → r ≡ verdict tagOf b
-  due t9 t10 t13 r e9 e10 e13 e =
-      e ∙ rw (e9, e10, e13, h .fmt-is, h .tag-is)
-      (ap (λ (v : Walked). inOrder (isWave b) (leb (8 + riffSize b) (length b) && not (v .overruns))
-      (v .format .found) (v .samples .found) (formatOk (tagIn tagOf b) (fmtOf b) (v .format .size) (v .samples .size)))
-      (h .walk-is))
-
-  pub wave-is : (kind : SampleKind) (n q : ℕ) → kind ≡ kindOf t (bits f) → n ≡ channels f → q ≡ rate f
-      → _≡_ {A = Wave}
-      (record { kind = kind; channels = n; rate = q; start = w .samples .body; length = w .samples .size })
-      (waveIn tagOf b)
-  wave-is kind n q p c r =
-      rw (p, c, r, h .fmt-is, h .tag-is)
-      (ap
-      (λ (v : Walked).
-      record {
-        kind = kindOf (tagIn tagOf b) (bits (fmtOf b));
-        channels = channels (fmtOf b);
-        rate = rate (fmtOf b);
-        start = v .samples .body;
-        length = v .samples .size;
-      })
+  pub found-is : (t9 t10 : Bool) → t9 ≡ isWave b → t10 ≡ leb (8 + riffSize b) (length b) && not (w .overruns)
+      → foundOf t9 t10 t f w ≡ foundBy tagOf b
+  found-is t9 t10 e9 e10 =
+      rw (e9, e10, h .fmt-is, h .tag-is)
+      (ap (λ (v : Walked). foundOf (isWave b) (leb (8 + riffSize b) (length b) && not (v .overruns)) (tagIn tagOf b) (fmtOf b) v)
       (h .walk-is))
 
   pub told-is : _≡_ {A = Told}

@@ -7,9 +7,11 @@ use native.Mathlib.Omega.{arith}
 use borrow.Author.Tests.{eqb-true, leb-true, ltb-true, not-true}
 use lib.Dec.{eqb, leb, ltb}
 use lib.ListN.{length}
+use Rattle.refusal_order.specs.Order.{firstOf}
 use Rattle.refusal_order.proofs.First.{none}
+use Rattle.riff_chunks.specs.declared.Walked.{Walked}
 use Rattle.wav.specs.Format.{channels, block, bits, listed, wholeFrames, formatOk}
-use Rattle.wav.specs.Wave.{riffSize, walkIn, fmtOf, isWave, within, tagIn, tests, verdict}
+use Rattle.wav.specs.Wave.{riffSize, walkIn, fmtOf, isWave, within, tagIn, testsOf, tests, verdict}
 
 -- both tests of a conjunction
 pub both-hold : (a b : Bool) → a && b ≡ true → (a ≡ true) × (b ≡ true)
@@ -72,5 +74,5 @@ all-passed tagOf b h =
       format-ok = test 4;
     }
 
-pub few-channels : (tagOf : List ℕ → ℕ → ℕ) (b : List ℕ) → verdict tagOf b ≡ 0 → channels (fmtOf b) ≤ 2
-few-channels tagOf b h = formatted _ _ _ _ (all-passed tagOf b h .format-ok) .few
+pub few-channels : (wave inside : Bool) (t : ℕ) (f : List ℕ) (w : Walked) → firstOf (testsOf wave inside t f w) ≡ 0 → channels f ≤ 2
+few-channels wave inside t f w h = formatted t f _ _ (none (testsOf wave inside t f w) refl .0 h 4) .few

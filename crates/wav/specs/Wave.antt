@@ -49,32 +49,43 @@ within b = leb (8 + riffSize b) (length b) && not (walkIn b .overruns)
 abbrev pub tagIn : (List ℕ → ℕ → ℕ) → List ℕ → ℕ
 tagIn tagOf b = tagOf (fmtOf b) (walkIn b .format .size)
 
--- 9 to 13, in that order. 11: no `fmt ` up to the first `data`; 12: no `data`.
-abbrev pub tests : (List ℕ → ℕ → ℕ) → List ℕ → List Test
-tests tagOf b =
-    9 unless isWave b
-    ∷ 10 unless within b
-    ∷ 11 unless walkIn b .format .found
-    ∷ 12 unless walkIn b .samples .found
-    ∷ 13 unless formatOk (tagIn tagOf b) (fmtOf b) (walkIn b .format .size) (walkIn b .samples .size)
+-- 9 to 13, in that order, from the first two tests, the tag, the body of the `fmt ` and the walk. 11: no `fmt ` up to the
+-- first `data`; 12: no `data`.
+abbrev pub testsOf : Bool → Bool → ℕ → List ℕ → Walked → List Test
+testsOf wave inside t f w =
+    9 unless wave
+    ∷ 10 unless inside
+    ∷ 11 unless w .format .found
+    ∷ 12 unless w .samples .found
+    ∷ 13 unless formatOk t f (w .format .size) (w .samples .size)
     ∷ []
 
-abbrev pub verdict : (List ℕ → ℕ → ℕ) → List ℕ → ℕ
-verdict tagOf b = firstOf (tests tagOf b)
-
-abbrev pub waveIn : (List ℕ → ℕ → ℕ) → List ℕ → Wave
-waveIn tagOf b =
+abbrev pub waveOf : ℕ → List ℕ → Walked → Wave
+waveOf t f w =
     record {
-      kind = kindOf (tagIn tagOf b) (bits (fmtOf b));
-      channels = channels (fmtOf b);
-      rate = rate (fmtOf b);
-      start = walkIn b .samples .body;
-      length = walkIn b .samples .size;
+      kind = kindOf t (bits f);
+      channels = channels f;
+      rate = rate f;
+      start = w .samples .body;
+      length = w .samples .size;
     }
 
 abbrev pub answered : ℕ → Wave → Found
 answered zero w = found.Wave w
 answered (suc k) w = found.Refused (suc k)
+
+abbrev pub foundOf : Bool → Bool → ℕ → List ℕ → Walked → Found
+foundOf wave inside t f w = answered (firstOf (testsOf wave inside t f w)) (waveOf t f w)
+
+-- All of it from a file.
+abbrev pub tests : (List ℕ → ℕ → ℕ) → List ℕ → List Test
+tests tagOf b = testsOf (isWave b) (within b) (tagIn tagOf b) (fmtOf b) (walkIn b)
+
+abbrev pub verdict : (List ℕ → ℕ → ℕ) → List ℕ → ℕ
+verdict tagOf b = firstOf (tests tagOf b)
+
+abbrev pub waveIn : (List ℕ → ℕ → ℕ) → List ℕ → Wave
+waveIn tagOf b = waveOf (tagIn tagOf b) (fmtOf b) (walkIn b)
 
 abbrev pub foundBy : (List ℕ → ℕ → ℕ) → List ℕ → Found
 foundBy tagOf b = answered (verdict tagOf b) (waveIn tagOf b)

@@ -3,19 +3,18 @@ ghost use mathlib.Core.Path.{_≡_};
 ghost use Rattle.wav.specs.Tags.{tagBy};
 ghost use Rattle.wav.specs.Wave.{foundBy, foundIn, foundWrapped, toldIn, partOf};
 
+mod finding;
 mod first_tests;
 mod format;
 mod tags;
 
-use first_tests::first;
-use first_tests::is_wave;
+pub use finding::finish;
+pub use first_tests::is_wave;
 use first_tests::past;
 use first_tests::within;
-use format::format_ok;
-use format::kind_of;
 use sample_kind::SampleKind;
 use short_words::two;
-use tags::tag_of;
+pub use tags::tag_of;
 use word_bytes::low_first_u32;
 
 // One or two channels; the samples' bytes are `length` bytes from `start` on.
@@ -70,26 +69,7 @@ fn read_by(wrapped: bool, file: &[u8]) -> Found
     let samples = walked.samples;
     let f = part_of(file, format.body, format.size);
     let tag = tag_of(wrapped, f, format.size);
-    let refusal = first(
-        is_wave(file),
-        within(file, walked.overruns),
-        format.found,
-        samples.found,
-        format_ok(tag, f, format.size, samples.size),
-    );
-    if refusal != 0 {
-        return Found::Refused(refusal);
-    }
-    let kind = kind_of(tag, two(f, 14));
-    let channels = two(f, 2);
-    let rate = low_first_u32(f, 4);
-    Found::Wave(Wave {
-        kind: kind,
-        channels: channels as u8,
-        rate: rate,
-        start: samples.body,
-        length: samples.size,
-    })
+    finish(is_wave(file), within(file, walked.overruns), tag, f, walked)
 }
 
 // What a file says of its samples, whether it is refused or not: for who explains a 13.
