@@ -1,5 +1,5 @@
--- W1c at the file: whatever reading found samples, the part can be filled from, with a channel that is there and an element
--- for each frame. Assumes nothing.
+-- W1c at the file: whatever reading found samples, the part can be filled from, with a channel that is there and an
+-- element for each frame. Assumes nothing.
 use mathlib.Core.Path.{_≡_, refl, _∙_}
 use mathlib.Core.Bool.{true}
 use mathlib.Core.List.{List}
@@ -22,14 +22,16 @@ partIn b w = partOf b (w .start) (w .length)
 abbrev pub framesIn : Wave → ℕ
 framesIn w = w .length / frameOf (w .kind) (w .channels)
 
-module _ (tagOf : List ℕ → ℕ → ℕ) (b : List ℕ) (w : Wave) (e : foundBy tagOf b ≡ found.Wave w) (channel : ℕ) (there : channel < w .channels) where
+module _ (tagOf : List ℕ → ℕ → ℕ) (b : List ℕ) (w : Wave) (e : foundBy tagOf b ≡ found.Wave w) (channel : ℕ)
+    (there : channel < w .channels) where
   pub can-be-filled : verdict (w .kind) (w .channels) channel (length (partIn b w)) (framesIn w) ≡ 0
   can-be-filled =
       let a = accepted tagOf b w e in
       fillable (w .kind) (w .channels) channel (length (partIn b w)) (framesIn w) (a .few) there
       (a .whole ∙ frames-are (w .length) (framesIn w) (frameOf (w .kind) (w .channels)) (a .frames) refl)
 
-  pub can-be-whole : isPcm (w .kind) ≡ true → wholeVerdict (w .kind) (w .channels) channel (length (partIn b w)) (framesIn w) ≡ 0
+  pub can-be-whole : isPcm (w .kind) ≡ true → wholeVerdict (w .kind) (w .channels) channel (length (partIn b w))
+      (framesIn w) ≡ 0
   can-be-whole pcm =
       let a = accepted tagOf b w e in
       whole-fillable (w .kind) (w .channels) channel (length (partIn b w)) (framesIn w) (a .few) there
