@@ -5,8 +5,8 @@ use lib.ListN.{length, replicate}
 use Rattle.word_bytes.specs.Bytes.{lowBytes, bytesValue}
 use Rattle.riff_chunks.specs.Chunks.{chunksFrom, overrun, first}
 use Rattle.riff_chunks.specs.Walk.{upTo}
-use Rattle.wav.specs.Format.{formatOk}
-use Rattle.wav.specs.Tags.{wraps}
+use Rattle.wav_format.specs.Format.{formatOk}
+use Rattle.wav_format.specs.Tags.{wraps}
 use Rattle.wav.specs.Wave.{isWave, foundIn, foundWrapped}
 use Rattle.sample_kind.specs.Kinds.{codeOf}
 use Rattle.fugnadri_wav.specs.Doors.{numberOf, waveOf}

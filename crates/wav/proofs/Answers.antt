@@ -7,7 +7,7 @@ use Rattle.refusal_order.specs.Order.{_unless_, firstOf}
 use Rattle.riff_chunks.specs.declared.Walked.{Walked}
 use Rattle.wav.specs.declared.Found.{Found}
 use Rattle.wav.specs.declared.Wave.{Wave}
-use Rattle.wav.specs.Format.{channels, rate, bits, kindOf, formatOk}
+use Rattle.wav_format.specs.Format.{channels, rate, bits, kindOf, formatOk}
 use Rattle.wav.specs.Wave.{walkIn, partOf, fmtOf, isWave, within, tagIn, answered, foundBy}
 
 abbrev judged : ℕ → Bool → Bool → Walked → List ℕ → Found

@@ -13,7 +13,7 @@ use Rattle.riff_chunks.specs.Walk.{walkOf}
 use Rattle.wav.specs.declared.Found.the-variants as found
 use Rattle.wav.specs.declared.Told.{Told}
 use Rattle.wav.specs.declared.Wave.{Wave}
-use Rattle.wav.specs.Format.{tag, channels, block, bits, formatOk}
+use Rattle.wav_format.specs.Format.{tag, channels, block, bits, formatOk}
 use Rattle.wav.specs.Wave.{riffSize, walkIn, partOf, fmtOf, isWave, tagIn, testsOf, verdict, waveIn, answered, foundOf, foundBy, toldIn}
 
 pub refused : (k : ℕ) (w : Wave) → (k ≡ 0 → ⊥) → found.Refused k ≡ answered k w

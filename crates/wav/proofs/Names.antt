@@ -5,7 +5,7 @@ use mathlib.Core.Bool.{true}
 use mathlib.Core.List.{[], _∷_, _++_}
 use lib.ListN.{replicate}
 use Rattle.word_bytes.specs.Bytes.{bytesValue}
-use Rattle.wav.specs.Tags.{standardTail}
+use Rattle.wav_format.specs.Tags.{standardTail}
 use Rattle.wav.specs.Wave.{riffId, waveId}
 
 pub riff-letters : riffId ≡ bytesValue (82 ∷ 73 ∷ 70 ∷ 70 ∷ [])

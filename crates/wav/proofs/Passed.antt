@@ -10,7 +10,7 @@ use lib.ListN.{length}
 use Rattle.refusal_order.specs.Order.{firstOf}
 use Rattle.refusal_order.proofs.First.{none}
 use Rattle.riff_chunks.specs.declared.Walked.{Walked}
-use Rattle.wav.specs.Format.{channels, block, bits, listed, wholeFrames, formatOk}
+use Rattle.wav_format.specs.Format.{channels, block, bits, listed, wholeFrames, formatOk}
 use Rattle.wav.specs.Wave.{riffSize, walkIn, fmtOf, isWave, within, tagIn, testsOf, tests, verdict}
 
 -- both tests of a conjunction

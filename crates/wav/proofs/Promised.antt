@@ -19,7 +19,7 @@ use Rattle.sample_kind.specs.declared.SampleKind.the-variants.{Pcm16, Pcm24, Fl
 use Rattle.sample_kind.specs.Kinds.{widthOf, frameOf}
 use Rattle.wav.specs.declared.Found.the-variants as found
 use Rattle.wav.specs.declared.Wave.{Wave}
-use Rattle.wav.specs.Format.{block, bits, listed, kindOf}
+use Rattle.wav_format.specs.Format.{block, bits, listed, kindOf}
 use Rattle.wav.specs.Wave.{riffSize, walkIn, fmtOf, isWave, tagIn, tests, verdict, waveIn, answered, foundBy}
 use Rattle.wav.specs.Accepted.{Accepted}
 use Rattle.wav.proofs.Passed.{formatted, all-passed}

@@ -12,8 +12,8 @@ use Rattle.refusal_order.specs.Order.{_unless_, firstOf}
 use Rattle.refusal_order.proofs.First.{none}
 use Rattle.wav.specs.declared.Found.the-variants as found
 use Rattle.wav.specs.declared.Wave.{Wave}
-use Rattle.wav.specs.Format.{tag, bits, listed, formatOk}
-use Rattle.wav.specs.Tags.{plainTag, wrapper, wraps, wrappedTag}
+use Rattle.wav_format.specs.Format.{tag, bits, listed, formatOk}
+use Rattle.wav_format.specs.Tags.{plainTag, wrapper, wraps, wrappedTag}
 use Rattle.wav.specs.Wave.{walkIn, fmtOf, isWave, within, tests, verdict, waveIn, answered, foundIn, foundWrapped}
 use Rattle.wav.proofs.Passed.{formatted, all-passed}
 use Rattle.wav.proofs.Promised.{wave-of}

@@ -1,4 +1,2 @@
-pub mod Format
-pub mod Tags
 pub mod Wave
 pub mod Accepted

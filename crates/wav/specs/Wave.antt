@@ -12,8 +12,8 @@ use Rattle.wav.specs.declared.Found.{Found}
 use Rattle.wav.specs.declared.Found.the-variants as found
 use Rattle.wav.specs.declared.Told.{Told}
 use Rattle.wav.specs.declared.Wave.{Wave}
-use Rattle.wav.specs.Format.{number, tag, channels, rate, block, bits, kindOf, formatOk}
-use Rattle.wav.specs.Tags.{plainTag, wrappedTag}
+use Rattle.wav_format.specs.Format.{number, tag, channels, rate, block, bits, kindOf, formatOk}
+use Rattle.wav_format.specs.Tags.{plainTag, wrappedTag}
 
 -- `RIFF` and `WAVE`
 abbrev pub riffId : ℕ

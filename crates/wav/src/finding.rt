@@ -4,10 +4,10 @@ ghost use Rattle.wav.specs.Wave.{foundOf};
 use crate::Found;
 use crate::Wave;
 use crate::first_tests::first;
-use crate::format::format_ok;
-use crate::format::kind_of;
 use riff_chunks::Walked;
 use short_words::two;
+use wav_format::format_ok;
+use wav_format::kind_of;
 use word_bytes::low_first_u32;
 
 // `wave` and `inside` are what 9 and 10 ask, `tag` what the reading takes for the tag of the `fmt ` whose body is f.

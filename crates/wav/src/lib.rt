@@ -1,12 +1,10 @@
 // W1. RIFF WAVE, the published layout: the part of a file that holds samples and what they are, or a refusal by number.
 ghost use mathlib.Core.Path.{_≡_};
-ghost use Rattle.wav.specs.Tags.{tagBy};
+ghost use Rattle.wav_format.specs.Tags.{tagBy};
 ghost use Rattle.wav.specs.Wave.{foundBy, foundIn, foundWrapped, toldIn, partOf};
 
 mod finding;
 mod first_tests;
-mod format;
-mod tags;
 
 pub use finding::finish;
 pub use first_tests::is_wave;
@@ -14,7 +12,7 @@ use first_tests::past;
 use first_tests::within;
 use sample_kind::SampleKind;
 use short_words::two;
-pub use tags::tag_of;
+use wav_format::tag_of;
 use word_bytes::low_first_u32;
 
 // One or two channels; the samples' bytes are `length` bytes from `start` on.

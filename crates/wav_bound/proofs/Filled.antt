@@ -18,7 +18,7 @@ use Rattle.residual.specs.Refusals.{in24, all24}
 use Rattle.sample_kind.specs.declared.SampleKind.{SampleKind}
 use Rattle.sample_kind.specs.declared.SampleKind.the-variants.{Pcm16, Pcm24, Float32}
 use Rattle.sample_kind.specs.Kinds.{frameOf}
-use Rattle.wav.specs.Format.{number}
+use Rattle.wav_format.specs.Format.{number}
 use Rattle.whole_samples.proofs.Signs.{units-small}
 use Rattle.wav_samples.specs.Samples.{sampleOf, isPcm, wholeNumber}
 use Rattle.wav_samples.specs.Filling.{verdict, wholeVerdict, framesOf, filled, filledWhole}

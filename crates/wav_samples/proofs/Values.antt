@@ -11,7 +11,7 @@ use Rattle.patterns.proofs.Quiet.{bits-back}
 use Rattle.sample_kind.specs.declared.SampleKind.{SampleKind}
 use Rattle.sample_kind.specs.declared.SampleKind.the-variants.{Pcm16, Pcm24, Float32}
 use Rattle.sample_kind.specs.Kinds.{widthOf}
-use Rattle.wav.specs.Format.{number}
+use Rattle.wav_format.specs.Format.{number}
 use Rattle.whole_samples.specs.Whole.{negative, size}
 use Rattle.whole_samples.proofs.Exact.{exact}
 use Rattle.wav_samples.specs.Samples.{sampleOf, isPcm}

@@ -8,7 +8,7 @@ use lib.Ieee.{Float, Format, binary32, ofBits}
 use Rattle.sample_kind.specs.declared.SampleKind.{SampleKind}
 use Rattle.sample_kind.specs.declared.SampleKind.the-variants.{Pcm16, Pcm24, Float32}
 use Rattle.sample_kind.specs.Kinds.{widthOf}
-use Rattle.wav.specs.Format.{number}
+use Rattle.wav_format.specs.Format.{number}
 use Rattle.whole_samples.specs.Whole.{wholeOf, unitsOf}
 
 -- W1k. The sample whose first byte stands at a place; bytes that are missing count as 0, so past the end it is +0.0. An

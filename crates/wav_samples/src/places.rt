@@ -4,7 +4,7 @@
 ghost use mathlib.Core.Path.{_≡_};
 ghost use Prim.Native.Nat.{_+_, _≤_};
 ghost use lib.ListN.{length};
-ghost use Rattle.wav.specs.Format.{number};
+ghost use Rattle.wav_format.specs.Format.{number};
 use short_words::of_four;
 use short_words::of_three;
 use short_words::of_two;

@@ -15,8 +15,8 @@ use Rattle.riff_chunks.specs.Chunks.{chunkAt}
 use Rattle.riff_chunks.specs.Walk.{riffSought, walkTo}
 use Rattle.wav.specs.declared.Found.{Found}
 use Rattle.wav.specs.declared.Found.the-variants as found
-use Rattle.wav.specs.Format.{number}
-use Rattle.wav.specs.Tags.{wrappedTag}
+use Rattle.wav_format.specs.Format.{number}
+use Rattle.wav_format.specs.Tags.{wrappedTag}
 use Rattle.wav.specs.Wave.{riffSize, walkIn, fmtOf, isWave, within, foundOf, foundWrapped}
 use Rattle.wav.proofs.Alike.{same-part, walk-held}
 use Rattle.wav_turns.specs.Turns.{startedOf, finishedOf, byTurns, foundByTurns}

@@ -9,8 +9,8 @@ use lib.ListN.{take, drop}
 use lib.Seq.{take-take}
 use Rattle.word_bytes.specs.Bytes.{bytesValue}
 use Rattle.riff_chunks.specs.declared.Walked.{Walked}
-use Rattle.wav.specs.Format.{number, formatOk}
-use Rattle.wav.specs.Tags.{wraps, wrappedTag}
+use Rattle.wav_format.specs.Format.{number, formatOk}
+use Rattle.wav_format.specs.Tags.{wraps, wrappedTag}
 use Rattle.wav.specs.Wave.{foundOf}
 use Rattle.wav.proofs.Alike.{same-part}
 

@@ -12,8 +12,8 @@ use Rattle.riff_chunks.specs.declared.Walking.{Walking}
 use Rattle.riff_chunks.specs.Walk.{riffSought, begun, turned}
 use Rattle.wav.specs.declared.Found.{Found}
 use Rattle.wav.specs.declared.Found.the-variants as found
-use Rattle.wav.specs.Format.{number}
-use Rattle.wav.specs.Tags.{wrappedTag}
+use Rattle.wav_format.specs.Format.{number}
+use Rattle.wav_format.specs.Tags.{wrappedTag}
 use Rattle.wav.specs.Wave.{riffSize, isWave, foundOf}
 use Rattle.wav_turns.specs.declared.Started.{Started}
 

@@ -63,6 +63,6 @@ pub fn finish(walked: Walked, fmt: &[u8]) -> Found
     ensures { λ r. ⌜ r ≡ finishedOf walked (now (fmt .entry)) ⌝ }
 {
     let format = walked.format;
-    let tag = wav::tag_of(true, fmt, format.size);
+    let tag = wav_format::tag_of(true, fmt, format.size);
     wav::finish(true, !walked.overruns, tag, fmt, walked)
 }

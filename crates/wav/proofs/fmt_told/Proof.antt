@@ -1,8 +1,8 @@
 -- `wav::fmt_told` meets its contract: what the calls ensure, put together. Assumes nothing.
 use borrow.Author.Needs.{needs}
 use mathlib.Core.Path.{refl}
-use Rattle.wav.specs.Format.{tag}
-use Rattle.wav.specs.Tags.{plainTag}
+use Rattle.wav_format.specs.Format.{tag}
+use Rattle.wav_format.specs.Tags.{plainTag}
 use Rattle.wav.proofs.InHand.{in-hand, told-is}
 use Rattle.wav.proofs.fmt_told.Statement.{statement}
 use Rattle.wav.proofs.fmt_told.Tie as tie

@@ -1,7 +1,7 @@
 -- `wav::read_by` meets its contract: what the calls ensure is what the definitions name. Assumes nothing.
 use borrow.Author.Needs.{needs}
 use mathlib.Core.Path.{_≡_, _∙_}
-use Rattle.wav.specs.Tags.{tagBy}
+use Rattle.wav_format.specs.Tags.{tagBy}
 use Rattle.wav.proofs.InHand.{past, in-hand, found-is}
 use Rattle.wav.proofs.read_by.Statement.{statement}
 use Rattle.wav.proofs.read_by.Tie as tie

@@ -1,7 +1,7 @@
 // W1. What a `fmt ` says, and whether it is a kind that is listed.
 ghost use mathlib.Core.Path.{_≡_};
 ghost use mathlib.Core.Bool.{_&&_, _||_};
-ghost use Rattle.wav.specs.Format.{listed, kindOf, wholeFrames, formatOk};
+ghost use Rattle.wav_format.specs.Format.{listed, kindOf, wholeFrames, formatOk};
 use refusal_order::both;
 use sample_kind::SampleKind;
 use short_words::two;

@@ -1,6 +1,6 @@
 // W1. How a reading tells the tag from the body of a `fmt ` and its size.
 ghost use mathlib.Core.Path.{_≡_};
-ghost use Rattle.wav.specs.Tags.{standardTail, wraps, wrappedTag, tagBy};
+ghost use Rattle.wav_format.specs.Tags.{standardTail, wraps, wrappedTag, tagBy};
 use refusal_order::both;
 use short_words::two;
 use word_bytes::low_first_u32;

@@ -1,12 +1,12 @@
--- `wav::format::format_ok` meets its contract: what the calls ensure, put together; the product of two small numbers
+-- `wav_format::format::format_ok` meets its contract: what the calls ensure, put together; the product of two small numbers
 -- fits. Assumes nothing.
 use borrow.Author.Needs.{needs}
 use Prim.Native.Nat.{_/_, _≤_}
 use native.Mathlib.Nat.{mul-le-mul}
 use native.Mathlib.Omega.{arith}
-use Rattle.wav.specs.Format.{formatOk}
-use Rattle.wav.proofs.format.format_ok.Statement.{statement}
-use Rattle.wav.proofs.format.format_ok.Tie as tie
+use Rattle.wav_format.specs.Format.{formatOk}
+use Rattle.wav_format.proofs.format.format_ok.Statement.{statement}
+use Rattle.wav_format.proofs.format.format_ok.Tie as tie
 
 mul-both : tie.Need-mul-both
 mul-both c =

@@ -1,7 +1,7 @@
--- `wav::format::is_listed` meets its contract: what the calls ensure, put together. Assumes nothing.
+-- `wav_format::format::is_listed` meets its contract: what the calls ensure, put together. Assumes nothing.
 use borrow.Author.Needs.{needs}
-use Rattle.wav.proofs.format.is_listed.Statement.{statement}
-use Rattle.wav.proofs.format.is_listed.Tie as tie
+use Rattle.wav_format.proofs.format.is_listed.Statement.{statement}
+use Rattle.wav_format.proofs.format.is_listed.Tie as tie
 
 returns : tie.Need-returns
 returns c = cc

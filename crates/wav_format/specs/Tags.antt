@@ -5,7 +5,7 @@ use Prim.Native.Nat.{ℕ}
 use mathlib.Core.Bool.{Bool, true, false, cond, _&&_}
 use mathlib.Core.List.{List}
 use lib.Dec.{eqb, leb}
-use Rattle.wav.specs.Format.{number, tag, bits}
+use Rattle.wav_format.specs.Format.{number, tag, bits}
 
 abbrev pub plainTag : List ℕ → ℕ → ℕ
 plainTag f size = tag f

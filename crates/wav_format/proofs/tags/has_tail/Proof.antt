@@ -1,7 +1,7 @@
--- `wav::tags::has_tail` meets its contract: what the calls ensure, put together. Assumes nothing.
+-- `wav_format::tags::has_tail` meets its contract: what the calls ensure, put together. Assumes nothing.
 use borrow.Author.Needs.{needs}
-use Rattle.wav.proofs.tags.has_tail.Statement.{statement}
-use Rattle.wav.proofs.tags.has_tail.Tie as tie
+use Rattle.wav_format.proofs.tags.has_tail.Statement.{statement}
+use Rattle.wav_format.proofs.tags.has_tail.Tie as tie
 
 returns : tie.Need-returns
 returns c = cc

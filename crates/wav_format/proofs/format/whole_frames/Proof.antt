@@ -1,9 +1,9 @@
--- `wav::format::whole_frames` meets its contract: by its two cases. Assumes nothing.
+-- `wav_format::format::whole_frames` meets its contract: by its two cases. Assumes nothing.
 use borrow.Author.Needs.{needs}
 use native.Mathlib.Omega.{arith}
 use borrow.Author.Tests.{lt-ltb, le-ltb}
-use Rattle.wav.proofs.format.whole_frames.Statement.{statement}
-use Rattle.wav.proofs.format.whole_frames.Tie as tie
+use Rattle.wav_format.proofs.format.whole_frames.Statement.{statement}
+use Rattle.wav_format.proofs.format.whole_frames.Tie as tie
 
 returns : tie.Need-returns
 returns c = rw (le-ltb 0 (c .before .args .frame) (omega arith))

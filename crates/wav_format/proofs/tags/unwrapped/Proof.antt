@@ -1,8 +1,8 @@
--- `wav::tags::unwrapped` meets its contract, by its two cases. Assumes nothing.
+-- `wav_format::tags::unwrapped` meets its contract, by its two cases. Assumes nothing.
 use borrow.Author.Needs.{needs}
 use mathlib.Core.Path.{sym, _∙_}
-use Rattle.wav.proofs.tags.unwrapped.Statement.{statement}
-use Rattle.wav.proofs.tags.unwrapped.Tie as tie
+use Rattle.wav_format.proofs.tags.unwrapped.Statement.{statement}
+use Rattle.wav_format.proofs.tags.unwrapped.Tie as tie
 
 returns : tie.Need-returns
 returns c =

@@ -1,7 +1,7 @@
--- `wav::format::kind_of` meets its contract: by its three cases. Assumes nothing.
+-- `wav_format::format::kind_of` meets its contract: by its three cases. Assumes nothing.
 use borrow.Author.Tests.{eq-eqb, ne-eqb}
-use Rattle.wav.proofs.format.kind_of.Statement.{statement}
-use Rattle.wav.proofs.format.kind_of.Tie as tie
+use Rattle.wav_format.proofs.format.kind_of.Statement.{statement}
+use Rattle.wav_format.proofs.format.kind_of.Tie as tie
 
 returns : tie.Need-returns
 returns c = simp (eq-eqb _ _ (c .if1 .taken))

@@ -1,7 +1,7 @@
--- `wav::tags::tag_of` meets its contract, by its two cases. Assumes nothing.
+-- `wav_format::tags::tag_of` meets its contract, by its two cases. Assumes nothing.
 use borrow.Author.Needs.{needs}
-use Rattle.wav.proofs.tags.tag_of.Statement.{statement}
-use Rattle.wav.proofs.tags.tag_of.Tie as tie
+use Rattle.wav_format.proofs.tags.tag_of.Statement.{statement}
+use Rattle.wav_format.proofs.tags.tag_of.Tie as tie
 
 returns : tie.Need-returns
 returns c = rw (c .before .if1 .taken) (c .unwrapped .ensures)

@@ -1,8 +1,8 @@
--- `wav::tags::is_wrapped` meets its contract: what the calls ensure, put together. Assumes nothing.
+-- `wav_format::tags::is_wrapped` meets its contract: what the calls ensure, put together. Assumes nothing.
 use borrow.Author.Needs.{needs}
-use Rattle.wav.specs.Tags.{wraps}
-use Rattle.wav.proofs.tags.is_wrapped.Statement.{statement}
-use Rattle.wav.proofs.tags.is_wrapped.Tie as tie
+use Rattle.wav_format.specs.Tags.{wraps}
+use Rattle.wav_format.proofs.tags.is_wrapped.Statement.{statement}
+use Rattle.wav_format.proofs.tags.is_wrapped.Tie as tie
 
 returns : tie.Need-returns
 unfolding wraps
