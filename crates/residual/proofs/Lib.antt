@@ -10,3 +10,5 @@ pub mod Staying
 pub mod Greatest
 pub mod Meaning
 pub mod Calls
+pub mod Runs
+pub mod Exactly

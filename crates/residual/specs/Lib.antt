@@ -1,3 +1,4 @@
 pub mod Report
 pub mod Refusals
+pub mod Runs
 pub mod Tallies

@@ -1,4 +1,4 @@
--- W13. Which refusal is due, in the order of 01, and what a call answers. Definitions only.
+-- W13g, W13h. Which refusal is due, in the order of 01, and what a call answers. Definitions only.
 use Prim.Native.Nat.{ℕ, zero, suc, _+_, _-_, _*_, _^_}
 use mathlib.Core.Bool.{Bool, true, _&&_}
 use mathlib.Core.List.{List, [], _∷_}
@@ -7,7 +7,7 @@ use lib.IntN.{ℤ, pos, negsuc}
 use lib.Signed.{leZ}
 use lib.ListN.{length}
 use Rattle.constants.specs.Numbers.{limit}
-use Rattle.refusal_order.specs.Order.{_unless_, firstOf}
+use Rattle.refusal_order.specs.Order.{Test, _unless_, firstOf}
 use Rattle.residual.specs.declared.Report.{Report}
 use Rattle.residual.specs.declared.Place.{Place}
 use Rattle.residual.specs.declared.Place.the-variants.{Nowhere, At}
@@ -35,14 +35,16 @@ unfoldable pub reportOk : Report → Bool
 reportOk r = leb (r .number) limit && (leb (r .largest) (2 ^ 24 - 1) && (placeOk (r .place) (r .number) && sumOk (r .number) (r .largest) (sumOf r)))
 
 -- 1 a value outside 24 bits, 2 unequal lengths, 3 the carried report, 8 past 2^36 samples; 0 for none.
-unfoldable pub verdict : Report → List ℤ → List ℤ → ℕ
-verdict r xs ys =
-    firstOf
-    (1 unless (all24 xs && all24 ys)
+abbrev pub tests : Report → List ℤ → List ℤ → List Test
+tests r xs ys =
+    1 unless (all24 xs && all24 ys)
     ∷ 2 unless eqb (length xs) (length ys)
     ∷ 3 unless reportOk r
     ∷ 8 unless leb (r .number + length xs) limit
-    ∷ [])
+    ∷ []
+
+unfoldable pub verdict : Report → List ℤ → List ℤ → ℕ
+verdict r xs ys = firstOf (tests r xs ys)
 
 -- A refused call adds nothing: the caller's report is still the report.
 abbrev pub answerOf : ℕ → Report → Compared
