@@ -17,6 +17,7 @@ mod workloads {
     pub mod narrow;
     pub mod quality;
     pub mod readers;
+    pub mod residual;
     pub mod sinc;
     pub mod square_root;
 }
@@ -25,7 +26,7 @@ use std::hint::black_box;
 use std::time::Instant;
 
 /// A file of workloads/ each, by name: making one may take seconds.
-const WORKLOADS: [(&str, fn() -> Workload); 25] = [
+const WORKLOADS: [(&str, fn() -> Workload); 26] = [
     ("narrow", workloads::narrow::workload),
     ("fused32", workloads::fused32::workload),
     ("fused64", workloads::fused64::workload),
@@ -51,6 +52,7 @@ const WORKLOADS: [(&str, fn() -> Workload); 25] = [
     ("quality_hq", workloads::quality::plain),
     ("quality_hq_two_sets", workloads::quality::blended),
     ("quality_mixed", workloads::quality::mixed),
+    ("residual", workloads::residual::workload),
 ];
 
 pub struct Workload {

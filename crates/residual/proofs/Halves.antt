@@ -34,7 +34,7 @@ module _ (n q : ℕ) (few : n ≤ 2 ^ 36) (small : q < 2 ^ 48) where
   in-units = ap (λ (x : ℕ). n * x) (sym (div-add-mod' q 16777216)) ∙ mul-add n (q / 16777216 * 16777216) (q % 16777216) ∙ ap (λ (x : ℕ). x + n * (q % 16777216)) (sym (mul-assoc n (q / 16777216) 16777216))
 
 -- s added to h * 2^64 + l: the low half wraps, and one is carried where it comes out below s
-module _ (h l s : ℕ) (half : l < 2 ^ 64) (small : s < 2 ^ 48) where
+module _ (h l s : ℕ) (half : l < 2 ^ 64) (small : s < 2 ^ 64) where
   carry : (t : Bool) → ltb ((l + s) % 2 ^ 64) s ≡ t → h + cond t 1 0 ≡ (h * 2 ^ 64 + l + s) / 2 ^ 64
   carry true e = omega (arith, ltb-true ((l + s) % 2 ^ 64) s e)
   carry false e = omega (arith, ltb-false ((l + s) % 2 ^ 64) s e)

@@ -3,6 +3,7 @@ pub mod Signs
 pub mod Halves
 pub mod Stretches
 pub mod Counting
+pub mod Blocks
 pub mod Valid
 pub mod Agreeing
 pub mod Cutting

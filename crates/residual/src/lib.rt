@@ -2,6 +2,7 @@
 // squared differences.
 mod checks; // which refusal is due
 mod steps; // the counting
+mod parts; // a block's squares, in sums of 32 bits
 mod tally; // a report on plain numbers
 
 ghost use mathlib.Core.Path.{_≡_};

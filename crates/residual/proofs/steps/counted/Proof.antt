@@ -15,8 +15,8 @@ use Rattle.residual.proofs.steps.counted.Tie as tie
 low-fits : (c : tie.After-taken) → c .before .args .report .low < 2 ^ 64
 low-fits c = omega (arith, c .before .good .0)
 
-stepped-requires : tie.Need-stepped-requires
-stepped-requires c κs =
+stretched-requires : tie.Need-stretched-requires
+stretched-requires c κs =
     let s = c .before .args in
     subst (λ (t : Tally). Ready t (now (s .a)) (now (s .b))) (sym (c .taken .ensures)) (ready (s .report) (now (s .a)) (now (s .b)) (low-fits c) (accepted (s .report) (now (s .a)) (now (s .b)) (c .before .pre)))
 
@@ -24,8 +24,8 @@ returns : tie.Need-returns
 unfolding carried
 returns c =
     let s = c .before .before .before in
-    c .told .ensures ∙ ap toldOf (c .before .stepped .ensures ∙ ap (λ (t : Tally). foldl stepOf t (differences (now (s .args .a)) (now (s .args .b)))) (c .before .before .taken .ensures))
+    c .told .ensures ∙ ap toldOf (c .before .stretched .ensures ∙ ap (λ (t : Tally). foldl stepOf t (differences (now (s .args .a)) (now (s .args .b)))) (c .before .before .taken .ensures))
     ∙ same-fold (s .args .report) (differences (now (s .args .a)) (now (s .args .b))) (fit (s .args .report) (accepted (s .args .report) (now (s .args .a)) (now (s .args .b)) (s .pre) .report))
 
 pub counted-spec : {M : Type 1} → statement M
-counted-spec = tie.close (tie.spec (λ c κs. tt) stepped-requires (λ c κs. tt) returns)
+counted-spec = tie.close (tie.spec (λ c κs. tt) stretched-requires (λ c κs. tt) returns)

@@ -15,7 +15,7 @@ use Rattle.residual.specs.Refusals.{in24}
 use Rattle.residual.specs.Tallies.{stepOf}
 use Rattle.residual.proofs.Signs.{fits-24, below-24}
 use Rattle.residual.proofs.Stretches.{at-24, word-24}
-use Rattle.residual.proofs.Counting.{room-for-one, one-turn, all-turns}
+use Rattle.residual.proofs.Counting.{room-for, one-turn, all-turns}
 use Rattle.residual.proofs.steps.stepped.Statement.{statement}
 use Rattle.residual.proofs.steps.stepped.Tie as tie
 
@@ -53,15 +53,15 @@ found c =
 step-requires : tie.Need-step-requires Inv-loop μ-loop
 step-requires c κs =
     let l = c .before .before .before in
-    (room-for-one (l .before .loop .i) (l .before .before .pre) (omega arith) (l .before .loop .inv .1), rw (found c) (below-24 (in-a l) (in-b l) (left-24 l) (right-24 l)))
+    (room-for (l .before .loop .i) 1 (l .before .before .pre) (omega arith) (l .before .loop .inv .1), rw (found c) (below-24 (in-a l) (in-b l) (left-24 l) (right-24 l)))
 
 loop-again : tie.Need-loop-again Inv-loop μ-loop
 loop-again c =
     let l = c .before .before .before .before in
-    (omega arith, one-turn (l .before .loop .i) (l .before .before .pre) (omega arith) (c .before .distance .result) (l .before .loop .inv .1) (found (c .before)) (c .step .ensures))
+    (omega arith, one-turn stepOf (l .before .before .args .t) (now (l .before .before .args .a)) (now (l .before .before .args .b)) (l .before .before .pre .long) (l .before .loop .i) (omega arith) (c .before .distance .result) (l .before .loop .inv .1) (found (c .before)) (c .step .ensures))
 
 returns : tie.Need-returns Inv-loop μ-loop
-returns c = all-turns (c .before .loop .i) (c .before .before .pre) (omega arith) (c .before .loop .inv .1)
+returns c = all-turns stepOf (c .before .before .args .t) (now (c .before .before .args .a)) (now (c .before .before .args .b)) (c .before .before .pre .long) (c .before .loop .i) (omega arith) (c .before .loop .inv .1)
 
 pub stepped-spec : {M : Type 1} → statement M
 stepped-spec =
