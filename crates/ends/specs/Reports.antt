@@ -4,7 +4,7 @@ use mathlib.Core.List.{List, [], _∷_}
 use lib.IntN.{ℤ, pos, negsuc}
 use Rattle.residual.specs.declared.Report.{Report}
 use Rattle.residual.specs.declared.Place.{Place}
-use Rattle.residual.specs.Refusals.{all24, reportOk, verdict, comparedOf}
+use Rattle.residual.specs.Refusals.{all24, numbersOk, reportOk, verdict, comparedOf}
 use Rattle.fugnadri_residual.specs.Words.{refusalOf, numbers, leftFrom}
 
 -- The sum is handed in as two halves.
@@ -18,7 +18,7 @@ reported number largest place sum = record {
 }
 
 unfoldable pub compared : Report → List ℤ → List ℤ → ℕ
-unfolding verdict all24 reportOk
+unfolding verdict all24 numbersOk reportOk
 compared r xs ys = refusalOf (comparedOf r xs ys)
 
 -- With nothing more to compare.
@@ -34,5 +34,5 @@ ends24 = negsuc (2 ^ 23 - 1) ∷ negsuc (2 ^ 23) ∷ pos (2 ^ 23 - 1) ∷ pos (2
 
 -- At the C boundary: whether there is a place, and which.
 unfoldable pub placed : ℕ → ℕ → ℕ → ℕ
-unfolding verdict all24 reportOk
+unfolding verdict all24 numbersOk reportOk
 placed number flag place = (leftFrom (numbers number 0 flag place 0 0) [] []) .refusal

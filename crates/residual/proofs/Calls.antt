@@ -11,7 +11,7 @@ use lib.ListN.{length, length-append}
 use Rattle.residual.specs.declared.Report.{Report}
 use Rattle.residual.specs.Report.{differences, one, carried}
 use Rattle.residual.specs.Refusals.{in24, all24, reportOk, verdict, comparedOf}
-use Rattle.residual.proofs.Both.{left-true, right-true}
+use Rattle.report_tests.proofs.Both.{left-true, right-true}
 use Rattle.residual.proofs.Stretches.{length-differences}
 use Rattle.residual.proofs.Valid.{accepted, valid-ok}
 use Rattle.residual.proofs.Cutting.{cut}

@@ -14,7 +14,8 @@ use Rattle.residual.specs.declared.tally.Tally.{Tally}
 use Rattle.residual.specs.Report.{difference, differences}
 use Rattle.residual.specs.Tallies.{stepOf, Room, Ready}
 use Rattle.residual.specs.Blocks.{addedTo}
-use Rattle.residual.proofs.Halves.{square-below, high-half, low-half}
+use Rattle.report_tests.proofs.Sums.{square-below}
+use Rattle.residual.proofs.Halves.{high-half, low-half}
 use Rattle.residual.proofs.Stretches.{Small, none, more, small-differences, small-take, length-differences, at-difference, part-differences, take-part, all-part, length-part}
 
 -- ---- room

@@ -1,4 +1,3 @@
-pub mod Both
 pub mod Signs
 pub mod Halves
 pub mod Stretches

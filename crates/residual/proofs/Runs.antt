@@ -14,7 +14,7 @@ use Rattle.residual.specs.declared.Compared.the-variants as compared
 use Rattle.residual.specs.Report.{differences, emptyReport, carried, reportOf}
 use Rattle.residual.specs.Refusals.{all24, reportOk, verdict, answerOf, comparedOf}
 use Rattle.residual.specs.Runs.{Call, answer, behind, ran, kept, taken, allTaken, firsts, seconds}
-use Rattle.residual.proofs.Both.{left-true, right-true}
+use Rattle.report_tests.proofs.Both.{left-true, right-true}
 use Rattle.residual.proofs.Valid.{Accepted, valid, accepted}
 use Rattle.residual.proofs.Cutting.{cut}
 use Rattle.residual.proofs.Staying.{empty-in-range, stays}

@@ -12,13 +12,13 @@ use lib.ListN.{length}
 use Rattle.residual.specs.declared.Report.{Report}
 use Rattle.residual.specs.declared.Place.the-variants.{At}
 use Rattle.residual.specs.Report.{differences, emptyReport, sumOf, newer, one, carried}
-use Rattle.residual.specs.Refusals.{reportOk, verdict}
+use Rattle.residual.specs.Refusals.{numbersOk, reportOk, verdict}
 use Rattle.residual.proofs.Stretches.{Small, none, more, small-differences, length-differences}
 use Rattle.residual.proofs.Valid.{Valid, valid-ok, accepted}
 use Rattle.residual.proofs.Agreeing.{Fit, nothing, something, fit}
 
 pub empty-in-range : reportOk emptyReport ≡ true
-unfolding reportOk
+unfolding reportOk numbersOk
 empty-in-range = refl
 
 -- the two halves of a sum are the sum

@@ -14,22 +14,10 @@ use mir.Val.{toZ, ofZ}
 use mir.ValLaws.{toZ-ofZ}
 use Rattle.residual.specs.Report.{difference, differences}
 use Rattle.residual.specs.Refusals.{in24, all24}
-use Rattle.residual.proofs.Both.{left-true, right-true, both-true, and-true, and-assoc}
+use Rattle.report_tests.proofs.Both.{left-true, right-true, both-true}
 use Rattle.residual.proofs.Signs.{below-24, fits-24}
 
 -- ---- every value of a stretch
-all-more : (xs : List ℤ) (x : ℤ) → all24 (xs ++ (x ∷ [])) ≡ (all24 xs && in24 x)
-unfolding all24
-all-more [] x = and-true (in24 x)
-all-more (y ∷ xs) x = ap (λ (b : Bool). in24 y && b) (all-more xs x) ∙ and-assoc (in24 y) (all24 xs) (in24 x)
-
-pub none-24 : (xs : List ℤ) → true ≡ all24 (take 0 xs)
-unfolding all24
-none-24 xs = refl
-
-pub one-24 : (xs : List ℤ) (i : ℕ) {ok more : Bool} → i < length xs → ok ≡ all24 (take i xs) → more ≡ (ok && in24 (getD xs i (pos 0))) → more ≡ all24 (take (i + 1) xs)
-one-24 xs i h p q = q ∙ rw (p, add-one i, take-suc xs i (pos 0) h, all-more (take i xs) (getD xs i (pos 0)))
-
 pub at-24 : (xs : List ℤ) (i : ℕ) → i < length xs → all24 xs ≡ true → in24 (getD xs i (pos 0)) ≡ true
 unfolding all24
 at-24 [] i h t = absurd (omega arith)

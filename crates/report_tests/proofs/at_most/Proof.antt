@@ -1,12 +1,12 @@
--- `residual::checks::at_most` meets its contract: the product in units of 2^24, and what is left over. Assumes nothing.
+-- `report_tests::at_most` meets its contract: the product in units of 2^24, and what is left over. Assumes nothing.
 use borrow.Author.Needs.{needs}
 use mathlib.Core.Path.{sym}
 use Prim.Native.Nat.{_+_, _*_, _%_}
 use native.Mathlib.Omega.{arith}
 use borrow.Author.Tests.{le-leb, lt-leb}
-use Rattle.residual.proofs.Halves.{same-test, rest-below, top-below, product-below, in-units}
-use Rattle.residual.proofs.checks.at_most.Statement.{statement}
-use Rattle.residual.proofs.checks.at_most.Tie as tie
+use Rattle.report_tests.proofs.Sums.{same-test, rest-below, top-below, product-below, in-units}
+use Rattle.report_tests.proofs.at_most.Statement.{statement}
+use Rattle.report_tests.proofs.at_most.Tie as tie
 
 returns : tie.Need-returns
 returns c = let a = c .before .args in sym (lt-leb (a .high * 18446744073709551616 + a .low) (a .number * a .square) (omega (arith, product-below (a .number) (a .square) (c .before .pre .0) (c .before .pre .1))))

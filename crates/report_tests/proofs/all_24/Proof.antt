@@ -1,4 +1,4 @@
--- `residual::checks::all_24` meets its contract: before each turn the values passed are all 24-bit or not. Assumes nothing.
+-- `report_tests::all_24` meets its contract: before each turn the values passed are all 24-bit or not. Assumes nothing.
 use borrow.Author.Needs.{needs}
 use mathlib.Core.Path.{_≡_, ap, _∙_}
 use mathlib.Core.Bool.{Bool, _&&_}
@@ -10,10 +10,10 @@ use lib.ListN.{length, take, getD}
 use mir.Syntax.{w32}
 use mir.ValLaws.{toZ-ofZ}
 use lib.Seq.{take-all}
-use Rattle.residual.specs.Refusals.{in24, all24}
-use Rattle.residual.proofs.Stretches.{none-24, one-24}
-use Rattle.residual.proofs.checks.all_24.Statement.{statement}
-use Rattle.residual.proofs.checks.all_24.Tie as tie
+use Rattle.report_tests.specs.Tests.{in24, all24}
+use Rattle.report_tests.proofs.Values.{none-24, one-24}
+use Rattle.report_tests.proofs.all_24.Statement.{statement}
+use Rattle.report_tests.proofs.all_24.Tie as tie
 
 abbrev Inv-loop : tie.InvT-loop
 Inv-loop s ok₀ i₀ ok i = (i ≤ length s) × (ok ≡ all24 (take i s))

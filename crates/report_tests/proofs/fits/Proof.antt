@@ -1,11 +1,11 @@
--- `residual::checks::fits` meets its contract. Assumes nothing.
+-- `report_tests::fits` meets its contract. Assumes nothing.
 use mathlib.Core.Path.{sym}
 use Prim.Native.Nat.{_+_, _-_}
 use native.Mathlib.Omega.{arith}
 use borrow.Author.Tests.{lt-leb}
-use Rattle.residual.proofs.Halves.{same-test}
-use Rattle.residual.proofs.checks.fits.Statement.{statement}
-use Rattle.residual.proofs.checks.fits.Tie as tie
+use Rattle.report_tests.proofs.Sums.{same-test}
+use Rattle.report_tests.proofs.fits.Statement.{statement}
+use Rattle.report_tests.proofs.fits.Tie as tie
 
 returns : tie.Need-returns
 returns c = let a = c .before .args in sym (lt-leb (a .number + a .more) 68719476736 (omega arith))
