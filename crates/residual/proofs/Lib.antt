@@ -1,6 +1,8 @@
 pub mod Signs
 pub mod Halves
 pub mod Stretches
+pub mod Pieces
+pub mod Turns
 pub mod Counting
 pub mod Blocks
 pub mod Valid

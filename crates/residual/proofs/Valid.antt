@@ -6,13 +6,13 @@ use Prim.Native.Nat.{_+_, _*_, _^_, _≤_, _<_}
 use native.Mathlib.Nat.{le-trans, mul-le-mul-left, le-of-lt}
 use native.Mathlib.Omega.{arith}
 use borrow.Author.Tests.{leb-true, eqb-true}
-use lib.Dec.{T, leb, eqb}
+use lib.Dec.{T, eqb}
 use lib.IntN.{ℤ}
 use lib.ListN.{length}
 use Rattle.answer.proofs.Passed.{passed}
 use Rattle.residual.specs.declared.Report.{Report}
 use Rattle.residual.specs.Report.{sumOf}
-use Rattle.residual.specs.Refusals.{all24, numbersOk, placeOk, reportOk, verdict}
+use Rattle.residual.specs.Refusals.{all24, numbersOk, roomFor, placeOk, reportOk, verdict}
 use Rattle.residual.specs.Tallies.{tallyOf, Ready}
 use Rattle.report_tests.proofs.Both.{left-true, right-true, both-true}
 use Rattle.report_tests.proofs.Sums.{square-below}
@@ -55,7 +55,9 @@ pub record Accepted (r : Report) (xs ys : List ℤ) : Type 0 where
 pub accepted : (r : Report) (xs ys : List ℤ) → verdict r xs ys ≡ 0 → Accepted r xs ys
 unfolding verdict
 accepted r xs ys v =
-    let p = passed (all24 xs && all24 ys) (eqb (length xs) (length ys)) (reportOk r) true true true true (leb (r .number + length xs) (2 ^ 36)) v in
+    let lengths = eqb (length xs) (length ys) in
+    let fits = roomFor (r .number) (length xs) in
+    let p = passed (all24 xs && all24 ys) lengths (reportOk r) true true true true fits v in
     record {
       report = valid r (is-true (p .p3));
       left = left-true (all24 xs) (all24 ys) (is-true (p .p1));
@@ -74,7 +76,5 @@ ready r xs ys half a =
         sum = le-trans (v .most) (mul-le-mul-left (r .number) (le-of-lt (square-below (r .largest) (v .small))));
         half = half;
       };
-      long = a .long;
-      left = a .left;
-      right = a .right;
+      alike = record { long = a .long; left = a .left; right = a .right };
     }

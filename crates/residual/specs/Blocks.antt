@@ -1,21 +1,11 @@
 -- A block of at most 256 differences, counted at once. Definitions only.
-use Prim.Native.Nat.{ℕ, _+_, _*_, _^_, _/_, _%_, _<_, _≤_}
-use mathlib.Core.Path.{_≡_}
+use Prim.Native.Nat.{ℕ, _+_, _*_, _^_, _/_, _%_, _<_}
 use mathlib.Core.Bool.{Bool, true, _&&_}
 use mathlib.Core.List.{List, [], _∷_}
 use lib.Dec.{leb}
-use lib.IntN.{ℤ}
-use lib.ListN.{length}
 use Rattle.residual.specs.declared.tally.Tally.{Tally}
 use Rattle.residual.specs.declared.parts.Parts.{Parts}
-use Rattle.residual.specs.Refusals.{all24}
 use Rattle.residual.specs.Tallies.{tallied}
-
--- Two stretches of 24-bit values, equally long.
-pub record Alike (xs ys : List ℤ) : Type 0 where
-  pub long : length xs ≡ length ys
-  pub left : all24 xs ≡ true
-  pub right : all24 ys ≡ true
 
 -- A difference in two parts, d = high * 2^12 + low where it is below 2^24.
 abbrev pub highPart : ℕ → ℕ
@@ -45,11 +35,6 @@ pub record Space (p : Parts) (n : ℕ) : Type 0 where
   pub high : p .highs + n * 16769025 < 2 ^ 32
   pub mix : p .mixed + n * 16769025 < 2 ^ 32
   pub low : p .lows + n * 16769025 < 2 ^ 32
-
-pub record Low (p : Parts) : Type 0 where
-  pub high : p .highs < 2 ^ 32
-  pub mix : p .mixed < 2 ^ 32
-  pub low : p .lows < 2 ^ 32
 
 -- No difference is above the bound.
 unfoldable pub noneAbove : ℕ → List ℕ → Bool

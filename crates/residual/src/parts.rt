@@ -1,13 +1,12 @@
 // W13. The squares of a block's differences. A difference below 2^24 is high * 2^12 + low, each part below 2^12; so the
 // sums of 256 products of two parts fit 32 bits, and a compiler for plain x86-64 takes four differences at once.
 ghost use mathlib.Core.Path.{_≡_};
-ghost use mathlib.Core.Bool.{true};
 ghost use mathlib.Core.List.{foldl};
-ghost use Prim.Native.Nat.{_<_, _≤_, _^_};
+ghost use Prim.Native.Nat.{_≤_};
 ghost use lib.ListN.{length};
 ghost use Rattle.residual.specs.Report.{differences};
-ghost use Rattle.residual.specs.Blocks.{Alike, Low, Space, noParts, partOf, sumOfParts, addedTo};
-ghost use Rattle.residual.specs.Tallies.{Room};
+ghost use Rattle.residual.specs.Blocks.{Space, noParts, partOf, sumOfParts, addedTo};
+ghost use Rattle.residual.specs.Tallies.{Alike, Room};
 use crate::steps::carry;
 use crate::steps::distance;
 use crate::tally::Tally;
@@ -57,7 +56,7 @@ pub(crate) fn squared(a: &[i32], b: &[i32], top: u32) -> Parts
 
 // The sum that the three sums make, added to a tally, of which nothing else changes but the number.
 pub(crate) fn added(t: Tally, n: usize, p: Parts) -> Tally
-    requires { ⌜ Room t n × Low p ⌝ }
+    requires { ⌜ Room t n ⌝ }
     ensures { λ r. ⌜ r ≡ addedTo t n (sumOfParts p) ⌝ }
 {
     let sum = p.highs as u64 * 0x100_0000 + p.mixed as u64 * 0x2000 + p.lows as u64;

@@ -13,16 +13,18 @@ add-high : tie.Need-add-high
 add-high c =
     let s = c .before .before .before .before .before .before in
     let t = s .args .t in
+    let low = c .before .before .wrapping-add-u64 .result in
     let k : c .before .carry .result ≤ 1 =
-    rw (c .before .carry .ensures) (one-at-most (ltb (c .before .before .wrapping-add-u64 .result) (sumOfParts (s .args .p)))) in
-    record { fits = omega (arith, high-below (t .high) (t .low) (t .number) (s .pre .0 .sum) (omega (arith, s .pre .0 .counts))) }
+    rw (c .before .carry .ensures) (one-at-most (ltb low (sumOfParts (s .args .p)))) in
+    let h = high-below (t .high) (t .low) (t .number) (s .pre .sum) (omega (arith, s .pre .counts)) in
+    record { fits = omega (arith, h) }
 
 returns : tie.Need-returns
 returns c =
     let s = c .before .before .before .before .before .before .before in
-    let small : sumOfParts (s .args .p) < 2 ^ 64 = omega (arith, s .pre .1 .high, s .pre .1 .mix, s .pre .1 .low) in
-    added-is (s .args .t) (s .args .n) (sumOfParts (s .args .p)) (s .pre .0 .half) small (c .before .before .before .wrapping-add-u64 .ensures)
-    (c .before .before .carry .ensures)
+    let small : sumOfParts (s .args .p) < 2 ^ 64 = omega (arith, s .good .1) in
+    added-is (s .args .t) (s .args .n) (sumOfParts (s .args .p)) (s .pre .half) small
+    (c .before .before .before .wrapping-add-u64 .ensures) (c .before .before .carry .ensures)
 
 pub added-spec : {M : Type 1} → statement M
 added-spec =

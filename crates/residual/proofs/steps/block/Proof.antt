@@ -13,9 +13,10 @@ returns c =
     let s = c .before .before .before in
     let a = now (s .args .a) in
     let b = now (s .args .b) in
+    let alike = s .pre .0 .alike in
     c .added .ensures
-    ∙ quietly (s .args .t) (differences a b) (s .pre .0 .room .half) (small-differences a b (s .pre .0 .left) (s .pre .0 .right))
-    (length-differences a b (s .pre .0 .long)) (c .before .before .squared .ensures) (c .before .if1 .taken)
+    ∙ quietly (s .args .t) (differences a b) (s .pre .0 .room .half) (small-differences a b (alike .left) (alike .right))
+    (length-differences a b (alike .long)) (c .before .before .squared .ensures) (c .before .if1 .taken)
 
 pub block-spec : {M : Type 1} → statement M
 block-spec =

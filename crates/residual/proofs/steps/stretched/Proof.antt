@@ -1,15 +1,17 @@
--- `residual::steps::stretched` meets its contract: before each block the differences passed are counted. Assumes nothing.
+-- `residual::steps::stretched` meets its contract: before each block the differences passed are counted.
+-- Assumes nothing.
 use borrow.Author.Needs.{needs}
 use Prim.Native.Nat.{_+_, _-_, _≤_}
-use mathlib.Core.Path.{_≡_, refl, _∙_}
+use mathlib.Core.Path.{_≡_, refl}
 use mathlib.Core.List.{foldl}
 use native.Mathlib.Omega.{arith}
 use lib.ListN.{length, take}
 use denote.Ref.{now}
 use Rattle.residual.specs.Report.{differences}
 use Rattle.residual.specs.Tallies.{stepOf}
-use Rattle.residual.proofs.Stretches.{length-part}
-use Rattle.residual.proofs.Counting.{ready-part, more-turns, all-turns}
+use Rattle.residual.proofs.Pieces.{length-part}
+use Rattle.residual.proofs.Turns.{more-turns, all-turns}
+use Rattle.residual.proofs.Counting.{ready-part}
 use Rattle.residual.proofs.steps.stretched.Statement.{statement}
 use Rattle.residual.proofs.steps.stretched.Tie as tie
 
@@ -27,11 +29,13 @@ block-requires c κs =
     let e = c .before .before in
     let l = e .before .before in
     let s = l .before in
-    let inside : l .loop .i + (e .block-end .result - l .loop .i) ≤ length (now (s .args .a)) =
-    omega (arith, e .block-end .ensures .0, e .block-end .ensures .1 .0) in (
-      ready-part (now (s .args .a)) (now (s .args .b)) (l .loop .i) (e .block-end .result - l .loop .i) (s .pre) inside (l .loop .inv .1),
-      rw (length-part (l .loop .i) (e .block-end .result - l .loop .i) (now (s .args .a)) inside)
-          (omega (arith, e .block-end .ensures .1 .1)),
+    let a = now (s .args .a) in
+    let i = l .loop .i in
+    let k = e .block-end .result - i in
+    let ends = e .block-end .ensures in
+    let inside : i + k ≤ length a = omega (arith, ends .0, ends .1 .0) in (
+      ready-part a (now (s .args .b)) i k (s .pre) inside (l .loop .inv .1),
+      rw (length-part i k a inside) (omega (arith, ends .1 .1)),
     )
 
 loop-again : tie.Need-loop-again Inv-loop μ-loop
@@ -39,21 +43,24 @@ loop-again c =
     let e = c .before .before .before in
     let l = e .before .before in
     let s = l .before in
-    let whole : l .loop .i + (e .block-end .result - l .loop .i) ≡ e .block-end .result = omega (arith, e .block-end .ensures .0) in (
+    let i = l .loop .i in
+    let k = e .block-end .result - i in
+    let whole : i + k ≡ e .block-end .result = omega (arith, e .block-end .ensures .0) in (
       e .block-end .ensures .1 .0,
-      rw whole at (more-turns stepOf (s .args .t) (now (s .args .a)) (now (s .args .b)) (s .pre .long) (l .loop .i)
-          (e .block-end .result - l .loop .i) (l .loop .inv .1) (c .block .ensures)),
+      rw whole at (more-turns stepOf (s .args .t) (now (s .args .a)) (now (s .args .b)) (s .pre .alike .long) i k
+          (l .loop .inv .1) (c .block .ensures)),
     )
 
 returns : tie.Need-returns Inv-loop μ-loop
 returns c =
     let s = c .before .before in
-    all-turns stepOf (s .args .t) (now (s .args .a)) (now (s .args .b)) (s .pre .long) (c .before .loop .i) (omega arith)
-    (c .before .loop .inv .1)
+    all-turns stepOf (s .args .t) (now (s .args .a)) (now (s .args .b)) (s .pre .alike .long) (c .before .loop .i)
+    (omega arith) (c .before .loop .inv .1)
 
 pub stretched-spec : {M : Type 1} → statement M
 stretched-spec =
     tie.close
     (tie.spec Inv-loop μ-loop loop-holds (λ c κs. omega arith) (λ c. search needs) (λ c. omega arith) (λ c. omega arith)
     (λ c. omega arith) (λ c. search needs) (λ c. omega arith) (λ c. omega arith)
-    (λ c. omega (arith, c .before .before .before .before .pre .long)) block-requires (λ c. omega arith) loop-again returns)
+    (λ c. omega (arith, c .before .before .before .before .pre .alike .long)) block-requires (λ c. omega arith)
+    loop-again returns)
