@@ -3,8 +3,8 @@
 use crate::boundary::{residual_compare, ReportWords};
 use crate::Refusal;
 
-/// What was compared so far: how many samples, the largest absolute difference, where it stands first, and the sum of the
-/// squared differences. Cutting the stretches differently gives the same.
+/// What was compared so far: how many samples, the largest absolute difference, where it stands first, and the sum of
+/// the squared differences. Cutting the stretches differently gives the same.
 #[derive(Clone, Copy, Debug, Default, Eq, PartialEq)]
 pub struct Residual {
     words: ReportWords,
@@ -16,9 +16,9 @@ impl Residual {
         Self::default()
     }
 
-    /// An earlier report, taken up again. Refused by 3 ([`Refusal::State`]) unless some comparison could have left it: a
-    /// number of at most 2^36, a largest difference below 2^24, a place below the number (none where that is 0), and a sum
-    /// from largest squared to number × largest squared.
+    /// An earlier report, taken up again. Refused by 3 ([`Refusal::State`]) unless it has a number of at most 2^36, a
+    /// largest difference below 2^24, a place below the number (none where that is 0), and a sum from largest squared
+    /// to number × largest squared.
     pub fn carried(number: u64, largest: u32, place: Option<u64>, sum: u128) -> Result<Self, Refusal> {
         let (high, low) = ((sum >> 64) as u64, sum as u64);
         let placed = place.is_some().into();
@@ -28,8 +28,8 @@ impl Residual {
     }
 
     /// Compares two stretches of samples from -2^23 to 2^23 - 1, sample by sample. A refused call adds nothing: by 1
-    /// ([`Refusal::Setting`]) for a value outside that range, by 2 ([`Refusal::Length`]) where one stretch is longer, by 8
-    /// ([`Refusal::Full`]) where more than 2^36 samples would have been compared in all.
+    /// ([`Refusal::Setting`]) for a value outside that range, by 2 ([`Refusal::Length`]) where one stretch is longer,
+    /// by 8 ([`Refusal::Full`]) where more than 2^36 samples would have been compared in all.
     pub fn compare(&mut self, a: &[i32], b: &[i32]) -> Result<(), Refusal> {
         Refusal::of(residual_compare(&mut self.words, a, b))
     }

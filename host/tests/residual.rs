@@ -1,4 +1,4 @@
-//! W13. The residual beside a plain reckoning: cut differently, with refused calls between, and at the ends of its ranges.
+//! W13. The residual beside a plain reckoning: cut differently, with refused calls between, and at its ranges' ends.
 
 use fugnadri::{Refusal, Residual};
 
@@ -15,8 +15,8 @@ fn stretches(length: usize) -> (Vec<i32>, Vec<i32>) {
         state
     };
     let a: Vec<i32> = (0..length).map(|_| (word() % (2 * END as u64)) as i32 - END).collect();
-    let far = a.iter().map(|x| if word() % 97 == 0 { (word() % 4001) as i32 - 2000 } else { (word() % 5) as i32 - 2 } + x);
-    let b = far.map(|x| x.clamp(-END, END - 1)).collect();
+    let mut by = || if word() % 97 == 0 { (word() % 4001) as i32 - 2000 } else { (word() % 5) as i32 - 2 };
+    let b = a.iter().map(|x| (x + by()).clamp(-END, END - 1)).collect();
     (a, b)
 }
 

@@ -1,5 +1,5 @@
-//! W13. The residual: 20,000 samples of 24 bits beside others, in five calls from an empty report on. An answer is a sample.
-//! The Rust is a plain loop with the same tests of a value and of the lengths, and a u128 sum.
+//! W13. The residual: 20,000 samples of 24 bits beside others, in five calls from an empty report on. An answer is a
+//! sample. The Rust is a plain loop with the same tests of a value and of the lengths, and a u128 sum.
 
 use crate::random::Random;
 use crate::{Side, Workload};

@@ -27,11 +27,12 @@ fn length(r: &mut Random) -> usize {
     }
 }
 
-/// A report that is mostly one of a run's, about the ends of its ranges, or one of whose numbers is anything. `more` samples
-/// are compared with it.
+/// A report that is mostly one of a run's, about the ends of its ranges, or one of whose numbers is anything. `more`
+/// samples are compared with it.
 fn report(r: &mut Random, more: usize) -> ReportWords {
     if r.one_in(4) {
-        return ReportWords { place: r.word(), largest: u32::from(r.one_in(16)), low: u64::from(r.one_in(16)), ..Default::default() };
+        let (largest, low) = (u32::from(r.one_in(16)), u64::from(r.one_in(16)));
+        return ReportWords { place: r.word(), largest, low, ..Default::default() };
     }
     let number = match r.word() % 8 {
         0 => FULL - r.word() % 20,
@@ -49,7 +50,8 @@ fn report(r: &mut Random, more: usize) -> ReportWords {
         1 => most,
         _ => square + (u128::from(r.word()) << 64 | u128::from(r.word())) % (most - square + 1),
     };
-    let mut words = ReportWords { number, largest, placed: 1, place: r.word() % number, high: (sum >> 64) as u64, low: sum as u64 };
+    let (high, low) = halves(sum);
+    let mut words = ReportWords { number, largest, placed: 1, place: r.word() % number, high, low };
     match r.word() % 32 {
         0 => words.number = r.pick(&[FULL + 1, 0, u64::MAX]),
         1 => words.number = r.whole(),
@@ -108,7 +110,8 @@ fn compare(t: &mut Turn) -> u8 {
     let memory = t.memory;
     let many = length(&mut t.random);
     let other = if t.random.one_in(16) { length(&mut t.random) } else { many };
-    let (a, c) = (memory.source.lend(&mut t.random, memory.wholes, many), memory.table.lend(&mut t.random, memory.wholes, other));
+    let a = memory.source.lend(&mut t.random, memory.wholes, many);
+    let c = memory.table.lend(&mut t.random, memory.wholes, other);
     [&a, &c].iter().for_each(|lent| lent.slice().iter_mut().for_each(|x| *x = value(&mut t.random)));
     if t.random.one_in(2) {
         // one stretch near the other: blocks in which no difference is above the largest so far
@@ -131,6 +134,7 @@ fn compare(t: &mut Turn) -> u8 {
         let second = b::residual_compare(&mut pieces, &xs[cut..], &ys[cut..]);
         t.hold((first, refused, second) == (0, 1, 0) && pieces == after, "cut in two the report is another");
     }
-    [after.number, after.largest.into(), after.placed.into(), after.high, after.low].iter().for_each(|n| t.saw(*n as i64));
+    let seen = [after.number, after.largest.into(), after.placed.into(), after.high, after.low];
+    seen.iter().for_each(|n| t.saw(*n as i64));
     number
 }
