@@ -88,12 +88,13 @@ pub past : map (λ (n : ℕ). compared (reported n 0 (At 0) 0) silence silence) 
 unfolding compared
 past = refl
 
-pub past-by-two : map (λ (n : ℕ). compared (reported n 0 (At 0) 0) two two) ((2 ^ 36 - 2) ∷ (2 ^ 36 - 1) ∷ []) ≡ 0 ∷ 8 ∷ []
+pub past-by-two : map (λ (n : ℕ). compared (reported n 0 (At 0) 0) two two) ((2 ^ 36 - 2) ∷ (2 ^ 36 - 1) ∷ [])
+    ≡ 0 ∷ 8 ∷ []
 unfolding compared
 past-by-two = refl
 
--- W13c. The place counts from the first sample of all calls: a difference of 4 above a largest of 3 has the next place, one
--- of 3 leaves the first.
+-- W13c. The place counts from the first sample of all calls: a difference of 4 above a largest of 3 has the next place,
+-- one of 3 leaves the first.
 pub place-over-calls : left (reported 5 3 (At 2) 9) (pos 0 ∷ pos 4 ∷ []) two ≡ reported 7 4 (At 6) 25
 unfolding left
 place-over-calls = refl
@@ -108,7 +109,7 @@ unfolding left
 first-of-all = refl
 
 -- W13d. The low half wraps, and one is carried into the high half.
-pub halves : left (record { number = 2 ^ 20; largest = 2 ^ 24 - 1; place = At 0; high = 0; low = 2 ^ 64 - 1 }) (pos 1 ∷ []) silence
+pub halves : left (reported (2 ^ 20) (2 ^ 24 - 1) (At 0) (2 ^ 64 - 1)) (pos 1 ∷ []) silence
     ≡ record { number = 2 ^ 20 + 1; largest = 2 ^ 24 - 1; place = At 0; high = 1; low = 0 }
 unfolding left
 halves = refl

@@ -33,7 +33,8 @@ left r xs ys = behind r (comparedOf r xs ys)
 abbrev pub carried : ℕ → ℕ → Place → ℕ → ℕ
 carried number largest place sum = compared (reported number largest place sum) [] []
 
--- One sample, two, and the ends of the 24-bit values: -2^23, the number next below it, 2^23 - 1, the number next above it.
+-- One sample, two, and the ends of the 24-bit values: -2^23, the number next below it, 2^23 - 1, the number next above
+-- it.
 abbrev pub silence : List ℤ
 silence = pos 0 ∷ []
 

@@ -8,7 +8,9 @@ use borrow.Author.Tests.{leb-true, leb-false, le-leb, lt-leb}
 use lib.Dec.{leb}
 
 pub square-below : (d : ℕ) → d < 2 ^ 24 → d * d < 2 ^ 48
-square-below d h = let l : d * d ≤ 16777215 * 16777215 = mul-le-mul {n₂ = 16777215} {m₂ = 16777215} (omega arith) (omega arith) in omega arith
+square-below d h =
+    let l : d * d ≤ 16777215 * 16777215 = mul-le-mul {n₂ = 16777215} {m₂ = 16777215} (omega arith) (omega arith) in
+    omega arith
 
 pub same-test : (a b m n : ℕ) → (a ≤ b → m ≤ n) → (b < a → n < m) → leb a b ≡ leb m n
 same-test a b m n f g = go (leb a b) refl
@@ -31,4 +33,6 @@ module _ (n q : ℕ) (few : n ≤ 2 ^ 36) (small : q < 2 ^ 48) where
   product-below = mul-le-mul {m₂ = 281474976710655} few (omega arith)
 
   pub in-units : n * q ≡ n * (q / 16777216) * 16777216 + n * (q % 16777216)
-  in-units = ap (λ (x : ℕ). n * x) (sym (div-add-mod' q 16777216)) ∙ mul-add n (q / 16777216 * 16777216) (q % 16777216) ∙ ap (λ (x : ℕ). x + n * (q % 16777216)) (sym (mul-assoc n (q / 16777216) 16777216))
+  in-units =
+      ap (λ (x : ℕ). n * x) (sym (div-add-mod' q 16777216)) ∙ mul-add n (q / 16777216 * 16777216) (q % 16777216)
+      ∙ ap (λ (x : ℕ). x + n * (q % 16777216)) (sym (mul-assoc n (q / 16777216) 16777216))

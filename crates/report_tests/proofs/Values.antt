@@ -19,5 +19,6 @@ pub none-24 : (xs : List ℤ) → true ≡ all24 (take 0 xs)
 unfolding all24
 none-24 xs = refl
 
-pub one-24 : (xs : List ℤ) (i : ℕ) {ok more : Bool} → i < length xs → ok ≡ all24 (take i xs) → more ≡ (ok && in24 (getD xs i (pos 0))) → more ≡ all24 (take (i + 1) xs)
+pub one-24 : (xs : List ℤ) (i : ℕ) {ok more : Bool} → i < length xs → ok ≡ all24 (take i xs)
+    → more ≡ (ok && in24 (getD xs i (pos 0))) → more ≡ all24 (take (i + 1) xs)
 one-24 xs i h p q = q ∙ rw (p, add-one i, take-suc xs i (pos 0) h, all-more (take i xs) (getD xs i (pos 0)))

@@ -42,7 +42,8 @@ space-step top p d n s =
     let ll = part-most (lowPart d) (lowPart d) (omega arith) (omega arith) in
     record { high = omega (arith, hh, s .high); mix = omega (arith, hl, s .mix); low = omega (arith, ll, s .low) }
 
-pub space-fold : (top : ℕ) (p : Parts) (ds : List ℕ) (n : ℕ) → Space p (length ds + n) → Space (foldl (partOf top) p ds) n
+pub space-fold : (top : ℕ) (p : Parts) (ds : List ℕ) (n : ℕ) → Space p (length ds + n)
+    → Space (foldl (partOf top) p ds) n
 space-fold top p [] n s = subst (Space p) (zero-add n) s
 space-fold top p (d ∷ ds) n s =
     space-fold top (partOf top p d) ds n (space-step top p d (length ds + n) (subst (Space p) (omega arith) s))
@@ -74,7 +75,8 @@ quiet-fold top p (d ∷ ds) =
 added-step : (t : Tally) (d n s : ℕ) → d ≤ t .largest → addedTo (stepOf t d) n s ≡ addedTo t (suc n) (d * d + s)
 unfolding addedTo stepOf
 added-step t d n s h =
-    let sum : (tallied t + d * d) / 2 ^ 64 * 2 ^ 64 + (tallied t + d * d) % 2 ^ 64 + s ≡ tallied t + (d * d + s) = omega arith in
+    let sum : (tallied t + d * d) / 2 ^ 64 * 2 ^ 64 + (tallied t + d * d) % 2 ^ 64 + s ≡ tallied t + (d * d + s) =
+    omega arith in
     let number : t .number + 1 + n ≡ t .number + suc n = omega arith in
     rw (le-ltb (t .largest) d h, sum, number)
 
@@ -101,7 +103,8 @@ added-fold t [] half h = added-none t half
 added-fold t (d ∷ ds) half h =
     let top = leb-true d (t .largest) (left-true (leb d (t .largest)) (noneAbove (t .largest) ds) h) in
     added-fold (stepOf t d) ds (low-step t d)
-    (ap (λ (g : ℕ). noneAbove g ds) (largest-step t d top) ∙ right-true (leb d (t .largest)) (noneAbove (t .largest) ds) h)
+    (ap (λ (g : ℕ). noneAbove g ds) (largest-step t d top)
+    ∙ right-true (leb d (t .largest)) (noneAbove (t .largest) ds) h)
     ∙ added-step t d (length ds) (squares ds) top
 
 -- The block's sums, added at once, are its differences counted one by one.

@@ -11,14 +11,14 @@ use lib.IntN.{ℤ}
 use lib.ListN.{length}
 use Rattle.residual.specs.declared.Report.{Report}
 use Rattle.residual.specs.declared.Compared.the-variants as compared
-use Rattle.residual.specs.Report.{differences, emptyReport, carried, reportOf}
+use Rattle.residual.specs.Report.{differences, emptyReport, sumOf, carried, squares, reportOf}
 use Rattle.residual.specs.Refusals.{all24, reportOk, verdict, answerOf, comparedOf}
 use Rattle.residual.specs.Runs.{Call, answer, behind, ran, kept, taken, allTaken, firsts, seconds}
 use Rattle.report_tests.proofs.Both.{left-true, right-true}
 use Rattle.residual.proofs.Valid.{Accepted, valid, accepted}
 use Rattle.residual.proofs.Cutting.{cut}
 use Rattle.residual.proofs.Staying.{empty-in-range, stays}
-use Rattle.residual.proofs.Meaning.{from-nothing}
+use Rattle.residual.proofs.Meaning.{from-nothing, sum-is}
 use Rattle.residual.proofs.Calls.{number-carried, same-verdict}
 
 -- ---- a call by its verdict
@@ -86,6 +86,13 @@ one-call r cs h = rw (joined-taken r cs h, joined r cs)
 pub from-empty : (cs : List Call)
     → ran emptyReport cs ≡ reportOf (differences (firsts (kept emptyReport cs)) (seconds (kept emptyReport cs)))
 from-empty cs = joined emptyReport cs ∙ from-nothing (firsts (kept emptyReport cs)) (seconds (kept emptyReport cs))
+
+-- W13d. Its two halves are the sum of the squares.
+pub sum-ran : (cs : List Call)
+    → sumOf (ran emptyReport cs)
+    ≡ squares (differences (firsts (kept emptyReport cs)) (seconds (kept emptyReport cs)))
+sum-ran cs =
+    ap sumOf (joined emptyReport cs) ∙ sum-is (firsts (kept emptyReport cs)) (seconds (kept emptyReport cs))
 
 -- ---- cutting the same accepted samples differently gives the same report
 pub cut-anyhow : (r : Report) (cs ds : List Call) → firsts (kept r cs) ≡ firsts (kept r ds)

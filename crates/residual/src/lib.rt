@@ -11,8 +11,8 @@ ghost use Rattle.residual.specs.Refusals.{comparedOf};
 use checks::due;
 use steps::counted;
 
-// Where the largest difference stands first, counted from the first sample compared, over all calls; an empty report has
-// no such place.
+// Where the largest difference stands first, counted from the first sample compared, over all calls; an empty report
+// has no such place.
 pub enum Place {
     Nowhere,
     At(u64),

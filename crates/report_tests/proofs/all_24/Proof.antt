@@ -27,10 +27,11 @@ loop-holds c = (omega arith, none-24 (now (c .args .s)))
 loop-again : tie.Need-loop-again Inv-loop μ-loop
 loop-again c =
     let l = c .before .before .before .before .loop in
-    let s = now (c .before .before .before .before .before .args .s) in (
+    let s = now (c .before .before .before .before .before .args .s) in
+    let held = toZ-ofZ w32 (getD s (l .i) (pos 0)) (record { sfits = c .before .before .in-24-arg .given }) in (
       omega arith,
       one-24 s (l .i) (omega arith) (l .inv .1)
-          (c .both .ensures ∙ ap (λ (b : Bool). l .ok && b) (c .before .in-24 .ensures ∙ ap in24 (toZ-ofZ w32 (getD s (l .i) (pos 0)) (record { sfits = c .before .before .in-24-arg .given })))),
+          (c .both .ensures ∙ ap (λ (b : Bool). l .ok && b) (c .before .in-24 .ensures ∙ ap in24 held)),
     )
 
 returns : tie.Need-returns Inv-loop μ-loop
@@ -39,4 +40,5 @@ returns c = c .before .loop .inv .1 ∙ ap all24 (take-all (c .before .loop .i) 
 pub all-24-spec : {M : Type 1} → statement M
 all-24-spec =
     tie.close
-    (tie.spec Inv-loop μ-loop loop-holds (λ c. search needs) (λ c. omega arith) (λ c κs. tt) (λ c κs. tt) (λ c. omega arith) (λ c. omega arith) loop-again returns)
+    (tie.spec Inv-loop μ-loop loop-holds (λ c. search needs) (λ c. omega arith) (λ c κs. tt) (λ c κs. tt)
+    (λ c. omega arith) (λ c. omega arith) loop-again returns)

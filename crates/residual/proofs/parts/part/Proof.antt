@@ -32,7 +32,9 @@ mul-t10 : tie.Need-mul-t10
 mul-t10 c = record { fits = omega (arith, low-low (c .before .before .args .d)) }
 
 add-t11 : tie.Need-add-t11
-add-t11 c = record { fits = omega (arith, low-low (c .before .before .before .args .d), c .before .before .before .pre .low) }
+add-t11 c =
+    let s = c .before .before .before in
+    record { fits = omega (arith, low-low (s .args .d), s .pre .low) }
 
 returns : tie.Need-returns
 unfolding partOf

@@ -14,8 +14,9 @@ returns c =
     let a = now (s .args .a) in
     let b = now (s .args .b) in
     let alike = s .pre .0 .alike in
+    let small = small-differences a b (alike .left) (alike .right) in
     c .added .ensures
-    ∙ quietly (s .args .t) (differences a b) (s .pre .0 .room .half) (small-differences a b (alike .left) (alike .right))
+    ∙ quietly (s .args .t) (differences a b) (s .pre .0 .room .half) small
     (length-differences a b (alike .long)) (c .before .before .squared .ensures) (c .before .if1 .taken)
 
 pub block-spec : {M : Type 1} → statement M
