@@ -1,23 +1,20 @@
 -- W13a, W13e, W13h. Any calls, refused ones among them, leave the report of one call over the accepted ones joined; so
 -- cutting the stretch differently gives the same report. By the calls, one after the other. Assumes nothing.
 use mathlib.Core.Path.{_≡_, refl, sym, ap, _∙_}
-use mathlib.Core.Bool.{Bool, true, false, true≢false, _&&_}
+use mathlib.Core.Bool.{true, true≢false}
 use mathlib.Core.List.{List, [], _∷_}
 use Prim.Native.Nat.{ℕ, zero, suc, _+_, _^_, _≤_}
 use native.Mathlib.Omega.{arith}
 use borrow.Author.Tests.{le-leb}
-use lib.Dec.{leb}
-use lib.IntN.{ℤ}
 use lib.ListN.{length}
 use Rattle.residual.specs.declared.Report.{Report}
 use Rattle.residual.specs.declared.Compared.the-variants as compared
 use Rattle.residual.specs.Report.{differences, emptyReport, sumOf, carried, squares, reportOf}
-use Rattle.residual.specs.Refusals.{all24, reportOk, verdict, answerOf, comparedOf}
-use Rattle.residual.specs.Runs.{Call, answer, behind, ran, kept, taken, allTaken, firsts, seconds}
-use Rattle.report_tests.proofs.Both.{left-true, right-true}
-use Rattle.residual.proofs.Valid.{Accepted, valid, accepted}
+use Rattle.residual.specs.Refusals.{all24, reportOk, verdict, comparedOf}
+use Rattle.residual.specs.Runs.{Call, answer, behind, ran, kept, allTaken, firsts, seconds}
+use Rattle.residual.proofs.Valid.{valid, accepted}
 use Rattle.residual.proofs.Cutting.{cut}
-use Rattle.residual.proofs.Staying.{empty-in-range, stays}
+use Rattle.residual.proofs.Staying.{stays}
 use Rattle.residual.proofs.Meaning.{from-nothing, sum-is}
 use Rattle.residual.proofs.Calls.{number-carried, same-verdict}
 

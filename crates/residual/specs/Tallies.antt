@@ -1,6 +1,6 @@
 -- A report as plain numbers while a stretch is counted. A missing place is 0, which is right for the first difference
 -- of all: one above 0 sets it to 0, and one of 0 leaves it. Definitions only.
-use Prim.Native.Nat.{ℕ, _+_, _-_, _*_, _^_, _/_, _%_, _<_, _≤_}
+use Prim.Native.Nat.{ℕ, _+_, _*_, _^_, _/_, _%_, _<_, _≤_}
 use mathlib.Core.Path.{_≡_}
 use mathlib.Core.Bool.{true, cond}
 use mathlib.Core.List.{List}

@@ -1,5 +1,4 @@
 -- `residual::checks::report_ok` meets its contract: what the two tests ensure. Assumes nothing.
-use borrow.Author.Needs.{needs}
 use mathlib.Core.Path.{_∙_}
 use Rattle.residual.specs.Refusals.{reportOk}
 use Rattle.residual.proofs.checks.report_ok.Statement.{statement}
