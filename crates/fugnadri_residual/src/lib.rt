@@ -1,5 +1,5 @@
-// W13. The static library's export of the residual: numbers pass through pointers, a slice as a pointer and a length. No enum, no struct. It is total, and its contract is that of
-// `residual::compare`.
+// W13. The static library's export of the residual: numbers pass through pointers, a slice as a pointer and a length. No
+// enum, no struct. It is total, and its contract is that of `residual::compare`.
 ghost use mathlib.Core.Path.{_≡_};
 ghost use Rattle.fugnadri_residual.specs.Words.{placeFrom, placedOf, indexOr, numbers, leaves, leftFrom};
 use residual::Compared;
@@ -36,7 +36,8 @@ fn index_or(p: Place, index: u64) -> u64
     }
 }
 
-// The report's six numbers go in and, where the call is not refused, come out carried on. The refusal's number is returned, 0 for none.
+// The report's six numbers go in and, where the call is not refused, come out carried on. The refusal's number is
+// returned, 0 for none.
 #[no_mangle]
 pub extern "C" fn fugnadri_residual_compare(
     number: &mut u64,
