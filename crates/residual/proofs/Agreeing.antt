@@ -23,7 +23,8 @@ pub data Fit (r : Report) : Type 0 where
 no-square : (l : ℕ) → l * l ≤ 0 → l ≡ 0
 no-square zero h = refl
 no-square (suc l) h =
-    let p : 1 * 1 ≤ suc l * suc l = mul-le-mul {n₁ = 1} {m₁ = 1} {n₂ = suc l} {m₂ = suc l} (omega arith) (omega arith) in
+    let p : 1 * 1 ≤ suc l * suc l =
+    mul-le-mul {n₁ = 1} {m₁ = 1} {n₂ = suc l} {m₂ = suc l} (omega arith) (omega arith) in
     absurd (omega arith)
 
 pub fit : (r : Report) → Valid r → Fit r

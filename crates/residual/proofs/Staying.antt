@@ -1,5 +1,5 @@
--- W13. A report of our own making is never refused by 3: the empty one is in range, and a call that is not refused keeps
--- a report in range. Assumes nothing.
+-- W13. A report of our own making is never refused by 3: the empty one is in range, and a call that is not refused
+-- keeps a report in range. Assumes nothing.
 use mathlib.Core.Path.{_≡_, refl}
 use mathlib.Core.Bool.{Bool, true, false}
 use mathlib.Core.List.{List, [], _∷_, foldl}

@@ -45,8 +45,8 @@ one r d = record {
 unfoldable pub carried : Report → List ℤ → List ℤ → Report
 carried r xs ys = foldl one r (differences xs ys)
 
--- ---- what a report says, with nothing run: of all differences the number (W13a), the greatest (W13b), the index at which
--- it stands first (W13c), and the sum of the squares (W13d)
+-- ---- what a report says, with nothing run: of all differences the number (W13a), the greatest (W13b), the index at
+-- which it stands first (W13c), and the sum of the squares (W13d)
 unfoldable pub greatest : List ℕ → ℕ
 greatest [] = 0
 greatest (d ∷ ds) = max d (greatest ds)

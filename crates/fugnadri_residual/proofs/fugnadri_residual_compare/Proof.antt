@@ -20,10 +20,12 @@ answer : (c : tie.After-compare) →
     c .compare .result ≡ comparedOf (reportFrom (given s)) (now (s .args .a)) (now (s .args .b))
 answer c =
     let s = c .before .before .before .before .before .before .before .before .args in
+    let high = now (s .high) in
+    let low = now (s .low) in
     c .compare .ensures
     ∙ ap (λ (p : Place).
     comparedOf
-    (record { number = now (s .number); largest = now (s .largest); place = p; high = now (s .high); low = now (s .low) })
+    (record { number = now (s .number); largest = now (s .largest); place = p; high = high; low = low })
     (now (s .a)) (now (s .b)))
     (c .before .before .before .place-from .ensures)
 

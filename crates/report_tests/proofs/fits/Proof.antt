@@ -13,7 +13,8 @@ returns c = let a = c .before .args in sym (lt-leb (a .number + a .more) 6871947
 returns-2 : tie.Need-returns-2
 returns-2 c =
     let a = c .before .args in
-    same-test (a .more) (68719476736 - a .number) (a .number + a .more) 68719476736 (λ h. omega arith) (λ h. omega arith)
+    same-test (a .more) (68719476736 - a .number) (a .number + a .more) 68719476736 (λ h. omega arith)
+    (λ h. omega arith)
 
 pub fits-spec : {M : Type 1} → statement M
 fits-spec = tie.close (tie.spec returns returns-2)
