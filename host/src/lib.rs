@@ -22,8 +22,10 @@ pub mod lenient;
 mod params;
 mod quality_mode;
 mod refusal;
+mod residual;
 mod sources;
 pub mod strict;
 
 pub use lenient::*;
 pub use refusal::Refusal;
+pub use residual::Residual;
