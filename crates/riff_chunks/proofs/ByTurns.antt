@@ -1,6 +1,6 @@
--- A walk by its turns, for any layout: what was seen, with what is left of the walk, is what the whole walk sees. A loop
--- over `turn` that starts with `begin` and goes on while 8 bytes are left cites four laws: `on-begun`, `on-turned`,
--- `fewer` and `on-ended`. Assumes nothing.
+-- A walk by its turns, for any layout: what was seen, with what is left of the walk, is what the whole walk sees. A
+-- loop over `turn` that starts with `begin` and goes on while 8 bytes are left cites four laws: `on-begun`,
+-- `on-turned`, `fewer` and `on-ended`. Assumes nothing.
 use mathlib.Core.Path.{_≡_, refl, sym, ap, _∙_}
 use mathlib.Core.Bool.{Bool, true, false, cond}
 use mathlib.Core.List.{List, [], _∷_}

@@ -42,9 +42,10 @@ module _ (s : Sought) (chunkOf : ℕ → Chunk) (placed : Placed chunkOf) (end a
   pub pad-missing : chunkOf at .body + chunkOf at .size ≡ end
       → (walkedFrom s chunkOf end at ≡ chunkOf at ∷ []) × (overruns end (chunkOf at) ≡ false)
   unfolding upTo
-  pad-missing e =
-      (walked-one ∙ rw (left-over chunkOf end (after (chunkOf at)) (omega arith)) (by (isLast s (chunkOf at))),
-      le-ltb end (chunkOf at .body + chunkOf at .size) (omega arith))
+  pad-missing e = (
+    walked-one ∙ rw (left-over chunkOf end (after (chunkOf at)) (omega arith)) (by (isLast s (chunkOf at))),
+    le-ltb end (chunkOf at .body + chunkOf at .size) (omega arith),
+  )
     where
       by : (t : Bool) → chunkOf at ∷ cond t [] [] ≡ chunkOf at ∷ []
       by true = refl

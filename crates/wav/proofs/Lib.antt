@@ -1,3 +1,7 @@
 pub mod Names
 pub mod Passed
 pub mod InHand
+pub mod Promised
+pub mod Alike
+pub mod Behind
+pub mod Wrapped
