@@ -38,14 +38,7 @@ pub extern "C" fn fugnadri_wav_read_wrapped(
         (now (kind .exit)) (now (channels .exit)) (now (rate .exit)) (now (start .exit)) (now (size .exit))
         ≡ leftBy (foundWrapped (now (file .entry))) ⌝ }
 {
-    hand_out(
-        wav::read_wrapped(file),
-        kind,
-        channels,
-        rate,
-        start,
-        size,
-    )
+    hand_out(wav::read_wrapped(file), kind, channels, rate, start, size)
 }
 
 // It refuses nothing: zeros where there is no `fmt ` or no `data`.

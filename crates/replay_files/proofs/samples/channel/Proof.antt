@@ -11,6 +11,14 @@ slice-aggregate-fill c = sym (length-take-le _ _ (search needs))
 slice-aggregate-fill-f32 : tie.Need-slice-aggregate-fill-f32
 slice-aggregate-fill-f32 c = sym (length-take-le _ _ (search needs))
 
+slice-aggregate-fill-whole : tie.Need-slice-aggregate-fill-whole
+slice-aggregate-fill-whole c = sym (length-take-le _ _ (search needs))
+
 pub channel-spec : {M : Type 1} → statement M
 channel-spec =
-    tie.close (tie.spec (λ c κs. search needs) (λ c κs. search needs) (λ c. search needs) slice-aggregate-fill (λ c κs. search needs) (λ c. search needs) (λ c κs. search needs) (λ c. search needs) slice-aggregate-fill-f32 (λ c κs. search needs) (λ c. search needs) (λ c κs. search needs) (λ c κs. search needs) (λ c κs. search needs) (λ c. search needs))
+    tie.close
+    (tie.spec (λ c κs. search needs) (λ c κs. search needs) (λ c. search needs) slice-aggregate-fill
+    (λ c κs. search needs) (λ c. search needs) (λ c κs. search needs) (λ c. search needs) slice-aggregate-fill-f32
+    (λ c κs. search needs) (λ c. search needs) (λ c κs. search needs) (λ c. search needs) slice-aggregate-fill-whole
+    (λ c κs. search needs) (λ c. search needs) (λ c κs. search needs) (λ c κs. search needs) (λ c κs. search needs)
+    (λ c. search needs))
