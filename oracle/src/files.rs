@@ -52,8 +52,7 @@ fn each() -> impl Iterator<Item = (String, usize, u32, u32)> {
 
 fn write_tones(folder: &Path) -> Result<()> {
     for (name, kind, channels, rate) in each() {
-        let samples: Vec<Vec<u8>> =
-            tone(KINDS[kind].1, channels, rate).into_iter().map(|n| stored(kind, n)).collect();
+        let samples: Vec<Vec<u8>> = tone(KINDS[kind].1, channels, rate).into_iter().map(|n| stored(kind, n)).collect();
         fs::write(folder.join(format!("{name}.raw")), samples.concat())?;
         fs::write(folder.join(format!("{name}.au")), au(kind, channels, rate, &samples))?;
     }
@@ -92,14 +91,23 @@ fn compared(file: &[u8], theirs: &[u8], high_first: bool, of: (usize, u32, u32),
     if number != 0 {
         return Some(format!("refused by {number}: {:?}", b::wav_told(file)));
     }
-    if plain { seen.plain += 1 } else { seen.wrapped += 1 }
+    if plain {
+        seen.plain += 1
+    } else {
+        seen.wrapped += 1
+    }
     if (usize::from(w.kind), u32::from(w.channels), w.rate) != of {
         return Some(format!("{w:?} for kind {kind}, {channels} channels, rate {rate}"));
     }
-    let meant: Vec<u64> = tone(KINDS[kind].1, channels, rate).into_iter().map(|n| value(KINDS[kind].1, n).to_bits()).collect();
+    let meant: Vec<u64> =
+        tone(KINDS[kind].1, channels, rate).into_iter().map(|n| value(KINDS[kind].1, n).to_bits()).collect();
     let word = |eight: &[u8]| {
         let bytes: [u8; 8] = eight.try_into().expect("eight bytes");
-        if high_first { u64::from_be_bytes(bytes) } else { u64::from_le_bytes(bytes) }
+        if high_first {
+            u64::from_be_bytes(bytes)
+        } else {
+            u64::from_le_bytes(bytes)
+        }
     };
     if !theirs.chunks_exact(8).map(word).eq(meant.iter().copied()) {
         return Some("the program reads another tone".into());
@@ -117,7 +125,8 @@ fn compared(file: &[u8], theirs: &[u8], high_first: bool, of: (usize, u32, u32),
 }
 
 fn compare(folder: &Path) -> Result<i32> {
-    let known: BTreeMap<String, (usize, u32, u32)> = each().map(|(name, kind, c, rate)| (name, (kind, c, rate))).collect();
+    let known: BTreeMap<String, (usize, u32, u32)> =
+        each().map(|(name, kind, c, rate)| (name, (kind, c, rate))).collect();
     let mut programs: BTreeMap<String, Seen> = BTreeMap::new();
     for line in fs::read_to_string(folder.join("list"))?.lines() {
         let (program, name) = line.split_once(' ').expect("a program and a tone");
@@ -130,7 +139,10 @@ fn compare(folder: &Path) -> Result<i32> {
         }
     }
     for (program, s) in &programs {
-        println!("{program:<16} {:>3} plain, {:>3} wrapped, {:>7} samples, {} files differ", s.plain, s.wrapped, s.samples, s.wrong);
+        println!(
+            "{program:<16} {:>3} plain, {:>3} wrapped, {:>7} samples, {} files differ",
+            s.plain, s.wrapped, s.samples, s.wrong
+        );
     }
     Ok(i32::from(programs.is_empty() || programs.values().any(|s| s.wrong > 0)))
 }
