@@ -59,7 +59,7 @@ impl Refusal {
             12 => NoData,
             13 => Kind,
             other => unreachable!(
-                "the static libraries refuse by 1 to 13, not by {other}: they are not the ones that this crate was written for"
+                "the static libraries refuse by 1 to 13, not by {other}: this crate was written for others"
             ),
         })
     }
