@@ -1,5 +1,5 @@
--- Two files whose first bytes are the same: so are the parts and the chunks that lie in these and, where both files hold
--- their RIFF, the first two tests and the walk. Assumes nothing.
+-- Two files whose first bytes are the same: so are the parts and the chunks that lie in these and, where both files
+-- hold their RIFF, the first two tests and the walk. Assumes nothing.
 use mathlib.Core.Path.{_≡_, refl, sym, ap, _∙_}
 use mathlib.Core.Bool.{not}
 use mathlib.Core.List.{List, [], _∷_}

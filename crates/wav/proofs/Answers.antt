@@ -38,7 +38,8 @@ module _ (tagOf : List ℕ → ℕ → ℕ) where
 
   -- the body matters only where the first four tests pass
   body-matters : (is fit : Bool) (v : Walked) (f g : List ℕ)
-      → (fit ≡ true → v .format .found ≡ true → v .samples .found ≡ true → f ≡ g) → judgedBy is fit v f ≡ judgedBy is fit v g
+      → (fit ≡ true → v .format .found ≡ true → v .samples .found ≡ true → f ≡ g)
+      → judgedBy is fit v f ≡ judgedBy is fit v g
   body-matters false fit v f g h = refl
   body-matters true false v f g h = refl
   body-matters true true v f g h = by (v .format .found) (v .samples .found) refl refl

@@ -64,8 +64,8 @@ module _ (tagOf : List ℕ → ℕ → ℕ) (b c : List ℕ) where
           let holds : 8 + riffSize c ≤ length c = omega arith in
           let chunks = same-chunks (chunkAt bytesValue b) (chunkAt bytesValue c) n (alike n b c same) 12 in
           let v = walk-same n b c same held holds (omega arith) (ap (upTo riffSought) chunks) in
-          same-answers tagOf b c (wave-same n b c same held holds (omega arith) k) (within-same n b c same held holds v) v
-          (λ q f g. body q f)
+          same-answers tagOf b c (wave-same n b c same held holds (omega arith) k)
+          (within-same n b c same held holds v) v (λ q f g. body q f)
 
   passed-alike : Passed tagOf b → (n : ℕ) → walkIn b .samples .body ≤ n → take n b ≡ take n c
       → 8 + riffSize c ≤ length c → foundBy tagOf b ≡ foundBy tagOf c
