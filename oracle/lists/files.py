@@ -35,7 +35,7 @@ from riff_wrong import WRONG
 
 SEED = 0x9E3779B97F4A7C15
 ROOT = os.path.join(os.path.dirname(os.path.abspath(__file__)), "..", "..", "crates", "replay_files")
-LONGEST, MOST = 1024, 256       # bytes of a file and frames, as the program has room for
+LONGEST, MOST = 512, 128        # a file's bytes and its frames: the program has room for so many
 
 
 def found(reading, wrapped, file):
@@ -84,8 +84,9 @@ def main(arguments):
         print(__doc__.strip())
         return 0 if arguments in (["--help"], ["-h"]) else 2
     made = list({file: (name, file) for name, file in files(Draws(SEED))}.values())
-    assert max(len(file) for _, file in made) <= LONGEST
     answers = [answer(Reading(), file) for _, file in made]
+    assert max(len(file) for _, file in made) <= LONGEST
+    assert max(len(line.split()) for lines in answers for line in lines) <= 3 + 3 * MOST
     content = {
         "stdin": "".join("%04X %s\n" % (len(file), file.hex().upper()) for _, file in made),
         "stdout": "".join(line + "\n" for lines in answers for line in lines),
