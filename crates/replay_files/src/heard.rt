@@ -1,4 +1,4 @@
-// A file from standard input: the number of its bytes in four hex digits, a blank, two digits for each byte, a line's end.
+// A file from standard input: the number of its bytes in four hex digits, a blank, two digits a byte, a line's end.
 use libc::STDIN_FILENO;
 use replay_lines::within;
 use word_bytes::word_at;
