@@ -62,8 +62,8 @@ impl Wave<'_> {
         self.part.len().checked_div(self.kind.width() * usize::from(self.channels)).unwrap_or(0)
     }
 
-    /// A channel's samples, counted from 0: PCM as whole multiples of 2^-15 or 2^-23, float as it is stored, every NaN as
-    /// the one that is handed out. A channel that is not there is refused by 1.
+    /// A channel's samples, counted from 0: PCM as whole multiples of 2^-15 or 2^-23, float as it is stored, every NaN
+    /// as the one that is handed out. A channel that is not there is refused by 1.
     pub fn channel(&self, channel: u8) -> Result<Vec<f64>, Refusal> {
         self.filled(channel, b::wav_samples)
     }

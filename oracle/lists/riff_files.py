@@ -1,5 +1,5 @@
-"""Small RIFF WAVE files, whole and damaged, for files.py: the edges of document 02's Wish 1, and random damage. No answer is
-computed here.
+"""Small RIFF WAVE files, whole and damaged, for files.py: the edges of document 02's Wish 1, and random damage. No answer
+is computed here.
 """
 import struct
 

@@ -1,5 +1,5 @@
-"""RIFF WAVE as Wish 1 of document 02 says it: the model behind files.py, which knows no source of this repository. Wrapped
-kinds, of which the document says nothing, follow the published layout of WAVE_FORMAT_EXTENSIBLE.
+"""RIFF WAVE as Wish 1 of document 02 says it: the model behind files.py, which knows no source of this repository.
+Wrapped kinds, of which the document says nothing, follow the published layout of WAVE_FORMAT_EXTENSIBLE.
 
 A method or a constant of `Reading` is one of its sentences, so that a wrong reading changes a single one of them
 (riff_wrong.py).
@@ -101,8 +101,8 @@ class Reading:
         return block == 0 or size % block != 0
 
     def kind(self, fmt, size):
-        """13: a kind not listed, a `fmt ` under 16 bytes, a block size other than channels × bytes or a `data` of broken
-        frames."""
+        """13: a kind not listed, a `fmt ` under 16 bytes, a block size other than channels × bytes or a `data` of
+        broken frames."""
         _, channels, _, _, block, bits = self.fields(fmt)
         kind = self.kinds.get((self.tag(fmt), bits))
         if len(fmt) < self.least or kind is None or channels not in self.channels:

@@ -1,5 +1,5 @@
-"""Readings of RIFF WAVE that differ from riff_model.py's in one sentence. What each would answer is compared with the true
-answer, so that files.py can say how many of its files tell the two apart.
+"""Readings of RIFF WAVE that differ from riff_model.py's in one sentence. What each would answer is compared with the
+true answer, so that files.py can say how many of its files tell the two apart.
 """
 from riff_model import FLOAT32, PCM16, Reading, number
 

@@ -1,5 +1,5 @@
-//! `files tone FOLDER` writes a tone for every kind, number of channels and rate; `files compare FOLDER` reads the WAV files
-//! that oracle/files had made of it, and compares what the static libraries and what each program read with the tone.
+//! `files tone FOLDER` writes a tone for every kind, number of channels and rate; `files compare FOLDER` reads the WAV
+//! files that oracle/files had made of it, and compares what the static libraries and what each program read with the tone.
 // The emulator that runs this on Arm cannot open what Rust's own `main` opens.
 #![no_main]
 

@@ -91,6 +91,6 @@ fn run(file: &mut [u8]) {
 }
 
 fn main() {
-    let mut file = [0u8; 1024];
+    let mut file = [0u8; 512];
     run(&mut file);
 }
