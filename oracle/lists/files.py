@@ -13,7 +13,8 @@ channels, block size, bits, the size of `data`). Where `read_wrapped` refuses no
 the refusals' numbers of the samples as f64, as f32 and as whole numbers, then for each frame the three, as patterns in
 hex: 16, 8 and 8 digits. A NaN is 7ff8000000000000 and 7fc00000.
 
-The answers are riff_model.py's, the files riff_files.py's. It says for how many files each of the wrong readings of
+The answers are riff_model.py's, the files riff_files.py's. The two readings and the samples are riff_second.py's too,
+written by somebody who had seen no definition: the script fails where the two models differ. It says for how many files each of the wrong readings of
 riff_wrong.py answers otherwise, and fails where one never does.
 
 Needs Python 3.8 or newer and nothing else. The inputs come from a generator of its own with the seed below, so every
@@ -31,6 +32,7 @@ from collections import Counter
 from hostile import Draws
 from riff_files import files
 from riff_model import FLOAT32, Reading, Refused
+from riff_second import read, samples as second_samples, shown
 from riff_wrong import WRONG
 
 SEED = 0x9E3779B97F4A7C15
@@ -66,6 +68,21 @@ def answer(reading, file):
     return [numbers] + (list(samples(reading, file, wrapped[1:])) if wrapped[0] == 0 else [])
 
 
+def second(file):
+    """What the second model says: the first 12 numbers, and each channel's samples."""
+    plain, wrapped = read(file, False), read(file, True)
+    channels = range(wrapped[2] if wrapped[0] == 0 else 0)
+    return ["".join("%d " % n for n in plain + wrapped)] + [
+        "".join(shown(*sample) + " " for sample in second_samples(file, wrapped[1:], k)) for k in channels]
+
+
+def both_say(file, lines):
+    """Whether the second model says the same; what `fmt_told` tells is the first one's alone."""
+    said = second(file)
+    return len(said) == len(lines) and lines[0].startswith(said[0]) and all(
+        line.split()[3:] == other.split() for line, other in zip(lines[1:], said[1:]))
+
+
 def summary(made, answers):
     size, lines = sum(len(file) for _, file in made), sum(map(len, answers))
     yield "seed %016X, %d files, %d bytes, %d lines" % (SEED, len(made), size, lines)
@@ -85,6 +102,8 @@ def main(arguments):
         return 0 if arguments in (["--help"], ["-h"]) else 2
     made = list({file: (name, file) for name, file in files(Draws(SEED))}.values())
     answers = [answer(Reading(), file) for _, file in made]
+    for (_, file), lines in zip(made, answers):
+        assert both_say(file, lines), "the two models differ: " + file.hex()
     assert max(len(file) for _, file in made) <= LONGEST
     assert max(len(line.split()) for lines in answers for line in lines) <= 3 + 3 * MOST
     content = {
