@@ -12,7 +12,7 @@ use Rattle.sample_kind.specs.declared.SampleKind.{SampleKind}
 use Rattle.stored_samples.specs.Stored.{fitsIn}
 use Rattle.wav_store.specs.Storing.{allFit}
 
-and-assoc : (a b c : Bool) → ((a && b) && c) ≡ (a && (b && c))
+pub and-assoc : (a b c : Bool) → ((a && b) && c) ≡ (a && (b && c))
 and-assoc true b c = refl
 and-assoc false b c = refl
 
