@@ -1,5 +1,5 @@
--- W2c at one sample: what was read from stored digits is stored as the same digits, over the format and the width, and so
--- is a finite f32. By `whole_samples`' law `exact`: a whole number of units is its own nearest. Assumes nothing.
+-- W2c at one sample: what was read from stored digits is stored as the same digits, over the format and the width, and
+-- so is a finite f32. By `whole_samples`' law `exact`: a whole number of units is its own nearest. Assumes nothing.
 use mathlib.Core.Path.{_≡_, refl, sym, ap, _∙_, subst}
 use mathlib.Core.Bool.{Bool, true, false, cond, _&&_, not}
 use Prim.Native.Nat.{ℕ, zero, suc, _+_, _-_, _*_, _%_, _^_, _≤_, _<_}
@@ -34,10 +34,9 @@ unfolding nearestWhole
 own-nearest w nan s a v = absurd v
 own-nearest w (inf t) s a v = absurd v
 own-nearest w (fin t m e) s a v =
-    let n : closest (m * up e * 2 ^ (w - 1)) (down e) ≡ a =
-    ap (λ (z : ℕ). closest z (down e)) (v .1) ∙ closest-multiple a (down e) (down-pos e) in
-    ap (λ (u : Bool). cond u (negℤ (pos (closest (m * up e * 2 ^ (w - 1)) (down e)))) (pos (closest (m * up e * 2 ^ (w - 1)) (down e)))) (v .0)
-    ∙ ap (λ (z : ℕ). cond s (negℤ (pos z)) (pos z)) n
+    let q = closest (m * up e * 2 ^ (w - 1)) (down e) in
+    let is : q ≡ a = ap (λ (z : ℕ). closest z (down e)) (v .1) ∙ closest-multiple a (down e) (down-pos e) in
+    ap (λ (u : Bool). cond u (negℤ (pos q)) (pos q)) (v .0) ∙ ap (λ (z : ℕ). cond s (negℤ (pos z)) (pos z)) is
 
 -- ---- two's complement, there and back
 module _ (w n : ℕ) (P : 0 < w) where
@@ -57,7 +56,8 @@ module _ (w n : ℕ) (P : 0 < w) where
   kept : Kept (cond (negative w n) (negℤ (pos (size w n))) (pos (size w n)))
   kept = go (leb (2 ^ (w - 1)) r) refl
     where
-      go : (t : Bool) → leb (2 ^ (w - 1)) r ≡ t → Kept (cond t (negℤ (pos (cond t (2 ^ w - r) r))) (pos (cond t (2 ^ w - r) r)))
+      go : (t : Bool) → leb (2 ^ (w - 1)) r ≡ t
+          → Kept (cond t (negℤ (pos (cond t (2 ^ w - r) r))) (pos (cond t (2 ^ w - r) r)))
       go true e = below-zero (2 ^ w - r) refl (leb-true (2 ^ (w - 1)) r e)
       go false e = (lt-ltb r (2 ^ (w - 1)) (leb-false (2 ^ (w - 1)) r e), refl)
 
@@ -71,7 +71,8 @@ module _ (w n : ℕ) (P : 0 < w) where
     pub whole-fits : fitsWhole w x ≡ true
     unfolding fitsWhole
     whole-fits =
-        rw (nearest, is-true (finite x) (value-finite x (negative w n) (size w n) (2 ^ (w - 1)) (exact f w n P h))) (kept .0)
+        let t = value-finite x (negative w n) (size w n) (2 ^ (w - 1)) (exact f w n P h) in
+        rw (nearest, is-true (finite x) t) (kept .0)
 
     pub whole-digits : digitsOf w (nearestWhole w x) ≡ n % 2 ^ w
     whole-digits = rw nearest (kept .1)
@@ -84,10 +85,12 @@ again : (kind : SampleKind) (x : Float) (n : ℕ) → fitsIn kind x ≡ true →
 again kind x n t e = (t, ap (λ (b : Bool). cond b (digitsIn kind x) 0) t ∙ e)
 
 pub again16 : (f : Format) (n : ℕ) → Again Pcm16 (wholeOf f 16 n) (n % 2 ^ 16)
-again16 f n = again Pcm16 (wholeOf f 16 n) _ (whole-fits 16 n (lit≤ tt) f (lit≤ tt)) (whole-digits 16 n (lit≤ tt) f (lit≤ tt))
+again16 f n =
+    again Pcm16 (wholeOf f 16 n) _ (whole-fits 16 n (lit≤ tt) f (lit≤ tt)) (whole-digits 16 n (lit≤ tt) f (lit≤ tt))
 
 pub again24 : (f : Format) (n : ℕ) → Again Pcm24 (wholeOf f 24 n) (n % 2 ^ 24)
-again24 f n = again Pcm24 (wholeOf f 24 n) _ (whole-fits 24 n (lit≤ tt) f (lit≤ tt)) (whole-digits 24 n (lit≤ tt) f (lit≤ tt))
+again24 f n =
+    again Pcm24 (wholeOf f 24 n) _ (whole-fits 24 n (lit≤ tt) f (lit≤ tt)) (whole-digits 24 n (lit≤ tt) f (lit≤ tt))
 
 pub again-float : (n : ℕ) → n < 2 ^ 32 → T (finite (ofBits binary32 n)) → Again Float32 (ofBits binary32 n) n
 again-float n l t =

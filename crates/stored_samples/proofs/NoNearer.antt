@@ -1,5 +1,5 @@
--- W2d. No whole number lies nearer to x · 2^(w-1) than the one that is stored, and of two as near it is the even one: over
--- the width, in exact fractions. Assumes nothing.
+-- W2d. No whole number lies nearer to x · 2^(w-1) than the one that is stored, and of two as near it is the even one:
+-- over the width, in exact fractions. Assumes nothing.
 use mathlib.Core.Path.{_≡_, refl, sym, ap, _∙_, subst}
 use mathlib.Core.Logic.{_⊎_, inl, inr}
 use mathlib.Core.Bool.{Bool, true, false, cond, not}
@@ -76,9 +76,12 @@ module _ (a D : ℕ) (P : 0 < D) where
   off-with true (suc n) = refl
   off-with false n = refl
 
-  as-even : (s : Bool) (y : ℤ) → (y ≡ with s q → ⊥) → apart s a s (q * D) ≡ apart s a (not (nonNeg y)) (natAbs y * D) → q % 2 ≡ 0
+  as-even : (s : Bool) (y : ℤ) → (y ≡ with s q → ⊥)
+      → apart s a s (q * D) ≡ apart s a (not (nonNeg y)) (natAbs y * D) → q % 2 ≡ 0
   as-even s y d e = elim (apart-eq s (not (nonNeg y)) a (q * D) (natAbs y * D) e) [
-    | inl g ↦ tie (natAbs y) (λ i. d (sym (ap (with s) i ∙ ap (λ (t : Bool). with t (natAbs y)) (sym (g .0)) ∙ own y))) (g .1)
+    | inl g ↦
+        let same = ap (λ (t : Bool). with t (natAbs y)) (sym (g .0)) ∙ own y in
+        tie (natAbs y) (λ i. d (sym (ap (with s) i ∙ same))) (g .1)
     | inr g ↦
         let z : natAbs y ≡ 0 = none (natAbs y) D P (omega (arith, little)) in
         tie 0 (λ i. d (no-size y z ∙ sym (ap (with s) i ∙ zero-with s))) (omega (arith, zero-mul D, little))

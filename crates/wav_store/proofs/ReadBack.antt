@@ -1,5 +1,5 @@
--- W2c at a block: storing the samples that were read from a part gives the part's bytes. Sample by sample: its word is the
--- number that its bytes stand for, and that number's bytes are they. Assumes nothing.
+-- W2c at a block: storing the samples that were read from a part gives the part's bytes. Sample by sample: its word is
+-- the number that its bytes stand for, and that number's bytes are they. Assumes nothing.
 use mathlib.Core.Path.{_≡_, refl, sym, ap, _∙_}
 use mathlib.Core.Logic.{inl, inr}
 use mathlib.Core.Bool.{Bool, true, _&&_}
@@ -87,18 +87,23 @@ module _ (kind : SampleKind) where
   all-append : (xs : List Float) (x : Float) → allFit kind (xs ++ (x ∷ [])) ≡ (allFit kind xs && fitsIn kind x)
   unfolding allFit
   all-append [] x = and-true (fitsIn kind x)
-  all-append (y ∷ xs) x = ap (λ (t : Bool). fitsIn kind y && t) (all-append xs x) ∙ sym (and-assoc (fitsIn kind y) (allFit kind xs) (fitsIn kind x))
+  all-append (y ∷ xs) x =
+      ap (λ (t : Bool). fitsIn kind y && t) (all-append xs x)
+      ∙ sym (and-assoc (fitsIn kind y) (allFit kind xs) (fitsIn kind x))
 
-  bytes-append : (xs : List Float) (x : Float) → bytesOf kind (xs ++ (x ∷ [])) ≡ bytesOf kind xs ++ lowBytes (widthOf kind) (wordOf kind x)
+  bytes-append : (xs : List Float) (x : Float)
+      → bytesOf kind (xs ++ (x ∷ [])) ≡ bytesOf kind xs ++ lowBytes (widthOf kind) (wordOf kind x)
   unfolding bytesOf
   bytes-append [] x = append-nil (lowBytes (widthOf kind) (wordOf kind x))
   bytes-append (y ∷ xs) x =
-      ap (λ (ys : List ℕ). lowBytes (widthOf kind) (wordOf kind y) ++ ys) (bytes-append xs x)
-      ∙ sym (append-assoc (lowBytes (widthOf kind) (wordOf kind y)) (bytesOf kind xs) (lowBytes (widthOf kind) (wordOf kind x)))
+      let first = lowBytes (widthOf kind) (wordOf kind y) in
+      ap (λ (ys : List ℕ). first ++ ys) (bytes-append xs x)
+      ∙ sym (append-assoc first (bytesOf kind xs) (lowBytes (widthOf kind) (wordOf kind x)))
 
   module _ (f : Format) (b : List ℕ) (h : Bytes b) where
     front : (n : ℕ) → n * widthOf kind ≤ length b → AllFinite f kind b n
-        → (allFit kind (samplesOf f kind b n) ≡ true) × (bytesOf kind (samplesOf f kind b n) ≡ take (n * widthOf kind) b)
+        → (allFit kind (samplesOf f kind b n) ≡ true)
+        × (bytesOf kind (samplesOf f kind b n) ≡ take (n * widthOf kind) b)
     unfolding listOf allFit bytesOf
     front zero l t = (refl, sym (ap (λ (z : ℕ). take z b) (zero-mul (widthOf kind))))
     front (suc n) l t =
@@ -132,4 +137,6 @@ pub interleaved : (f : Format) (kind : SampleKind) (b : List ℕ) (n channels q 
     → getD (samplesOf f kind b n) (q * channels + c) d ≡ sampleOf f kind b (q * frameOf kind channels + frameOf kind c)
 interleaved f kind b n channels q c d h =
     element _ n (q * channels + c) d h
-    ∙ ap (sampleOf f kind b) (add-mul (q * channels) c (widthOf kind) ∙ ap (λ (z : ℕ). z + c * widthOf kind) (mul-assoc q channels (widthOf kind)))
+    ∙ ap (sampleOf f kind b)
+    (add-mul (q * channels) c (widthOf kind)
+    ∙ ap (λ (z : ℕ). z + c * widthOf kind) (mul-assoc q channels (widthOf kind)))
