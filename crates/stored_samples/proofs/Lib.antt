@@ -1,5 +1,6 @@
 pub mod Halves
 pub mod Ranges
+pub mod Scaled
 pub mod Pattern
 pub mod Digits
 pub mod Words

@@ -5,7 +5,7 @@ use mathlib.Core.Logic.{inl, inr}
 use mathlib.Core.Bool.{Bool, true, _&&_}
 use mathlib.Core.List.{List, [], _∷_, _++_, append-assoc, append-nil}
 use Prim.Native.Nat.{ℕ, zero, suc, _+_, _-_, _*_, _/_, _%_, _^_, _≤_, _<_}
-use native.Mathlib.Nat.{pow-suc, add-mul, mul-assoc, suc-mul, zero-mul, mul-le-mul-right, mod-eq-of-lt}
+use native.Mathlib.Nat.{pow-suc, add-mul, mul-assoc, suc-mul, zero-mul, mod-eq-of-lt}
 use native.Mathlib.Omega.{arith}
 use lib.Dec.{T, lit≤}
 use lib.ListN.{length, take, drop, getD, length-take, length-drop, List·getD-eq-default}
