@@ -7,6 +7,7 @@ pub mod Words
 pub mod Floats
 pub mod Narrow
 pub mod Back
+pub mod Below
 pub mod NoNearer
 pub mod Edges
 pub mod Refused

@@ -1,5 +1,5 @@
--- A format's powers of two near its digits; a fraction where its values are the whole numbers, rounded; and a value times
--- a power of two, which is exact. Over the format. Assumes nothing.
+-- A format's powers of two near its digits; a fraction where its values are the whole numbers, rounded; and a value
+-- times a power of two, which is exact. Over the format. Assumes nothing.
 use mathlib.Core.Path.{_≡_, refl, sym, ap, _∙_, subst}
 use mathlib.Core.Bool.{Bool, true, false}
 use Prim.Native.Nat.{ℕ, suc, _+_, _-_, _*_, _^_, _≤_, _<_}

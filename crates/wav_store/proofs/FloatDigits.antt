@@ -8,16 +8,17 @@ use borrow.Author.Tests.{leb-true, leb-false}
 use denote.Floats.{passes}
 use lib.Dec.{T, leb}
 use lib.Ieee.{Float, nan, inf, fin, binary32, binary64, add, sub, mul, lt, fits, isNan, nanBits}
-use lib.Ieee.{ofBits, toBits, up, down}
+use lib.Ieee.{ofBits, toBits}
 use lib.Ieee.Bits.{ofBits-toBits, toBits-lt}
 use lib.Ieee.Exact.{HasValue}
-use lib.Ieee.Fits.{and-i, round-fits, fits-widens}
+use lib.Ieee.Fits.{and-i, fits-widens}
 use lib.Ieee.Scale.{finite}
 use Rattle.magnitude.proofs.Comparisons.{finite-number}
 use Rattle.rounding.specs.Operations.{narrowed}
 use Rattle.rounding.proofs.Patterns.{finite-rest, rest-no-nan, sign-rest, value-bits}
 use Rattle.rounding.proofs.Values.{value-no-nan}
 use Rattle.sample_kind.specs.declared.SampleKind.the-variants.{Float32}
+use Rattle.stored_samples.proofs.Below.{narrow-fits}
 use Rattle.stored_samples.specs.Stored.{fitsIn, wordOf}
 use Rattle.wav_store.specs.Storing.{leastAdded}
 use Rattle.wav_store.proofs.Added.{times, added}
@@ -28,12 +29,6 @@ unfolding narrowed
 was-finite nan h = h
 was-finite (inf s) h = h
 was-finite (fin s m e) h = tt
-
-narrow-fits : (x : Float) → T (fits binary32 (narrowed x))
-unfolding narrowed fits
-narrow-fits nan = tt
-narrow-fits (inf s) = tt
-narrow-fits (fin s m e) = round-fits binary32 s (m * up e) (down e)
 
 module _ (x : Float) (held : T (fits binary64 x)) (ok : fitsIn Float32 x ≡ true) where
   abbrev n : ℕ

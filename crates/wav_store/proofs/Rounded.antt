@@ -215,7 +215,8 @@ module _ (s : Bool) (b : ℕ) (fine : b < 0x7ff0_0000_0000_0000) where
           let m =
           subst (λ (z : Float). T (fits binary32 z)) (sym (narrows b fine s)) (round-fits binary32 s v (2 ^ 1074)) in
           value-unique binary64 w (narrowed x) s (q * u) (round-fits binary64 s (q * u) (2 ^ 1074))
-          (fits-widens (narrowed x) m) (exact s) (rescale (narrowed x) s (q * 2 ^ k) (2 ^ 149) (q * u) (2 ^ 1074) (pow-pos 149) e n)
+          (fits-widens (narrowed x) m) (exact s)
+          (rescale (narrowed x) s (q * 2 ^ k) (2 ^ 149) (q * u) (2 ^ 1074) (pow-pos 149) e n)
 
       pub pattern : toBits binary64 y % 2 ^ 63 + cond s (2 ^ 63) 0 ≡ toBits binary64 (narrowed x)
       pattern =

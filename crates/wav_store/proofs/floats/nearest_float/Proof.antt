@@ -28,7 +28,8 @@ float-to-bits-n c = rw (c .larger .ensures) (digits.y-no-nan (c .before .args .x
 add-n : tie.Need-add-n
 unfolding ofBits
 add-n c =
-    record { fits = rw (c .larger .ensures) (digits.fits-word (c .before .args .x) (held (c .before)) (c .before .pre)) }
+    let b = c .before in
+    record { fits = rw (c .larger .ensures) (digits.fits-word (b .args .x) (held b) (b .pre)) }
 
 float-from-bits-result : tie.Need-float-from-bits-result
 unfolding ofBits
