@@ -16,7 +16,7 @@ use lib.Ieee.Positive.{positive-of-value, mul-at}
 use Rattle.rounding.proofs.Comparing.{lt-units}
 use Rattle.rounding.proofs.Orders.{lt-or-ge}
 use Rattle.narrowing.proofs.Patterns.{value}
-use Rattle.wav_store.specs.Storing.{leastAdded}
+use Rattle.wav_store.specs.Inner.{leastAdded}
 
 -- 3 · 2^28
 abbrev pub times : Float

@@ -20,7 +20,7 @@ use Rattle.rounding.proofs.Values.{value-no-nan}
 use Rattle.sample_kind.specs.declared.SampleKind.the-variants.{Float32}
 use Rattle.stored_samples.proofs.Below.{narrow-fits}
 use Rattle.stored_samples.specs.Stored.{fitsIn, wordOf}
-use Rattle.wav_store.specs.Storing.{leastAdded}
+use Rattle.wav_store.specs.Inner.{leastAdded}
 use Rattle.wav_store.proofs.Added.{times, added}
 use Rattle.wav_store.proofs.Rounded.{k-lt, apart, pattern}
 

@@ -4,7 +4,7 @@ ghost use mathlib.Core.Bool.{true, cond};
 ghost use lib.Ieee as Ieee;
 ghost use Rattle.sample_kind.specs.declared.SampleKind.the-variants.{Float32};
 ghost use Rattle.stored_samples.specs.Stored.{fitsIn, wordOf};
-ghost use Rattle.wav_store.specs.Storing.{leastAdded};
+ghost use Rattle.wav_store.specs.Inner.{leastAdded};
 
 // What is added, and at the least 3 × 2^-98: below 2^-126 an f32's last unit is 2^-149.
 fn larger(c: f64) -> f64
