@@ -1,0 +1,7 @@
+pub mod Sizes
+pub mod Pieces
+pub mod Whole
+pub mod Taken
+pub mod Long
+pub mod Order
+pub mod Ends
