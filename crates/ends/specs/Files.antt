@@ -3,7 +3,8 @@ use Prim.Native.Nat.{ℕ, _+_}
 use mathlib.Core.List.{List, [], _∷_, _++_}
 use lib.ListN.{length, replicate}
 use Rattle.word_bytes.specs.Bytes.{lowBytes, bytesValue}
-use Rattle.riff_chunks.specs.Chunks.{chunksFrom, upTo, overrun, first}
+use Rattle.riff_chunks.specs.Chunks.{chunksFrom, overrun, first}
+use Rattle.riff_chunks.specs.Walk.{upTo}
 use Rattle.wav.specs.Format.{formatOk}
 use Rattle.wav.specs.Wave.{isWave, foundIn}
 use Rattle.sample_kind.specs.Kinds.{codeOf}

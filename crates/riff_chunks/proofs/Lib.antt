@@ -1,5 +1,8 @@
 pub mod Names
 pub mod Steps
 pub mod Seen
-pub mod Turn
+pub mod ByTurns
 pub mod Short
+pub mod Walks
+pub mod Found
+pub mod Agree

@@ -1,2 +1,3 @@
 pub mod Names
-pub mod Accepted
+pub mod Passed
+pub mod InHand

@@ -1,4 +1,5 @@
--- W1. The body of a `fmt `, by the places of its fields, and which kinds are listed. Definitions only. The rate is handed out; it and the byte rate are not tested.
+-- W1. The body of a `fmt `, by the places of its fields, and which kinds are listed. Definitions only. The rate is
+-- handed out; it and the byte rate are not tested.
 use Prim.Native.Nat.{ℕ, _*_, _/_, _%_}
 use mathlib.Core.Bool.{Bool, cond, _&&_, _||_}
 use mathlib.Core.List.{List}
@@ -38,8 +39,9 @@ kindOf t n = cond (eqb t 3) Float32 (cond (eqb n 16) Pcm16 Pcm24)
 abbrev pub wholeFrames : ℕ → ℕ → Bool
 wholeFrames size frame = ltb 0 frame && eqb (size % frame) 0
 
--- 13. A `fmt ` of at least 16 bytes, a kind that is listed, one or two channels, a block of channels × bytes, and a `data` of whole frames.
-unfoldable pub formatOk : List ℕ → ℕ → ℕ → Bool
-formatOk f size samples =
-    leb 16 size && (listed (tag f) (bits f) && ((eqb (channels f) 1 || eqb (channels f) 2)
+-- 13. A `fmt ` of at least 16 bytes, a kind that is listed, one or two channels, a block of channels × bytes, and a
+-- `data` of whole frames. The tag is the one that the reading tells.
+unfoldable pub formatOk : ℕ → List ℕ → ℕ → ℕ → Bool
+formatOk t f size samples =
+    leb 16 size && (listed t (bits f) && ((eqb (channels f) 1 || eqb (channels f) 2)
     && (eqb (block f) (channels f * (bits f / 8)) && wholeFrames samples (block f))))

@@ -6,9 +6,9 @@ use refusal_order::both;
 use sample_kind::SampleKind;
 use short_words::two;
 
-// 13.
-pub fn format_ok(f: &[u8], size: usize, samples: usize) -> bool
-    ensures { λ r. ⌜ r ≡ formatOk (now (f .entry)) size samples ⌝ }
+// 13, by the tag that was told.
+pub fn format_ok(tag: u32, f: &[u8], size: usize, samples: usize) -> bool
+    ensures { λ r. ⌜ r ≡ formatOk tag (now (f .entry)) size samples ⌝ }
 {
     let channels = two(f, 2);
     let block = two(f, 12);
@@ -16,7 +16,7 @@ pub fn format_ok(f: &[u8], size: usize, samples: usize) -> bool
     both(
         size >= 16,
         both(
-            is_listed(two(f, 0), bits),
+            is_listed(tag, bits),
             both(
                 either(channels == 1, channels == 2),
                 both(
