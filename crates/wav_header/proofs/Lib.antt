@@ -1,3 +1,4 @@
+pub mod Planned
 pub mod Sizes
 pub mod Pieces
 pub mod Whole

@@ -1,7 +1,7 @@
 -- W2. How long a file is: fewer than 2^32 samples make a length that fits a word, and more do not fit 32 bits. By the
 -- kinds. Assumes nothing.
-use mathlib.Core.Path.{_≡_, refl, sym}
-use mathlib.Core.Bool.{Bool, true, false, true≢false, _&&_}
+use mathlib.Core.Path.{_≡_, refl}
+use mathlib.Core.Bool.{true, _&&_}
 use Prim.Native.Nat.{ℕ, _-_, _^_, _≤_, _<_}
 use native.Mathlib.Omega.{arith}
 use borrow.Author.Tests.{leb-true}
@@ -9,6 +9,7 @@ use Rattle.sample_kind.specs.declared.SampleKind.{SampleKind}
 use Rattle.sample_kind.specs.declared.SampleKind.the-variants.{Pcm16, Pcm24, Float32}
 use Rattle.sample_kind.specs.Kinds.{widthOf}
 use Rattle.wav_header.specs.Header.{headerLength, sizeOf, fileLength}
+use Rattle.wav_header.proofs.Planned.{both-hold}
 use Rattle.wav_header.specs.Refusals.{oneOrTwo, wholeFrames, fitsRiff, countOk}
 
 pub few-bytes : (kind : SampleKind) (count : ℕ) → count < 2 ^ 32 → sizeOf kind count < 2 ^ 34
@@ -46,10 +47,6 @@ pub fits-few : (kind : SampleKind) (count : ℕ) → fitsRiff kind count ≡ tru
 fits-few Pcm16 count h = omega (arith, leb-true (fileLength Pcm16 count - 8) (2 ^ 32 - 1) h)
 fits-few Pcm24 count h = omega (arith, leb-true (fileLength Pcm24 count - 8) (2 ^ 32 - 1) h)
 fits-few Float32 count h = omega (arith, leb-true (fileLength Float32 count - 8) (2 ^ 32 - 1) h)
-
-both-hold : (a b : Bool) → a && b ≡ true → (a ≡ true) × (b ≡ true)
-both-hold true b h = (refl, h)
-both-hold false b h = absurd (true≢false (sym h))
 
 pub count-few : (kind : SampleKind) (channels count : ℕ) → countOk kind channels count && oneOrTwo channels ≡ true
     → count < 2 ^ 32
