@@ -6,3 +6,4 @@ pub mod Taken
 pub mod Long
 pub mod Order
 pub mod Ends
+pub mod Again

@@ -1,0 +1,5 @@
+pub mod Around
+pub mod Verdicts
+pub mod Laid
+pub mod Calls
+pub mod Order
