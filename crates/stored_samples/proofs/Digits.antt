@@ -79,8 +79,10 @@ module _ (f : Format) (k : ℕ) (wide : suc k ≤ prec f - 3) where
       let n = closest (m * up e * u) (down e) in
       let l : n < u = ltb-true n u (rw one-less at ok) in
       let h : n ≤ u = omega arith in
-      rw one-less
-      (no-nan f k wide false m e held h, ap (λ (z : ℕ). z % 2 ^ w) (bits f k wide false m e held h) ∙ last false n (λ _. l) h)
+      rw one-less (
+        no-nan f k wide false m e held h,
+        ap (λ (z : ℕ). z % 2 ^ w) (bits f k wide false m e held h) ∙ last false n (λ _. l) h,
+      )
   stored (fin true m e) held ok =
       let n = closest (m * up e * u) (down e) in
       let h : n ≤ u = leb-true n u (rw (below-zero w n, one-less) at (rw one-less at ok)) in

@@ -51,4 +51,5 @@ in-range (fin false m e) =
     (sym (finite-round binary32 false (m * up e) (down e) (down-pos e)))
 in-range (fin true m e) =
     rw (lt-ltb 0 (m * up e * 1 + limit binary32 * down e) (second _ _ (some e)), mul-one (m * up e))
-    (and-true (ltb (m * up e) (limit binary32 * down e)) ∙ sym (finite-round binary32 true (m * up e) (down e) (down-pos e)))
+    (and-true (ltb (m * up e) (limit binary32 * down e))
+    ∙ sym (finite-round binary32 true (m * up e) (down e) (down-pos e)))

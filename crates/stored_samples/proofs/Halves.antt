@@ -3,7 +3,7 @@
 use mathlib.Core.Path.{_≡_, refl, sym, ap, _∙_, subst}
 use mathlib.Core.Logic.{_⊎_, inl, inr}
 use Prim.Native.Nat.{ℕ, zero, suc, _+_, _-_, _*_, _/_, _%_, _≤_, _<_, compare}
-use native.Mathlib.Nat.{mul-le-mul-right, lt-of-mul-lt-mul-right, le-trans, le-of-eq, add-mul, suc-mul, eq-or-lt-of-le, mul-right-comm}
+use native.Mathlib.Nat.{lt-of-mul-lt-mul-right, le-trans, le-of-eq, add-mul, suc-mul, eq-or-lt-of-le, mul-right-comm}
 use native.Mathlib.Omega.{arith}
 use lib.Dec.{lit≤}
 use lib.Ieee.{nearest}
@@ -30,7 +30,8 @@ module _ (a D u : ℕ) (P : 0 < D) (even : u % 2 ≡ 0) where
   pub gets-there : 0 < u → u * 2 * D ≤ a * 2 + D → u ≤ closest a D
   gets-there z h =
       let e : u ≡ (u - 1) + (u - 1) % 2 = omega arith in
-      let s : ((u - 1) * 2 + 1) * D + D ≡ u * 2 * D = sym (suc-mul ((u - 1) * 2 + 1) D ∙ refl) ∙ ap (λ (z : ℕ). z * D) (omega arith) in
+      let s : ((u - 1) * 2 + 1) * D + D ≡ u * 2 * D =
+      sym (suc-mul ((u - 1) * 2 + 1) D) ∙ ap (λ (z : ℕ). z * D) (omega arith) in
       le-trans (le-of-eq (e ∙ sym (half-of (u - 1)))) (closest-mono ((u - 1) * 2 + 1) 2 a D (lit≤ tt) P (omega arith))
 
   pub stays-at : a * 2 ≤ u * 2 * D + D → closest a D ≤ u

@@ -5,3 +5,7 @@ pub mod Digits
 pub mod Words
 pub mod Floats
 pub mod Narrow
+pub mod Back
+pub mod NoNearer
+pub mod Edges
+pub mod Refused

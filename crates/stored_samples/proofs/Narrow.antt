@@ -44,7 +44,9 @@ same-end (fin true m e) h =
     let x = fin true m e in
     same-test (le one x) (le (least 22) x)
     (λ t. nlt→le (least 22) x tt tt (le→nltb _ _ (further m e (le-negative true 1 (pos 0) m e t))))
-    (λ t. nlt→le one x tt tt (le→nltb _ _ (closer m e (fits-parts binary32 true m e h .0) (le-negative true (2 ^ 24 + 1) (negsuc 23) m e t))))
+    (λ t.
+    let few = fits-parts binary32 true m e h .0 in
+    nlt→le one x tt tt (le→nltb _ _ (closer m e few (le-negative true (2 ^ 24 + 1) (negsuc 23) m e t))))
 
 pub in-narrow : (x : Float) → T (fits binary32 x) → (le one x && lt x (past 22)) ≡ fitsWhole 24 x
 in-narrow x h = ap (λ (b : Bool). b && lt x (past 22)) (same-end x h) ∙ in-range 22 x

@@ -1,15 +1,19 @@
 -- W2d. The stored digits by one product and one sum, over the format and the width: x · 2^(w-1) is exact, and with
--- 3 · 2^(prec-2) added it lies where the format's values are the whole numbers, so that the sum rounds it to the nearest,
--- a tie to the even one. The last w digits of the sum's pattern are those of two's complement. Assumes nothing.
+-- 3 · 2^(prec-2) added it lies where the format's values are the whole numbers, so that the sum rounds it to the
+-- nearest, a tie to the even one. The last w digits of the sum's pattern are those of two's complement.
+-- Assumes nothing.
 use mathlib.Core.Path.{_≡_, refl, sym, ap, _∙_, subst}
 use mathlib.Core.Bool.{Bool, true, false, cond, not}
 use Prim.Native.Nat.{ℕ, zero, suc, _+_, _-_, _*_, _%_, _^_, _≤_, _<_}
-use native.Mathlib.Nat.{pow-suc, zero-add, mul-assoc, mul-comm, mul-one, one-mul, mul-right-comm, mul-pos, mul-le-mul-right, mul-lt-mul-of-pos-right, lt-of-mul-lt-mul-right, lt-of-le-of-lt, lt-of-lt-of-le, le-of-eq, le-trans, add-comm}
+use native.Mathlib.Nat.{zero-add, add-comm, mul-assoc, mul-comm, mul-one, one-mul, mul-right-comm, mul-pos}
+use native.Mathlib.Nat.{mul-le-mul-right, mul-lt-mul-of-pos-right, lt-of-mul-lt-mul-right}
+use native.Mathlib.Nat.{lt-of-le-of-lt, lt-of-lt-of-le, le-of-eq, le-trans}
 use native.Mathlib.Omega.{arith}
 use lib.Dec.{T, lit≤, lit<}
 use lib.Pow.{pow-add, pow-pos, pow-mono, pow-lt}
 use lib.IntN.{ℤ, pos, negsuc, negℤ}
-use lib.Ieee.{Float, nan, inf, fin, Format, binary32, binary64, prec, emax, low, hid, top, up, down, unlike, round, units, mul, add, sum, fits, isNan, toBits}
+use lib.Ieee.{Float, fin, Format, binary32, binary64, prec, emax, low, hid, up, down, unlike}
+use lib.Ieee.{round, units, mul, add, sum, fits, isNan, toBits}
 use lib.Ieee.Exact.{HasValue, round-exact, units-val}
 use lib.Ieee.Fits.{down-pos}
 use lib.Ieee.Nearest.{closest, closest-same}
@@ -68,15 +72,18 @@ module _ (f : Format) (s : Bool) (m : ℕ) (e : ℤ) (j : ℕ) (held : T (fits f
       ∙ ap (λ (z : ℕ). z * d) (mul-assoc m (2 ^ i) (2 ^ j) ∙ ap (λ (z : ℕ). m * z) (sym p)) in
       let is : n * (1 * 2 ^ j) * l ≡ m * 2 ^ (i + j) * (d * 1) =
       ap (λ (z : ℕ). n * z * l) (one-mul (2 ^ j)) ∙ base ∙ ap (λ (z : ℕ). m * 2 ^ (i + j) * z) (sym (mul-one d)) in
+      let largest : 2 ^ suc (emax f) * l ≡ 2 ^ (low f + suc (emax f)) =
+      mul-comm (2 ^ suc (emax f)) l ∙ sym (pow-add 2 (low f) (suc (emax f))) in
       let fine : m * 2 ^ (i + j) < 2 ^ (low f + suc (emax f)) =
       lt-of-mul-lt-mul-right d
       (lt-of-le-of-lt (le-of-eq (sym base))
       (lt-of-lt-of-le (mul-lt-mul-of-pos-right small (pow-pos (low f)))
-      (le-of-eq (mul-right-comm (2 ^ suc (emax f)) d l ∙ ap (λ (z : ℕ). z * d) (mul-comm (2 ^ suc (emax f)) l ∙ sym (pow-add 2 (low f) (suc (emax f)))))))) in
-      rescale (mul f (fin s m e) (fin false 1 (pos j))) s (n * (1 * 2 ^ j)) (d * 1) (n * 2 ^ j) d (mul-pos (down-pos e) (lit≤ tt))
+      (le-of-eq (mul-right-comm (2 ^ suc (emax f)) d l ∙ ap (λ (z : ℕ). z * d) largest)))) in
+      let a = n * (1 * 2 ^ j) in
+      rescale (mul f (fin s m e) (fin false 1 (pos j))) s a (d * 1) (n * 2 ^ j) d (mul-pos (down-pos e) (lit≤ tt))
       (ap (λ (z : ℕ). n * z * d) (one-mul (2 ^ j)) ∙ ap (λ (z : ℕ). n * 2 ^ j * z) (sym (mul-one d)))
-      (subst (λ (t : Bool). HasValue (round f t (n * (1 * 2 ^ j)) (d * 1)) s (n * (1 * 2 ^ j)) (d * 1)) (sym (same-sign s))
-      (round-exact f s (n * (1 * 2 ^ j)) (d * 1) m (i + j) (mul-pos (down-pos e) (lit≤ tt)) few fine is))
+      (subst (λ (t : Bool). HasValue (round f t a (d * 1)) s a (d * 1)) (sym (same-sign s))
+      (round-exact f s a (d * 1) m (i + j) (mul-pos (down-pos e) (lit≤ tt)) few fine is))
 
 -- ---- with 3 · 2^(prec-2) added, at the width k + 2
 abbrev pub scaled : Format → ℕ → Float → Float
@@ -85,7 +92,8 @@ scaled f k x = mul f x (fin false 1 (pos (suc k)))
 abbrev pub shifted : Format → ℕ → Float → Float
 shifted f k x = add f (scaled f k x) (fin false 3 (pos (prec f - 2)))
 
-module _ (f : Format) (k : ℕ) (wide : suc k ≤ prec f - 3) (s : Bool) (m : ℕ) (e : ℤ) (held : T (fits f (fin s m e))) where
+module _ (f : Format) (k : ℕ) (wide : suc k ≤ prec f - 3)
+    (s : Bool) (m : ℕ) (e : ℤ) (held : T (fits f (fin s m e))) where
   abbrev x : Float
   x = fin s m e
 
@@ -172,7 +180,8 @@ module _ (f : Format) (k : ℕ) (wide : suc k ≤ prec f - 3) (s : Bool) (m : �
     between : (hid f ≤ total) × (total ≤ 2 ^ prec f)
     between = go s
       where
-        go : (t : Bool) → (hid f ≤ cond t (3 * q * 2 - n) (3 * q * 2 + n)) × (cond t (3 * q * 2 - n) (3 * q * 2 + n) ≤ 2 ^ prec f)
+        go : (t : Bool) → (hid f ≤ cond t (3 * q * 2 - n) (3 * q * 2 + n))
+            × (cond t (3 * q * 2 - n) (3 * q * 2 + n) ≤ 2 ^ prec f)
         go true = (omega (arith, less, R .hidden), omega (arith, R .digits))
         go false = (omega (arith, R .hidden), omega (arith, less, R .digits))
 
@@ -188,4 +197,6 @@ module _ (f : Format) (k : ℕ) (wide : suc k ≤ prec f - 3) (s : Bool) (m : �
     no-nan = value-no-nan (shifted f k x) false (total * 2 ^ low f) (2 ^ low f) value
 
     pub bits : toBits f (shifted f k x) ≡ low f * hid f + total
-    bits = bits-units f (shifted f k x) false total (low f) (between .1) (λ _. between .0) value ∙ zero-add (low f * hid f + total)
+    bits =
+        bits-units f (shifted f k x) false total (low f) (between .1) (λ _. between .0) value
+        ∙ zero-add (low f * hid f + total)

@@ -66,9 +66,11 @@ module _ (k : ℕ) where
           | inr g ↦ absurd (clash (closest a d) u h (gets-there a d u D even (pow-pos (suc k)) g))
         ])
 
-    from-least : (n * 2 ^ w ≤ (2 ^ w + 1) * 1 * d → closest a d ≤ u) × (closest a d ≤ u → n * 2 ^ w ≤ (2 ^ w + 1) * 1 * d)
+    from-least : (n * 2 ^ w ≤ (2 ^ w + 1) * 1 * d → closest a d ≤ u)
+        × (closest a d ≤ u → n * 2 ^ w ≤ (2 ^ w + 1) * 1 * d)
     from-least =
-        let s : (2 ^ w + 1) * 1 * d ≡ u * 2 * d + d = ap (λ (z : ℕ). z * d) (omega (arith, twice)) ∙ suc-mul (u * 2) d in (
+        let s : (2 ^ w + 1) * 1 * d ≡ u * 2 * d + d =
+        ap (λ (z : ℕ). z * d) (omega (arith, twice)) ∙ suc-mul (u * 2) d in (
           (λ h. stays-at a d u D even (omega (arith, double))),
           (λ h. elim (lt-or-ge (u * 2 * d + d) (a * 2)) [
             | inl l ↦ absurd (clash u (closest a d) (goes-past a d u D even l) h)
@@ -84,7 +86,8 @@ module _ (k : ℕ) where
       let f = from-least n (down e) (down-pos e) in
       same-test (le (least k) (fin true m e)) (leb q u)
       (λ t. le→leb q u (f .0 (le-negative true (2 ^ w + 1) (negsuc (suc k)) m e t)))
-      (λ t. nlt→le (least k) (fin true m e) tt tt (le→nltb ((2 ^ w + 1) * 1 * down e) (n * 2 ^ w) (f .1 (leb→le q u t))))
+      (λ t.
+      nlt→le (least k) (fin true m e) tt tt (le→nltb ((2 ^ w + 1) * 1 * down e) (n * 2 ^ w) (f .1 (leb→le q u t))))
 
   pub in-range : (x : Float) → (le (least k) x && lt x (past k)) ≡ fitsWhole w x
   unfolding fitsWhole nearestWhole le lt eq

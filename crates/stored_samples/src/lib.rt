@@ -35,8 +35,8 @@ pub fn fits_float(x: f64) -> bool
     )
 }
 
-// x × 2^15 is exact, and 3 × 2^51 brings it to where the f64s are the whole numbers: the sum rounds to the nearest, a tie
-// to the even one. Its last digits are the stored ones, in two's complement, since 2^51 is a multiple of 2^16.
+// x × 2^15 is exact, and 3 × 2^51 brings it to where the f64s are the whole numbers: the sum rounds to the nearest, a
+// tie to the even one. Its last digits are the stored ones, in two's complement, since 2^51 is a multiple of 2^16.
 pub fn stored16(x: f64) -> u32
     ensures { λ r. ⌜ r ≡ wordOf Pcm16 x ⌝ }
 {

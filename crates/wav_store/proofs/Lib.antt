@@ -1,3 +1,5 @@
 pub mod Looked
 pub mod Placed
 pub mod Stores
+pub mod Exactly
+pub mod ReadBack

@@ -12,7 +12,7 @@ use Rattle.sample_kind.specs.declared.SampleKind.{SampleKind}
 use Rattle.stored_samples.specs.Stored.{fitsIn}
 use Rattle.wav_store.specs.Storing.{allFit}
 
-and-assoc : (a b c : Bool) → ((a && b) && c) ≡ (a && (b && c))
+pub and-assoc : (a b c : Bool) → ((a && b) && c) ≡ (a && (b && c))
 and-assoc true b c = refl
 and-assoc false b c = refl
 
@@ -29,7 +29,8 @@ pub unlooked : {kind : SampleKind} {xs : List Float} → Looked kind xs true 0
 unlooked = record { most = omega arith; rest = refl }
 
 module _ {kind : SampleKind} {xs : List Float} {ok : Bool} {i : ℕ} (l : Looked kind xs ok i) where
-  pub looked-more : (d : Float) {more : Bool} → i < length xs → more ≡ (ok && fitsIn kind (getD xs i d)) → Looked kind xs more (i + 1)
+  pub looked-more : (d : Float) {more : Bool} → i < length xs → more ≡ (ok && fitsIn kind (getD xs i d))
+      → Looked kind xs more (i + 1)
   unfolding allFit
   looked-more d {more} h e =
       record {
@@ -42,4 +43,6 @@ module _ {kind : SampleKind} {xs : List Float} {ok : Bool} {i : ℕ} (l : Looked
 
   pub all-looked : length xs ≤ i → ok ≡ allFit kind xs
   unfolding allFit
-  all-looked h = sym (and-true ok) ∙ ap (λ (ys : List Float). ok && allFit kind ys) (sym (drop-of-length-le xs h)) ∙ l .rest
+  all-looked h =
+      sym (and-true ok)
+      ∙ ap (λ (ys : List Float). ok && allFit kind ys) (sym (drop-of-length-le xs h)) ∙ l .rest

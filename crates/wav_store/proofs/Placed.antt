@@ -46,7 +46,8 @@ module _ {kind : SampleKind} {xs : List Float} where
     pub inside : at + widthOf kind ≤ length out
     inside = omega (arith, p .long, mul-le-mul-right (widthOf kind) h, suc-mul i (widthOf kind))
 
-    pub placed-more : (d : Float) {bs : List ℕ} → bs ≡ lowBytes (widthOf kind) (wordOf kind (getD xs i d)) → Placed kind xs (sets out at bs) (i + 1)
+    pub placed-more : (d : Float) {bs : List ℕ} → bs ≡ lowBytes (widthOf kind) (wordOf kind (getD xs i d))
+        → Placed kind xs (sets out at bs) (i + 1)
     unfolding bytesOf
     placed-more d {bs} e =
         let w = widthOf kind in
@@ -55,7 +56,8 @@ module _ {kind : SampleKind} {xs : List Float} where
         let front : length (take at out ++ bs) ≡ at + w =
         length-append (take at out) bs ∙ rw (n, length-take-le at out (omega (arith, inside))) in
         let written : take ((i + 1) * w) (sets out at bs) ≡ take at out ++ bs =
-        rw (next, sets-eq bs out at (omega (arith, n, inside))) (take-at (take at out ++ bs) (drop (at + length bs) out) (at + w) front) in
+        rw (next, sets-eq bs out at (omega (arith, n, inside)))
+        (take-at (take at out ++ bs) (drop (at + length bs) out) (at + w) front) in
         record {
           long = length-sets out at bs ∙ p .long;
           most = omega arith;

@@ -38,7 +38,8 @@ counted n count w W =
     (passes _ (eq-eqb (n / w) count (ap (λ (z : ℕ). z / w) e ∙ mul-div-cancel count W))))
 
 -- ---- the two tests, as the code made them
-module _ (kind : SampleKind) (xs : List Float) (old : List ℕ) {t : Bool} (e : t ≡ eqb (length old) (length xs * widthOf kind)) where
+module _ (kind : SampleKind) (xs : List Float) (old : List ℕ) {t : Bool}
+    (e : t ≡ eqb (length old) (length xs * widthOf kind)) where
   abbrev Answers : ℕ → List ℕ → Type 0
   Answers r out = (r ≡ verdict kind xs (length old)) × (out ≡ stored kind xs old)
 

@@ -15,15 +15,18 @@ float-to-bits-result c =
     let b = c .before .before in
     finite-number (c .narrow .result)
     (passes (finite (c .narrow .result))
-    (ap finite (c .narrow .ensures) ∙ fitting Float32 (b .before .args .x) (b .fits-float .ensures) (c .before .if1 .taken)))
+    (ap finite (c .narrow .ensures)
+    ∙ fitting Float32 (b .before .args .x) (b .fits-float .ensures) (c .before .if1 .taken)))
 
 returns : tie.Need-returns
 returns c =
     let b = c .before .before in
-    word Float32 (b .before .args .x) (b .fits-float .ensures) (c .before .if1 .taken) (ap (toBits binary32) (c .narrow .ensures))
+    word Float32 (b .before .args .x) (b .fits-float .ensures) (c .before .if1 .taken)
+    (ap (toBits binary32) (c .narrow .ensures))
 
 returns-2 : tie.Need-returns-2
 returns-2 c = none Float32 _ (c .before .fits-float .ensures) (c .if1 .left)
 
 pub stored-float-spec : {M : Type 1} → statement M
-stored-float-spec = tie.close (tie.spec (λ c κs. search needs) (λ c κs. search needs) float-to-bits-result returns returns-2)
+stored-float-spec =
+    tie.close (tie.spec (λ c κs. search needs) (λ c κs. search needs) float-to-bits-result returns returns-2)

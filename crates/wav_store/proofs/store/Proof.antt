@@ -17,8 +17,8 @@ returns c =
     let p = c .before .before in
     let f = p .before .before .before in
     let w = f .before .before in
-    written _ _ (w .before .before .before .args .out .now) (w .whole .ensures) (f .before .if1 .taken) (f .all-fit .ensures)
-    (p .before .before .if2 .taken) (p .place .ensures)
+    written _ _ (w .before .before .before .args .out .now) (w .whole .ensures) (f .before .if1 .taken)
+    (f .all-fit .ensures) (p .before .before .if2 .taken) (p .place .ensures)
 
 returns-2 : tie.Need-returns-2
 returns-2 c =
@@ -32,4 +32,5 @@ returns-3 c = other-length _ _ _ (c .before .whole .ensures) (c .if1 .left)
 pub store-spec : {M : Type 1} → statement M
 store-spec =
     tie.close
-    (tie.spec (λ c κs. search needs) (λ c κs. search needs) place-requires (λ c. search needs) returns returns-2 returns-3)
+    (tie.spec (λ c κs. search needs) (λ c κs. search needs) place-requires (λ c. search needs)
+    returns returns-2 returns-3)

@@ -17,8 +17,8 @@ returns c =
     let p = c .before .before in
     let f = p .before .before .before in
     let w = f .before .before in
-    written _ _ (w .before .before .before .args .out .now) (w .whole .ensures) (f .before .if1 .taken) (f .all-fit-f32 .ensures)
-    (p .before .before .if2 .taken) (p .place-f32 .ensures)
+    written _ _ (w .before .before .before .args .out .now) (w .whole .ensures) (f .before .if1 .taken)
+    (f .all-fit-f32 .ensures) (p .before .before .if2 .taken) (p .place-f32 .ensures)
 
 returns-2 : tie.Need-returns-2
 returns-2 c =
@@ -32,4 +32,5 @@ returns-3 c = other-length _ _ _ (c .before .whole .ensures) (c .if1 .left)
 pub store-f32-spec : {M : Type 1} → statement M
 store-f32-spec =
     tie.close
-    (tie.spec (λ c κs. search needs) (λ c κs. search needs) place-f32-requires (λ c. search needs) returns returns-2 returns-3)
+    (tie.spec (λ c κs. search needs) (λ c κs. search needs) place-f32-requires (λ c. search needs)
+    returns returns-2 returns-3)

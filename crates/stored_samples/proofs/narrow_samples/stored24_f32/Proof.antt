@@ -44,4 +44,6 @@ returns-2 : tie.Need-returns-2
 returns-2 c = none Pcm24 _ (c .before .fits24-f32 .ensures) (c .if1 .left)
 
 pub stored24-f32-spec : {M : Type 1} → statement M
-stored24-f32-spec = tie.close (tie.spec (λ c κs. search needs) float-to-float-result float-to-bits-result (λ c. search needs) returns returns-2)
+stored24-f32-spec =
+    tie.close
+    (tie.spec (λ c κs. search needs) float-to-float-result float-to-bits-result (λ c. search needs) returns returns-2)

@@ -1,4 +1,5 @@
--- `stored_samples::narrow_samples::stored_float_f32` meets its contract: an f32 is its own nearest f32. Assumes nothing.
+-- `stored_samples::narrow_samples::stored_float_f32` meets its contract: an f32 is its own nearest f32.
+-- Assumes nothing.
 use borrow.Author.Needs.{needs}
 use mathlib.Core.Path.{sym, ap, _∙_}
 use denote.Floats.{passes}
@@ -18,13 +19,15 @@ held c = passes (fits binary32 (c .args .x)) (c .good .0 .1)
 float-to-bits-result : tie.Need-float-to-bits-result
 float-to-bits-result c =
     let x = c .before .before .args .x in
+    let own = sym (narrowed-own x (held (c .before .before))) in
     finite-number x
-    (passes (finite x) (ap finite (sym (narrowed-own x (held (c .before .before)))) ∙ fitting Float32 x (c .before .fits-float-f32 .ensures) (c .if1 .taken)))
+    (passes (finite x) (ap finite own ∙ fitting Float32 x (c .before .fits-float-f32 .ensures) (c .if1 .taken)))
 
 returns : tie.Need-returns
 returns c =
     let x = c .before .before .args .x in
-    word Float32 x (c .before .fits-float-f32 .ensures) (c .if1 .taken) (ap (toBits binary32) (sym (narrowed-own x (held (c .before .before)))))
+    let own = sym (narrowed-own x (held (c .before .before))) in
+    word Float32 x (c .before .fits-float-f32 .ensures) (c .if1 .taken) (ap (toBits binary32) own)
 
 returns-2 : tie.Need-returns-2
 returns-2 c = none Float32 _ (c .before .fits-float-f32 .ensures) (c .if1 .left)
