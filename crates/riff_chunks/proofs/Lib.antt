@@ -1,6 +1,7 @@
 pub mod Names
 pub mod Steps
 pub mod Seen
+pub mod Rest
 pub mod ByTurns
 pub mod Short
 pub mod Walks

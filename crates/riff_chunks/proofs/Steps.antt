@@ -46,5 +46,6 @@ module _ (chunkOf : ℕ → Chunk) (end : ℕ) where
         rw (le-leb (at + 8) end h)
         (ap (λ (cs : List Chunk). chunkOf at ∷ cs) (enough f (suc f) (after (chunkOf at)) (omega arith) (omega arith)))
 
-    pub one-chunk : (at : ℕ) → at + 8 ≤ end → chunks chunkOf end at ≡ chunkOf at ∷ chunks chunkOf end (after (chunkOf at))
+    pub one-chunk : (at : ℕ) → at + 8 ≤ end
+        → chunks chunkOf end at ≡ chunkOf at ∷ chunks chunkOf end (after (chunkOf at))
     one-chunk at h = unroll end at h (omega arith)

@@ -9,7 +9,7 @@ use borrow.Author.Tests.{le-ltb}
 use lib.Dec.{eqb}
 use Rattle.riff_chunks.specs.declared.Chunk.{Chunk}
 use Rattle.riff_chunks.specs.declared.Sought.{Sought}
-use Rattle.riff_chunks.specs.Chunks.{Placed, after, overruns, overrun, spotOf, first}
+use Rattle.riff_chunks.specs.Chunks.{Placed, after, overruns, overrun, nowhere, spotOf, first}
 use Rattle.riff_chunks.specs.Walk.{isLast, upTo, walkedFrom, seenOf, walkFrom}
 use Rattle.riff_chunks.proofs.Steps.{left-over, one-chunk}
 
@@ -29,10 +29,30 @@ module _ (s : Sought) (chunkOf : ℕ → Chunk) (placed : Placed chunkOf) (end a
   unfolding overrun first
   skipped f n o = ap (seenOf s end) walked-one ∙ rw (o, f, n, and-false (s .ends))
 
-  -- W1h. The first of the format's identifier counts, whatever follows.
-  pub first-counts : eqb (chunkOf at .id) (s .format) ≡ true → walkFrom s chunkOf end at .format ≡ spotOf (chunkOf at)
+  -- W1h. The first of an identifier counts, whatever follows.
+  pub first-counts : (id : ℕ) → eqb (chunkOf at .id) id ≡ true
+      → first id (walkedFrom s chunkOf end at) ≡ spotOf (chunkOf at)
   unfolding first
-  first-counts f = ap (first (s .format)) walked-one ∙ rw f
+  first-counts id f = ap (first id) walked-one ∙ rw f
+
+  -- W1h. So the walk by its first chunk: with `skipped`, what is seen of a file whose chunks are known is a chain of
+  -- equations, one for each chunk.
+  pub format-there : eqb (chunkOf at .id) (s .format) ≡ true → eqb (chunkOf at .id) (s .samples) ≡ false
+      → overruns end (chunkOf at) ≡ false
+      → walkFrom s chunkOf end at
+      ≡ record {
+        overruns = walkFrom s chunkOf end (after (chunkOf at)) .overruns;
+        format = spotOf (chunkOf at);
+        samples = walkFrom s chunkOf end (after (chunkOf at)) .samples;
+      }
+  unfolding overrun first
+  format-there f n o = ap (seenOf s end) walked-one ∙ rw (o, f, n, and-false (s .ends))
+
+  pub samples-there : s .ends ≡ true → eqb (chunkOf at .id) (s .format) ≡ false
+      → eqb (chunkOf at .id) (s .samples) ≡ true → overruns end (chunkOf at) ≡ false
+      → walkFrom s chunkOf end at ≡ record { overruns = false; format = nowhere; samples = spotOf (chunkOf at) }
+  unfolding overrun first
+  samples-there e f n o = ap (seenOf s end) walked-one ∙ rw (o, f, n, e)
 
   -- W1h. The walk ends with the first chunk that ends it.
   pub ends-there : isLast s (chunkOf at) ≡ true → walkedFrom s chunkOf end at ≡ chunkOf at ∷ []
@@ -42,9 +62,10 @@ module _ (s : Sought) (chunkOf : ℕ → Chunk) (placed : Placed chunkOf) (end a
   pub pad-missing : chunkOf at .body + chunkOf at .size ≡ end
       → (walkedFrom s chunkOf end at ≡ chunkOf at ∷ []) × (overruns end (chunkOf at) ≡ false)
   unfolding upTo
-  pad-missing e =
-      (walked-one ∙ rw (left-over chunkOf end (after (chunkOf at)) (omega arith)) (by (isLast s (chunkOf at))),
-      le-ltb end (chunkOf at .body + chunkOf at .size) (omega arith))
+  pad-missing e = (
+    walked-one ∙ rw (left-over chunkOf end (after (chunkOf at)) (omega arith)) (by (isLast s (chunkOf at))),
+    le-ltb end (chunkOf at .body + chunkOf at .size) (omega arith),
+  )
     where
       by : (t : Bool) → chunkOf at ∷ cond t [] [] ≡ chunkOf at ∷ []
       by true = refl

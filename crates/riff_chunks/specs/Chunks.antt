@@ -1,6 +1,6 @@
 -- W1. The chunks of a file: an identifier of four bytes, a size of four bytes, that many bytes of body, and a pad byte
--- behind a body of odd size. Definitions only. Which chunk stands at a place is a parameter: another layout may have its
--- sizes in another order of bytes, or their true values elsewhere.
+-- behind a body of odd size. Definitions only. Which chunk stands at a place is a parameter: another layout may have
+-- its sizes in another order of bytes, or their true values elsewhere.
 use Prim.Native.Nat.{ℕ, zero, suc, _+_, _%_}
 use mathlib.Core.Path.{_≡_}
 use mathlib.Core.Bool.{Bool, true, false, cond, _||_}
@@ -11,8 +11,8 @@ use Rattle.word_bytes.specs.Bytes.{bytesValue}
 use Rattle.riff_chunks.specs.declared.Chunk.{Chunk}
 use Rattle.riff_chunks.specs.declared.Spot.{Spot}
 
--- The chunk whose identifier stands at a place, by what number a size's four bytes are. An identifier counts as its four
--- bytes, the low byte first. A body is named by its first byte's place.
+-- The chunk whose identifier stands at a place, by what number a size's four bytes are. An identifier counts as its
+-- four bytes, the low byte first. A body is named by its first byte's place.
 abbrev pub chunkAt : (List ℕ → ℕ) → List ℕ → ℕ → Chunk
 chunkAt number b at =
     record { id = bytesValue (take 4 (drop at b)); body = at + 8; size = number (take 4 (drop (at + 4) b)) }

@@ -1,6 +1,6 @@
 // W1. A walk's turns: before the first chunk, and one chunk more. Any numbers are taken.
 ghost use mathlib.Core.Path.{_≡_};
-ghost use Prim.Native.Nat.{_-_};
+ghost use Prim.Native.Nat.{_-_, _%_};
 ghost use Rattle.riff_chunks.specs.Walk.{begun, turned, leftAfter, isLast};
 use crate::Chunk;
 use crate::Sought;
@@ -49,7 +49,14 @@ fn left_after(sought: Sought, c: Chunk, room: usize) -> usize
         return 0;
     }
     let rest = room - c.size;
-    if rest == 0 { 0 } else { rest - c.size % 2 }
+    if rest == 0 { 0 } else { rest - pad(c.size) }
+}
+
+// How many pad bytes stand behind a body.
+fn pad(size: usize) -> usize
+    ensures { λ r. ⌜ r ≡ size % 2 ⌝ }
+{
+    size % 2
 }
 
 fn is_last(sought: Sought, c: Chunk) -> bool

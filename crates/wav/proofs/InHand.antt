@@ -1,4 +1,5 @@
--- What `read_by` and `fmt_told` have in hand is what the definitions name, and an answer by its number. Assumes nothing.
+-- What `read_by` and `fmt_told` have in hand is what the definitions name, and an answer by its number. Assumes
+-- nothing.
 use mathlib.Core.Path.{_≡_, refl, ap, _∙_}
 use mathlib.Core.Bool.{Bool, true, false, cond, not, _&&_}
 use mathlib.Core.List.{List, [], _∷_}

@@ -1,3 +1,4 @@
 pub mod Format
 pub mod Tags
 pub mod Wave
+pub mod Accepted

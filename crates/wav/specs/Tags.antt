@@ -1,5 +1,5 @@
--- W1. How a reading tells the tag from the body of a `fmt ` and its size. Definitions only. A plain reading takes the tag
--- that stands there. WAVE_FORMAT_EXTENSIBLE, tag FFFE, says its kind by 16 bytes from place 24 on: the tag that is
+-- W1. How a reading tells the tag from the body of a `fmt ` and its size. Definitions only. A plain reading takes the
+-- tag that stands there. WAVE_FORMAT_EXTENSIBLE, tag FFFE, says its kind by 16 bytes from place 24 on: the tag that is
 -- wrapped, and behind it 14 bytes that are the same for every such tag. sox and ffmpeg write it for ordinary kinds.
 use Prim.Native.Nat.{ℕ}
 use mathlib.Core.Bool.{Bool, true, false, cond, _&&_}

@@ -86,8 +86,8 @@ foundIn = foundBy plainTag
 abbrev pub foundWrapped : List ℕ → Found
 foundWrapped = foundBy wrappedTag
 
--- For who explains a refusal: what the first `fmt ` says, and the sizes of it and of the first `data`, zeros where there
--- is none. The walk ends with the file where the RIFF runs past it.
+-- For who explains a refusal: what the first `fmt ` says, and the sizes of it and of the first `data`, zeros where
+-- there is none. The walk ends with the file where the RIFF runs past it.
 abbrev pub toldIn : List ℕ → Told
 toldIn b =
     record {

@@ -37,7 +37,8 @@ loop-less : tie.Need-loop-less Inv-loop μ-loop
 loop-less c =
     let k = c .before in
     let l = k .before .before .before in
-    rw (c .turn .ensures) (fewer (l .before .before .riff-sought .result) (l .loop .walking) (k .chunk-at .result) (k .before .if1 .taken))
+    rw (c .turn .ensures)
+    (fewer (l .before .before .riff-sought .result) (l .loop .walking) (k .chunk-at .result) (k .before .if1 .taken))
 
 loop-again : tie.Need-loop-again Inv-loop μ-loop
 loop-again c =

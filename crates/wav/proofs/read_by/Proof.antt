@@ -1,5 +1,5 @@
--- `wav::read_by` meets its contract: what the calls ensure is what the definitions name, and where no refusal is due the
--- channels are one or two, so they fit a byte. Assumes nothing.
+-- `wav::read_by` meets its contract: what the calls ensure is what the definitions name, and where no refusal is due
+-- the channels are one or two, so they fit a byte. Assumes nothing.
 use borrow.Author.Needs.{needs}
 use mathlib.Core.Path.{_≡_, sym, ap, _∙_}
 use Prim.Native.Nat.{ℕ}
@@ -74,7 +74,8 @@ returns-3 c =
     let k = c .before .before in
     let g : k .kind-of .result ≡ kindOf (t .tag-of .result) (bits (p .part-of .result .now)) =
     k .kind-of .ensures ∙ rw (k .before .two .ensures .0) in
-    ap found.Wave (wave-is by b (w .walk .result) _ _ h _ _ _ g (c .before .two2 .ensures .0) (c .low-first-u322 .ensures))
+    ap found.Wave
+    (wave-is by b (w .walk .result) _ _ h _ _ _ g (c .before .two2 .ensures .0) (c .low-first-u322 .ensures))
     ∙ taken (verdict by b) (waveIn by b) z
 
 pub read-by-spec : {M : Type 1} → statement M

@@ -22,10 +22,12 @@ returns-3 c =
 
 returns-4 : tie.Need-returns-4
 returns-4 c =
+    let p = c .pad .ensures in
     let j = c .before .before .before in
     let i = j .before .before in
     rw (sym (i .before .is-last .ensures) ∙ i .if1 .left, le-ltb _ _ (j .if2 .left)) (omega arith)
 
 pub left-after-spec : {M : Type 1} → statement M
 left-after-spec =
-    tie.close (tie.spec (λ c κs. search needs) returns returns-2 (λ c. search needs) returns-3 returns-4)
+    tie.close
+    (tie.spec (λ c κs. search needs) returns returns-2 (λ c κs. search needs) (λ c. search needs) returns-3 returns-4)
