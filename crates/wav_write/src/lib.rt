@@ -4,9 +4,11 @@ ghost use lib.ListN.{length};
 ghost use Rattle.wav_write.specs.Writing.{answerOf, written};
 
 mod frame; // what stands around the samples
+mod narrow_samples; // the same for samples that are f32s
 
 use frame::early;
 use frame::finish;
+pub use narrow_samples::write_f32;
 use sample_kind::SampleKind;
 use sample_kind::width;
 use wav_header::header_length;
@@ -31,32 +33,6 @@ pub fn write(kind: SampleKind, channels: u8, rate: u32, samples: &[f64], out: &m
     let start = header_length(kind);
     let end = start + count * width(kind);
     let unfit = wav_store::store(kind, samples, &mut out[start..end]);
-    if unfit != 0 {
-        return Written::Refused(unfit);
-    }
-    let length = finish(kind, channels, rate, count, &mut out[..]);
-    Written::Length(length)
-}
-
-// The same for samples that are f32s.
-pub fn write_f32(
-    kind: SampleKind,
-    channels: u8,
-    rate: u32,
-    samples: &[f32],
-    out: &mut [u8],
-) -> Written
-    ensures { λ r. ⌜ r ≡ answerOf kind channels rate (now (samples .entry)) (length (now (out .entry))) ⌝ }
-    ensures { λ _. ⌜ now (out .exit) ≡ written kind channels rate (now (samples .entry)) (now (out .entry)) ⌝ }
-{
-    let count = samples.len();
-    let refused = early(kind, channels, rate, count, out.len());
-    if refused != 0 {
-        return Written::Refused(refused);
-    }
-    let start = header_length(kind);
-    let end = start + count * width(kind);
-    let unfit = wav_store::store_f32(kind, samples, &mut out[start..end]);
     if unfit != 0 {
         return Written::Refused(unfit);
     }

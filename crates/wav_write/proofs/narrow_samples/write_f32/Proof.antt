@@ -1,10 +1,10 @@
--- `wav_write::write_f32` meets its contract, by the laws of a write's calls. Assumes nothing.
+-- `wav_write::narrow_samples::write_f32` meets its contract, by the laws of a write's calls. Assumes nothing.
 use borrow.Author.Needs.{needs}
 use mathlib.Core.Path.{_≡_}
 use native.Mathlib.Omega.{arith}
 use Rattle.wav_write.proofs.Calls.{left-early, end-fits, end-small, left-late, room-after, all-written}
-use Rattle.wav_write.proofs.write_f32.Statement.{statement}
-use Rattle.wav_write.proofs.write_f32.Tie as tie
+use Rattle.wav_write.proofs.narrow_samples.write_f32.Statement.{statement}
+use Rattle.wav_write.proofs.narrow_samples.write_f32.Tie as tie
 
 returns : tie.Need-returns
 returns c =
