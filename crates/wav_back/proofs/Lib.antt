@@ -2,3 +2,6 @@ pub mod Fields
 pub mod Formats
 pub mod Walk
 pub mod Read
+pub mod Written
+pub mod Stored
+pub mod Again

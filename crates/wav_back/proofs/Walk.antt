@@ -1,9 +1,9 @@
 -- W2b. The walk over a written file: `fmt `, for float `fact`, then `data`, none of which runs past the end. Chunk
 -- after chunk, kind by kind. Assumes nothing.
-use mathlib.Core.Path.{_≡_, refl, sym, ap, _∙_}
+use mathlib.Core.Path.{_≡_, refl, ap, _∙_}
 use mathlib.Core.Bool.{true, false, cond}
 use mathlib.Core.List.{List, [], _∷_, _++_}
-use Prim.Native.Nat.{ℕ, _+_, _-_, _%_, _/_, _^_, _≤_, _<_, min}
+use Prim.Native.Nat.{ℕ, _+_, _-_, _/_, _^_, _≤_, _<_, min}
 use native.Mathlib.Nat.{min-eq-left}
 use native.Mathlib.Omega.{arith}
 use borrow.Author.Tests.{le-ltb}
@@ -14,18 +14,15 @@ use Rattle.word_bytes.proofs.Back.{bytes-back}
 use Rattle.sample_kind.specs.declared.SampleKind.{SampleKind}
 use Rattle.sample_kind.specs.declared.SampleKind.the-variants.{Pcm16, Pcm24, Float32}
 use Rattle.riff_chunks.specs.declared.Chunk.{Chunk}
-use Rattle.riff_chunks.specs.declared.Spot.{Spot}
 use Rattle.riff_chunks.specs.declared.Walked.{Walked}
 use Rattle.riff_chunks.specs.Chunks.{chunkAt, after, overrun, first}
 use Rattle.riff_chunks.specs.Walk.{fmtId, dataId, riffSought, isLast, walkedFrom, seenOf, walkTo}
 use Rattle.riff_chunks.proofs.Walks.{walked-one}
-use Rattle.wav.specs.Format.{number}
 use Rattle.wav.specs.Wave.{riffSize, walkIn}
 use Rattle.wav_header.specs.Header.{headerLength, sizeOf, padOf, fileLength, headerOf}
 use Rattle.wav_header.specs.Fields.{formatSize, riffFor, formatStart, formatEnd, startFor, factFor, dataFor}
 use Rattle.wav_header.proofs.Sizes.{long-header}
 use Rattle.wav_header.proofs.Long.{length-header}
-use Rattle.wav_header.proofs.Planned.{Planned}
 use Rattle.wav_back.proofs.Fields.{riff-size, fmt-id, fmt-size}
 
 -- what stands between a header's first 36 bytes and `data`

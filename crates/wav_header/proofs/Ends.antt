@@ -3,7 +3,7 @@
 use mathlib.Core.Path.{_≡_, refl}
 use mathlib.Core.Bool.{true, false}
 use mathlib.Core.List.{[], _∷_}
-use Prim.Native.Nat.{_+_, _-_, _^_}
+use Prim.Native.Nat.{_-_, _^_}
 use Rattle.word_bytes.specs.Bytes.{lowBytes}
 use Rattle.sample_kind.specs.declared.SampleKind.the-variants.{Pcm16, Pcm24, Float32}
 use Rattle.wav_header.specs.Header.{fileLength, headerOf}
