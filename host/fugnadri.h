@@ -1,7 +1,7 @@
 /* fugnadri.h: every function that Fugnadri's static libraries export, for C.
  *
  * Libraries (x86-64, System V calls): libfugnadri.a, libfugnadri_wander.a, libfugnadri_numbers.a, libfugnadri_tables.a, libfugnadri_bank.a,
- * libfugnadri_wav.a, libfugnadri_residual.a;
+ * libfugnadri_wav.a, libfugnadri_wav_write.a, libfugnadri_residual.a;
  * `rt staticlib NAME` makes each. They want `memset` and nothing else of a C library, allocate nothing, keep nothing between calls and may be called by
  * any thread that owns what it lends.
  *
@@ -199,6 +199,24 @@ uint8_t fugnadri_wav_read(const uint8_t *file, size_t file_len, uint8_t *kind, u
  * (kind, channels, channel) or 2 (broken frames, or another number of them), and then nothing is written. */
 uint8_t fugnadri_wav_samples(uint8_t kind, uint8_t channels, uint8_t channel, const uint8_t *part, size_t part_len, double *out, size_t out_len);
 uint8_t fugnadri_wav_samples_f32(uint8_t kind, uint8_t channels, uint8_t channel, const uint8_t *part, size_t part_len, float *out, size_t out_len);
+
+/* ---- libfugnadri_wav_write.a: RIFF WAVE files written ---------------------------------------------------------------
+ *
+ * Samples of one or two channels, frame by frame, as a whole file into a lent buffer: `*written` is the file's length, 0
+ * where it is refused, and bytes past it stay as they were. Values are rounded to nearest, ties to even. Refused, in this
+ * order, by 1 (a rate outside 8000 to 768000, a count of broken frames, a file past 32 bits), 13 (another kind, or not
+ * one or two channels), 14 (the buffer is shorter than the file, its pad byte counted) or 15 (a sample that is a NaN or
+ * does not fit, infinite as a float); then nothing is written. */
+uint8_t fugnadri_wav_write(uint8_t kind, uint8_t channels, uint32_t rate, const double *samples, size_t samples_len, uint8_t *out, size_t out_len, size_t *written);
+uint8_t fugnadri_wav_write_f32(uint8_t kind, uint8_t channels, uint32_t rate, const float *samples, size_t samples_len, uint8_t *out, size_t out_len, size_t *written);
+
+/* Apart from each other, for a file that is written block after block. Samples as stored bytes, into exactly as many:
+ * refused by 13, 2 (another length) or 15. The header of a file of `count` samples over all channels, into exactly 44
+ * bytes for PCM and 58 for float: refused by 1, 2 or 13. A file's length, 0 where 1 or 13 is due whatever the rate. */
+uint8_t fugnadri_wav_store(uint8_t kind, const double *samples, size_t samples_len, uint8_t *out, size_t out_len);
+uint8_t fugnadri_wav_store_f32(uint8_t kind, const float *samples, size_t samples_len, uint8_t *out, size_t out_len);
+uint8_t fugnadri_wav_header(uint8_t kind, uint8_t channels, uint32_t rate, size_t count, uint8_t *out, size_t out_len);
+size_t fugnadri_wav_file_length(uint8_t kind, uint8_t channels, size_t count);
 
 /* ---- libfugnadri_residual.a: the residual in whole numbers ---------------------------------------------------------------------------------
  *

@@ -7,7 +7,9 @@ returns : tie.Need-returns
 returns c =
     let b = c .before in
     rw (
-      c .first-of-file .ensures, b .both .ensures, b .before .whole-frames .ensures,
+      c .first-of-file .ensures,
+      b .both .ensures,
+      b .before .whole-frames .ensures,
       b .before .before .rate-ok .ensures,
     )
 
