@@ -1,5 +1,6 @@
 pub mod Fields
 pub mod Formats
+pub mod Places
 pub mod Walk
 pub mod Read
 pub mod Written

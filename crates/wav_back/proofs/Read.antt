@@ -27,7 +27,8 @@ use Rattle.wav_header.proofs.Sizes.{narrow, long-header}
 use Rattle.wav_back.proofs.Formats.{format-long, small-tag, kind-is, fields-ok}
 use Rattle.wav_back.proofs.Fields.{riff-id, wave-id, tag-is, channels-are, rate-is, block-is, bits-are}
 use Rattle.wav_back.proofs.Fields.{number-inside}
-use Rattle.wav_back.proofs.Walk.{middle, header-is, seen, bytes, riff-size-is, whole-length, walk-is}
+use Rattle.wav_back.proofs.Places.{middle, header-is, bytes}
+use Rattle.wav_back.proofs.Walk.{seen, riff-size-is, whole-length, walk-is}
 
 -- What is read of a file of so many samples.
 abbrev pub waveFor : SampleKind → ℕ → ℕ → ℕ → Wave
