@@ -10,7 +10,7 @@ use Rattle.word_bytes.specs.Bytes.{lowBytes, bytesValue}
 use Rattle.word_bytes.proofs.Back.{bytes-back}
 use Rattle.sample_kind.specs.declared.SampleKind.{SampleKind}
 use Rattle.sample_kind.specs.Kinds.{widthOf, frameOf}
-use Rattle.wav.specs.Format.{number}
+use Rattle.wav_format.specs.Format.{number}
 use Rattle.wav.specs.Wave.{riffId, waveId}
 use Rattle.riff_chunks.specs.Walk.{fmtId}
 use Rattle.wav_header.specs.Header.{tagOf}

@@ -10,8 +10,8 @@ use lib.Dec.{eqb, leb}
 use Rattle.sample_kind.specs.declared.SampleKind.{SampleKind}
 use Rattle.sample_kind.specs.declared.SampleKind.the-variants.{Pcm16, Pcm24, Float32}
 use Rattle.sample_kind.specs.Kinds.{widthOf, frameOf}
-use Rattle.wav.specs.Format.{block, bits, listed, kindOf, formatOk, wholeFrames}
-use Rattle.wav.specs.Format.{channels as channelsOf}
+use Rattle.wav_format.specs.Format.{block, bits, listed, kindOf, formatOk, wholeFrames}
+use Rattle.wav_format.specs.Format.{channels as channelsOf}
 use Rattle.wav_header.specs.Header.{sizeOf, tagOf}
 use Rattle.wav_header.specs.Fields.{formatSize}
 

@@ -15,9 +15,9 @@ use Rattle.sample_kind.proofs.Widths.{few-bytes}
 use Rattle.riff_chunks.specs.declared.Walked.{Walked}
 use Rattle.wav.specs.declared.Found.the-variants as found
 use Rattle.wav.specs.declared.Wave.{Wave}
-use Rattle.wav.specs.Format.{number, tag, rate, block, bits, formatOk}
-use Rattle.wav.specs.Format.{channels as channelsOf}
-use Rattle.wav.specs.Tags.{plainTag, wrappedTag, wrapper, wraps}
+use Rattle.wav_format.specs.Format.{number, tag, rate, block, bits, formatOk}
+use Rattle.wav_format.specs.Format.{channels as channelsOf}
+use Rattle.wav_format.specs.Tags.{plainTag, wrappedTag, wrapper, wraps}
 use Rattle.wav.specs.Wave.{riffSize, walkIn, partOf, fmtOf, isWave, tagIn, verdict, waveIn}
 use Rattle.wav.specs.Wave.{foundBy, foundIn, foundWrapped}
 use Rattle.wav_header.specs.Header.{headerLength, sizeOf, padOf, fileLength, tagOf}

@@ -21,7 +21,7 @@ use Rattle.sample_kind.specs.declared.SampleKind.{SampleKind}
 use Rattle.sample_kind.specs.declared.SampleKind.the-variants.{Pcm16, Pcm24, Float32}
 use Rattle.sample_kind.specs.Kinds.{widthOf}
 use Rattle.stored_samples.specs.Stored.{fitsIn, wordOf}
-use Rattle.wav.specs.Format.{number}
+use Rattle.wav_format.specs.Format.{number}
 use Rattle.wav_store.specs.Storing.{allFit, bytesOf}
 use Rattle.wav_store.specs.Parts.{AllFinite}
 use Rattle.wav_store.proofs.ReadBack.{Bytes, pcm-finite}
