@@ -4,9 +4,10 @@ use mathlib.Core.List.{[], _∷_, _++_, map}
 use Prim.Native.Nat.{ℕ, _*_}
 use lib.ListN.{take}
 use Rattle.word_bytes.specs.Bytes.{lowBytes}
-use Rattle.wav.specs.declared.SampleKind.the-variants.{Pcm16, Pcm24, Float32}
+use Rattle.sample_kind.specs.declared.SampleKind.the-variants.{Pcm16, Pcm24, Float32}
 use Rattle.wav_samples.specs.Filling.{verdict}
-use Rattle.fugnadri_wav.specs.Doors.{kindOf, channelsOf}
+use Rattle.sample_kind.specs.Kinds.{kindOf}
+use Rattle.fugnadri_wav.specs.Doors.{channelsOf}
 use Rattle.ends.specs.Files.{format, formatted, ofKind, refused, coded}
 
 -- 13. A `fmt ` has at least 16 bytes; 15 and 17 have a pad byte.

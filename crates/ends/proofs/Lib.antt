@@ -8,4 +8,5 @@ pub mod Engine
 pub mod Elementary
 pub mod Files
 pub mod Formats
+pub mod Wrapped
 pub mod Residual

@@ -1,12 +1,15 @@
 -- W1. Small files, byte by byte. Definitions only.
-use Prim.Native.Nat.{ℕ, _+_}
+use Prim.Native.Nat.{ℕ, _+_, _*_}
 use mathlib.Core.List.{List, [], _∷_, _++_}
 use lib.ListN.{length, replicate}
 use Rattle.word_bytes.specs.Bytes.{lowBytes, bytesValue}
-use Rattle.riff_chunks.specs.Chunks.{chunksFrom, upTo, overrun, first}
-use Rattle.wav.specs.Format.{formatOk}
-use Rattle.wav.specs.Wave.{isWave, foundIn}
-use Rattle.fugnadri_wav.specs.Doors.{numberOf, waveOf, codeOf}
+use Rattle.riff_chunks.specs.Chunks.{chunksFrom, overrun, first}
+use Rattle.riff_chunks.specs.Walk.{upTo}
+use Rattle.wav_format.specs.Format.{formatOk}
+use Rattle.wav_format.specs.Tags.{wraps}
+use Rattle.wav.specs.Wave.{isWave, foundIn, foundWrapped}
+use Rattle.sample_kind.specs.Kinds.{codeOf}
+use Rattle.fugnadri_wav.specs.Doors.{numberOf, waveOf}
 
 -- `RIFF`, `WAVE`, `fmt `, `data`, and a chunk that nobody knows, `note`
 abbrev pub riffLetters : List ℕ
@@ -56,6 +59,19 @@ formatted size body n = whole (chunk fmtLetters size body ++ samples n)
 abbrev pub ofKind : ℕ → ℕ → ℕ → ℕ → ℕ → List ℕ
 ofKind tag channels block bits n = formatted 16 (format tag channels block bits) n
 
+-- One channel of samples of so many bytes, in a `fmt ` of WAVE_FORMAT_EXTENSIBLE that says a size: behind the first 16
+-- bytes the extension's size, the valid bits, the speakers, the tag inside and its tail; then 12 bytes of `data`.
+abbrev pub wrapping : ℕ → ℕ → ℕ → ℕ → ℕ → List ℕ → List ℕ
+wrapping size bytes extension valid inner tail =
+    formatted size
+    (format 65534 1 bytes (8 * bytes) ++ (lowBytes 2 extension ++ (lowBytes 2 valid
+    ++ (lowBytes 4 4 ++ (lowBytes 2 inner ++ tail)))))
+    12
+
+-- 0000-0010-8000-00AA00389B71 as it is stored.
+abbrev pub standard : List ℕ
+standard = 0 ∷ 0 ∷ 0 ∷ 0 ∷ 0x10 ∷ 0 ∷ 0x80 ∷ 0 ∷ 0 ∷ 0xaa ∷ 0 ∷ 0x38 ∷ 0x9b ∷ 0x71 ∷ []
+
 -- What a file is refused by, 0 for nothing, and the code of its samples' kind.
 unfoldable pub refused : List ℕ → ℕ
 unfolding isWave chunksFrom upTo overrun first formatOk bytesValue
@@ -64,3 +80,12 @@ refused b = numberOf (foundIn b)
 unfoldable pub coded : List ℕ → ℕ
 unfolding isWave chunksFrom upTo overrun first formatOk bytesValue
 coded b = codeOf (waveOf (foundIn b) .kind)
+
+-- The same of the reading that unwraps.
+unfoldable pub refusedWrapped : List ℕ → ℕ
+unfolding isWave chunksFrom upTo overrun first formatOk wraps bytesValue
+refusedWrapped b = numberOf (foundWrapped b)
+
+unfoldable pub codedWrapped : List ℕ → ℕ
+unfolding isWave chunksFrom upTo overrun first formatOk wraps bytesValue
+codedWrapped b = codeOf (waveOf (foundWrapped b) .kind)

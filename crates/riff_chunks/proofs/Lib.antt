@@ -1,5 +1,9 @@
 pub mod Names
 pub mod Steps
 pub mod Seen
-pub mod Turn
+pub mod Rest
+pub mod ByTurns
 pub mod Short
+pub mod Walks
+pub mod Found
+pub mod Agree

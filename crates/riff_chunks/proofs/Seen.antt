@@ -1,17 +1,23 @@
 -- What was seen so far, put together with what is left of the walk. Assumes nothing.
-use mathlib.Core.Path.{_≡_, refl, ap, _∙_}
+use mathlib.Core.Path.{_≡_, refl}
 use mathlib.Core.Bool.{Bool, true, false, cond, _||_}
 use mathlib.Core.List.{List, [], _∷_}
 use Prim.Native.Nat.{ℕ}
 use lib.Dec.{eqb}
 use Rattle.riff_chunks.specs.declared.Chunk.{Chunk}
+use Rattle.riff_chunks.specs.declared.Sought.{Sought}
 use Rattle.riff_chunks.specs.declared.Spot.{Spot}
 use Rattle.riff_chunks.specs.declared.Walked.{Walked}
 use Rattle.riff_chunks.specs.Chunks.{overruns, overrun, nowhere, spotOf, first}
-use Rattle.riff_chunks.specs.Walk.{fmtId, dataId, orElse, spotIf, noted}
+use Rattle.riff_chunks.specs.Walk.{orElse, spotIf, noted}
 
-abbrev pub also : ℕ → Walked → List Chunk → Walked
-also end w cs = record { overruns = w .overruns || overrun end cs; fmt = orElse (w .fmt) (first fmtId cs); samples = orElse (w .samples) (first dataId cs) }
+abbrev pub also : Sought → ℕ → Walked → List Chunk → Walked
+also s end w cs =
+    record {
+      overruns = w .overruns || overrun end cs;
+      format = orElse (w .format) (first (s .format) cs);
+      samples = orElse (w .samples) (first (s .samples) cs);
+    }
 
 -- a spot not found is 0
 abbrev pub Plain : Spot → Type 0
@@ -40,16 +46,17 @@ pub still-plain : (s : Spot) (id : ℕ) (c : Chunk) → Plain (orElse s (spotIf 
 still-plain s id c = plain-first s c (s .found) (eqb (c .id) id) refl
 
 -- one chunk more
-pub seen-one : (end : ℕ) (w : Walked) (c : Chunk) (cs : List Chunk) → also end w (c ∷ cs) ≡ also end (noted w c (overruns end c)) cs
+pub seen-one : (s : Sought) (end : ℕ) (w : Walked) (c : Chunk) (cs : List Chunk)
+    → also s end w (c ∷ cs) ≡ also s end (noted s w c (overruns end c)) cs
 unfolding overrun first
-seen-one end w c cs =
+seen-one s end w c cs =
     rw (
       or-assoc (w .overruns) (overruns end c) (overrun end cs),
-      either-first (w .fmt) c (first fmtId cs) (w .fmt .found) (eqb (c .id) fmtId) refl,
-      either-first (w .samples) c (first dataId cs) (w .samples .found) (eqb (c .id) dataId) refl,
+      either-first (w .format) c (first (s .format) cs) (w .format .found) (eqb (c .id) (s .format)) refl,
+      either-first (w .samples) c (first (s .samples) cs) (w .samples .found) (eqb (c .id) (s .samples)) refl,
     )
 
 -- none more
-pub seen-all : (end : ℕ) (w : Walked) → Plain (w .fmt) → Plain (w .samples) → also end w [] ≡ w
+pub seen-all : (s : Sought) (end : ℕ) (w : Walked) → Plain (w .format) → Plain (w .samples) → also s end w [] ≡ w
 unfolding overrun first
-seen-all end w p q = rw (or-false (w .overruns), p, q)
+seen-all s end w p q = rw (or-false (w .overruns), p, q)

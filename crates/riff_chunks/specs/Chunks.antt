@@ -1,6 +1,8 @@
--- W1. The chunks of a file: an identifier of four bytes, a size of four bytes, that many bytes of body, and a pad byte behind a body of odd size.
--- Definitions only. Identifiers count as their four bytes, the low byte first; the order of a size's bytes is a parameter.
+-- W1. The chunks of a file: an identifier of four bytes, a size of four bytes, that many bytes of body, and a pad byte
+-- behind a body of odd size. Definitions only. Which chunk stands at a place is a parameter: another layout may have
+-- its sizes in another order of bytes, or their true values elsewhere.
 use Prim.Native.Nat.{ℕ, zero, suc, _+_, _%_}
+use mathlib.Core.Path.{_≡_}
 use mathlib.Core.Bool.{Bool, true, false, cond, _||_}
 use mathlib.Core.List.{List, [], _∷_}
 use lib.Dec.{eqb, leb, ltb}
@@ -9,9 +11,15 @@ use Rattle.word_bytes.specs.Bytes.{bytesValue}
 use Rattle.riff_chunks.specs.declared.Chunk.{Chunk}
 use Rattle.riff_chunks.specs.declared.Spot.{Spot}
 
--- The chunk whose identifier stands at a place. Its body is named by its first byte's place.
+-- The chunk whose identifier stands at a place, by what number a size's four bytes are. An identifier counts as its
+-- four bytes, the low byte first. A body is named by its first byte's place.
 abbrev pub chunkAt : (List ℕ → ℕ) → List ℕ → ℕ → Chunk
-chunkAt number b at = record { id = bytesValue (take 4 (drop at b)); body = at + 8; size = number (take 4 (drop (at + 4) b)) }
+chunkAt number b at =
+    record { id = bytesValue (take 4 (drop at b)); body = at + 8; size = number (take 4 (drop (at + 4) b)) }
+
+-- Every layout has a body 8 bytes behind its identifier.
+abbrev pub Placed : (ℕ → Chunk) → Type 0
+Placed chunkOf = (at : ℕ) → chunkOf at .body ≡ at + 8
 
 abbrev pub overruns : ℕ → Chunk → Bool
 overruns end c = ltb end (c .body + c .size)
@@ -20,20 +28,17 @@ overruns end c = ltb end (c .body + c .size)
 abbrev pub after : Chunk → ℕ
 after c = c .body + c .size + c .size % 2
 
--- The chunks from a place on, where 8 bytes are left there before the end; at most `most` of them. One that runs past the end is the last.
-unfoldable pub chunksFrom : (List ℕ → ℕ) → ℕ → Bool → List ℕ → ℕ → ℕ → List Chunk
-chunksFrom number zero more b end at = []
-chunksFrom number (suc most) false b end at = []
-chunksFrom number (suc most) true b end at = let c = chunkAt number b at in c ∷ chunksFrom number most (leb (after c + 8) end) b end (after c)
+-- The chunks from a place on, where 8 bytes are left there before the end; at most `most` of them. One that runs past
+-- the end is the last.
+unfoldable pub chunksFrom : (ℕ → Chunk) → ℕ → Bool → ℕ → ℕ → List Chunk
+chunksFrom chunkOf zero more end at = []
+chunksFrom chunkOf (suc most) false end at = []
+chunksFrom chunkOf (suc most) true end at =
+    let c = chunkOf at in c ∷ chunksFrom chunkOf most (leb (after c + 8) end) end (after c)
 
 -- All of them: no chunk is shorter than a byte.
-abbrev pub chunks : (List ℕ → ℕ) → List ℕ → ℕ → ℕ → List Chunk
-chunks number b end at = chunksFrom number end (leb (at + 8) end) b end at
-
--- Up to the first of an identifier, and with it.
-unfoldable pub upTo : ℕ → List Chunk → List Chunk
-upTo id [] = []
-upTo id (c ∷ cs) = c ∷ cond (eqb (c .id) id) [] (upTo id cs)
+abbrev pub chunks : (ℕ → Chunk) → ℕ → ℕ → List Chunk
+chunks chunkOf end at = chunksFrom chunkOf end (leb (at + 8) end) end at
 
 -- Whether one of them runs past the end.
 unfoldable pub overrun : ℕ → List Chunk → Bool

@@ -1,44 +1,64 @@
--- W1. The walk of a RIFF WAVE file, from the first chunk behind `WAVE` on: the first `fmt ` counts, and the walk ends with the first `data`. Definitions only.
+-- W1. The walk over a file's chunks, from the first behind the file's 12 bytes of beginning on: two identifiers are
+-- sought, the first of each counts, and the second may end the walk. Definitions only.
 use Prim.Native.Nat.{ℕ, _+_, _-_, _%_, min}
-use mathlib.Core.Bool.{Bool, cond, _||_}
-use mathlib.Core.List.{List, []}
+use mathlib.Core.Bool.{Bool, true, false, cond, _&&_, _||_}
+use mathlib.Core.List.{List, [], _∷_}
 use lib.Dec.{eqb, ltb}
 use lib.ListN.{length}
 use Rattle.word_bytes.specs.Bytes.{bytesValue}
 use Rattle.riff_chunks.specs.declared.Chunk.{Chunk}
+use Rattle.riff_chunks.specs.declared.Sought.{Sought}
 use Rattle.riff_chunks.specs.declared.Spot.{Spot}
 use Rattle.riff_chunks.specs.declared.Walked.{Walked}
-use Rattle.riff_chunks.specs.Chunks.{chunks, upTo, overrun, nowhere, spotOf, first}
+use Rattle.riff_chunks.specs.declared.Walking.{Walking}
+use Rattle.riff_chunks.specs.Chunks.{chunkAt, chunks, overrun, nowhere, spotOf, first}
 
--- `fmt ` and `data`
+-- `fmt ` and `data`; the first `data` ends the walk.
 abbrev pub fmtId : ℕ
 fmtId = 0x2074_6d66
 
 abbrev pub dataId : ℕ
 dataId = 0x6174_6164
 
--- The chunks walked, before an end.
-abbrev pub walked : List ℕ → ℕ → List Chunk
-walked b end = upTo dataId (chunks bytesValue b end 12)
+abbrev pub riffSought : Sought
+riffSought = record { format = fmtId; samples = dataId; ends = true }
 
-abbrev pub walkTo : List ℕ → ℕ → Walked
-walkTo b end =
-    record {
-      overruns = overrun end (walked b end);
-      fmt = first fmtId (walked b end);
-      samples = first dataId (walked b end);
-    }
+-- Up to the first chunk that ends the walk, and with it; all of them where nothing ends it.
+abbrev pub isLast : Sought → Chunk → Bool
+isLast s c = s .ends && eqb (c .id) (s .samples)
+
+unfoldable pub upTo : Sought → List Chunk → List Chunk
+upTo s [] = []
+upTo s (c ∷ cs) = c ∷ cond (isLast s c) [] (upTo s cs)
+
+-- The chunks walked from a place on, before an end, and what is seen of them.
+abbrev pub walkedFrom : Sought → (ℕ → Chunk) → ℕ → ℕ → List Chunk
+walkedFrom s chunkOf end at = upTo s (chunks chunkOf end at)
+
+abbrev pub seenOf : Sought → ℕ → List Chunk → Walked
+seenOf s end cs = record { overruns = overrun end cs; format = first (s .format) cs; samples = first (s .samples) cs }
+
+abbrev pub walkFrom : Sought → (ℕ → Chunk) → ℕ → ℕ → Walked
+walkFrom s chunkOf end at = seenOf s end (walkedFrom s chunkOf end at)
+
+abbrev pub walkTo : Sought → (ℕ → Chunk) → ℕ → Walked
+walkTo s chunkOf end = walkFrom s chunkOf end 12
 
 -- No walk goes on behind the file: an end that is asked for there is the file's.
 abbrev pub endIn : List ℕ → ℕ → ℕ
 endIn b end = min end (length b)
 
+-- RIFF's, whose sizes have their low byte first.
 abbrev pub walkOf : List ℕ → ℕ → Walked
-walkOf b end = walkTo b (endIn b end)
+walkOf b end = walkTo riffSought (chunkAt bytesValue b) (endIn b end)
 
--- ---- a turn of the walk: what is left behind a chunk in front of which `room` bytes stood before the end, and what was seen with it
-abbrev pub leftAfter : Chunk → ℕ → ℕ
-leftAfter c room = cond (eqb (c .id) dataId) 0 (cond (ltb room (c .size)) 0 (room - (c .size + c .size % 2)))
+-- ---- the walk by its turns: how many bytes are left before the end, and what was seen
+abbrev pub begun : ℕ → Walking
+begun end = record { left = end - 12; seen = record { overruns = false; format = nowhere; samples = nowhere } }
+
+-- What is left behind a chunk with `room` bytes between its header and the end.
+abbrev pub leftAfter : Sought → Chunk → ℕ → ℕ
+leftAfter s c room = cond (isLast s c) 0 (cond (ltb room (c .size)) 0 (room - (c .size + c .size % 2)))
 
 abbrev pub orElse : Spot → Spot → Spot
 orElse s t = cond (s .found) s t
@@ -46,5 +66,15 @@ orElse s t = cond (s .found) s t
 abbrev pub spotIf : ℕ → Chunk → Spot
 spotIf id c = cond (eqb (c .id) id) (spotOf c) nowhere
 
-abbrev pub noted : Walked → Chunk → Bool → Walked
-noted w c over = record { overruns = w .overruns || over; fmt = orElse (w .fmt) (spotIf fmtId c); samples = orElse (w .samples) (spotIf dataId c) }
+abbrev pub noted : Sought → Walked → Chunk → Bool → Walked
+noted s w c over =
+    record {
+      overruns = w .overruns || over;
+      format = orElse (w .format) (spotIf (s .format) c);
+      samples = orElse (w .samples) (spotIf (s .samples) c);
+    }
+
+-- One chunk more: its header takes 8 of the bytes that are left.
+abbrev pub turned : Sought → Walking → Chunk → Walking
+turned s w c =
+    record { left = leftAfter s c (w .left - 8); seen = noted s (w .seen) c (ltb (w .left - 8) (c .size)) }

@@ -1,21 +1,30 @@
-// W1. The walk over the chunks of a RIFF WAVE file: which of them run past the end, and where the first `fmt ` and the first `data` stand.
-// Any bytes and any end are taken. An end behind the file is cut to it, so that a walk is never longer than the file.
+// W1. The walk over the chunks of a RIFF WAVE file: which of them run past the end, and where the first `fmt ` and the
+// first `data` stand. Any bytes and any end are taken. An end behind the file is cut to it, so that a walk is never
+// longer than the file. Its turns are handed out too: a layout with other identifiers or sizes walks by them.
 ghost use mathlib.Core.Path.{_≡_};
-ghost use Prim.Native.Nat.{_+_, _-_, _<_, min};
+ghost use Prim.Native.Nat.{_+_, _<_, min};
 ghost use Rattle.word_bytes.specs.Bytes.{bytesValue};
 ghost use Rattle.riff_chunks.specs.Chunks.{chunkAt};
-ghost use Rattle.riff_chunks.specs.Walk.{walkTo, walkOf, leftAfter};
+ghost use Rattle.riff_chunks.specs.Walk.{walkTo, walkOf, riffSought};
 
 mod spots;
+mod turns;
 
-use spots::noted;
-use spots::unseen;
+pub use turns::begin;
+pub use turns::turn;
 use word_bytes::low_first_u32;
 
 pub struct Chunk {
     pub id: u32,
     pub body: usize,
     pub size: usize,
+}
+
+// The two identifiers that are sought, and whether the first chunk of the second ends the walk.
+pub struct Sought {
+    pub format: u32,
+    pub samples: u32,
+    pub ends: bool,
 }
 
 // The body of a chunk that was looked for: its place and its size, 0 where there is none.
@@ -27,8 +36,14 @@ pub struct Spot {
 
 pub struct Walked {
     pub overruns: bool,
-    pub fmt: Spot,
+    pub format: Spot,
     pub samples: Spot,
+}
+
+// A walk on its way: how many bytes are left before the end, and what was seen.
+pub struct Walking {
+    pub left: usize,
+    pub seen: Walked,
 }
 
 // The chunks between the 12 bytes of a RIFF's beginning and its end, or the file's where that comes first.
@@ -46,23 +61,27 @@ fn earlier(end: usize, len: usize) -> usize
 
 // The same up to an end. What is left before the end is counted, so that no sum can pass a word.
 fn walk_to(file: &[u8], end: usize) -> Walked
-    ensures { λ r. ⌜ r ≡ walkTo (now (file .entry)) end ⌝ }
+    ensures { λ r. ⌜ r ≡ walkTo riffSought (chunkAt bytesValue (now (file .entry))) end ⌝ }
 {
-    let mut left: usize = behind_start(end);
-    let mut seen = unseen();
-    while left >= 8 {
+    let sought = riff_sought();
+    let mut walking = begin(end);
+    while walking.left >= 8 {
+        let left = walking.left;
         let c = chunk_at(file, end - left);
-        let room = left - 8;
-        seen = noted(seen, c, c.size > room);
-        left = left_after(c, room);
+        walking = turn(walking, sought, c);
     }
-    seen
+    walking.seen
 }
 
-fn behind_start(end: usize) -> usize
-    ensures { λ r. ⌜ r ≡ end - 12 ⌝ }
+// `fmt ` and `data`; the first `data` ends the walk.
+pub fn riff_sought() -> Sought
+    ensures { λ r. ⌜ r ≡ riffSought ⌝ }
 {
-    if end < 12 { 0 } else { end - 12 }
+    Sought {
+        format: 0x2074_6d66,
+        samples: 0x6174_6164,
+        ends: true,
+    }
 }
 
 fn chunk_at(file: &[u8], at: usize) -> Chunk
@@ -76,18 +95,4 @@ fn chunk_at(file: &[u8], at: usize) -> Chunk
         body: at + 8,
         size: size as usize,
     }
-}
-
-// The first `data` ends the walk, and so does a chunk that runs past the end. A last pad byte may be missing.
-fn left_after(c: Chunk, room: usize) -> usize
-    ensures { λ r. ⌜ r ≡ leftAfter c room ⌝ }
-{
-    if c.id == 0x6174_6164 {
-        return 0;
-    }
-    if room < c.size {
-        return 0;
-    }
-    let rest = room - c.size;
-    if rest == 0 { 0 } else { rest - c.size % 2 }
 }

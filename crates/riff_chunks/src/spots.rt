@@ -1,42 +1,38 @@
-// W1. What was seen of the chunks: whether one ran past the end, and where the first `fmt ` and the first `data` stand.
+// W1. What was seen of the chunks: whether one ran past the end, and where the first of each identifier stands.
 ghost use mathlib.Core.Path.{_≡_};
 ghost use mathlib.Core.Bool.{false, _||_};
 ghost use Rattle.riff_chunks.specs.Chunks.{nowhere};
 ghost use Rattle.riff_chunks.specs.Walk.{orElse, spotIf};
 ghost use Rattle.riff_chunks.specs.Walk.{noted as Walk·noted};
 use crate::Chunk;
+use crate::Sought;
 use crate::Spot;
 use crate::Walked;
 
 pub fn unseen() -> Walked
-    ensures { λ r. ⌜ r ≡ record { overruns = false; fmt = nowhere; samples = nowhere } ⌝ }
+    ensures { λ r. ⌜ r ≡ record { overruns = false; format = nowhere; samples = nowhere } ⌝ }
 {
-    let fmt = Spot {
-        found: false,
-        body: 0,
-        size: 0,
-    };
-    let samples = Spot {
+    let none = Spot {
         found: false,
         body: 0,
         size: 0,
     };
     Walked {
         overruns: false,
-        fmt: fmt,
-        samples: samples,
+        format: none,
+        samples: none,
     }
 }
 
 // One chunk more.
-pub fn noted(seen: Walked, c: Chunk, over: bool) -> Walked
-    ensures { λ r. ⌜ r ≡ Walk·noted seen c over ⌝ }
+pub fn noted(sought: Sought, seen: Walked, c: Chunk, over: bool) -> Walked
+    ensures { λ r. ⌜ r ≡ Walk·noted sought seen c over ⌝ }
 {
-    let fmt = first_of(seen.fmt, 0x2074_6d66, c);
-    let samples = first_of(seen.samples, 0x6174_6164, c);
+    let format = first_of(seen.format, sought.format, c);
+    let samples = first_of(seen.samples, sought.samples, c);
     Walked {
         overruns: either(seen.overruns, over),
-        fmt: fmt,
+        format: format,
         samples: samples,
     }
 }

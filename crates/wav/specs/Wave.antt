@@ -1,16 +1,19 @@
--- W1. A RIFF WAVE file: which refusal is due, and where no one is, the part that holds samples and what they are. Definitions only.
+-- W1. A RIFF WAVE file: which refusal is due, and where none is, the part that holds samples and what they are.
+-- Definitions only. How the tag is told from the body of a `fmt ` and its size is a parameter.
 use Prim.Native.Nat.{ℕ, zero, suc, _+_}
 use mathlib.Core.Bool.{Bool, not, _&&_}
 use mathlib.Core.List.{List, [], _∷_}
 use lib.Dec.{eqb, leb}
 use lib.ListN.{length, take, drop}
-use Rattle.refusal_order.specs.Order.{_unless_, firstOf}
+use Rattle.refusal_order.specs.Order.{Test, _unless_, firstOf}
 use Rattle.riff_chunks.specs.declared.Walked.{Walked}
 use Rattle.riff_chunks.specs.Walk.{walkOf}
 use Rattle.wav.specs.declared.Found.{Found}
 use Rattle.wav.specs.declared.Found.the-variants as found
+use Rattle.wav.specs.declared.Told.{Told}
 use Rattle.wav.specs.declared.Wave.{Wave}
-use Rattle.wav.specs.Format.{number, tag, channels, rate, bits, kindOf, formatOk}
+use Rattle.wav_format.specs.Format.{number, tag, channels, rate, block, bits, kindOf, formatOk}
+use Rattle.wav_format.specs.Tags.{plainTag, wrappedTag}
 
 -- `RIFF` and `WAVE`
 abbrev pub riffId : ℕ
@@ -32,7 +35,7 @@ partOf b start size = take size (drop start b)
 
 -- The body of the first `fmt `.
 abbrev pub fmtOf : List ℕ → List ℕ
-fmtOf b = partOf b (walkIn b .fmt .body) (walkIn b .fmt .size)
+fmtOf b = partOf b (walkIn b .format .body) (walkIn b .format .size)
 
 -- 9. RIFF WAVE, with a RIFF size of at least 4.
 unfoldable pub isWave : List ℕ → Bool
@@ -42,30 +45,67 @@ isWave b = leb 12 (length b) && (eqb (number 4 b 0) riffId && (eqb (number 4 b 8
 abbrev pub within : List ℕ → Bool
 within b = leb (8 + riffSize b) (length b) && not (walkIn b .overruns)
 
--- 9 to 13, in that order. 11: no `fmt ` up to the first `data`; 12: no `data`.
-abbrev pub verdict : List ℕ → ℕ
-verdict b =
-    firstOf
-    (9 unless isWave b
-    ∷ 10 unless within b
-    ∷ 11 unless walkIn b .fmt .found
-    ∷ 12 unless walkIn b .samples .found
-    ∷ 13 unless formatOk (fmtOf b) (walkIn b .fmt .size) (walkIn b .samples .size)
-    ∷ [])
+-- The tag, as the reading tells it.
+abbrev pub tagIn : (List ℕ → ℕ → ℕ) → List ℕ → ℕ
+tagIn tagOf b = tagOf (fmtOf b) (walkIn b .format .size)
 
-abbrev pub waveIn : List ℕ → Wave
-waveIn b =
+-- 9 to 13, in that order, from the first two tests, the tag, the body of the `fmt ` and the walk. 11: no `fmt ` up to the
+-- first `data`; 12: no `data`.
+abbrev pub testsOf : Bool → Bool → ℕ → List ℕ → Walked → List Test
+testsOf wave inside t f w =
+    9 unless wave
+    ∷ 10 unless inside
+    ∷ 11 unless w .format .found
+    ∷ 12 unless w .samples .found
+    ∷ 13 unless formatOk t f (w .format .size) (w .samples .size)
+    ∷ []
+
+abbrev pub waveOf : ℕ → List ℕ → Walked → Wave
+waveOf t f w =
     record {
-      kind = kindOf (tag (fmtOf b)) (bits (fmtOf b));
-      channels = channels (fmtOf b);
-      rate = rate (fmtOf b);
-      start = walkIn b .samples .body;
-      length = walkIn b .samples .size;
+      kind = kindOf t (bits f);
+      channels = channels f;
+      rate = rate f;
+      start = w .samples .body;
+      length = w .samples .size;
     }
 
-abbrev pub foundBy : ℕ → Wave → Found
-foundBy zero w = found.Wave w
-foundBy (suc k) w = found.Refused (suc k)
+abbrev pub answered : ℕ → Wave → Found
+answered zero w = found.Wave w
+answered (suc k) w = found.Refused (suc k)
 
+abbrev pub foundOf : Bool → Bool → ℕ → List ℕ → Walked → Found
+foundOf wave inside t f w = answered (firstOf (testsOf wave inside t f w)) (waveOf t f w)
+
+-- All of it from a file.
+abbrev pub tests : (List ℕ → ℕ → ℕ) → List ℕ → List Test
+tests tagOf b = testsOf (isWave b) (within b) (tagIn tagOf b) (fmtOf b) (walkIn b)
+
+abbrev pub verdict : (List ℕ → ℕ → ℕ) → List ℕ → ℕ
+verdict tagOf b = firstOf (tests tagOf b)
+
+abbrev pub waveIn : (List ℕ → ℕ → ℕ) → List ℕ → Wave
+waveIn tagOf b = waveOf (tagIn tagOf b) (fmtOf b) (walkIn b)
+
+abbrev pub foundBy : (List ℕ → ℕ → ℕ) → List ℕ → Found
+foundBy tagOf b = answered (verdict tagOf b) (waveIn tagOf b)
+
+-- The two readings: the tag as it stands, and a wrapped kind by what is inside.
 abbrev pub foundIn : List ℕ → Found
-foundIn b = foundBy (verdict b) (waveIn b)
+foundIn = foundBy plainTag
+
+abbrev pub foundWrapped : List ℕ → Found
+foundWrapped = foundBy wrappedTag
+
+-- For who explains a refusal: what the first `fmt ` says, and the sizes of it and of the first `data`, zeros where
+-- there is none. The walk ends with the file where the RIFF runs past it.
+abbrev pub toldIn : List ℕ → Told
+toldIn b =
+    record {
+      size = walkIn b .format .size;
+      tag = tag (fmtOf b);
+      channels = channels (fmtOf b);
+      block = block (fmtOf b);
+      bits = bits (fmtOf b);
+      samples = walkIn b .samples .size;
+    }

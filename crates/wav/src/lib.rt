@@ -1,23 +1,19 @@
 // W1. RIFF WAVE, the published layout: the part of a file that holds samples and what they are, or a refusal by number.
 ghost use mathlib.Core.Path.{_≡_};
-ghost use Rattle.wav.specs.Wave.{foundIn, partOf};
+ghost use Rattle.wav_format.specs.Tags.{tagBy};
+ghost use Rattle.wav.specs.Wave.{foundBy, foundIn, foundWrapped, toldIn, partOf};
 
+mod finding;
 mod first_tests;
-mod format;
 
-use first_tests::first;
-use first_tests::is_wave;
+pub use finding::finish;
+pub use first_tests::is_wave;
 use first_tests::past;
 use first_tests::within;
-use format::format_ok;
-use format::kind_of;
-
-// PCM of 16 and 24 bits, IEEE float of 32.
-pub enum SampleKind {
-    Pcm16,
-    Pcm24,
-    Float32,
-}
+use sample_kind::SampleKind;
+use short_words::two;
+use wav_format::tag_of;
+use word_bytes::low_first_u32;
 
 // One or two channels; the samples' bytes are `length` bytes from `start` on.
 pub struct Wave {
@@ -33,39 +29,64 @@ pub enum Found {
     Refused(u8),
 }
 
+// What the first `fmt ` says, its size, and the size of the first `data`; zeros where there is none.
+pub struct Told {
+    pub size: usize,
+    pub tag: u32,
+    pub channels: u32,
+    pub block: u32,
+    pub bits: u32,
+    pub samples: usize,
+}
+
+// Tag 1 is PCM and tag 3 IEEE float. Every other tag is refused by 13.
 pub fn read(file: &[u8]) -> Found
     ensures { λ r. ⌜ r ≡ foundIn (now (file .entry)) ⌝ }
 {
-    let size = word_bytes::low_first_u32(file, 4);
+    read_by(false, file)
+}
+
+// The same, but that a kind wrapped as WAVE_FORMAT_EXTENSIBLE, tag FFFE, is read by the tag inside.
+pub fn read_wrapped(file: &[u8]) -> Found
+    ensures { λ r. ⌜ r ≡ foundWrapped (now (file .entry)) ⌝ }
+{
+    read_by(true, file)
+}
+
+fn read_by(wrapped: bool, file: &[u8]) -> Found
+    ensures { λ r. ⌜ r ≡ foundBy (tagBy wrapped) (now (file .entry)) ⌝ }
+{
+    let size = low_first_u32(file, 4);
     let end = 8 + size as usize;
     // Where the RIFF runs past the file the number is known without a walk.
     if file.len() < end {
         return Found::Refused(past(is_wave(file)));
     }
     let walked = riff_chunks::walk(file, end);
-    let fmt = walked.fmt;
+    let format = walked.format;
     let samples = walked.samples;
-    let f = part_of(file, fmt.body, fmt.size);
-    let refusal = first(
-        is_wave(file),
-        within(file, walked.overruns),
-        fmt.found,
-        samples.found,
-        format_ok(f, fmt.size, samples.size),
-    );
-    if refusal != 0 {
-        return Found::Refused(refusal);
+    let f = part_of(file, format.body, format.size);
+    let tag = tag_of(wrapped, f, format.size);
+    finish(is_wave(file), within(file, walked.overruns), tag, f, walked)
+}
+
+// What a file says of its samples, whether it is refused or not: for who explains a 13.
+pub fn fmt_told(file: &[u8]) -> Told
+    ensures { λ r. ⌜ r ≡ toldIn (now (file .entry)) ⌝ }
+{
+    let size = low_first_u32(file, 4);
+    let walked = riff_chunks::walk(file, 8 + size as usize);
+    let format = walked.format;
+    let samples = walked.samples;
+    let f = part_of(file, format.body, format.size);
+    Told {
+        size: format.size,
+        tag: two(f, 0),
+        channels: two(f, 2),
+        block: two(f, 12),
+        bits: two(f, 14),
+        samples: samples.size,
     }
-    let kind = kind_of(short_words::two(f, 0), short_words::two(f, 14));
-    let channels = short_words::two(f, 2);
-    let rate = word_bytes::low_first_u32(f, 4);
-    Found::Wave(Wave {
-        kind: kind,
-        channels: channels as u8,
-        rate: rate,
-        start: samples.body,
-        length: samples.size,
-    })
 }
 
 // The part of a file that holds samples.

@@ -1,1 +1,5 @@
-pub mod Frames
+pub mod Framing
+pub mod Values
+pub mod Fillable
+pub mod Files
+pub mod Ends

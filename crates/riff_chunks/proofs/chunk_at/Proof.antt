@@ -7,4 +7,7 @@ returns : tie.Need-returns
 returns c = rw (c .before .low-first-u32 .ensures, c .low-first-u322 .ensures)
 
 pub chunk-at-spec : {M : Type 1} → statement M
-chunk-at-spec = tie.close (tie.spec (λ c κs. search needs) (λ c. search needs) (λ c κs. search needs) (λ c. search needs) (λ c. search needs) returns)
+chunk-at-spec =
+    tie.close
+    (tie.spec (λ c κs. search needs) (λ c. search needs) (λ c κs. search needs) (λ c. search needs) (λ c. search needs)
+    returns)

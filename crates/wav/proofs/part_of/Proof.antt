@@ -1,4 +1,5 @@
--- `wav::part_of` meets its contract: past the end there is nothing to take, and near the end no more than is there. Assumes nothing.
+-- `wav::part_of` meets its contract: past the end there is nothing to take, and near the end no more than is there.
+-- Assumes nothing.
 use borrow.Author.Needs.{needs}
 use mathlib.Core.Path.{sym, _∙_}
 use Prim.Native.Nat.{_-_, _≤_}
@@ -10,7 +11,9 @@ use Rattle.wav.proofs.part_of.Statement.{statement}
 use Rattle.wav.proofs.part_of.Tie as tie
 
 returns : tie.Need-returns
-returns c = rw (drop-of-length-le (c .before .before .args .s .now) (c .before .if1 .taken)) (sym (take-nil (c .before .before .args .size)))
+returns c =
+    let start = c .before .before in
+    rw (drop-of-length-le (start .args .s .now) (c .before .if1 .taken)) (sym (take-nil (start .args .size)))
 
 returns-2 : tie.Need-returns-2
 returns-2 c = rw add-sub-cancel-left
@@ -24,4 +27,8 @@ returns-3 c =
     take-all _ (drop at s) a ∙ sym (take-all _ (drop at s) b)
 
 pub part-of-spec : {M : Type 1} → statement M
-part-of-spec = tie.close (tie.spec (λ c. search needs) returns (λ c. search needs) (λ c. search needs) (λ c. search needs) (λ c. search needs) (λ c. search needs) returns-2 (λ c. search needs) (λ c. search needs) (λ c. search needs) returns-3)
+part-of-spec =
+    tie.close
+    (tie.spec (λ c. search needs) returns (λ c. search needs) (λ c. search needs) (λ c. search needs)
+    (λ c. search needs) (λ c. search needs) returns-2 (λ c. search needs) (λ c. search needs) (λ c. search needs)
+    returns-3)

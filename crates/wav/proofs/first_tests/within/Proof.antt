@@ -7,4 +7,5 @@ returns : tie.Need-returns
 returns c = cc
 
 pub within-spec : {M : Type 1} → statement M
-within-spec = tie.close (tie.spec (λ c κs. search needs) (λ c. search needs) (λ c. search needs) (λ c κs. search needs) returns)
+within-spec =
+    tie.close (tie.spec (λ c κs. search needs) (λ c. search needs) (λ c. search needs) (λ c κs. search needs) returns)

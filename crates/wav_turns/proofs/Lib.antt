@@ -1,0 +1,3 @@
+pub mod Walking
+pub mod Fields
+pub mod ByTurns

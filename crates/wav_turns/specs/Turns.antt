@@ -1,0 +1,55 @@
+-- W1. A RIFF WAVE file by turns: what its beginning tells, a chunk more by its first 8 bytes, and the answer from the walk
+-- and the first bytes of `fmt `. Definitions only.
+use Prim.Native.Nat.{ℕ, zero, suc, _+_, _-_}
+use mathlib.Core.Bool.{Bool, true, not, cond, _&&_}
+use mathlib.Core.List.{List, [], _∷_}
+use lib.Dec.{leb}
+use lib.ListN.{take, drop}
+use Rattle.refusal_order.specs.Order.{_unless_, firstOf}
+use Rattle.riff_chunks.specs.declared.Chunk.{Chunk}
+use Rattle.riff_chunks.specs.declared.Walked.{Walked}
+use Rattle.riff_chunks.specs.declared.Walking.{Walking}
+use Rattle.riff_chunks.specs.Walk.{riffSought, begun, turned}
+use Rattle.wav.specs.declared.Found.{Found}
+use Rattle.wav.specs.declared.Found.the-variants as found
+use Rattle.wav_format.specs.Format.{number}
+use Rattle.wav_format.specs.Tags.{wrappedTag}
+use Rattle.wav.specs.Wave.{riffSize, isWave, foundOf}
+use Rattle.wav_turns.specs.declared.Started.{Started}
+
+-- 9 from the first 12 bytes, 10 where the RIFF runs past the file's length.
+abbrev pub startedOf : List ℕ → ℕ → Started
+startedOf head length =
+    record {
+      refusal = firstOf (9 unless isWave head ∷ 10 unless leb (8 + riffSize head) length ∷ []);
+      end = 8 + riffSize head;
+    }
+
+-- The chunk whose first 8 bytes are at hand, where `left` bytes are left before the end.
+abbrev pub chunkBy : ℕ → ℕ → List ℕ → Chunk
+chunkBy end left head = record { id = number 4 head 0; body = end - left + 8; size = number 4 head 4 }
+
+-- A walk that has fewer than 8 bytes left is over.
+abbrev pub goesOn : Walking → ℕ → Bool
+goesOn w end = leb 8 (w .left) && leb (w .left) end
+
+abbrev pub turnedBy : Walking → ℕ → List ℕ → Walking
+turnedBy w end head = cond (goesOn w end) (turned riffSought w (chunkBy end (w .left) head)) w
+
+abbrev pub finishedOf : Walked → List ℕ → Found
+finishedOf w f = foundOf true (not (w .overruns)) (wrappedTag f (w .format .size)) f w
+
+-- ---- a whole file by turns: each turn is lent the 8 bytes at its place
+unfoldable pub turnsOf : List ℕ → ℕ → ℕ → Walking → Walking
+turnsOf b end zero w = w
+turnsOf b end (suc n) w = turnsOf b end n (turnedBy w end (take 8 (drop (end - w .left) b)))
+
+abbrev pub byTurns : ℕ → ℕ → List ℕ → Found
+byTurns zero end b =
+    let w = turnsOf b end end (begun end) .seen in
+    finishedOf w (take 40 (take (w .format .size) (drop (w .format .body) b)))
+byTurns (suc k) end b = found.Refused (suc k)
+
+-- The answer, from what is lent turn by turn.
+abbrev pub foundByTurns : List ℕ → ℕ → Found
+foundByTurns b length = byTurns (startedOf (take 12 b) length .refusal) (startedOf (take 12 b) length .end) b

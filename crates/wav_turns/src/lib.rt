@@ -1,0 +1,68 @@
+// W1. A RIFF WAVE file read by turns, where it is too long to be held: its first 12 bytes and its length, then the 8 bytes
+// at the head of each chunk that is walked, then the first 40 bytes of `fmt `. The answer is the one of the whole file, by
+// the reading that takes wrapped kinds.
+ghost use mathlib.Core.Path.{_≡_};
+ghost use mathlib.Core.List.{[], _∷_};
+ghost use Rattle.refusal_order.specs.Order.{_unless_, firstOf};
+ghost use Rattle.wav_turns.specs.Turns.{startedOf, turnedBy, finishedOf};
+use riff_chunks::Chunk;
+use riff_chunks::Walked;
+use riff_chunks::Walking;
+use riff_chunks::riff_sought;
+use wav::Found;
+use wav::is_wave;
+use word_bytes::low_first_u32;
+
+// 9 or 10 where the beginning tells it already, else 0; the walk's end.
+pub struct Started {
+    pub refusal: u8,
+    pub end: usize,
+}
+
+// The walk then begins by `riff_chunks::begin(end)`.
+pub fn start(head: &[u8], length: usize) -> Started
+    ensures { λ r. ⌜ r ≡ startedOf (now (head .entry)) length ⌝ }
+{
+    let end = 8 + low_first_u32(head, 4) as usize;
+    Started {
+        refusal: due(is_wave(head), end <= length),
+        end: end,
+    }
+}
+
+fn due(wave: bool, held: bool) -> u8
+    ensures { λ r. ⌜ r ≡ firstOf (9 unless wave ∷ 10 unless held ∷ []) ⌝ }
+{
+    if wave { if held { 0 } else { 10 } } else { 9 }
+}
+
+// One chunk more: `head` is the 8 bytes at the place `end` less what is left. Where fewer are left the walk is over.
+pub fn turn(walking: Walking, end: usize, head: &[u8]) -> Walking
+    ensures { λ r. ⌜ r ≡ turnedBy walking end (now (head .entry)) ⌝ }
+{
+    let left = walking.left;
+    if left < 8 {
+        return walking;
+    }
+    if end < left {
+        return walking;
+    }
+    let at = end - left;
+    let id = low_first_u32(head, 0);
+    let size = low_first_u32(head, 4);
+    let c = Chunk {
+        id: id,
+        body: at + 8,
+        size: size as usize,
+    };
+    riff_chunks::turn(walking, riff_sought(), c)
+}
+
+// What the walk and the first bytes of `fmt ` tell: 10 to 13, or the part that holds samples and what they are.
+pub fn finish(walked: Walked, fmt: &[u8]) -> Found
+    ensures { λ r. ⌜ r ≡ finishedOf walked (now (fmt .entry)) ⌝ }
+{
+    let format = walked.format;
+    let tag = wav_format::tag_of(true, fmt, format.size);
+    wav::finish(true, !walked.overruns, tag, fmt, walked)
+}
