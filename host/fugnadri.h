@@ -226,8 +226,10 @@ uint8_t fugnadri_wav_whole(uint8_t kind, uint8_t channels, uint8_t channel, cons
 /* ---- libfugnadri_residual.a: the residual in whole numbers ---------------------------------------------------------------------------------
  *
  * A report: how many samples were compared, the largest absolute difference, whether it has a place (0 or 1) and the place where it stands first,
- * and the sum of the squared differences as high * 2^64 + low. Start with six zeros; hand the six on as the last call left them. Refused by 1 (a
- * value outside 24 bits), 2 (unequal lengths), 3 (the report) or 8 (past 2^36 samples), and then the six are as they were. */
+ * counted from 0 at the first sample of all calls, and the sum of the squared differences as high * 2^64 + low. Start with six zeros; hand the six
+ * on as the last call left them; cutting the stretches differently gives the same report. Refused by 1 (a value outside -2^23 to 2^23 - 1), 2
+ * (unequal lengths), 3 (the report: number above 2^36, largest above 2^24 - 1, a place when empty, one missing or not below the number when not, or
+ * a sum outside largest squared to number * largest squared) or 8 (past 2^36 samples), in this order, and then the six are as they were. */
 uint8_t fugnadri_residual_compare(uint64_t *number, uint32_t *largest, uint8_t *placed, uint64_t *place, uint64_t *high, uint64_t *low, const int32_t *a, size_t a_len, const int32_t *b, size_t b_len);
 
 #ifdef __cplusplus

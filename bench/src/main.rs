@@ -17,6 +17,7 @@ mod workloads {
     pub mod narrow;
     pub mod quality;
     pub mod readers;
+    pub mod residual;
     pub mod sinc;
     pub mod square_root;
     pub mod wav;
@@ -26,7 +27,7 @@ use std::hint::black_box;
 use std::time::Instant;
 
 /// A file of workloads/ each, by name: making one may take seconds.
-const WORKLOADS: [(&str, fn() -> Workload); 36] = [
+const WORKLOADS: [(&str, fn() -> Workload); 37] = [
     ("narrow", workloads::narrow::workload),
     ("fused32", workloads::fused32::workload),
     ("fused64", workloads::fused64::workload),
@@ -63,6 +64,7 @@ const WORKLOADS: [(&str, fn() -> Workload); 36] = [
     ("wav_float", workloads::wav::float_f64),
     ("wav_float_stereo", workloads::wav::float_stereo),
     ("wav_float_f32", workloads::wav::float_f32),
+    ("residual", workloads::residual::workload),
 ];
 
 pub struct Workload {

@@ -24,9 +24,11 @@ pub mod lenient;
 mod params;
 mod quality_mode;
 mod refusal;
+mod residual;
 mod sources;
 pub mod strict;
 pub mod wav;
 
 pub use lenient::*;
 pub use refusal::Refusal;
+pub use residual::Residual;

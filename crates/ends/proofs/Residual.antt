@@ -6,7 +6,7 @@ use lib.IntN.{ℤ, pos}
 use Rattle.residual.specs.declared.Place.{Place}
 use Rattle.residual.specs.declared.Place.the-variants.{Nowhere, At}
 use Rattle.residual.specs.Report.{emptyReport}
-use Rattle.ends.specs.Reports.{reported, compared, carried, silence, ends24, placed}
+use Rattle.ends.specs.Reports.{reported, compared, left, carried, silence, two, ends24, placed}
 
 -- N9. Each call has a fault fewer than the one above it: a value, the lengths, the carried report, its number.
 pub order : compared (reported (2 ^ 36 + 1) 0 (At 0) 0) (pos (2 ^ 23) ∷ []) []
@@ -77,8 +77,44 @@ pub empty-sums : map (carried 0 0 Nowhere) (0 ∷ 1 ∷ (2 ^ 64) ∷ []) ≡ 0 �
 unfolding compared
 empty-sums = refl
 
+-- An empty one with a largest difference of 1 has no sum that is in range.
+pub empty-largest : map (carried 0 1 Nowhere) (0 ∷ 1 ∷ []) ≡ 3 ∷ 3 ∷ []
+unfolding compared
+empty-largest = refl
+
 -- 8. At most 2^36 samples in all.
 pub past : map (λ (n : ℕ). compared (reported n 0 (At 0) 0) silence silence) (1 ∷ (2 ^ 36 - 1) ∷ (2 ^ 36) ∷ [])
     ≡ 0 ∷ 0 ∷ 8 ∷ []
 unfolding compared
 past = refl
+
+pub past-by-two : map (λ (n : ℕ). compared (reported n 0 (At 0) 0) two two) ((2 ^ 36 - 2) ∷ (2 ^ 36 - 1) ∷ [])
+    ≡ 0 ∷ 8 ∷ []
+unfolding compared
+past-by-two = refl
+
+-- W13c. The place counts from the first sample of all calls: a difference of 4 above a largest of 3 has the next place,
+-- one of 3 leaves the first.
+pub place-over-calls : left (reported 5 3 (At 2) 9) (pos 0 ∷ pos 4 ∷ []) two ≡ reported 7 4 (At 6) 25
+unfolding left
+place-over-calls = refl
+
+pub first-place : left (reported 5 3 (At 2) 9) (pos 0 ∷ pos 3 ∷ []) two ≡ reported 7 3 (At 2) 18
+unfolding left
+first-place = refl
+
+-- The first sample of all has a place, were its difference 0.
+pub first-of-all : left emptyReport silence silence ≡ reported 1 0 (At 0) 0
+unfolding left
+first-of-all = refl
+
+-- W13d. The low half wraps, and one is carried into the high half.
+pub halves : left (reported (2 ^ 20) (2 ^ 24 - 1) (At 0) (2 ^ 64 - 1)) (pos 1 ∷ []) silence
+    ≡ record { number = 2 ^ 20 + 1; largest = 2 ^ 24 - 1; place = At 0; high = 1; low = 0 }
+unfolding left
+halves = refl
+
+-- W13h. A refused call leaves the report as it was.
+pub unchanged : left (reported 5 3 (At 2) 9) (pos (2 ^ 23) ∷ []) silence ≡ reported 5 3 (At 2) 9
+unfolding left
+unchanged = refl

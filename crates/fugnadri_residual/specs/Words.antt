@@ -1,4 +1,5 @@
--- W13 at the C boundary: a report as six numbers. `placed` is 0 or 1; where it is 0 the place is ignored and left. Definitions only.
+-- W13 at the C boundary: a report as six numbers. `placed` is 0 or 1; where it is 0 the place is ignored and left.
+-- Definitions only.
 use Prim.Native.Nat.{ℕ, _-_, _^_}
 use mathlib.Core.Bool.{cond}
 use mathlib.Core.List.{List}

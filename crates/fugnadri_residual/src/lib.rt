@@ -1,5 +1,5 @@
-// W13. The static library's export of the residual: numbers pass through pointers, a slice as a pointer and a length. No enum, no struct. It is total, and its contract is that of
-// `residual::compare`.
+// W13. The static library's export of the residual: numbers pass through pointers, a slice as a pointer and a length.
+// No enum, no struct. It is total, and its contract is that of `residual::compare`.
 ghost use mathlib.Core.Path.{_≡_};
 ghost use Rattle.fugnadri_residual.specs.Words.{placeFrom, placedOf, indexOr, numbers, leaves, leftFrom};
 use residual::Compared;
@@ -36,7 +36,8 @@ fn index_or(p: Place, index: u64) -> u64
     }
 }
 
-// The report's six numbers go in and, where the call is not refused, come out carried on. The refusal's number is returned, 0 for none.
+// The report's six numbers go in and, where the call is not refused, come out carried on. The refusal's number is
+// returned, 0 for none.
 #[no_mangle]
 pub extern "C" fn fugnadri_residual_compare(
     number: &mut u64,
@@ -49,11 +50,11 @@ pub extern "C" fn fugnadri_residual_compare(
     b: &[i32],
 ) -> u8
     ensures { λ r. ⌜ leaves r
-        (numbers (now (number .exit)) (now (largest .exit)) (now (placed .exit)) (now (place .exit)) (now (high .exit))
-        (now (low .exit)))
+        (numbers (now (number .exit)) (now (largest .exit)) (now (placed .exit)) (now (place .exit))
+        (now (high .exit)) (now (low .exit)))
         ≡ leftFrom
-        (numbers (now (number .entry)) (now (largest .entry)) (now (placed .entry)) (now (place .entry)) (now (high .entry))
-        (now (low .entry)))
+        (numbers (now (number .entry)) (now (largest .entry)) (now (placed .entry)) (now (place .entry))
+        (now (high .entry)) (now (low .entry)))
         (now (a .entry)) (now (b .entry)) ⌝ }
 {
     let report = Report {

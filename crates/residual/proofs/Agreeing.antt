@@ -22,16 +22,22 @@ pub data Fit (r : Report) : Type 0 where
 
 no-square : (l : ℕ) → l * l ≤ 0 → l ≡ 0
 no-square zero h = refl
-no-square (suc l) h = let p : 1 * 1 ≤ suc l * suc l = mul-le-mul {n₁ = 1} {m₁ = 1} {n₂ = suc l} {m₂ = suc l} (omega arith) (omega arith) in absurd (omega arith)
+no-square (suc l) h =
+    let p : 1 * 1 ≤ suc l * suc l =
+    mul-le-mul {n₁ = 1} {m₁ = 1} {n₂ = suc l} {m₂ = suc l} (omega arith) (omega arith) in
+    absurd (omega arith)
 
 pub fit : (r : Report) → Valid r → Fit r
 fit r v = go (r .place) refl
   where
     go : (p : Place) → r .place ≡ p → Fit r
     go Nowhere e =
-        let n : r .number ≡ 0 = eqb-true (r .number) 0 (ap (λ (p : Place). placeOk p (r .number)) (sym e) ∙ v .placed) in
+        let n : r .number ≡ 0 =
+        eqb-true (r .number) 0 (ap (λ (p : Place). placeOk p (r .number)) (sym e) ∙ v .placed) in
         nothing n (no-square (r .largest) (omega (arith, v .least, rw n at (v .most)))) e
-    go (At k) e = something k (omega (arith, ltb-true k (r .number) (ap (λ (p : Place). placeOk p (r .number)) (sym e) ∙ v .placed))) e
+    go (At k) e =
+        let l = ltb-true k (r .number) (ap (λ (p : Place). placeOk p (r .number)) (sym e) ∙ v .placed) in
+        something k (omega (arith, l)) e
 
 -- ---- a report and its numbers
 pub told-back : (r : Report) → Fit r → toldOf (tallyOf r) ≡ r
@@ -55,7 +61,8 @@ index-pick false j k = refl
 pub same-step : (r : Report) (d : ℕ) → Fit r → tallyOf (one r d) ≡ stepOf (tallyOf r) d
 unfolding tallyOf stepOf one
 same-step r d (nothing n l p) = rw (eq-eqb (r .number) 0 n, p, l, n, ← largest-first d, ← pick-same (ltb 0 d) 0)
-same-step r d (something k n p) = rw (ne-eqb (r .number) 0 (λ z. omega arith), p, index-pick (ltb (r .largest) d) (r .number) k)
+same-step r d (something k n p) =
+    rw (ne-eqb (r .number) 0 (λ z. omega arith), p, index-pick (ltb (r .largest) d) (r .number) k)
 
 pub fit-step : (r : Report) (d : ℕ) → Fit r → Fit (one r d)
 unfolding one

@@ -1,4 +1,5 @@
--- The greatest number of a list, where a number stands first, and the sum of the squares, with one number more behind the list. Assumes nothing.
+-- The greatest number of a list, where a number stands first, and the sum of the squares, with one number more behind
+-- the list. Assumes nothing.
 use mathlib.Core.Path.{_≡_, refl, ap, _∙_}
 use mathlib.Core.Bool.{Bool, true, false}
 use mathlib.Core.List.{List, [], _∷_, _++_}
@@ -50,7 +51,8 @@ pub greatest-found : (d : ℕ) (ds : List ℕ) → firstAt (greatest (d ∷ ds))
 greatest-found d [] = rw (here (greatest (d ∷ [])) d [] (alone d)) (omega arith)
 greatest-found d (e ∷ ds) = go (eqb d (greatest (d ∷ e ∷ ds))) refl (greatest-found e ds)
   where
-    go : (t : Bool) → eqb d (greatest (d ∷ e ∷ ds)) ≡ t → firstAt (greatest (e ∷ ds)) (e ∷ ds) ≤ length ds → firstAt (greatest (d ∷ e ∷ ds)) (d ∷ e ∷ ds) ≤ suc (length ds)
+    go : (t : Bool) → eqb d (greatest (d ∷ e ∷ ds)) ≡ t → firstAt (greatest (e ∷ ds)) (e ∷ ds) ≤ length ds
+        → firstAt (greatest (d ∷ e ∷ ds)) (d ∷ e ∷ ds) ≤ suc (length ds)
     go true h k = rw (here (greatest (d ∷ e ∷ ds)) d (e ∷ ds) (eqb-true d (greatest (d ∷ e ∷ ds)) h)) (omega arith)
     go false h k =
         let n = eqb-false d (greatest (d ∷ e ∷ ds)) h in
@@ -62,7 +64,8 @@ unfolding firstAt
 found g [] us h = absurd (omega arith)
 found g (d ∷ ds) us h = go (eqb d g) refl (λ k. found g ds us k)
   where
-    go : (t : Bool) → eqb d g ≡ t → (firstAt g ds < length ds → firstAt g (ds ++ us) ≡ firstAt g ds) → firstAt g (d ∷ (ds ++ us)) ≡ firstAt g (d ∷ ds)
+    go : (t : Bool) → eqb d g ≡ t → (firstAt g ds < length ds → firstAt g (ds ++ us) ≡ firstAt g ds)
+        → firstAt g (d ∷ (ds ++ us)) ≡ firstAt g (d ∷ ds)
     go true e k = rw e
     go false e k = rw (e, k (le-of-suc-le-suc (rw e at h)))
 

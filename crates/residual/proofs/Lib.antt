@@ -1,8 +1,10 @@
-pub mod Both
 pub mod Signs
 pub mod Halves
 pub mod Stretches
+pub mod Pieces
+pub mod Turns
 pub mod Counting
+pub mod Blocks
 pub mod Valid
 pub mod Agreeing
 pub mod Cutting
@@ -10,3 +12,5 @@ pub mod Staying
 pub mod Greatest
 pub mod Meaning
 pub mod Calls
+pub mod Runs
+pub mod Exactly

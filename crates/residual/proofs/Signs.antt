@@ -1,4 +1,5 @@
--- The difference of two 24-bit values: it fits an `i32`, also turned round where it is negative, and its size is below 2^24. Assumes nothing.
+-- The difference of two 24-bit values: it fits an `i32`, also turned round where it is negative, and its size is below
+-- 2^24. Assumes nothing.
 use mathlib.Core.Path.{_≡_, subst}
 use mathlib.Core.Bool.{Bool, true, false, cond}
 use Prim.Native.Nat.{ℕ, zero, suc, _-_, _^_, _≤_, _<_}
@@ -10,7 +11,7 @@ use lib.Signed.{mag, ltZ, nonNeg}
 use mir.Syntax.{w32}
 use mir.Val.{Fits, SFits}
 use Rattle.residual.specs.Refusals.{in24}
-use Rattle.residual.proofs.Both.{left-true}
+use Rattle.report_tests.proofs.Both.{left-true}
 
 pub mag-24 : (x : ℤ) → in24 x ≡ true → mag x < 2 ^ 23
 mag-24 (pos n) h = omega (arith, leb-true n 8388607 h)
@@ -48,7 +49,10 @@ pub record Turned (w z : ℤ) : Type 0 where
 
 pub turned : (w : ℤ) {z : ℤ} → w ≡ z → ltZ w (pos 0) ≡ true → Turned w z
 turned (pos n) e h = let l : n < 0 = ltb-true n 0 h in absurd (omega arith)
-turned (negsuc n) e h = record { size-of = subst (λ (z : ℤ). natAbs (pos 0 -ℤ negsuc n) ≡ natAbs z) e (omega arith); right-way = tt }
+turned (negsuc n) e h = record {
+  size-of = subst (λ (z : ℤ). natAbs (pos 0 -ℤ negsuc n) ≡ natAbs z) e (omega arith);
+  right-way = tt;
+}
 
 pub castable : (w : ℤ) → natAbs w < 2 ^ 24 → T (nonNeg w) → T (nonNeg w) × Fits w32 (natAbs w)
 castable w h n = (n, record { fits = omega arith })

@@ -1,4 +1,5 @@
--- W13. A report of our own making is never refused by 3: the empty one is in range, and a call that is not refused keeps a report in range. Assumes nothing.
+-- W13. A report of our own making is never refused by 3: the empty one is in range, and a call that is not refused
+-- keeps a report in range. Assumes nothing.
 use mathlib.Core.Path.{_≡_, refl}
 use mathlib.Core.Bool.{Bool, true, false}
 use mathlib.Core.List.{List, [], _∷_, foldl}
@@ -12,13 +13,13 @@ use lib.ListN.{length}
 use Rattle.residual.specs.declared.Report.{Report}
 use Rattle.residual.specs.declared.Place.the-variants.{At}
 use Rattle.residual.specs.Report.{differences, emptyReport, sumOf, newer, one, carried}
-use Rattle.residual.specs.Refusals.{reportOk, verdict}
+use Rattle.residual.specs.Refusals.{numbersOk, reportOk, verdict}
 use Rattle.residual.proofs.Stretches.{Small, none, more, small-differences, length-differences}
 use Rattle.residual.proofs.Valid.{Valid, valid-ok, accepted}
 use Rattle.residual.proofs.Agreeing.{Fit, nothing, something, fit}
 
 pub empty-in-range : reportOk emptyReport ≡ true
-unfolding reportOk
+unfolding reportOk numbersOk
 empty-in-range = refl
 
 -- the two halves of a sum are the sum
@@ -32,7 +33,9 @@ number-one r d = refl
 
 -- the bounds of the sum, at a new largest and at the old one
 new-most : (n l s d : ℕ) → s ≤ n * (l * l) → l ≤ d → s + d * d ≤ (n + 1) * (d * d)
-new-most n l s d h g = let k : n * (l * l) ≤ n * (d * d) = mul-le-mul-left n (mul-le-mul g g) in rw (add-mul n 1 (d * d), one-mul (d * d)) (omega arith)
+new-most n l s d h g =
+    let k : n * (l * l) ≤ n * (d * d) = mul-le-mul-left n (mul-le-mul g g) in
+    rw (add-mul n 1 (d * d), one-mul (d * d)) (omega arith)
 
 old-most : (n l s d : ℕ) → s ≤ n * (l * l) → d ≤ l → s + d * d ≤ (n + 1) * (l * l)
 old-most n l s d h g = let k : d * d ≤ l * l = mul-le-mul g g in rw (add-mul n 1 (l * l), one-mul (l * l)) (omega arith)
@@ -64,15 +67,19 @@ module _ (r : Report) (d : ℕ) (v : Valid r) (few : r .number < 2 ^ 36) (small 
     where
       go : (t : Bool) → ltb (r .largest) d ≡ t → Valid (one r d)
       go true e = stay-new (rw (ne-eqb (r .number) 0 (λ z. omega arith), e)) (omega (arith, ltb-true (r .largest) d e))
-      go false e = stay-old k (rw (ne-eqb (r .number) 0 (λ z. omega arith), e)) (ltb-false (r .largest) d e) p (ltb-true k (r .number) (rw p at (v .placed)))
+      go false e =
+          stay-old k (rw (ne-eqb (r .number) 0 (λ z. omega arith), e)) (ltb-false (r .largest) d e) p
+          (ltb-true k (r .number) (rw p at (v .placed)))
 
 stay-fold : (r : Report) (ds : List ℕ) → Small ds → Valid r → r .number + length ds ≤ 2 ^ 36 → Valid (foldl one r ds)
 stay-fold r [] none v h = v
-stay-fold r (d ∷ ds) (more g s) v h = stay-fold (one r d) ds s (stay-one r d v (omega arith) g (fit r v)) (omega (arith, number-one r d))
+stay-fold r (d ∷ ds) (more g s) v h =
+    stay-fold (one r d) ds s (stay-one r d v (omega arith) g (fit r v)) (omega (arith, number-one r d))
 
 pub stays : (r : Report) (xs ys : List ℤ) → verdict r xs ys ≡ 0 → reportOk (carried r xs ys) ≡ true
 unfolding carried
 stays r xs ys z =
     let a = accepted r xs ys z in
     valid-ok (foldl one r (differences xs ys))
-    (stay-fold r (differences xs ys) (small-differences xs ys (a .left) (a .right)) (a .report) (omega (arith, a .room, length-differences xs ys (a .long))))
+    (stay-fold r (differences xs ys) (small-differences xs ys (a .left) (a .right)) (a .report)
+    (omega (arith, a .room, length-differences xs ys (a .long))))

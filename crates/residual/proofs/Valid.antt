@@ -1,21 +1,21 @@
 -- W13. What a report that is not refused by 3 is, and what a call that is not refused knows. Assumes nothing.
-use mathlib.Core.Path.{_≡_, refl, _∙_}
+use mathlib.Core.Path.{_≡_, refl}
 use mathlib.Core.Bool.{Bool, true, false, _&&_}
 use mathlib.Core.List.{List}
-use Prim.Native.Nat.{_+_, _-_, _*_, _^_, _≤_, _<_}
+use Prim.Native.Nat.{_+_, _*_, _^_, _≤_, _<_}
 use native.Mathlib.Nat.{le-trans, mul-le-mul-left, le-of-lt}
-use native.Mathlib.Omega.{arith}
-use borrow.Author.Tests.{leb-true, eqb-true, le-leb, lt-leb}
-use lib.Dec.{T, leb, eqb}
+use borrow.Author.Tests.{leb-true, eqb-true}
+use lib.Dec.{T, eqb}
 use lib.IntN.{ℤ}
 use lib.ListN.{length}
 use Rattle.answer.proofs.Passed.{passed}
 use Rattle.residual.specs.declared.Report.{Report}
 use Rattle.residual.specs.Report.{sumOf}
-use Rattle.residual.specs.Refusals.{all24, placeOk, sumOk, reportOk, verdict}
+use Rattle.residual.specs.Refusals.{all24, numbersOk, roomFor, placeOk, reportOk, verdict}
 use Rattle.residual.specs.Tallies.{tallyOf, Ready}
-use Rattle.residual.proofs.Both.{left-true, right-true, both-true}
-use Rattle.residual.proofs.Halves.{square-below}
+use Rattle.report_tests.proofs.Both.{left-true, right-true, both-true}
+use Rattle.report_tests.proofs.Sums.{square-below}
+use Rattle.report_tests.proofs.Numbers.{numbers-in, in-numbers}
 
 pub record Valid (r : Report) : Type 0 where
   pub few : r .number ≤ 2 ^ 36
@@ -27,36 +27,17 @@ pub record Valid (r : Report) : Type 0 where
 pub valid : (r : Report) → reportOk r ≡ true → Valid r
 unfolding reportOk
 valid r h =
-    let h2 = right-true (leb (r .number) (2 ^ 36)) (leb (r .largest) (2 ^ 24 - 1) && (placeOk (r .place) (r .number) && sumOk (r .number) (r .largest) (sumOf r))) h in
-    let h3 = right-true (leb (r .largest) (2 ^ 24 - 1)) (placeOk (r .place) (r .number) && sumOk (r .number) (r .largest) (sumOf r)) h2 in
-    let h4 = right-true (placeOk (r .place) (r .number)) (sumOk (r .number) (r .largest) (sumOf r)) h3 in
-    record {
-      few = leb-true (r .number) (2 ^ 36) (left-true (leb (r .number) (2 ^ 36)) (leb (r .largest) (2 ^ 24 - 1) && (placeOk (r .place) (r .number) && sumOk (r .number) (r .largest) (sumOf r))) h);
-      small = omega (arith, leb-true (r .largest) (2 ^ 24 - 1) (left-true (leb (r .largest) (2 ^ 24 - 1)) (placeOk (r .place) (r .number) && sumOk (r .number) (r .largest) (sumOf r)) h2));
-      placed = left-true (placeOk (r .place) (r .number)) (sumOk (r .number) (r .largest) (sumOf r)) h3;
-      least = leb-true (r .largest * r .largest) (sumOf r) (left-true (leb (r .largest * r .largest) (sumOf r)) (leb (sumOf r) (r .number * (r .largest * r .largest))) h4);
-      most = leb-true (sumOf r) (r .number * (r .largest * r .largest)) (right-true (leb (r .largest * r .largest) (sumOf r)) (leb (sumOf r) (r .number * (r .largest * r .largest))) h4);
-    }
+    let placed = placeOk (r .place) (r .number) in
+    let numbers = numbersOk (r .number) (r .largest) (sumOf r) in
+    let v = numbers-in (r .number) (r .largest) (sumOf r) (right-true placed numbers h) in
+    record { few = v .few; small = v .small; placed = left-true placed numbers h; least = v .least; most = v .most }
 
 pub valid-ok : (r : Report) → Valid r → reportOk r ≡ true
 unfolding reportOk
 valid-ok r v =
-    both-true (le-leb (r .number) (2 ^ 36) (v .few)) (both-true (le-leb (r .largest) (2 ^ 24 - 1) (omega (arith, v .small)))
-    (both-true (v .placed) (both-true (le-leb (r .largest * r .largest) (sumOf r) (v .least)) (le-leb (sumOf r) (r .number * (r .largest * r .largest)) (v .most)))))
-
--- ---- the ways out of `report_ok`
-pub too-many : (r : Report) → 2 ^ 36 < r .number → false ≡ reportOk r
-unfolding reportOk
-too-many r h = rw (lt-leb (r .number) (2 ^ 36) h)
-
-pub too-large : (r : Report) → r .number ≤ 2 ^ 36 → 2 ^ 24 - 1 < r .largest → false ≡ reportOk r
-unfolding reportOk
-too-large r n h = rw (le-leb (r .number) (2 ^ 36) n, lt-leb (r .largest) (2 ^ 24 - 1) h)
-
-pub in-range : (r : Report) {b p s : Bool} → r .number ≤ 2 ^ 36 → r .largest ≤ 2 ^ 24 - 1 → b ≡ (p && s) → p ≡ placeOk (r .place) (r .number) → s ≡ sumOk (r .number) (r .largest) (sumOf r)
-    → b ≡ reportOk r
-unfolding reportOk
-in-range r n g e p s = e ∙ rw (p, s, le-leb (r .number) (2 ^ 36) n, le-leb (r .largest) (2 ^ 24 - 1) g)
+    both-true (v .placed)
+    (in-numbers (r .number) (r .largest) (sumOf r)
+    (record { few = v .few; small = v .small; least = v .least; most = v .most }))
 
 -- ---- an accepted call
 pub is-true : {b : Bool} → T b → b ≡ true
@@ -73,7 +54,9 @@ pub record Accepted (r : Report) (xs ys : List ℤ) : Type 0 where
 pub accepted : (r : Report) (xs ys : List ℤ) → verdict r xs ys ≡ 0 → Accepted r xs ys
 unfolding verdict
 accepted r xs ys v =
-    let p = passed (all24 xs && all24 ys) (eqb (length xs) (length ys)) (reportOk r) true true true true (leb (r .number + length xs) (2 ^ 36)) v in
+    let lengths = eqb (length xs) (length ys) in
+    let fits = roomFor (r .number) (length xs) in
+    let p = passed (all24 xs && all24 ys) lengths (reportOk r) true true true true fits v in
     record {
       report = valid r (is-true (p .p3));
       left = left-true (all24 xs) (all24 ys) (is-true (p .p1));
@@ -92,7 +75,5 @@ ready r xs ys half a =
         sum = le-trans (v .most) (mul-le-mul-left (r .number) (le-of-lt (square-below (r .largest) (v .small))));
         half = half;
       };
-      long = a .long;
-      left = a .left;
-      right = a .right;
+      alike = record { long = a .long; left = a .left; right = a .right };
     }

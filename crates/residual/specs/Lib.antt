@@ -1,3 +1,5 @@
 pub mod Report
 pub mod Refusals
+pub mod Runs
 pub mod Tallies
+pub mod Blocks

@@ -1,4 +1,5 @@
--- W13. The report of two equal-length stretches of whole samples: item by item, over many calls, and all at once. Definitions only.
+-- W13a to W13d, W13f. The report of two equal-length stretches of whole samples: item by item, over many calls, and all
+-- at once. Definitions only.
 use Prim.Native.Nat.{ℕ, zero, suc, _+_, _*_, _^_, _/_, _%_, max}
 use mathlib.Core.Bool.{Bool, cond, _||_}
 use mathlib.Core.List.{List, [], _∷_, foldl}
@@ -18,7 +19,7 @@ differences [] ys = []
 differences (x ∷ xs) [] = []
 differences (x ∷ xs) (y ∷ ys) = difference x y ∷ differences xs ys
 
--- An empty report has number zero and no place.
+-- W13f. An empty report has number zero and no place.
 abbrev pub emptyReport : Report
 emptyReport = record { number = 0; largest = 0; place = Nowhere; high = 0; low = 0 }
 
@@ -44,7 +45,8 @@ one r d = record {
 unfoldable pub carried : Report → List ℤ → List ℤ → Report
 carried r xs ys = foldl one r (differences xs ys)
 
--- ---- what a report says, with nothing run: of all differences the number, the greatest, the index at which it stands first, and the sum of the squares
+-- ---- what a report says, with nothing run: of all differences the number (W13a), the greatest (W13b), the index at
+-- which it stands first (W13c), and the sum of the squares (W13d)
 unfoldable pub greatest : List ℕ → ℕ
 greatest [] = 0
 greatest (d ∷ ds) = max d (greatest ds)
@@ -63,4 +65,10 @@ placeOf [] = Nowhere
 placeOf (d ∷ ds) = At (firstAt (greatest (d ∷ ds)) (d ∷ ds))
 
 unfoldable pub reportOf : List ℕ → Report
-reportOf ds = record { number = length ds; largest = greatest ds; place = placeOf ds; high = squares ds / 2 ^ 64; low = squares ds % 2 ^ 64 }
+reportOf ds = record {
+  number = length ds;
+  largest = greatest ds;
+  place = placeOf ds;
+  high = squares ds / 2 ^ 64;
+  low = squares ds % 2 ^ 64;
+}

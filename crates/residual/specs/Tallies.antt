@@ -1,5 +1,6 @@
--- A report as plain numbers while a stretch is counted. A missing place is 0, which is right for the first difference of all: one above 0 sets it to 0, and one of 0 leaves it. Definitions only.
-use Prim.Native.Nat.{ℕ, _+_, _-_, _*_, _^_, _/_, _%_, _<_, _≤_}
+-- A report as plain numbers while a stretch is counted. A missing place is 0, which is right for the first difference
+-- of all: one above 0 sets it to 0, and one of 0 leaves it. Definitions only.
+use Prim.Native.Nat.{ℕ, _+_, _*_, _^_, _/_, _%_, _<_, _≤_}
 use mathlib.Core.Path.{_≡_}
 use mathlib.Core.Bool.{true, cond}
 use mathlib.Core.List.{List}
@@ -10,7 +11,6 @@ use Rattle.residual.specs.declared.Report.{Report}
 use Rattle.residual.specs.declared.Place.{Place}
 use Rattle.residual.specs.declared.Place.the-variants.{Nowhere, At}
 use Rattle.residual.specs.declared.tally.Tally.{Tally}
-use Rattle.residual.specs.Report.{differences}
 use Rattle.residual.specs.Refusals.{all24}
 
 abbrev pub indexOf : Place → ℕ
@@ -18,10 +18,22 @@ indexOf Nowhere = 0
 indexOf (At k) = k
 
 unfoldable pub tallyOf : Report → Tally
-tallyOf r = record { number = r .number; largest = r .largest; index = indexOf (r .place); high = r .high; low = r .low }
+tallyOf r = record {
+  number = r .number;
+  largest = r .largest;
+  index = indexOf (r .place);
+  high = r .high;
+  low = r .low;
+}
 
 unfoldable pub toldOf : Tally → Report
-toldOf t = record { number = t .number; largest = t .largest; place = cond (eqb (t .number) 0) Nowhere (At (t .index)); high = t .high; low = t .low }
+toldOf t = record {
+  number = t .number;
+  largest = t .largest;
+  place = cond (eqb (t .number) 0) Nowhere (At (t .index));
+  high = t .high;
+  low = t .low;
+}
 
 abbrev pub tallied : Tally → ℕ
 tallied t = t .high * 2 ^ 64 + t .low
@@ -41,8 +53,12 @@ pub record Room (t : Tally) (n : ℕ) : Type 0 where
   pub sum : tallied t ≤ t .number * 2 ^ 48
   pub half : t .low < 2 ^ 64
 
-pub record Ready (t : Tally) (xs ys : List ℤ) : Type 0 where
-  pub room : Room t (length xs)
+-- Two stretches of 24-bit values, equally long.
+pub record Alike (xs ys : List ℤ) : Type 0 where
   pub long : length xs ≡ length ys
   pub left : all24 xs ≡ true
   pub right : all24 ys ≡ true
+
+pub record Ready (t : Tally) (xs ys : List ℤ) : Type 0 where
+  pub room : Room t (length xs)
+  pub alike : Alike xs ys

@@ -1,7 +1,8 @@
-// W13. The residual of two stretches in whole numbers, over many calls, all exact: how many samples were compared, the largest absolute difference, where it stands first, and the sum of the
-// squared differences.
+// W13. The residual of two stretches in whole numbers, over many calls, all exact: how many samples were compared, the
+// largest absolute difference, where it stands first, and the sum of the squared differences.
 mod checks; // which refusal is due
 mod steps; // the counting
+mod parts; // a block's squares, in sums of 32 bits
 mod tally; // a report on plain numbers
 
 ghost use mathlib.Core.Path.{_≡_};
@@ -10,7 +11,8 @@ ghost use Rattle.residual.specs.Refusals.{comparedOf};
 use checks::due;
 use steps::counted;
 
-// Where the largest difference stands first, counted from the first sample compared, over all calls; an empty report has no such place.
+// Where the largest difference stands first, counted from the first sample compared, over all calls; an empty report
+// has no such place.
 pub enum Place {
     Nowhere,
     At(u64),

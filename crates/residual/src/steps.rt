@@ -2,17 +2,20 @@
 ghost use mathlib.Core.Path.{_≡_};
 ghost use mathlib.Core.Bool.{cond, true};
 ghost use mathlib.Core.List.{foldl};
-ghost use Prim.Native.Nat.{_<_, _^_};
+ghost use Prim.Native.Nat.{_+_, _<_, _≤_, _^_};
 ghost use lib.Dec.{ltb};
+ghost use lib.ListN.{length};
 ghost use Rattle.residual.specs.Report.{difference, differences, carried};
 ghost use Rattle.residual.specs.Refusals.{in24, verdict};
 ghost use Rattle.residual.specs.Tallies.{stepOf, Room, Ready};
 use crate::Report;
+use crate::parts::added;
+use crate::parts::squared;
 use crate::tally::Tally;
 use crate::tally::taken;
 use crate::tally::told;
 
-fn distance(x: i32, y: i32) -> u32
+pub(crate) fn distance(x: i32, y: i32) -> u32
     requires { ⌜ (in24 x ≡ true) × (in24 y ≡ true) ⌝ }
     ensures { λ r. ⌜ r ≡ difference x y ⌝ }
 {
@@ -33,7 +36,7 @@ fn chosen_u32(test: bool, a: u32, b: u32) -> u32
 }
 
 // What is carried into the high half: the low half has wrapped where it comes out below what was added.
-fn carry(low: u64, added: u64) -> u64
+pub(crate) fn carry(low: u64, added: u64) -> u64
     ensures { λ r. ⌜ r ≡ cond (ltb low added) 1 0 ⌝ }
 {
     if low < added { 1 } else { 0 }
@@ -58,6 +61,7 @@ fn step(t: Tally, d: u32) -> Tally
     }
 }
 
+// A stretch difference by difference.
 fn stepped(t: Tally, a: &[i32], b: &[i32]) -> Tally
     requires { ⌜ Ready t (now a) (now b) ⌝ }
     ensures { λ r. ⌜ r ≡ foldl stepOf t (differences (now (a .entry)) (now (b .entry))) ⌝ }
@@ -71,10 +75,44 @@ fn stepped(t: Tally, a: &[i32], b: &[i32]) -> Tally
     now
 }
 
+// A stretch of at most 256 differences: added at once where none is above the largest so far.
+fn block(t: Tally, a: &[i32], b: &[i32]) -> Tally
+    requires { ⌜ Ready t (now a) (now b) × (length (now a) ≤ 256) ⌝ }
+    ensures { λ r. ⌜ r ≡ foldl stepOf t (differences (now (a .entry)) (now (b .entry))) ⌝ }
+{
+    let p = squared(a, b, t.largest);
+    if p.quiet {
+        return added(t, a.len(), p);
+    }
+    stepped(t, a, b)
+}
+
+// Where the block that begins at i ends.
+fn block_end(i: usize, n: usize) -> usize
+    requires { ⌜ i < n ⌝ }
+    ensures { λ r. ⌜ (i < r) × ((r ≤ n) × (r ≤ i + 256)) ⌝ }
+{
+    if n - i < 256 { n } else { i + 256 }
+}
+
+fn stretched(t: Tally, a: &[i32], b: &[i32]) -> Tally
+    requires { ⌜ Ready t (now a) (now b) ⌝ }
+    ensures { λ r. ⌜ r ≡ foldl stepOf t (differences (now (a .entry)) (now (b .entry))) ⌝ }
+{
+    let mut now = t;
+    let mut i: usize = 0;
+    while i < a.len() {
+        let e = block_end(i, a.len());
+        now = block(now, &a[i..e], &b[i..e]);
+        i = e;
+    }
+    now
+}
+
 // What a call that is not refused adds.
 pub(crate) fn counted(report: Report, a: &[i32], b: &[i32]) -> Report
     requires { ⌜ verdict report (now a) (now b) ≡ 0 ⌝ }
     ensures { λ r. ⌜ r ≡ carried report (now (a .entry)) (now (b .entry)) ⌝ }
 {
-    told(stepped(taken(report), a, b))
+    told(stretched(taken(report), a, b))
 }

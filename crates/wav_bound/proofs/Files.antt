@@ -7,7 +7,7 @@ use Prim.Native.Nat.{ℕ, _<_}
 use lib.IntN.{ℤ}
 use lib.Ieee.{Float, Format}
 use Rattle.cubic_bound.specs.Desk.{WholeSamples}
-use Rattle.residual.specs.Refusals.{all24}
+use Rattle.report_tests.specs.Tests.{all24}
 use Rattle.wav.specs.declared.Found.the-variants as found
 use Rattle.wav.specs.declared.Wave.{Wave}
 use Rattle.wav.specs.Wave.{foundBy}

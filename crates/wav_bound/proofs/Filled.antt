@@ -14,7 +14,7 @@ use lib.ListN.{length}
 use lib.Ieee.{Float, Format}
 use Rattle.loops.specs.Loops.{listOf}
 use Rattle.cubic_bound.specs.Desk.{WholeSample, WholeSamples, none, also}
-use Rattle.residual.specs.Refusals.{in24, all24}
+use Rattle.report_tests.specs.Tests.{in24, all24}
 use Rattle.sample_kind.specs.declared.SampleKind.{SampleKind}
 use Rattle.sample_kind.specs.declared.SampleKind.the-variants.{Pcm16, Pcm24, Float32}
 use Rattle.sample_kind.specs.Kinds.{frameOf}

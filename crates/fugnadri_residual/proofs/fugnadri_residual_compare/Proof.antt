@@ -1,4 +1,5 @@
--- `fugnadri_residual::fugnadri_residual_compare` meets its contract: what the call ensures, by its two cases. Assumes nothing.
+-- `fugnadri_residual::fugnadri_residual_compare` meets its contract: what the call ensures, by its two cases.
+-- Assumes nothing.
 use borrow.Author.Needs.{needs}
 use mathlib.Core.Path.{_≡_, sym, ap, _∙_}
 use Rattle.residual.specs.declared.Place.{Place}
@@ -9,7 +10,9 @@ use Rattle.fugnadri_residual.proofs.fugnadri_residual_compare.Statement
 use Rattle.fugnadri_residual.proofs.fugnadri_residual_compare.Tie as tie
 
 abbrev given : tie.Start → Numbers
-given c = let s = c .args in numbers (now (s .number)) (now (s .largest)) (now (s .placed)) (now (s .place)) (now (s .high)) (now (s .low))
+given c =
+    let s = c .args in
+    numbers (now (s .number)) (now (s .largest)) (now (s .placed)) (now (s .place)) (now (s .high)) (now (s .low))
 
 -- what the call answers is what the numbers say
 answer : (c : tie.After-compare) →
@@ -17,13 +20,20 @@ answer : (c : tie.After-compare) →
     c .compare .result ≡ comparedOf (reportFrom (given s)) (now (s .args .a)) (now (s .args .b))
 answer c =
     let s = c .before .before .before .before .before .before .before .before .args in
+    let high = now (s .high) in
+    let low = now (s .low) in
     c .compare .ensures
-    ∙ ap (λ (p : Place). comparedOf (record { number = now (s .number); largest = now (s .largest); place = p; high = now (s .high); low = now (s .low) }) (now (s .a)) (now (s .b))) (c .before .before .before .place-from .ensures)
+    ∙ ap (λ (p : Place).
+    comparedOf
+    (record { number = now (s .number); largest = now (s .largest); place = p; high = high; low = low })
+    (now (s .a)) (now (s .b)))
+    (c .before .before .before .place-from .ensures)
 
 returns : tie.Need-returns
 returns c =
     let e = sym (answer (c .before .before .before)) ∙ c .before .c .given .1 in
-    sym (ap (leftBy (given (c .before .before .before .before .before .before .before .before .before .before .before))) e)
+    let s = c .before .before .before .before .before .before .before .before .before .before .before in
+    sym (ap (leftBy (given s)) e)
 
 returns-2 : tie.Need-returns-2
 returns-2 c =
@@ -33,4 +43,6 @@ returns-2 c =
 
 pub fugnadri-residual-compare-spec : {M : Type 1} → statement M
 fugnadri-residual-compare-spec =
-    tie.close (tie.spec (λ c κs. tt) (λ c κs. tt) (λ c. search needs) (λ c. search needs) (λ c κs. tt) (λ c κs. tt) returns returns-2)
+    tie.close
+    (tie.spec (λ c κs. tt) (λ c κs. tt) (λ c. search needs) (λ c. search needs) (λ c κs. tt) (λ c κs. tt) returns
+    returns-2)

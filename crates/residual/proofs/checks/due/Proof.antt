@@ -8,7 +8,14 @@ returns : tie.Need-returns
 unfolding verdict
 returns c =
     let b = c .before .before .before in
-    c .first .ensures ∙ rw (c .before .fits2 .ensures, c .before .before .report-ok .ensures, b .both .ensures, b .before .all-242 .ensures, b .before .before .all-24 .ensures)
+    let values = b .before in
+    c .first .ensures ∙ rw (
+      c .before .fits2 .ensures,
+      c .before .before .report-ok .ensures,
+      b .both .ensures,
+      values .all-242 .ensures,
+      values .before .all-24 .ensures,
+    )
 
 pub due-spec : {M : Type 1} → statement M
 due-spec = tie.close (tie.spec (λ c κs. tt) (λ c κs. tt) (λ c κs. tt) (λ c κs. tt) (λ c κs. tt) (λ c κs. tt) returns)

@@ -1,4 +1,5 @@
--- `residual::steps::counted` meets its contract: an accepted call has room, and counting on numbers agrees with carrying the report on. Assumes nothing.
+-- `residual::steps::counted` meets its contract: an accepted call has room, and counting on numbers agrees with
+-- carrying the report on. Assumes nothing.
 use mathlib.Core.Path.{sym, ap, _∙_, subst}
 use mathlib.Core.List.{foldl}
 use Prim.Native.Nat.{_<_, _^_}
@@ -15,17 +16,26 @@ use Rattle.residual.proofs.steps.counted.Tie as tie
 low-fits : (c : tie.After-taken) → c .before .args .report .low < 2 ^ 64
 low-fits c = omega (arith, c .before .good .0)
 
-stepped-requires : tie.Need-stepped-requires
-stepped-requires c κs =
-    let s = c .before .args in
-    subst (λ (t : Tally). Ready t (now (s .a)) (now (s .b))) (sym (c .taken .ensures)) (ready (s .report) (now (s .a)) (now (s .b)) (low-fits c) (accepted (s .report) (now (s .a)) (now (s .b)) (c .before .pre)))
+stretched-requires : tie.Need-stretched-requires
+stretched-requires c κs =
+    let r = c .before .args .report in
+    let a = now (c .before .args .a) in
+    let b = now (c .before .args .b) in
+    subst (λ (t : Tally). Ready t a b) (sym (c .taken .ensures))
+    (ready r a b (low-fits c) (accepted r a b (c .before .pre)))
 
 returns : tie.Need-returns
 unfolding carried
 returns c =
     let s = c .before .before .before in
-    c .told .ensures ∙ ap toldOf (c .before .stepped .ensures ∙ ap (λ (t : Tally). foldl stepOf t (differences (now (s .args .a)) (now (s .args .b)))) (c .before .before .taken .ensures))
-    ∙ same-fold (s .args .report) (differences (now (s .args .a)) (now (s .args .b))) (fit (s .args .report) (accepted (s .args .report) (now (s .args .a)) (now (s .args .b)) (s .pre) .report))
+    let r = s .args .report in
+    let a = now (s .args .a) in
+    let b = now (s .args .b) in
+    c .told .ensures
+    ∙ ap toldOf
+    (c .before .stretched .ensures
+    ∙ ap (λ (t : Tally). foldl stepOf t (differences a b)) (c .before .before .taken .ensures))
+    ∙ same-fold r (differences a b) (fit r (accepted r a b (s .pre) .report))
 
 pub counted-spec : {M : Type 1} → statement M
-counted-spec = tie.close (tie.spec (λ c κs. tt) stepped-requires (λ c κs. tt) returns)
+counted-spec = tie.close (tie.spec (λ c κs. tt) stretched-requires (λ c κs. tt) returns)

@@ -1,4 +1,5 @@
--- `residual::steps::distance` meets its contract: the words are read back, and a negative difference is turned round. Assumes nothing.
+-- `residual::steps::distance` meets its contract: the words are read back, and a negative difference is turned round.
+-- Assumes nothing.
 use mathlib.Core.Path.{_≡_, sym, ap, _∙_, subst}
 use Prim.Native.Nat.{ℕ, _<_, _^_}
 use lib.IntN.{ℤ, pos, natAbs, _-ℤ_}
@@ -32,7 +33,9 @@ whole c = toZ-ofZ w32 (worked c) (sub-d c) ∙ right c
 
 -- turned round, below zero
 round-small : (c : tie.Start) → ltZ (kept c) (pos 0) ≡ true → natAbs (pos 0 -ℤ kept c) < 2 ^ 24
-round-small c h = subst (λ (n : ℕ). n < 2 ^ 24) (sym (turned (kept c) (whole c) h .size-of ∙ ap natAbs (sym (whole c)))) (small c (whole c))
+round-small c h =
+    subst (λ (n : ℕ). n < 2 ^ 24) (sym (turned (kept c) (whole c) h .size-of ∙ ap natAbs (sym (whole c))))
+    (small c (whole c))
 
 sub-result : tie.Need-sub-result
 sub-result c = small-fits _ (round-small (c .before) (c .if1 .taken))
@@ -41,10 +44,14 @@ back : (c : tie.Then1) → toZ w32 (ofZ w32 (pos 0 -ℤ kept (c .before))) ≡ p
 back c = toZ-ofZ w32 (pos 0 -ℤ kept (c .before)) (sub-result c)
 
 cast-result : tie.Need-cast-result
-cast-result c = rw (back c) (castable (pos 0 -ℤ kept (c .before)) (round-small (c .before) (c .if1 .taken)) (turned (kept (c .before)) (whole (c .before)) (c .if1 .taken) .right-way))
+cast-result c =
+    rw (back c)
+    (castable (pos 0 -ℤ kept (c .before)) (round-small (c .before) (c .if1 .taken))
+    (turned (kept (c .before)) (whole (c .before)) (c .if1 .taken) .right-way))
 
 cast-result-2 : tie.Need-cast-result-2
-cast-result-2 c = castable (kept (c .before)) (small (c .before) (whole (c .before))) (not-below (kept (c .before)) (c .if1 .left))
+cast-result-2 c =
+    castable (kept (c .before)) (small (c .before) (whole (c .before))) (not-below (kept (c .before)) (c .if1 .left))
 
 returns : tie.Need-returns
 returns c = ap natAbs (back c) ∙ turned (kept (c .before)) (whole (c .before)) (c .if1 .taken) .size-of

@@ -3,7 +3,8 @@ use borrow.Author.Needs.{needs}
 use Prim.Native.Nat.{_*_, _≤_}
 use native.Mathlib.Omega.{arith}
 use lib.Dec.{ltb}
-use Rattle.residual.proofs.Halves.{square-below, one-at-most}
+use Rattle.report_tests.proofs.Sums.{square-below}
+use Rattle.residual.proofs.Halves.{one-at-most}
 use Rattle.residual.proofs.Counting.{high-below, step-is}
 use Rattle.residual.proofs.steps.step.Statement.{statement}
 use Rattle.residual.proofs.steps.step.Tie as tie
@@ -15,14 +16,20 @@ add-high : tie.Need-add-high
 add-high c =
     let s = c .before .before .before in
     let t = s .args .t in
-    let k : c .before .carry .result ≤ 1 = rw (c .before .carry .ensures) (one-at-most (ltb (c .before .before .wrapping-add-u64 .result) (s .args .d * s .args .d))) in
-    record { fits = omega (arith, high-below (t .high) (t .low) (t .number) (s .pre .0 .sum) (omega (arith, s .pre .0 .counts))) }
+    let low = c .before .before .wrapping-add-u64 .result in
+    let k : c .before .carry .result ≤ 1 =
+    rw (c .before .carry .ensures) (one-at-most (ltb low (s .args .d * s .args .d))) in
+    let h = high-below (t .high) (t .low) (t .number) (s .pre .0 .sum) (omega (arith, s .pre .0 .counts)) in
+    record { fits = omega (arith, h) }
 
 returns : tie.Need-returns
 returns c =
     let e = c .before .before .before .before .before in
     let s = e .before .before in
-    step-is (s .args .t) (s .args .d) (s .pre .0 .half) (square-below (s .args .d) (s .pre .1)) (e .before .wrapping-add-u64 .ensures) (c .before .chosen-u32 .ensures) (c .chosen .ensures) (e .carry .ensures)
+    step-is (s .args .t) (s .args .d) (s .pre .0 .half) (square-below (s .args .d) (s .pre .1))
+    (e .before .wrapping-add-u64 .ensures) (c .before .chosen-u32 .ensures) (c .chosen .ensures) (e .carry .ensures)
 
 pub step-spec : {M : Type 1} → statement M
-step-spec = tie.close (tie.spec mul-square (λ c κs. tt) (λ c κs. tt) add-high (λ c. search needs) (λ c κs. tt) (λ c κs. tt) returns)
+step-spec =
+    tie.close
+    (tie.spec mul-square (λ c κs. tt) (λ c κs. tt) add-high (λ c. search needs) (λ c κs. tt) (λ c κs. tt) returns)

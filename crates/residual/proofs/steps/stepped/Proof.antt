@@ -1,21 +1,16 @@
 -- `residual::steps::stepped` meets its contract: before each turn the differences passed are counted. Assumes nothing.
 use borrow.Author.Needs.{needs}
 use Prim.Native.Nat.{_≤_, _-_}
-use mathlib.Core.Path.{_≡_, refl, _∙_}
-use mathlib.Core.Bool.{true}
+use mathlib.Core.Path.{_≡_, refl}
 use mathlib.Core.List.{foldl}
 use native.Mathlib.Omega.{arith}
-use lib.IntN.{ℤ, pos}
-use lib.ListN.{length, take, getD}
-use mir.Syntax.{w32}
-use mir.ValLaws.{toZ-ofZ}
+use lib.ListN.{length, take}
 use denote.Ref.{now}
-use Rattle.residual.specs.Report.{difference, differences}
-use Rattle.residual.specs.Refusals.{in24}
+use Rattle.residual.specs.Report.{differences}
 use Rattle.residual.specs.Tallies.{stepOf}
-use Rattle.residual.proofs.Signs.{fits-24, below-24}
-use Rattle.residual.proofs.Stretches.{at-24, word-24}
-use Rattle.residual.proofs.Counting.{room-for-one, one-turn, all-turns}
+use Rattle.residual.proofs.Stretches.{both-held, held-difference, difference-below}
+use Rattle.residual.proofs.Turns.{one-turn, all-turns}
+use Rattle.residual.proofs.Counting.{room-for}
 use Rattle.residual.proofs.steps.stepped.Statement.{statement}
 use Rattle.residual.proofs.steps.stepped.Tie as tie
 
@@ -28,42 +23,39 @@ abbrev μ-loop : tie.MeasureT-loop
 loop-holds : tie.Need-loop-holds Inv-loop μ-loop
 loop-holds c = (omega arith, refl)
 
--- the two values at the index
-abbrev in-a : tie.In-loop Inv-loop μ-loop → ℤ
-in-a c = getD (now (c .before .before .args .a)) (c .before .loop .i) (pos 0)
-
-abbrev in-b : tie.In-loop Inv-loop μ-loop → ℤ
-in-b c = getD (now (c .before .before .args .b)) (c .before .loop .i) (pos 0)
-
-left-24 : (c : tie.In-loop Inv-loop μ-loop) → in24 (in-a c) ≡ true
-left-24 c = at-24 (now (c .before .before .args .a)) (c .before .loop .i) (omega arith) (c .before .before .pre .left)
-
-right-24 : (c : tie.In-loop Inv-loop μ-loop) → in24 (in-b c) ≡ true
-right-24 c = at-24 (now (c .before .before .args .b)) (c .before .loop .i) (omega (arith, c .before .before .pre .long)) (c .before .before .pre .right)
-
 distance-requires : tie.Need-distance-requires Inv-loop μ-loop
-distance-requires c κs = let l = c .before .before in (word-24 (in-a l) (left-24 l), word-24 (in-b l) (right-24 l))
-
--- the difference there, read back from the words
-found : (c : tie.After-distance Inv-loop μ-loop) → c .distance .result ≡ difference (in-a (c .before .before .before)) (in-b (c .before .before .before))
-found c =
-    let l = c .before .before .before in
-    c .distance .ensures ∙ rw (toZ-ofZ w32 (in-a l) (fits-24 (in-a l) (left-24 l)), toZ-ofZ w32 (in-b l) (fits-24 (in-b l) (right-24 l)))
+distance-requires c κs =
+    let l = c .before .before in
+    both-held (l .before .before .pre .alike) (l .before .loop .i) (omega arith)
 
 step-requires : tie.Need-step-requires Inv-loop μ-loop
 step-requires c κs =
     let l = c .before .before .before in
-    (room-for-one (l .before .loop .i) (l .before .before .pre) (omega arith) (l .before .loop .inv .1), rw (found c) (below-24 (in-a l) (in-b l) (left-24 l) (right-24 l)))
+    let i = l .before .loop .i in
+    let ready = l .before .before .pre in
+    let found = held-difference (ready .alike) i (omega arith) (c .distance .ensures) in
+    (room-for i 1 ready (omega arith) (l .before .loop .inv .1), difference-below (ready .alike) i (omega arith) found)
 
 loop-again : tie.Need-loop-again Inv-loop μ-loop
 loop-again c =
     let l = c .before .before .before .before in
-    (omega arith, one-turn (l .before .loop .i) (l .before .before .pre) (omega arith) (c .before .distance .result) (l .before .loop .inv .1) (found (c .before)) (c .step .ensures))
+    let i = l .before .loop .i in
+    let s = l .before .before in
+    let found = held-difference (s .pre .alike) i (omega arith) (c .before .distance .ensures) in (
+      omega arith,
+      one-turn stepOf (s .args .t) (now (s .args .a)) (now (s .args .b)) (s .pre .alike .long) i (omega arith)
+          (c .before .distance .result) (l .before .loop .inv .1) found (c .step .ensures),
+    )
 
 returns : tie.Need-returns Inv-loop μ-loop
-returns c = all-turns (c .before .loop .i) (c .before .before .pre) (omega arith) (c .before .loop .inv .1)
+returns c =
+    let s = c .before .before in
+    all-turns stepOf (s .args .t) (now (s .args .a)) (now (s .args .b)) (s .pre .alike .long) (c .before .loop .i)
+    (omega arith) (c .before .loop .inv .1)
 
 pub stepped-spec : {M : Type 1} → statement M
 stepped-spec =
     tie.close
-    (tie.spec Inv-loop μ-loop loop-holds (λ c. search needs) (λ c. omega arith) (λ c. search needs) (λ c. omega (arith, c .before .before .before .pre .long)) distance-requires step-requires (λ c. omega arith) (λ c. omega arith) loop-again returns)
+    (tie.spec Inv-loop μ-loop loop-holds (λ c. search needs) (λ c. omega arith) (λ c. search needs)
+    (λ c. omega (arith, c .before .before .before .pre .alike .long)) distance-requires step-requires (λ c. omega arith)
+    (λ c. omega arith) loop-again returns)

@@ -1,11 +1,11 @@
--- `residual::checks::at_least` meets its contract: a high half above 0 alone exceeds every word. Assumes nothing.
+-- `report_tests::at_least` meets its contract: a high half above 0 alone exceeds every word. Assumes nothing.
 use mathlib.Core.Path.{sym}
 use Prim.Native.Nat.{_+_, _*_}
 use native.Mathlib.Omega.{arith}
 use borrow.Author.Tests.{le-leb}
-use Rattle.residual.proofs.Halves.{low-alone}
-use Rattle.residual.proofs.checks.at_least.Statement.{statement}
-use Rattle.residual.proofs.checks.at_least.Tie as tie
+use Rattle.report_tests.proofs.Sums.{low-alone}
+use Rattle.report_tests.proofs.at_least.Statement.{statement}
+use Rattle.report_tests.proofs.at_least.Tie as tie
 
 returns : tie.Need-returns
 returns c = let a = c .before .args in sym (le-leb (a .square) (a .high * 18446744073709551616 + a .low) (omega arith))

@@ -1,0 +1,4 @@
+pub mod Both
+pub mod Values
+pub mod Sums
+pub mod Numbers
