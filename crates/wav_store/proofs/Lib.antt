@@ -3,3 +3,6 @@ pub mod Placed
 pub mod Stores
 pub mod Exactly
 pub mod ReadBack
+pub mod Rounded
+pub mod Added
+pub mod FloatDigits

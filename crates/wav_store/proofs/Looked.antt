@@ -1,8 +1,8 @@
 -- A loop over samples that remembers whether all of them so far fit: its invariant, over the kind. Assumes nothing.
 use mathlib.Core.Path.{_≡_, refl, sym, ap, _∙_}
-use mathlib.Core.Bool.{Bool, true, false, _&&_}
+use mathlib.Core.Bool.{Bool, true, false, _&&_, true≢false}
 use mathlib.Core.List.{List, [], _∷_}
-use Prim.Native.Nat.{ℕ, suc, _+_, _≤_, _<_}
+use Prim.Native.Nat.{ℕ, zero, suc, _+_, _≤_, _<_}
 use native.Mathlib.Numerals.{add-one}
 use native.Mathlib.Omega.{arith}
 use lib.ListN.{length, drop, getD, drop-of-length-le}
@@ -46,3 +46,19 @@ module _ {kind : SampleKind} {xs : List Float} {ok : Bool} {i : ℕ} (l : Looked
   all-looked h =
       sym (and-true ok)
       ∙ ap (λ (ys : List Float). ok && allFit kind ys) (sym (drop-of-length-le xs h)) ∙ l .rest
+
+-- ---- each of them
+left : (a b : Bool) → (a && b) ≡ true → a ≡ true
+left true b e = refl
+left false b e = e
+
+right : (a b : Bool) → (a && b) ≡ true → b ≡ true
+right true b e = e
+right false b e = absurd (true≢false (sym e))
+
+pub each-fits : (kind : SampleKind) (xs : List Float) (i : ℕ) (d : Float) → allFit kind xs ≡ true → i < length xs
+    → fitsIn kind (getD xs i d) ≡ true
+unfolding allFit
+each-fits kind [] i d e h = absurd (omega arith)
+each-fits kind (x ∷ xs) zero d e h = left (fitsIn kind x) (allFit kind xs) e
+each-fits kind (x ∷ xs) (suc i) d e h = each-fits kind xs i d (right (fitsIn kind x) (allFit kind xs) e) (omega arith)

@@ -1,10 +1,12 @@
 -- W2. A block of samples as stored bytes, and which refusal is due. Definitions only.
 use Prim.Native.Nat.{ℕ, zero, suc, _*_}
-use mathlib.Core.Bool.{Bool, true, _&&_}
+use mathlib.Core.Path.{_≡_}
+use mathlib.Core.Bool.{Bool, true, false, _&&_}
 use mathlib.Core.List.{List, [], _∷_, _++_}
 use lib.Dec.{eqb}
 use lib.ListN.{length}
-use lib.Ieee.{Float}
+use lib.IntN.{negsuc}
+use lib.Ieee.{Float, fin}
 use Rattle.refusal_order.specs.Order.{_unless_, firstOf}
 use Rattle.sample_kind.specs.declared.SampleKind.{SampleKind}
 use Rattle.sample_kind.specs.Kinds.{widthOf}
@@ -34,3 +36,11 @@ storedBy (suc k) new old = old
 
 abbrev pub stored : SampleKind → List Float → List ℕ → List ℕ
 stored kind xs old = storedBy (verdict kind xs (length old)) (bytesOf kind xs) old
+
+-- ---- inner: what writing asks of its caller, and 3 · 2^-98, the least that rounding to an f32 adds
+pub record Ready (kind : SampleKind) (xs : List Float) (out : List ℕ) : Type 0 where
+  pub long : length out ≡ length xs * widthOf kind
+  pub fit : allFit kind xs ≡ true
+
+abbrev pub leastAdded : Float
+leastAdded = fin false 3 (negsuc 97)

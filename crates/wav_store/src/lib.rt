@@ -6,6 +6,7 @@ ghost use lib.ListN.{length};
 ghost use Rattle.sample_kind.specs.Kinds.{widthOf};
 ghost use Rattle.wav_store.specs.Storing.{verdict, stored};
 
+mod floats; // the nearest f32 of an f64
 mod looking; // whether every sample fits
 mod looking_f32;
 mod placing; // the bytes

@@ -2,16 +2,15 @@
 ghost use mathlib.Core.Path.{_≡_};
 ghost use Prim.Native.Nat.{_*_};
 ghost use lib.ListN.{length};
-ghost use Rattle.sample_kind.specs.Kinds.{widthOf};
 ghost use Rattle.sample_kind.specs.declared.SampleKind.the-variants.{Pcm16, Pcm24, Float32};
-ghost use Rattle.wav_store.specs.Storing.{bytesOf};
+ghost use Rattle.wav_store.specs.Storing.{bytesOf, Ready};
+use crate::floats::nearest_float;
 use sample_kind::SampleKind;
-use stored_samples::stored_float;
 use stored_samples::stored16;
 use stored_samples::stored24;
 
 pub(crate) fn place(kind: SampleKind, samples: &[f64], out: &mut [u8])
-    requires { ⌜ length (now out) ≡ length (now samples) * widthOf kind ⌝ }
+    requires { ⌜ Ready kind (now samples) (now out) ⌝ }
     ensures { λ _. ⌜ now (out .exit) ≡ bytesOf kind (now (samples .entry)) ⌝ }
 {
     match kind {
@@ -51,12 +50,12 @@ fn place24(samples: &[f64], out: &mut [u8])
 }
 
 fn place_float(samples: &[f64], out: &mut [u8])
-    requires { ⌜ length (now out) ≡ length (now samples) * 4 ⌝ }
+    requires { ⌜ Ready Float32 (now samples) (now out) ⌝ }
     ensures { λ _. ⌜ now (out .exit) ≡ bytesOf Float32 (now (samples .entry)) ⌝ }
 {
     let mut i: usize = 0;
     while i < samples.len() {
-        let w = stored_float(samples[i]);
+        let w = nearest_float(samples[i]);
         let at = i * 4;
         out[at] = (w % 256) as u8;
         out[at + 1] = (w / 256 % 256) as u8;

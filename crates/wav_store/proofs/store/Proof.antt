@@ -10,7 +10,10 @@ place-requires : tie.Need-place-requires
 place-requires c κs =
     let f = c .before .before in
     let w = f .before .before in
-    eqb-true _ _ (sym (w .whole .ensures) ∙ f .before .if1 .taken)
+    record {
+      long = eqb-true _ _ (sym (w .whole .ensures) ∙ f .before .if1 .taken);
+      fit = sym (f .all-fit .ensures) ∙ c .before .if2 .taken;
+    }
 
 returns : tie.Need-returns
 returns c =

@@ -4,13 +4,13 @@ use Rattle.wav_store.proofs.placing.place.Statement.{statement}
 use Rattle.wav_store.proofs.placing.place.Tie as tie
 
 place16-requires : tie.Need-place16-requires
-place16-requires c κs = rw (c .before .enum-told .given .1) at (c .before .before .before .before .before .pre)
+place16-requires c κs = (rw (c .before .enum-told .given .1) at (c .before .before .before .before .before .pre)) .long
 
 returns : tie.Need-returns
 returns c = rw (c .before .before .before .before .enum-told .given .1) (c .before .before .place16 .ensures)
 
 place24-requires : tie.Need-place24-requires
-place24-requires c κs = rw (c .before .enum-told2 .given .1) at (c .before .before .before .before .before .pre)
+place24-requires c κs = (rw (c .before .enum-told2 .given .1) at (c .before .before .before .before .before .pre)) .long
 
 returns-2 : tie.Need-returns-2
 returns-2 c = rw (c .before .before .before .before .enum-told2 .given .1) (c .before .before .place24 .ensures)
