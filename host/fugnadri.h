@@ -17,6 +17,12 @@
  *   3  a field of the state is outside its range          7  the playback rate is NaN
  *   4  the input sample is NaN or infinite                8  2^36 samples were accepted already
  *
+ *   9  the file is not RIFF WAVE, or its RIFF size is under 4
+ *  10  a chunk of the file, or its RIFF, runs past the end
+ *  11  the file has no `fmt ` before its first `data`
+ *  12  the file has no `data`
+ *  13  the file's samples are of a kind that is not read, its `fmt ` is under 16 bytes, or its sizes do not agree
+ *
  * They are tested in this order. `maximum`, `margin`, taps, phases, rates and the fade length are settings (1) wherever they are handed in.
  * Of the NaNs only two patterns are handed out, as a float too: 7FF8000000000000, and 7FC00000 for float. A name that ends
  * in _bits is the same call with floats as IEEE 754 patterns.
@@ -39,7 +45,12 @@ enum {
     FUGNADRI_DELAY = 5,
     FUGNADRI_LONG_DELAY = 6,
     FUGNADRI_RATE = 7,
-    FUGNADRI_FULL = 8
+    FUGNADRI_FULL = 8,
+    FUGNADRI_NOT_WAVE = 9,
+    FUGNADRI_OVERRUN = 10,
+    FUGNADRI_NO_FORMAT = 11,
+    FUGNADRI_NO_DATA = 12,
+    FUGNADRI_KIND = 13
 };
 
 /* ---- libfugnadri.a: delay readers without a table ----------------------------------------------------------------------------------------
@@ -188,17 +199,29 @@ uint8_t fugnadri_quality_process_bits(size_t maximum, size_t margin, uint64_t *a
 uint8_t fugnadri_quality_process_rate_aware(size_t maximum, size_t margin, uint64_t *accepted, uint8_t *current, uint8_t *target, uint32_t *crossfade_position, uint32_t crossfade_samples, float *ring, size_t ring_len, const float *sets, size_t sets_len, double max_rate, float input, double delay, uint8_t quality, double playback_rate, float *sample);
 uint8_t fugnadri_quality_process_rate_aware_bits(size_t maximum, size_t margin, uint64_t *accepted, uint8_t *current, uint8_t *target, uint32_t *crossfade_position, uint32_t crossfade_samples, float *ring, size_t ring_len, const float *sets, size_t sets_len, double max_rate, float input, double delay, uint8_t quality, double playback_rate, uint32_t *sample);
 
-/* ---- libfugnadri_wav.a: RIFF WAVE files ----------------------------------------------------------------------------------------------------
+/* ---- libfugnadri_wav.a: RIFF WAVE files ----------------------------------------------------------------------------
  *
- * A file that lies in memory: `*start` and `*size` are the bytes of its first `data`, `*kind` is 0 for PCM of 16 bits, 1 for PCM of 24, 2 for IEEE
- * float of 32; zeros where it is refused, by 9 not RIFF WAVE or a RIFF size under 4, 10 a chunk runs past the end, 11 no `fmt ` before the first
- * `data`, 12 no `data`, 13 another kind, or sizes that do not agree. */
+ * A file that lies in memory: `*start` and `*size` are the bytes of its first `data`, `*kind` is 0 for PCM of 16 bits,
+ * 1 for PCM of 24, 2 for IEEE float of 32; `*channels` is 1 or 2. Refused by 9 to 13, and then all five are 0. */
 uint8_t fugnadri_wav_read(const uint8_t *file, size_t file_len, uint8_t *kind, uint8_t *channels, uint32_t *rate, size_t *start, size_t *size);
 
-/* One channel, counted from 0, of a part: PCM as whole multiples of 2^-15 or 2^-23, float as it is. `out` has an element for each frame. Refused by 1
- * (kind, channels, channel) or 2 (broken frames, or another number of them), and then nothing is written. */
+/* The same, but that a kind wrapped as WAVE_FORMAT_EXTENSIBLE (tag FFFE, as sox and ffmpeg write 24 bits and more) is read by
+ * the kind inside: a `fmt ` of 40 bytes or more, an extension of 22 or more, all bits valid, and the standard tail. */
+uint8_t fugnadri_wav_read_wrapped(const uint8_t *file, size_t file_len, uint8_t *kind, uint8_t *channels, uint32_t *rate, size_t *start, size_t *size);
+
+/* What a file says of its samples, to explain a refusal: the size of its first `fmt `, the tag, channels, block size and bits
+ * that stand there, and the size of its first `data`; zeros where there is none. It refuses nothing. */
+void fugnadri_wav_told(const uint8_t *file, size_t file_len, size_t *size, uint32_t *tag, uint32_t *channels, uint32_t *block, uint32_t *bits, size_t *samples);
+
+/* One channel, counted from 0, of a part: PCM as whole multiples of 2^-15 or 2^-23, float as it is stored. `out` has an element
+ * for each frame. Refused by 1 (kind, channels, channel) or 2 (broken frames, or another number of them), and then nothing
+ * is written. */
 uint8_t fugnadri_wav_samples(uint8_t kind, uint8_t channels, uint8_t channel, const uint8_t *part, size_t part_len, double *out, size_t out_len);
 uint8_t fugnadri_wav_samples_f32(uint8_t kind, uint8_t channels, uint8_t channel, const uint8_t *part, size_t part_len, float *out, size_t out_len);
+
+/* The same as whole numbers in units of 2^-23, as the residual takes them: 24 bits as they are stored, 16 bits times 256. A
+ * float's kind is refused by 1. */
+uint8_t fugnadri_wav_whole(uint8_t kind, uint8_t channels, uint8_t channel, const uint8_t *part, size_t part_len, int32_t *out, size_t out_len);
 
 /* ---- libfugnadri_residual.a: the residual in whole numbers ---------------------------------------------------------------------------------
  *

@@ -1,5 +1,6 @@
 # host/signatures.sed: an exported function as Rust declares it, written as C declares it.
 s/^fn \([a-z0-9_]*\)(\(.*\)) -> \([a-z0-9]*\)$/\3 \1(\2);/
+s/^fn \([a-z0-9_]*\)(\(.*\))$/void \1(\2);/
 s/\([a-z0-9_]*\): &mut \[\([a-z0-9]*\); \([0-9]*\)\]/\2 \1[\3]/g
 s/\([a-z0-9_]*\): \*const \([a-z0-9]*\)/const \2 *\1/g
 s/\([a-z0-9_]*\): \*mut \([a-z0-9]*\)/\2 *\1/g

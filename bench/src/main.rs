@@ -19,13 +19,14 @@ mod workloads {
     pub mod readers;
     pub mod sinc;
     pub mod square_root;
+    pub mod wav;
 }
 
 use std::hint::black_box;
 use std::time::Instant;
 
 /// A file of workloads/ each, by name: making one may take seconds.
-const WORKLOADS: [(&str, fn() -> Workload); 25] = [
+const WORKLOADS: [(&str, fn() -> Workload); 34] = [
     ("narrow", workloads::narrow::workload),
     ("fused32", workloads::fused32::workload),
     ("fused64", workloads::fused64::workload),
@@ -51,6 +52,15 @@ const WORKLOADS: [(&str, fn() -> Workload); 25] = [
     ("quality_hq", workloads::quality::plain),
     ("quality_hq_two_sets", workloads::quality::blended),
     ("quality_mixed", workloads::quality::mixed),
+    ("wav_pcm16", workloads::wav::pcm16_f64),
+    ("wav_pcm16_stereo", workloads::wav::pcm16_stereo),
+    ("wav_pcm16_f32", workloads::wav::pcm16_f32),
+    ("wav_pcm24", workloads::wav::pcm24_f64),
+    ("wav_pcm24_stereo", workloads::wav::pcm24_stereo),
+    ("wav_pcm24_f32", workloads::wav::pcm24_f32),
+    ("wav_float", workloads::wav::float_f64),
+    ("wav_float_stereo", workloads::wav::float_stereo),
+    ("wav_float_f32", workloads::wav::float_f32),
 ];
 
 pub struct Workload {

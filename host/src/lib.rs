@@ -7,6 +7,8 @@
 //!   one line of Cargo.toml: `wow-dsp = { package = "fugnadri-host", path = "fugnadri/host" }`.
 //! - [`strict`]: the same names, and a `Result` with a [`Refusal`] wherever a call can be refused. After a refusal everything is as it was.
 //!
+//! Beyond the original: [`wav`] reads the transfer desk's files.
+//!
 //! Not taken over: the two oversampled readers and their filters, and kernels that a user writes ([`Kernel`] is closed; a source may be anyone's).
 //! Sine, cosine and powers of two are the port's own (docs/ELEMENTARY.md); docs/DIFFERENCES.md lists every difference.
 //!
@@ -24,6 +26,7 @@ mod quality_mode;
 mod refusal;
 mod sources;
 pub mod strict;
+pub mod wav;
 
 pub use lenient::*;
 pub use refusal::Refusal;

@@ -1,4 +1,4 @@
-//! Why a call was refused: 01's numbers 1 to 8.
+//! Why a call was refused: 01's numbers 1 to 8, and 9 to 13 of document 02's Wish 1.
 
 use std::{error::Error, fmt};
 
@@ -22,6 +22,16 @@ pub enum Refusal {
     Rate = 7,
     /// 2^36 samples were accepted already.
     Full = 8,
+    /// The file is not RIFF WAVE, or its RIFF size is under 4.
+    NotWave = 9,
+    /// A chunk of the file, or its RIFF, runs past the end.
+    Overrun = 10,
+    /// The file has no `fmt ` before its first `data`.
+    NoFormat = 11,
+    /// The file has no `data`.
+    NoData = 12,
+    /// The file's samples are of a kind that is not read, or its sizes do not agree.
+    Kind = 13,
 }
 
 use Refusal::*;
@@ -43,7 +53,14 @@ impl Refusal {
             6 => LongDelay,
             7 => Rate,
             8 => Full,
-            other => unreachable!("the static libraries refuse by 1 to 8, not by {other}: they are not the ones that this crate was written for"),
+            9 => NotWave,
+            10 => Overrun,
+            11 => NoFormat,
+            12 => NoData,
+            13 => Kind,
+            other => unreachable!(
+                "the static libraries refuse by 1 to 13, not by {other}: they are not the ones that this crate was written for"
+            ),
         })
     }
 }
@@ -59,6 +76,14 @@ impl fmt::Display for Refusal {
             LongDelay => "the delay is above 2^36 samples: give a shorter one",
             Rate => "the playback rate is NaN: give a number; one out of range is clamped",
             Full => "2^36 samples were accepted already: reset the reader",
+            NotWave => "the file is not RIFF WAVE: hand in a WAV file from its first byte on",
+            Overrun => "the file ends before its chunks do: it is cut off or its sizes are wrong; copy it again",
+            NoFormat => "the file does not say what its samples are, before them: save it anew as WAV",
+            NoData => "the file has no samples: save it anew as WAV",
+            Kind => {
+                "the file's samples are of another kind, or its sizes do not agree (`wav::told` says what it tells): \
+                 save it as PCM of 16 or 24 bits or float of 32, one or two channels"
+            }
         };
         write!(f, "refused by {}: {why}", self.number())
     }

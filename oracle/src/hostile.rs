@@ -25,6 +25,7 @@ mod hostile {
     pub mod wander;
     pub mod watch;
     pub mod wav;
+    pub mod wav_files;
 }
 
 use hostile::{bank, numbers, on_purpose, outside, pool::Memory, readers, residual, tables, tally::Tally, turn::Turn, wander, watch, wav};

@@ -1,11 +1,14 @@
--- W1. What stands in the exports' contracts: an answer as a number and plain numbers, zeros where it is a refusal, and a kind by its code. Definitions only.
+-- W1. What stands in the exports' contracts: an answer as a number and plain numbers, zeros where it is a refusal, and a
+-- kind by its code. A record is made of all that its export may write, so that one equation gives it. Definitions only.
 use Prim.Native.Nat.{ℕ}
 use mathlib.Core.Bool.{cond}
 use lib.Dec.{leb}
 use Rattle.wav.specs.declared.Found.{Found}
 use Rattle.wav.specs.declared.Found.the-variants as found
-use Rattle.sample_kind.specs.declared.SampleKind.the-variants.{Pcm16}
+use Rattle.wav.specs.declared.Told.{Told}
 use Rattle.wav.specs.declared.Wave.{Wave}
+use Rattle.sample_kind.specs.declared.SampleKind.the-variants.{Pcm16}
+use Rattle.sample_kind.specs.Kinds.{codeOf}
 
 abbrev pub numberOf : Found → ℕ
 numberOf (found.Wave w) = 0
@@ -14,6 +17,29 @@ numberOf (found.Refused k) = k
 abbrev pub waveOf : Found → Wave
 waveOf (found.Wave w) = w
 waveOf (found.Refused k) = record { kind = Pcm16; channels = 0; rate = 0; start = 0; length = 0 }
+
+-- What a reading leaves: the refusal's number, which it returns, 0 for none, and what was found.
+pub record Left : Type 0 where
+  pub refusal : ℕ
+  pub kind : ℕ
+  pub channels : ℕ
+  pub rate : ℕ
+  pub start : ℕ
+  pub size : ℕ
+
+abbrev pub leaves : ℕ → ℕ → ℕ → ℕ → ℕ → ℕ → Left
+leaves refusal kind channels rate start size =
+    record { refusal = refusal; kind = kind; channels = channels; rate = rate; start = start; size = size }
+
+abbrev pub leftBy : Found → Left
+leftBy f =
+    let w = waveOf f in
+    leaves (numberOf f) (codeOf (w .kind)) (w .channels) (w .rate) (w .start) (w .length)
+
+-- What a `fmt ` tells.
+abbrev pub tells : ℕ → ℕ → ℕ → ℕ → ℕ → ℕ → Told
+tells size tag channels block bits samples =
+    record { size = size; tag = tag; channels = channels; block = block; bits = bits; samples = samples }
 
 -- A code that is none of the three has no channels, so that it is refused by 1.
 abbrev pub channelsOf : ℕ → ℕ → ℕ

@@ -1,8 +1,8 @@
-// W1. A file read: the refusal's number, 0 for none, and what was found, zeros where it is refused.
+// W1. A file read: the refusal's number, 0 for none, and what was found, zeros where it is refused. What it tells, refused or
+// not, is for who explains a refusal.
 ghost use mathlib.Core.Path.{_≡_};
-ghost use Rattle.sample_kind.specs.Kinds.{codeOf};
-ghost use Rattle.wav.specs.Wave.{foundIn};
-ghost use Rattle.fugnadri_wav.specs.Doors.{numberOf, waveOf};
+ghost use Rattle.wav.specs.Wave.{foundIn, foundWrapped, toldIn};
+ghost use Rattle.fugnadri_wav.specs.Doors.{numberOf, waveOf, leaves, leftBy, tells};
 use sample_kind::SampleKind;
 use sample_kind::code;
 use wav::Found;
@@ -17,14 +17,67 @@ pub extern "C" fn fugnadri_wav_read(
     start: &mut usize,
     size: &mut usize,
 ) -> u8
-    ensures { λ r. ⌜ r ≡ numberOf (foundIn (now (file .entry))) ⌝ }
-    ensures { λ _. ⌜ now (kind .exit) ≡ codeOf (waveOf (foundIn (now (file .entry))) .kind) ⌝ }
-    ensures { λ _. ⌜ now (channels .exit) ≡ waveOf (foundIn (now (file .entry))) .channels ⌝ }
-    ensures { λ _. ⌜ now (rate .exit) ≡ waveOf (foundIn (now (file .entry))) .rate ⌝ }
-    ensures { λ _. ⌜ now (start .exit) ≡ waveOf (foundIn (now (file .entry))) .start ⌝ }
-    ensures { λ _. ⌜ now (size .exit) ≡ waveOf (foundIn (now (file .entry))) .length ⌝ }
+    ensures { λ r. ⌜ leaves r
+        (now (kind .exit)) (now (channels .exit)) (now (rate .exit)) (now (start .exit)) (now (size .exit))
+        ≡ leftBy (foundIn (now (file .entry))) ⌝ }
 {
-    let found = wav::read(file);
+    hand_out(wav::read(file), kind, channels, rate, start, size)
+}
+
+// A kind that is wrapped, tag FFFE, is read by what is inside.
+#[no_mangle]
+pub extern "C" fn fugnadri_wav_read_wrapped(
+    file: &[u8],
+    kind: &mut u8,
+    channels: &mut u8,
+    rate: &mut u32,
+    start: &mut usize,
+    size: &mut usize,
+) -> u8
+    ensures { λ r. ⌜ leaves r
+        (now (kind .exit)) (now (channels .exit)) (now (rate .exit)) (now (start .exit)) (now (size .exit))
+        ≡ leftBy (foundWrapped (now (file .entry))) ⌝ }
+{
+    hand_out(wav::read_wrapped(file), kind, channels, rate, start, size)
+}
+
+// It refuses nothing: zeros where there is no `fmt ` or no `data`.
+#[no_mangle]
+pub extern "C" fn fugnadri_wav_told(
+    file: &[u8],
+    size: &mut usize,
+    tag: &mut u32,
+    channels: &mut u32,
+    block: &mut u32,
+    bits: &mut u32,
+    samples: &mut usize,
+)
+    ensures { λ _. ⌜ tells
+        (now (size .exit)) (now (tag .exit)) (now (channels .exit)) (now (block .exit)) (now (bits .exit))
+        (now (samples .exit))
+        ≡ toldIn (now (file .entry)) ⌝ }
+{
+    let t = wav::fmt_told(file);
+    *size = t.size;
+    *tag = t.tag;
+    *channels = t.channels;
+    *block = t.block;
+    *bits = t.bits;
+    *samples = t.samples;
+}
+
+fn hand_out(
+    found: Found,
+    kind: &mut u8,
+    channels: &mut u8,
+    rate: &mut u32,
+    start: &mut usize,
+    size: &mut usize,
+) -> u8
+    ensures { λ r. ⌜ leaves r
+        (now (kind .exit)) (now (channels .exit)) (now (rate .exit)) (now (start .exit)) (now (size .exit))
+        ≡ leftBy found ⌝ }
+{
     let w = wave(found);
     let k = w.kind;
     *kind = code(k);

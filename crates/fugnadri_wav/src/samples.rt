@@ -2,7 +2,7 @@
 ghost use mathlib.Core.Path.{_≡_};
 ghost use lib.ListN.{length};
 ghost use lib.Ieee.{binary32, binary64};
-ghost use Rattle.wav_samples.specs.Filling.{verdict, filled};
+ghost use Rattle.wav_samples.specs.Filling.{verdict, filled, wholeVerdict, filledWhole};
 ghost use Rattle.sample_kind.specs.Kinds.{kindOf};
 ghost use Rattle.fugnadri_wav.specs.Doors.{channelsOf};
 use sample_kind::of_code;
@@ -16,8 +16,10 @@ pub extern "C" fn fugnadri_wav_samples(
     part: &[u8],
     out: &mut [f64],
 ) -> u8
-    ensures { λ r. ⌜ r ≡ verdict (kindOf kind) (channelsOf kind channels) channel (length (now (part .entry))) (length (now (out .entry))) ⌝ }
-    ensures { λ _. ⌜ now (out .exit) ≡ filled binary64 (kindOf kind) (channelsOf kind channels) channel (now (part .entry)) (length (now (out .entry))) (now (out .entry)) ⌝ }
+    ensures { λ r. ⌜ r ≡ verdict (kindOf kind) (channelsOf kind channels) channel
+        (length (now (part .entry))) (length (now (out .entry))) ⌝ }
+    ensures { λ _. ⌜ now (out .exit) ≡ filled binary64 (kindOf kind) (channelsOf kind channels) channel
+        (now (part .entry)) (length (now (out .entry))) (now (out .entry)) ⌝ }
 {
     let k = of_code(kind);
     let n = channels_of(kind, channels);
@@ -32,12 +34,33 @@ pub extern "C" fn fugnadri_wav_samples_f32(
     part: &[u8],
     out: &mut [f32],
 ) -> u8
-    ensures { λ r. ⌜ r ≡ verdict (kindOf kind) (channelsOf kind channels) channel (length (now (part .entry))) (length (now (out .entry))) ⌝ }
-    ensures { λ _. ⌜ now (out .exit) ≡ filled binary32 (kindOf kind) (channelsOf kind channels) channel (now (part .entry)) (length (now (out .entry))) (now (out .entry)) ⌝ }
+    ensures { λ r. ⌜ r ≡ verdict (kindOf kind) (channelsOf kind channels) channel
+        (length (now (part .entry))) (length (now (out .entry))) ⌝ }
+    ensures { λ _. ⌜ now (out .exit) ≡ filled binary32 (kindOf kind) (channelsOf kind channels) channel
+        (now (part .entry)) (length (now (out .entry))) (now (out .entry)) ⌝ }
 {
     let k = of_code(kind);
     let n = channels_of(kind, channels);
     filling::fill_f32(k, n, channel, part, &mut out[..])
+}
+
+// In units of 2^-23, as the residual takes them. A float kind is refused by 1.
+#[no_mangle]
+pub extern "C" fn fugnadri_wav_whole(
+    kind: u8,
+    channels: u8,
+    channel: u8,
+    part: &[u8],
+    out: &mut [i32],
+) -> u8
+    ensures { λ r. ⌜ r ≡ wholeVerdict (kindOf kind) (channelsOf kind channels) channel
+        (length (now (part .entry))) (length (now (out .entry))) ⌝ }
+    ensures { λ _. ⌜ now (out .exit) ≡ filledWhole (kindOf kind) (channelsOf kind channels) channel
+        (now (part .entry)) (length (now (out .entry))) (now (out .entry)) ⌝ }
+{
+    let k = of_code(kind);
+    let n = channels_of(kind, channels);
+    filling::fill_whole(k, n, channel, part, &mut out[..])
 }
 
 fn channels_of(code: u8, channels: u8) -> u8

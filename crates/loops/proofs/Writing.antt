@@ -4,21 +4,20 @@ use mathlib.Core.List.{List}
 use Prim.Native.Nat.{ℕ, _+_, _≤_, _<_}
 use native.Mathlib.Omega.{arith}
 use lib.ListN.{length, take, set, length-set}
-use lib.Ieee.{Float}
 use Rattle.loops.specs.Loops.{listOf}
 use Rattle.loops.proofs.Lists.{nothing, written, whole}
 
 -- the list is as long as it was lent, and its first k elements are written
-pub record Written (f : ℕ → Float) (lent xs : List Float) (k : ℕ) : Type 0 where
+pub record Written {A : Type 0} (f : ℕ → A) (lent xs : List A) (k : ℕ) : Type 0 where
   pub long : length xs ≡ length lent
   pub most : k ≤ length xs
   pub front : take k xs ≡ listOf f k
 
-pub unwritten : {f : ℕ → Float} {xs : List Float} → Written f xs xs 0
-unwritten {f} {xs} = record { long = refl; most = omega arith; front = nothing f xs }
+pub unwritten : {A : Type 0} {f : ℕ → A} {xs : List A} → Written f xs xs 0
+unwritten {f = f} {xs} = record { long = refl; most = omega arith; front = nothing f xs }
 
-module _ {f : ℕ → Float} {lent xs : List Float} {k : ℕ} (w : Written f lent xs k) where
-  pub written-more : {v : Float} → k < length xs → v ≡ f k → Written f lent (set xs k v) (k + 1)
+module _ {A : Type 0} {f : ℕ → A} {lent xs : List A} {k : ℕ} (w : Written f lent xs k) where
+  pub written-more : {v : A} → k < length xs → v ≡ f k → Written f lent (set xs k v) (k + 1)
   written-more {v} h e =
       record {
         long = simp length-set (w .long);

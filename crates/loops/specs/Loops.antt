@@ -8,8 +8,8 @@ unfoldable pub fold : (ℕ → Float → Float) → Float → ℕ → Float
 fold step a zero = a
 fold step a (suc n) = step n (fold step a n)
 
--- f 0, f 1, .., f (n - 1)
-unfoldable pub listOf : (ℕ → Float) → ℕ → List Float
+-- f 0, f 1, .., f (n - 1), of floats, whole numbers or anything else
+unfoldable pub listOf : {A : Type 0} → (ℕ → A) → ℕ → List A
 listOf f zero = []
 listOf f (suc n) = listOf f n ++ (f n ∷ [])
 

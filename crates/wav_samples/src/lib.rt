@@ -1,9 +1,13 @@
 // W1. The samples of a WAVE file's part: one by its place, or one channel's, frame by frame, into a lent slice.
 ghost use mathlib.Core.Path.{_≡_};
-ghost use lib.Ieee.{binary32, binary64};
+ghost use lib.Ieee.{binary32, binary64, ofBits};
 ghost use Rattle.wav_samples.specs.Samples.{sampleOf};
 
 pub mod filling;
+mod frames; // the loops into f64, one for each kind
+mod frames_f32; // into f32
+mod frames_whole; // into i32
+mod places; // the bytes of a sample whose place is known to lie in the part
 
 use sample_kind::SampleKind;
 use short_words::three;
@@ -17,7 +21,7 @@ pub fn sample(kind: SampleKind, part: &[u8], at: usize) -> f64
     match kind {
         SampleKind::Pcm16 => whole_samples::pcm16(two(part, at)),
         SampleKind::Pcm24 => whole_samples::pcm24(three(part, at)),
-        SampleKind::Float32 => widen(patterns::float_of_f32(low_first_u32(part, at))),
+        SampleKind::Float32 => widened(low_first_u32(part, at)),
     }
 }
 
@@ -31,12 +35,12 @@ pub fn sample_f32(kind: SampleKind, part: &[u8], at: usize) -> f32
     }
 }
 
-// An f32 as an f64: the same number, or the NaN.
-fn widen(x: f32) -> f64
-    ensures { λ r. ⌜ r ≡ x ⌝ }
+// The f64 of an f32's pattern: the same number, or the NaN.
+pub(crate) fn widened(n: u32) -> f64
+    ensures { λ r. ⌜ r ≡ ofBits binary32 n ⌝ }
 {
-    if x != x {
+    if n % 0x8000_0000 > 0x7f80_0000 {
         return 0.0 / 0.0;
     }
-    x as f64
+    f32::from_bits(n) as f64
 }

@@ -22,7 +22,7 @@ small w n p = by (leb (2 ^ (w - 1)) (n % 2 ^ w)) refl
     by true e = omega (arith, leb-true (2 ^ (w - 1)) (n % 2 ^ w) e, twice)
     by false e = omega (arith, leb-false (2 ^ (w - 1)) (n % 2 ^ w) e)
 
-wide : (f : Format) → 2 ^ 23 < 2 ^ prec f
+pub wide : (f : Format) → 2 ^ 23 < 2 ^ prec f
 wide binary32 = lit≤ tt
 wide binary64 = lit≤ tt
 

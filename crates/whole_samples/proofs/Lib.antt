@@ -1,2 +1,3 @@
-pub mod Scaled
+pub mod Signs
 pub mod Exact
+pub mod Scaled

@@ -1,47 +1,58 @@
--- A whole number times a power of two is rounded once, over the format and the width: so the code's product is what a sample means. Assumes nothing.
+-- A whole number times a power of two is rounded once, over the format and the width: so the code's product is what a
+-- sample means. Assumes nothing.
 use mathlib.Core.Path.{_≡_, refl, sym, ap, _∙_}
-use mathlib.Core.Bool.{Bool, true, false}
-use Prim.Native.Nat.{ℕ, suc, _-_, _*_, _%_, _^_, _≤_, _<_}
-use native.Mathlib.Nat.{mul-assoc, mul-pos}
-use borrow.Author.Tests.{le-leb, lt-leb}
-use lib.Dec.{T, le→leb}
-use lib.IntN.{pos, negsuc}
-use lib.Pow.{pow-pos}
-use lib.Ieee.{Float, nan, inf, fin, Format, prec, up, down, unlike, round, mul, ofInt, inFloat}
+use mathlib.Core.Bool.{Bool, true, false, true≢false, cond}
+use Prim.Native.Nat.{ℕ, zero, suc, _+_, _-_, _*_, _%_, _^_, _≤_, _<_}
+use native.Mathlib.Nat.{mul-assoc, mul-pos, mod-lt}
+use native.Mathlib.Omega.{arith}
+use lib.Dec.{T, leb, ltb, le→leb, lt→ltb, lit≤}
+use lib.IntN.{ℤ, pos, negsuc, negℤ}
+use lib.Signed.{mag}
+use lib.Pow.{pow-pos, pow-mono}
+use lib.Ieee.{Float, nan, inf, fin, Format, binary32, binary64, prec, up, down, unlike, round, mul, ofInt, inFloat}
 use lib.Ieee.Back.{round-whole}
 use lib.Ieee.Exact.{HasValue}
 use lib.Ieee.Fits.{down-pos}
 use lib.Ieee.Scale.{round-same}
-use Rattle.whole_samples.specs.Whole.{wholeOf}
+use Rattle.whole_samples.specs.Whole.{negative, size, signed, wholeOf}
+use Rattle.whole_samples.proofs.Exact.{small, wide}
 
 -- what the cast asks of a whole number: the format's digits hold it
-pub held : (f : Format) (d : ℕ) → d ≤ 2 ^ prec f → T (inFloat f (pos d))
+pub held : (f : Format) (z : ℤ) → mag z < 2 ^ 23 → T (inFloat f z)
 unfolding inFloat
-held f d h = le→leb d (2 ^ prec f) h
+held f (pos n) h = le→leb n (2 ^ prec f) (omega (arith, wide f))
+held f (negsuc n) h = lt→ltb n (2 ^ prec f) (omega (arith, wide f))
 
-own-sign : (t : Bool) → unlike false t ≡ t
+own-sign : (t : Bool) → unlike t false ≡ t
 own-sign true = refl
 own-sign false = refl
 
-times : (f : Format) (x : Float) (d k : ℕ) (t : Bool) → HasValue x false d 1 → mul f x (fin t 1 (negsuc k)) ≡ round f t d (2 ^ suc k)
+times : (f : Format) (x : Float) (s : Bool) (d k : ℕ) → HasValue x s d 1 → mul f x (fin false 1 (negsuc k)) ≡ round f s d (2 ^ suc k)
 unfolding mul
-times f nan d k t h = absurd h
-times f (inf s) d k t h = absurd h
-times f (fin s m e) d k t h =
-    ap (λ (u : Bool). round f (unlike u t) (m * up e * (1 * 1)) (down e * 2 ^ suc k)) (h .0)
-    ∙ ap (λ (u : Bool). round f u (m * up e * (1 * 1)) (down e * 2 ^ suc k)) (own-sign t)
-    ∙ round-same f t (m * up e * 1) (down e * 2 ^ suc k) d (2 ^ suc k) (mul-pos (down-pos e) (pow-pos (suc k))) (pow-pos (suc k))
+times f nan s d k h = absurd h
+times f (inf t) s d k h = absurd h
+times f (fin t m e) s d k h =
+    ap (λ (u : Bool). round f u (m * up e * (1 * 1)) (down e * 2 ^ suc k)) (own-sign t ∙ h .0)
+    ∙ round-same f s (m * up e * 1) (down e * 2 ^ suc k) d (2 ^ suc k) (mul-pos (down-pos e) (pow-pos (suc k))) (pow-pos (suc k))
     (ap (λ (a : ℕ). a * 2 ^ suc k) (h .1) ∙ mul-assoc d (down e) (2 ^ suc k))
 
-scaled : (f : Format) (d k : ℕ) (t : Bool) → d ≤ 2 ^ prec f → mul f (ofInt f (pos d)) (fin t 1 (negsuc k)) ≡ round f t d (2 ^ suc k)
+-- a whole number by its sign and its size
+as-float : (f : Format) (t : Bool) (a : ℕ) → a ≤ 2 ^ prec f → (t ≡ true → 0 < a) → HasValue (ofInt f (cond t (negℤ (pos a)) (pos a))) t a 1
 unfolding ofInt
-scaled f d k t h = times f (round f false d 1) d k t (round-whole f false d h)
+as-float f true zero h p = absurd (omega (arith, p refl))
+as-float f true (suc a) h p = round-whole f true (suc a) h
+as-float f false a h p = round-whole f false a h
 
-module _ (f : Format) (w k n : ℕ) (y : Float) (e : w - 1 ≡ suc k) where
-  pub plus : y ≡ fin false 1 (negsuc k) → n % 2 ^ w ≤ 2 ^ prec f → n % 2 ^ w < 2 ^ suc k → mul f (ofInt f (pos (n % 2 ^ w))) y ≡ wholeOf f w n
-  unfolding wholeOf
-  plus p h l = rw (p, e, lt-leb (2 ^ suc k) (n % 2 ^ w) l) (scaled f (n % 2 ^ w) k false h)
+not-none : (w n : ℕ) (t : Bool) → t ≡ true → 0 < cond t (2 ^ w - n % 2 ^ w) (n % 2 ^ w)
+not-none w n true e = omega (arith, mod-lt n (pow-pos w))
+not-none w n false e = absurd (true≢false (sym e))
 
-  pub minus : y ≡ fin true 1 (negsuc k) → 2 ^ w - n % 2 ^ w ≤ 2 ^ prec f → 2 ^ suc k ≤ n % 2 ^ w → mul f (ofInt f (pos (2 ^ w - n % 2 ^ w))) y ≡ wholeOf f w n
-  unfolding wholeOf
-  minus p h l = rw (p, e, le-leb (2 ^ suc k) (n % 2 ^ w) l) (scaled f (2 ^ w - n % 2 ^ w) k true h)
+pub product : (f : Format) (w k n : ℕ) {z : ℤ} {y : Float} → w ≤ 24 → w - 1 ≡ suc k → z ≡ signed w n → y ≡ fin false 1 (negsuc k) → mul f (ofInt f z) y ≡ wholeOf f w n
+unfolding wholeOf
+product f w k n h e p q =
+    let l : w - 1 ≤ 23 = omega arith in
+    let top : 2 ^ (w - 1) ≤ 2 ^ 23 = pow-mono l in
+    let few : size w n ≤ 2 ^ prec f = omega (arith, small w n (omega arith), wide f) in
+    rw (p, q)
+    (times f (ofInt f (signed w n)) (negative w n) (size w n) k (as-float f (negative w n) (size w n) few (not-none w n (negative w n)))
+    ∙ ap (λ (v : ℕ). round f (negative w n) (size w n) (2 ^ v)) (sym e))

@@ -1,50 +1,57 @@
-// W1. A stored PCM sample as a float: of its digits the last 16 or 24 count, in two's complement. The factor is a power of two, so nothing is rounded off.
+// W1. A stored PCM sample as a float and as a whole number: of its digits the last 16 or 24 count, in two's complement.
+// Nothing is rounded off.
 ghost use mathlib.Core.Path.{_≡_};
 ghost use lib.Ieee.{binary32, binary64};
-ghost use Rattle.whole_samples.specs.Whole.{wholeOf};
+ghost use Rattle.whole_samples.specs.Whole.{signed, wholeOf, unitsOf};
+
+// Half the range is added and taken off again, without a branch: compiled, this is a sign extension.
+pub fn signed16(n: u32) -> i32
+    ensures { λ r. ⌜ r ≡ signed 16 n ⌝ }
+{
+    ((n % 0x1_0000 + 0x8000) % 0x1_0000) as i32 - 0x8000
+}
+
+pub fn signed24(n: u32) -> i32
+    ensures { λ r. ⌜ r ≡ signed 24 n ⌝ }
+{
+    ((n % 0x100_0000 + 0x80_0000) % 0x100_0000) as i32 - 0x80_0000
+}
 
 // A whole multiple of 2^-15.
 pub fn pcm16(n: u32) -> f64
     ensures { λ r. ⌜ r ≡ wholeOf binary64 16 n ⌝ }
 {
-    let d = n % 0x1_0000;
-    if d < 0x8000 {
-        d as f64 * 0.000030517578125
-    } else {
-        (0x1_0000 - d) as f64 * -0.000030517578125
-    }
+    signed16(n) as f64 * 0.000030517578125
 }
 
 // A whole multiple of 2^-23.
 pub fn pcm24(n: u32) -> f64
     ensures { λ r. ⌜ r ≡ wholeOf binary64 24 n ⌝ }
 {
-    let d = n % 0x100_0000;
-    if d < 0x80_0000 {
-        d as f64 * 0.00000011920928955078125
-    } else {
-        (0x100_0000 - d) as f64 * -0.00000011920928955078125
-    }
+    signed24(n) as f64 * 0.00000011920928955078125
 }
 
 pub fn pcm16_f32(n: u32) -> f32
     ensures { λ r. ⌜ r ≡ wholeOf binary32 16 n ⌝ }
 {
-    let d = n % 0x1_0000;
-    if d < 0x8000 {
-        d as f32 * 0.000030517578125
-    } else {
-        (0x1_0000 - d) as f32 * -0.000030517578125
-    }
+    signed16(n) as f32 * 0.000030517578125
 }
 
 pub fn pcm24_f32(n: u32) -> f32
     ensures { λ r. ⌜ r ≡ wholeOf binary32 24 n ⌝ }
 {
-    let d = n % 0x100_0000;
-    if d < 0x80_0000 {
-        d as f32 * 0.00000011920928955078125
-    } else {
-        (0x100_0000 - d) as f32 * -0.00000011920928955078125
-    }
+    signed24(n) as f32 * 0.00000011920928955078125
+}
+
+// In units of 2^-23, which 24 bits have: one of 16 bits counts 256 of them.
+pub fn whole16(n: u32) -> i32
+    ensures { λ r. ⌜ r ≡ unitsOf 16 n ⌝ }
+{
+    signed16(n) * 256
+}
+
+pub fn whole24(n: u32) -> i32
+    ensures { λ r. ⌜ r ≡ unitsOf 24 n ⌝ }
+{
+    signed24(n)
 }

@@ -91,4 +91,4 @@ macro_rules! whole {
     };
 }
 
-whole!(i64, usize, u8);
+whole!(i64, i32, usize, u8);

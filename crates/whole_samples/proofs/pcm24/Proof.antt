@@ -1,19 +1,23 @@
 -- `whole_samples::pcm24` meets its contract, by the law over the format and the width. Assumes nothing.
 use borrow.Author.Needs.{needs}
-use native.Mathlib.Omega.{arith}
-use lib.Ieee.{binary64, ofBits, neg}
-use mathlib.Core.Path.{refl}
-use Rattle.whole_samples.proofs.Scaled.{plus, minus}
+use mathlib.Core.Path.{_≡_, refl}
+use lib.Dec.{lit≤}
+use lib.Ieee.{binary64, ofBits}
+use mir.Syntax.{w32}
+use mir.Val.{toZ, ofZ}
+use Rattle.whole_samples.specs.Whole.{signed}
+use Rattle.whole_samples.proofs.Signs.{signed-few, kept}
+use Rattle.whole_samples.proofs.Scaled.{product}
 use Rattle.whole_samples.proofs.pcm24.Statement.{statement}
 use Rattle.whole_samples.proofs.pcm24.Tie as tie
 
+-- what the call handed back, as it is read again
+again : (c : tie.After-signed24) → toZ w32 (ofZ w32 (c .signed24 .result)) ≡ signed 24 (c .before .args .n)
+again c = kept (c .signed24 .ensures) (signed-few 24 (c .before .args .n) (lit≤ tt) (lit≤ tt))
+
 returns : tie.Need-returns
 unfolding ofBits
-returns c = plus binary64 24 22 (c .before .before .args .n) _ refl refl (omega arith) (omega arith)
-
-returns-2 : tie.Need-returns-2
-unfolding ofBits neg
-returns-2 c = minus binary64 24 22 (c .before .before .args .n) _ refl refl (omega arith) (omega arith)
+returns c = product binary64 24 22 (c .before .before .args .n) (lit≤ tt) refl (again (c .before)) refl
 
 pub pcm24-spec : {M : Type 1} → statement M
-pcm24-spec = tie.close (tie.spec (λ c. search needs) (λ c. search needs) (λ c. search needs) returns returns-2)
+pcm24-spec = tie.close (tie.spec (λ c κs. search needs) (λ c. search needs) returns)

@@ -1,0 +1,73 @@
+//! One channel's samples of a WAVE file's part, an answer being a sample. The Rust is a loop over the frames whose bytes are
+//! a constant, which a compiler takes several samples at a time. No float is a NaN: the Rust hands a NaN's pattern on, the
+//! port the one NaN.
+
+use crate::random::Random;
+use crate::Workload;
+
+const FRAMES: usize = 20000;
+
+/// A part of random bytes; in each 4, were they a float, the exponent's last digits are not all ones.
+fn part(frame: usize) -> Vec<u8> {
+    let mut random = Random::new(1);
+    (0..FRAMES * frame).map(|k| random.word() as u8 & if k % 4 == 2 { 0x7f } else { 0xff }).collect()
+}
+
+fn pcm16(bytes: &[u8]) -> i32 {
+    i16::from_le_bytes([bytes[0], bytes[1]]) as i32
+}
+
+fn pcm24(bytes: &[u8]) -> i32 {
+    i32::from_le_bytes([0, bytes[0], bytes[1], bytes[2]]) >> 8
+}
+
+fn float(bytes: &[u8]) -> f32 {
+    f32::from_le_bytes([bytes[0], bytes[1], bytes[2], bytes[3]])
+}
+
+/// The answers' room, seen as the samples' type: nothing is copied. A narrower type leaves the end of it unused, and there
+/// the first pass puts zeros.
+fn room<T>(answers: &mut [u64]) -> &mut [T] {
+    let (used, rest) = answers.split_at_mut(FRAMES * size_of::<T>() / 8);
+    if rest.last().is_some_and(|last| *last != 0) {
+        rest.fill(0);
+    }
+    unsafe { std::slice::from_raw_parts_mut(used.as_mut_ptr().cast(), FRAMES) }
+}
+
+macro_rules! fill {
+    ($name:ident, $to:ty, $port:ident, $kind:literal, $width:literal, $channels:literal, |$bytes:ident| $sample:expr) => {
+        pub fn $name() -> Workload {
+            const FRAME: usize = $width * $channels;
+            const FIRST: usize = $width * ($channels - 1);
+            #[inline(never)]
+            fn rust(part: &[u8], out: &mut [$to]) {
+                for (to, frame) in out.iter_mut().zip(part.chunks_exact(FRAME)) {
+                    let $bytes = &frame[FIRST..];
+                    *to = $sample;
+                }
+            }
+            let (part, again) = (part(FRAME), part(FRAME));
+            Workload {
+                answers: FRAMES,
+                rust: Box::new(move |answers| rust(&part, room(answers))),
+                port: Box::new(move |answers| {
+                    assert_eq!(boundary::$port($kind, $channels, $channels - 1, &again, room(answers)), 0);
+                }),
+            }
+        }
+    };
+}
+
+const TO_15: f64 = 1.0 / 32768.0;
+const TO_23: f64 = 1.0 / 8388608.0;
+
+fill!(pcm16_f64, f64, wav_samples, 0, 2, 1, |b| pcm16(b) as f64 * TO_15);
+fill!(pcm16_stereo, f64, wav_samples, 0, 2, 2, |b| pcm16(b) as f64 * TO_15);
+fill!(pcm16_f32, f32, wav_samples_f32, 0, 2, 1, |b| pcm16(b) as f32 * TO_15 as f32);
+fill!(pcm24_f64, f64, wav_samples, 1, 3, 1, |b| pcm24(b) as f64 * TO_23);
+fill!(pcm24_stereo, f64, wav_samples, 1, 3, 2, |b| pcm24(b) as f64 * TO_23);
+fill!(pcm24_f32, f32, wav_samples_f32, 1, 3, 1, |b| pcm24(b) as f32 * TO_23 as f32);
+fill!(float_f64, f64, wav_samples, 2, 4, 1, |b| float(b) as f64);
+fill!(float_stereo, f64, wav_samples, 2, 4, 2, |b| float(b) as f64);
+fill!(float_f32, f32, wav_samples_f32, 2, 4, 1, |b| float(b));

@@ -1,0 +1,86 @@
+// W1. One channel's samples into f64: a loop for each kind, and the bytes of a frame told to it as a constant, so that
+// a compiler takes several samples at a time.
+ghost use mathlib.Core.Path.{_≡_};
+ghost use lib.ListN.{length};
+ghost use lib.Ieee.{binary64};
+ghost use Rattle.sample_kind.specs.declared.SampleKind.the-variants.{Pcm16, Pcm24, Float32};
+ghost use Rattle.sample_kind.specs.Kinds.{frameOf};
+ghost use Rattle.wav_samples.specs.Samples.{sampleOf};
+ghost use Rattle.wav_samples.specs.Filling.{framesOf};
+ghost use Rattle.wav_samples.specs.Frames.{Whole, Framed};
+use crate::places::four_at;
+use crate::places::three_at;
+use crate::places::two_at;
+use crate::widened;
+use sample_kind::SampleKind;
+
+pub(crate) fn frames(kind: SampleKind, channels: u8, first: usize, part: &[u8], out: &mut [f64])
+    requires { ⌜ Framed kind channels first (length (now part)) (length (now out)) ⌝ }
+    ensures { λ _. ⌜
+        now (out .exit)
+        ≡ framesOf (sampleOf binary64 kind (now (part .entry))) (frameOf kind channels) first (length (now (out .entry)))
+        ⌝ }
+{
+    match kind {
+        SampleKind::Pcm16 => {
+            if channels == 1 {
+                pcm16(2, first, part, &mut out[..]);
+            } else {
+                pcm16(4, first, part, &mut out[..]);
+            }
+        }
+        SampleKind::Pcm24 => {
+            if channels == 1 {
+                pcm24(3, first, part, &mut out[..]);
+            } else {
+                pcm24(6, first, part, &mut out[..]);
+            }
+        }
+        SampleKind::Float32 => {
+            if channels == 1 {
+                float32(4, first, part, &mut out[..]);
+            } else {
+                float32(8, first, part, &mut out[..]);
+            }
+        }
+    }
+}
+
+fn pcm16(frame: usize, first: usize, part: &[u8], out: &mut [f64])
+    requires { ⌜ Whole (length (now part)) (length (now out)) frame first 2 ⌝ }
+    ensures { λ _. ⌜
+        now (out .exit) ≡ framesOf (sampleOf binary64 Pcm16 (now (part .entry))) frame first (length (now (out .entry)))
+        ⌝ }
+{
+    let mut k: usize = 0;
+    while k < out.len() {
+        out[k] = whole_samples::pcm16(two_at(part, k * frame + first));
+        k += 1;
+    }
+}
+
+fn pcm24(frame: usize, first: usize, part: &[u8], out: &mut [f64])
+    requires { ⌜ Whole (length (now part)) (length (now out)) frame first 3 ⌝ }
+    ensures { λ _. ⌜
+        now (out .exit) ≡ framesOf (sampleOf binary64 Pcm24 (now (part .entry))) frame first (length (now (out .entry)))
+        ⌝ }
+{
+    let mut k: usize = 0;
+    while k < out.len() {
+        out[k] = whole_samples::pcm24(three_at(part, k * frame + first));
+        k += 1;
+    }
+}
+
+fn float32(frame: usize, first: usize, part: &[u8], out: &mut [f64])
+    requires { ⌜ Whole (length (now part)) (length (now out)) frame first 4 ⌝ }
+    ensures { λ _. ⌜
+        now (out .exit) ≡ framesOf (sampleOf binary64 Float32 (now (part .entry))) frame first (length (now (out .entry)))
+        ⌝ }
+{
+    let mut k: usize = 0;
+    while k < out.len() {
+        out[k] = widened(four_at(part, k * frame + first));
+        k += 1;
+    }
+}

@@ -1,0 +1,85 @@
+//! RIFF WAVE files that lie in memory: the part that holds samples, what they are, and each channel's samples.
+//!
+//! [`read`] takes PCM of 16 and 24 bits and IEEE float of 32, of one or two channels. [`read_wrapped`] takes besides what
+//! sox and ffmpeg wrap as WAVE_FORMAT_EXTENSIBLE (tag FFFE). A file that is neither is refused by 9 to 13; [`told`] says
+//! what it tells of itself.
+
+use crate::{boundary as b, Refusal};
+
+pub use b::FormatTold as Told;
+
+/// How a sample is stored.
+#[derive(Clone, Copy, Debug, Eq, Hash, PartialEq)]
+#[repr(u8)]
+pub enum SampleKind {
+    Pcm16 = 0,
+    Pcm24 = 1,
+    Float32 = 2,
+}
+
+impl SampleKind {
+    /// A stored sample's bytes.
+    pub fn width(self) -> usize {
+        self as usize + 2
+    }
+}
+
+/// What was found in a file. `part` is the part of it that holds samples, frame by frame.
+#[derive(Clone, Copy, Debug, PartialEq, Eq)]
+pub struct Wave<'a> {
+    pub kind: SampleKind,
+    pub channels: u8,
+    pub rate: u32,
+    pub part: &'a [u8],
+}
+
+/// Refused by 9 to 13. A kind that is wrapped is refused by 13.
+pub fn read(file: &[u8]) -> Result<Wave<'_>, Refusal> {
+    found(file, b::wav_read(file))
+}
+
+/// The same, but that a wrapped kind is read by what is inside.
+pub fn read_wrapped(file: &[u8]) -> Result<Wave<'_>, Refusal> {
+    found(file, b::wav_read_wrapped(file))
+}
+
+/// What a file says of its samples, whether it is refused or not: for who explains a refusal by 13.
+pub fn told(file: &[u8]) -> Told {
+    b::wav_told(file)
+}
+
+fn found(file: &[u8], (number, w): (u8, b::WavePart)) -> Result<Wave<'_>, Refusal> {
+    Refusal::of(number)?;
+    let kind = [SampleKind::Pcm16, SampleKind::Pcm24, SampleKind::Float32][usize::from(w.kind)];
+    Ok(Wave { kind, channels: w.channels, rate: w.rate, part: &file[w.start..w.start + w.length] })
+}
+
+type Fill<T> = fn(u8, u8, u8, &[u8], &mut [T]) -> u8;
+
+impl Wave<'_> {
+    /// How many samples each channel has.
+    pub fn frames(&self) -> usize {
+        self.part.len().checked_div(self.kind.width() * usize::from(self.channels)).unwrap_or(0)
+    }
+
+    /// A channel's samples, counted from 0: PCM as whole multiples of 2^-15 or 2^-23, float as it is stored, a NaN as the
+    /// one that is handed out. A channel that is not there is refused by 1.
+    pub fn channel(&self, channel: u8) -> Result<Vec<f64>, Refusal> {
+        self.filled(channel, b::wav_samples)
+    }
+
+    /// The same as f32, which every stored sample is.
+    pub fn channel_f32(&self, channel: u8) -> Result<Vec<f32>, Refusal> {
+        self.filled(channel, b::wav_samples_f32)
+    }
+
+    /// PCM in units of 2^-23: 24 bits as they are stored, 16 bits × 256. A float file is refused by 1.
+    pub fn channel_whole(&self, channel: u8) -> Result<Vec<i32>, Refusal> {
+        self.filled(channel, b::wav_whole)
+    }
+
+    fn filled<T: Clone + Default>(&self, channel: u8, fill: Fill<T>) -> Result<Vec<T>, Refusal> {
+        let mut out = vec![T::default(); self.frames()];
+        Refusal::of(fill(self.kind as u8, self.channels, channel, self.part, &mut out)).map(|()| out)
+    }
+}
