@@ -1,7 +1,9 @@
-//! Files written: read back, at the ends of the ranges, at ties, in buffers of other lengths, and each refusal.
+//! Files written: read back, at the ends of the ranges, at ties, in buffers of other lengths, each refusal, and the stored
+//! list of files to be written.
 
 use fugnadri::wav::{self, SampleKind};
 use fugnadri::Refusal;
+use std::{fs, path::Path};
 
 const KINDS: [SampleKind; 3] = [SampleKind::Pcm16, SampleKind::Pcm24, SampleKind::Float32];
 
@@ -132,4 +134,29 @@ fn a_refusal_says_what_to_do() {
         Refusal::Room.to_string().starts_with("refused by 14: ") && Refusal::Room.to_string().contains("file_length")
     );
     assert!(Refusal::Sample.to_string().contains("make the samples quieter"));
+}
+
+#[test]
+fn files_to_be_written() {
+    let folder = Path::new(env!("CARGO_MANIFEST_DIR")).join("../crates/replay_written");
+    let list = |name| fs::read_to_string(folder.join(name)).expect("the stored list");
+    let (calls, answers) = (list("stdin"), list("stdout"));
+    assert_eq!(calls.lines().count(), answers.lines().count());
+    for (k, (call, answer)) in calls.lines().zip(answers.lines()).enumerate() {
+        let words: Vec<u64> = call.split_whitespace().map(|word| u64::from_str_radix(word, 16).unwrap()).collect();
+        let (kind, channels, rate) = (KINDS[words[0] as usize], words[1] as u8, words[2] as u32);
+        let mut out = vec![0xA5; words[3] as usize];
+        let samples = &words[6..];
+        let done = if words[4] == 1 {
+            let samples: Vec<f32> = samples.iter().map(|word| f32::from_bits(*word as u32)).collect();
+            wav::write_into_f32(kind, channels, rate, &samples, &mut out)
+        } else {
+            let samples: Vec<f64> = samples.iter().map(|word| f64::from_bits(*word)).collect();
+            wav::write_into(kind, channels, rate, &samples, &mut out)
+        };
+        let (number, length) = done.map_or_else(|refusal| (refusal.number(), 0), |length| (0, length));
+        let told = wav::file_length(kind, channels, samples.len());
+        let bytes: String = out.iter().map(|byte| format!("{byte:02x}")).collect();
+        assert_eq!(format!("{number} {length} {told} {bytes}"), answer, "call {k}");
+    }
 }

@@ -19,7 +19,7 @@ const ENDS: [f64; 12] = [
     1e-40, 3.4028234663852886e38, 3.4028235677973366e38, 8.98846567431158e307, f64::INFINITY,
 ];
 
-/// A sample: mostly one that fits, often halfway between two that are stored or beside that, seldom an end, or anything.
+/// A sample: mostly one that fits, often halfway between two that are stored or beside that, seldom an end or anything.
 fn sample(r: &mut Random) -> f64 {
     let word = r.word();
     let bits = if word & 1 << 40 == 0 { 16 } else { 24 };
