@@ -1,5 +1,5 @@
-//! A block of samples as stored bytes, an answer being a sample: looked at first, then written, on either side. The Rust
-//! is what one would write by hand, with `round_ties_even` and a loop over the bytes of a sample.
+//! A block of samples as stored bytes, an answer being a sample: looked at first, then written, on either side. The
+//! Rust is what one would write by hand, with `round_ties_even` and a loop over the bytes of a sample.
 
 use crate::random::Random;
 use crate::Workload;

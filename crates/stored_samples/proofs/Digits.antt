@@ -3,18 +3,19 @@
 use mathlib.Core.Path.{_≡_, refl, sym, ap, _∙_}
 use mathlib.Core.Bool.{Bool, true, false, cond, not, true≢false}
 use Prim.Native.Nat.{ℕ, zero, suc, _+_, _-_, _*_, _%_, _^_, _≤_, _<_}
-use native.Mathlib.Nat.{pow-suc, mul-assoc, mul-comm, mul-pos, suc-mul, mod-eq-of-lt, mul-add-mod-self-right}
+use native.Mathlib.Nat.{pow-suc, suc-mul, mod-eq-of-lt, mul-add-mod-self-right}
 use native.Mathlib.Omega.{arith}
 use borrow.Author.Tests.{ltb-true, leb-true}
 use lib.Dec.{T}
 use lib.Pow.{pow-add, pow-pos, pow-mono}
-use lib.IntN.{ℤ, pos, negsuc, negℤ}
+use lib.IntN.{pos, negℤ}
 use lib.Ieee.{Float, nan, inf, fin, Format, prec, low, hid, up, down, fits, isNan, toBits}
 use lib.Ieee.Nearest.{closest}
 use Rattle.interval.proofs.Signed.{ring}
 use Rattle.stored_samples.specs.Stored.{nearestWhole, digitsOf, fitsWhole}
 use Rattle.stored_samples.proofs.Ranges.{below-zero}
-use Rattle.stored_samples.proofs.Pattern.{Room, room, shifted, no-nan, bits}
+use Rattle.stored_samples.proofs.Pattern.{shifted, no-nan, bits}
+use Rattle.stored_samples.proofs.Scaled.{room}
 
 -- ---- the last digits of a multiple of b, more or less n
 plus-digits : (c b n : ℕ) → n < b → (c * b + n) % b ≡ n

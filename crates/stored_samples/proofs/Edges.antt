@@ -1,9 +1,9 @@
 -- W2d, W2e. Both sides of every end, ties, the smallest numbers and none at all, computed from the definitions that the
 -- contracts cite: a word, or none where the sample does not fit. Assumes nothing.
 use mathlib.Core.Path.{_≡_, refl}
-use mathlib.Core.Bool.{Bool, true, false, cond}
-use mathlib.Core.List.{List, [], _∷_, map}
-use Prim.Native.Nat.{ℕ, suc}
+use mathlib.Core.Bool.{cond}
+use mathlib.Core.List.{[], _∷_, map}
+use Prim.Native.Nat.{ℕ}
 use lib.Ieee.{binary64, ofBits, round, toBits}
 use Rattle.rounding.specs.Operations.{narrowed}
 use Rattle.sample_kind.specs.declared.SampleKind.{SampleKind}

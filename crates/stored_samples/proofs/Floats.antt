@@ -1,15 +1,14 @@
 -- W2e. When the nearest f32 is finite: below the midpoint above the largest, 2^128 - 2^103, in size. Assumes nothing.
-use mathlib.Core.Path.{_≡_, refl, sym, ap, _∙_, subst}
+use mathlib.Core.Path.{_≡_, refl, sym, ap, _∙_}
 use mathlib.Core.Logic.{inl, inr}
-use mathlib.Core.Bool.{Bool, true, false, _&&_, not}
+use mathlib.Core.Bool.{Bool, true, false, _&&_}
 use Prim.Native.Nat.{ℕ, _+_, _-_, _*_, _^_, _<_}
 use native.Mathlib.Nat.{mul-pos, mul-one}
 use native.Mathlib.Omega.{arith}
 use borrow.Author.Tests.{lt-ltb, le-ltb}
-use denote.Floats.{passes}
-use lib.Dec.{T, ltb, lit<}
+use lib.Dec.{ltb, lit<}
 use lib.IntN.{ℤ, pos}
-use lib.Ieee.{Float, nan, inf, fin, Format, binary32, up, down, low, lt, round, fits, isNan}
+use lib.Ieee.{Float, nan, inf, fin, Format, binary32, up, down, low, lt, round}
 use lib.Ieee.Bits.{is-true}
 use lib.Ieee.Fits.{down-pos}
 use lib.Ieee.Scale.{finite, grid}

@@ -1,12 +1,11 @@
 -- The nearest whole number of a quotient at a half, where the even one is taken; on which side of a whole number it
 -- lies; and the nearest to the difference with an even number. Nothing here is about floats. Assumes nothing.
-use mathlib.Core.Path.{_≡_, refl, sym, ap, _∙_, subst}
-use mathlib.Core.Logic.{_⊎_, inl, inr}
-use Prim.Native.Nat.{ℕ, zero, suc, _+_, _-_, _*_, _/_, _%_, _≤_, _<_, compare}
+use mathlib.Core.Path.{_≡_, sym, ap, _∙_}
+use mathlib.Core.Logic.{inl, inr}
+use Prim.Native.Nat.{ℕ, suc, _+_, _-_, _*_, _/_, _%_, _≤_, _<_}
 use native.Mathlib.Nat.{lt-of-mul-lt-mul-right, le-trans, le-of-eq, add-mul, suc-mul, eq-or-lt-of-le, mul-right-comm}
 use native.Mathlib.Omega.{arith}
 use lib.Dec.{lit≤}
-use lib.Ieee.{nearest}
 use lib.Ieee.Nearest.{closest, closest-same, closest-mono}
 use lib.Ieee.Positive.{first-pos}
 use Rattle.interval.proofs.Signed.{ring}

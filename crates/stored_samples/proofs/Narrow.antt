@@ -2,21 +2,18 @@
 -- and D has fewer than 24 digits. So an f32 is tested against -1. And what fits is no NaN. Assumes nothing.
 use mathlib.Core.Path.{_≡_, refl, sym, ap, _∙_}
 use mathlib.Core.Bool.{Bool, true, false, not, _&&_, true≢false}
-use Prim.Native.Nat.{ℕ, suc, _+_, _-_, _*_, _^_, _≤_, _<_}
-use native.Mathlib.Nat.{mul-one, one-mul}
+use Prim.Native.Nat.{ℕ, _+_, _*_, _^_, _≤_, _<_}
 use native.Mathlib.Omega.{arith}
 use borrow.Author.Tests.{lt-ltb}
-use denote.Floats.{passes}
-use lib.Dec.{T, leb}
+use lib.Dec.{T}
 use lib.Arith.{le→nltb}
 use lib.IntN.{ℤ, pos, negsuc}
 use lib.Ieee.{Float, nan, inf, fin, binary32, up, down, lt, le, eq, fits, isNan}
 use lib.Ieee.Fits.{down-pos}
-use lib.Ieee.Scale.{finite}
-use Rattle.magnitude.proofs.Comparisons.{nlt→le, le-negative, finite-number}
+use Rattle.magnitude.proofs.Comparisons.{nlt→le, le-negative}
 use Rattle.rounding.proofs.Orders.{same-test}
 use Rattle.rounding.proofs.Values.{fits-parts}
-use Rattle.stored_samples.specs.Stored.{fitsWhole, nearestWhole}
+use Rattle.stored_samples.specs.Stored.{fitsWhole}
 use Rattle.stored_samples.proofs.Ranges.{least, past, in-range}
 
 -- 1 as an f32's end

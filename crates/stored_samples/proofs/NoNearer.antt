@@ -1,14 +1,14 @@
 -- W2d. No whole number lies nearer to x · 2^(w-1) than the one that is stored, and of two as near it is the even one:
 -- over the width, in exact fractions. Assumes nothing.
-use mathlib.Core.Path.{_≡_, refl, sym, ap, _∙_, subst}
-use mathlib.Core.Logic.{_⊎_, inl, inr}
+use mathlib.Core.Path.{_≡_, refl, sym, ap, _∙_}
+use mathlib.Core.Logic.{inl, inr}
 use mathlib.Core.Bool.{Bool, true, false, cond, not}
 use Prim.Native.Nat.{ℕ, zero, suc, _+_, _-_, _*_, _%_, _^_, _≤_, _<_}
 use native.Mathlib.Nat.{mul-le-mul-right, add-mul, suc-mul, le-trans, le-of-eq, zero-mul, le-of-mul-le-mul-right}
 use native.Mathlib.Omega.{arith}
 use lib.IntN.{ℤ, pos, negsuc, negℤ, natAbs}
 use lib.Signed.{nonNeg}
-use lib.Ieee.{Float, fin, up, down}
+use lib.Ieee.{fin, up, down}
 use lib.Ieee.Fits.{down-pos}
 use lib.Ieee.Nearest.{closest}
 use Rattle.interval.proofs.Rounded.{none}

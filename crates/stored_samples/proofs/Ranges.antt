@@ -2,19 +2,18 @@
 -- that goes to the even -2^(w-1), and 2^(w-1) - 1/2, a tie that goes to 2^(w-1). Assumes nothing.
 use mathlib.Core.Path.{_≡_, refl, sym, ap, _∙_}
 use mathlib.Core.Logic.{inl, inr}
-use mathlib.Core.Bool.{Bool, true, false, cond, _&&_, not}
+use mathlib.Core.Bool.{true, false, _&&_}
 use Prim.Native.Nat.{ℕ, zero, suc, _+_, _-_, _*_, _%_, _^_, _≤_, _<_, zero-le}
 use native.Mathlib.Nat.{pow-suc, mul-assoc, mul-mod-left, suc-mul, mul-pos}
 use native.Mathlib.Omega.{arith}
 use borrow.Author.Tests.{lt-ltb, le-leb}
-use lib.Dec.{T, ltb, leb, leb→le, le→leb}
+use lib.Dec.{ltb, leb, leb→le, le→leb}
 use lib.Arith.{le→nltb}
 use lib.Pow.{pow-pos}
 use lib.IntN.{ℤ, pos, negsuc, negℤ}
 use lib.Ieee.{Float, nan, inf, fin, up, down, lt, le, isNan, eq}
 use lib.Ieee.Fits.{down-pos}
 use lib.Ieee.Nearest.{closest}
-use lib.Ieee.Scale.{finite}
 use Rattle.magnitude.proofs.Comparisons.{nlt→le, le-negative}
 use Rattle.rounding.proofs.Orders.{same-test, and-true, ltb-iff, lt-or-ge, clash}
 use Rattle.stored_samples.specs.Stored.{nearestWhole, inDigits, fitsWhole}

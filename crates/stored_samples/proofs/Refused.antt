@@ -1,11 +1,10 @@
 -- W2e. What is not stored, exactly: as PCM of w digits a NaN, an infinity, and a number whose rounded value lies
 -- outside -2^(w-1) to 2^(w-1) - 1; as a float a NaN, an infinity, and a number from 2^128 - 2^103 on in size, whose
 -- nearest f32 is an infinity. Assumes nothing.
-use mathlib.Core.Path.{_≡_, refl, sym, _∙_}
+use mathlib.Core.Path.{_≡_, sym, _∙_}
 use mathlib.Core.Logic.{_↔_}
-use mathlib.Core.Bool.{Bool, true, false, _&&_, true≢false}
+use mathlib.Core.Bool.{true, false, _&&_, true≢false}
 use Prim.Native.Nat.{ℕ, suc, _-_, _*_, _^_, _≤_, _<_}
-use native.Mathlib.Omega.{arith}
 use borrow.Author.Tests.{ltb-true, lt-ltb}
 use denote.Floats.{passes}
 use lib.Dec.{T}

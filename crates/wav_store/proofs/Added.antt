@@ -4,11 +4,10 @@ use mathlib.Core.Path.{_≡_, refl, sym, ap, _∙_, subst}
 use mathlib.Core.Logic.{inl, inr}
 use mathlib.Core.Bool.{Bool, true, false, cond}
 use Prim.Native.Nat.{ℕ, zero, suc, _+_, _-_, _*_, _/_, _^_, _≤_, _<_}
-use native.Mathlib.Nat.{zero-add, mul-assoc, mul-comm, mul-one, mul-pos, mul-right-comm, le-of-eq, le-trans, lt-of-le-of-lt}
-use native.Mathlib.Nat.{mul-le-mul-left, mul-le-mul-right}
+use native.Mathlib.Nat.{zero-add, mul-pos, lt-of-le-of-lt, mul-le-mul-left}
 use native.Mathlib.Omega.{arith}
 use borrow.Author.Tests.{lt-ltb, le-ltb}
-use lib.Dec.{T, lit≤, lit<}
+use lib.Dec.{lit<}
 use lib.IntN.{pos}
 use lib.Pow.{pow-add, pow-pos, pow-mono, pow-lt}
 use lib.Ieee.{Float, fin, binary64, round, mul, lt, ofBits, ofFields, odd}
@@ -17,7 +16,7 @@ use lib.Ieee.Positive.{positive-of-value, mul-at}
 use Rattle.rounding.proofs.Comparing.{lt-units}
 use Rattle.rounding.proofs.Orders.{lt-or-ge}
 use Rattle.narrowing.proofs.Patterns.{value}
-use Rattle.wav_store.specs.Storing.{leastAdded}
+use Rattle.wav_store.specs.Inner.{leastAdded}
 
 -- 3 · 2^28
 abbrev pub times : Float
@@ -82,7 +81,8 @@ module _ (E : ℕ) (l : E < 1151) where
         let e : 3 * 2 ^ (79 + E) ≡ 3 * 2 ^ 50 * 2 * 2 ^ (925 + (E - 897)) = omega arith in
         let y = scaled-value E l z in
         let t : lt leastAdded (scaled E l) ≡ true =
-        lt-units leastAdded (scaled E l) false false (3 * 2 ^ 976) (3 * 2 ^ (79 + E)) (2 ^ 1074) (pow-pos 1074) least-value y
+        lt-units leastAdded (scaled E l) false false (3 * 2 ^ 976) (3 * 2 ^ (79 + E)) (2 ^ 1074) (pow-pos 1074)
+        least-value y
         ∙ lt-ltb (3 * 2 ^ 976) (3 * 2 ^ (79 + E)) (triple-lt _ _ (pow-lt n)) in
         rw t (subst (λ (n : ℕ). HasValue (scaled E l) false n (2 ^ 1074)) e y)
     | inr g ↦

@@ -1,25 +1,26 @@
--- `nearest_float` step by step, for an f64 that is finite as an f32: its pattern apart, what is added, and the pattern of
--- the nearest f32 put together. Assumes nothing.
+-- `nearest_float` step by step, for an f64 that is finite as an f32: its pattern apart, what is added, and the pattern
+-- of the nearest f32 put together. Assumes nothing.
 use mathlib.Core.Path.{_≡_, refl, sym, ap, _∙_, subst}
 use mathlib.Core.Bool.{Bool, true, false, cond, not, _&&_}
-use Prim.Native.Nat.{ℕ, _+_, _-_, _*_, _/_, _%_, _^_, _≤_, _<_}
+use Prim.Native.Nat.{ℕ, _+_, _-_, _*_, _/_, _%_, _^_, _<_}
 use native.Mathlib.Omega.{arith}
 use borrow.Author.Tests.{leb-true, leb-false}
 use denote.Floats.{passes}
 use lib.Dec.{T, leb}
 use lib.Ieee.{Float, nan, inf, fin, binary32, binary64, add, sub, mul, lt, fits, isNan, nanBits}
-use lib.Ieee.{ofBits, toBits, up, down}
+use lib.Ieee.{ofBits, toBits}
 use lib.Ieee.Bits.{ofBits-toBits, toBits-lt}
 use lib.Ieee.Exact.{HasValue}
-use lib.Ieee.Fits.{and-i, round-fits, fits-widens}
+use lib.Ieee.Fits.{and-i, fits-widens}
 use lib.Ieee.Scale.{finite}
 use Rattle.magnitude.proofs.Comparisons.{finite-number}
 use Rattle.rounding.specs.Operations.{narrowed}
 use Rattle.rounding.proofs.Patterns.{finite-rest, rest-no-nan, sign-rest, value-bits}
 use Rattle.rounding.proofs.Values.{value-no-nan}
 use Rattle.sample_kind.specs.declared.SampleKind.the-variants.{Float32}
+use Rattle.stored_samples.proofs.Below.{narrow-fits}
 use Rattle.stored_samples.specs.Stored.{fitsIn, wordOf}
-use Rattle.wav_store.specs.Storing.{leastAdded}
+use Rattle.wav_store.specs.Inner.{leastAdded}
 use Rattle.wav_store.proofs.Added.{times, added}
 use Rattle.wav_store.proofs.Rounded.{k-lt, apart, pattern}
 
@@ -28,12 +29,6 @@ unfolding narrowed
 was-finite nan h = h
 was-finite (inf s) h = h
 was-finite (fin s m e) h = tt
-
-narrow-fits : (x : Float) → T (fits binary32 (narrowed x))
-unfolding narrowed fits
-narrow-fits nan = tt
-narrow-fits (inf s) = tt
-narrow-fits (fin s m e) = round-fits binary32 s (m * up e) (down e)
 
 module _ (x : Float) (held : T (fits binary64 x)) (ok : fitsIn Float32 x ≡ true) where
   abbrev n : ℕ
@@ -58,7 +53,9 @@ module _ (x : Float) (held : T (fits binary64 x)) (ok : fitsIn Float32 x ≡ tru
   own = ap (ofBits binary64) (sym (sign-rest binary64 n small)) ∙ ofBits-toBits binary64 x held
 
   fine : b < 0x7ff0_0000_0000_0000
-  fine = finite-rest binary64 n (subst (λ (z : Float). T (finite z)) (sym (ofBits-toBits binary64 x held)) (was-finite x real))
+  fine =
+      finite-rest binary64 n
+      (subst (λ (z : Float). T (finite z)) (sym (ofBits-toBits binary64 x held)) (was-finite x real))
 
   finite-own : T (finite (narrowed (ofBits binary64 (cond s (2 ^ 63) 0 + b))))
   finite-own = subst (λ (z : Float). T (finite (narrowed z))) (sym own) real
@@ -91,8 +88,8 @@ module _ (x : Float) (held : T (fits binary64 x)) (ok : fitsIn Float32 x ≡ tru
 
   c-value : HasValue c false (3 * 2 ^ 50 * 2 * 2 ^ (925 + (b / 2 ^ 52 - 897))) (2 ^ 1074)
   c-value =
-      subst (λ (E : ℕ). HasValue (choice E) false (3 * 2 ^ 50 * 2 * 2 ^ (925 + (b / 2 ^ 52 - 897))) (2 ^ 1074)) (sym field-is)
-      (added (b / 2 ^ 52) few)
+      subst (λ (E : ℕ). HasValue (choice E) false (3 * 2 ^ 50 * 2 * 2 ^ (925 + (b / 2 ^ 52 - 897))) (2 ^ 1074))
+      (sym field-is) (added (b / 2 ^ 52) few)
 
   pub y-no-nan : T (not (isNan y))
   y-no-nan =
@@ -110,7 +107,8 @@ module _ (x : Float) (held : T (fits binary64 x)) (ok : fitsIn Float32 x ≡ tru
   bits =
       ap (λ (z : ℕ). toBits binary64 y % 2 ^ 63 + z) sign-is
       ∙ subst
-      (λ (z : Float). toBits binary64 (sub binary64 (add binary64 z c) c) % 2 ^ 63 + cond s (2 ^ 63) 0 ≡ toBits binary64 (narrowed z))
+      (λ (z : Float).
+      toBits binary64 (sub binary64 (add binary64 z c) c) % 2 ^ 63 + cond s (2 ^ 63) 0 ≡ toBits binary64 (narrowed z))
       own (pattern s b fine finite-own c c-value)
 
   -- ---- the pattern that is put together

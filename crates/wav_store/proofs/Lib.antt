@@ -3,6 +3,7 @@ pub mod Placed
 pub mod Stores
 pub mod Exactly
 pub mod ReadBack
+pub mod Again
 pub mod Rounded
 pub mod Added
 pub mod FloatDigits

@@ -5,7 +5,7 @@ use mathlib.Core.Logic.{inl, inr}
 use mathlib.Core.Bool.{Bool, true, _&&_}
 use mathlib.Core.List.{List, [], _∷_, _++_, append-assoc, append-nil}
 use Prim.Native.Nat.{ℕ, zero, suc, _+_, _-_, _*_, _/_, _%_, _^_, _≤_, _<_}
-use native.Mathlib.Nat.{pow-suc, add-mul, mul-assoc, suc-mul, zero-mul, mul-le-mul-right, mod-eq-of-lt}
+use native.Mathlib.Nat.{pow-suc, add-mul, mul-assoc, suc-mul, zero-mul, mod-eq-of-lt}
 use native.Mathlib.Omega.{arith}
 use lib.Dec.{T, lit≤}
 use lib.ListN.{length, take, drop, getD, length-take, length-drop, List·getD-eq-default}
@@ -24,7 +24,6 @@ use Rattle.stored_samples.specs.Stored.{fitsIn, wordOf}
 use Rattle.stored_samples.proofs.Back.{again16, again24, again-float}
 use Rattle.whole_samples.specs.Whole.{negative, size, wholeOf}
 use Rattle.whole_samples.proofs.Exact.{exact}
-use Rattle.wav.specs.Format.{number}
 use Rattle.wav_samples.specs.Samples.{sampleOf}
 use Rattle.wav_store.specs.Storing.{allFit, bytesOf}
 use Rattle.wav_store.specs.Parts.{samplesOf, AllFinite}
@@ -33,6 +32,10 @@ use Rattle.wav_store.proofs.Looked.{and-assoc}
 -- ---- bytes and the number that they stand for
 abbrev pub Bytes : List ℕ → Type 0
 Bytes bs = (i : ℕ) → getD bs i 0 < 256
+
+-- the number of k bytes at a place
+abbrev number : ℕ → List ℕ → ℕ → ℕ
+number k b at = bytesValue (take k (drop at b))
 
 value-lt : (bs : List ℕ) → Bytes bs → bytesValue bs < 256 ^ length bs
 unfolding bytesValue

@@ -1,18 +1,17 @@
--- The nearest f32 of an f64 without a branch: 3 · 2^51 of the f32's last unit are added and taken off again, so that the
--- sum rounds at that unit; the sign is put back, for a zero has lost it. Assumes nothing.
+-- The nearest f32 of an f64 without a branch: 3 · 2^51 of the f32's last unit are added and taken off again, so that
+-- the sum rounds at that unit; the sign is put back, for a zero has lost it. Assumes nothing.
 use mathlib.Core.Path.{_≡_, refl, sym, ap, _∙_, subst}
 use mathlib.Core.Logic.{inl, inr}
-use mathlib.Core.Bool.{Bool, true, false, cond, not, _&&_}
-use Prim.Native.Nat.{ℕ, zero, suc, _+_, _-_, _*_, _/_, _%_, _^_, _≤_, _<_}
-use native.Mathlib.Nat.{zero-add, add-comm, add-mul, mul-assoc, mul-comm, mul-one, one-mul, mul-right-comm, mul-pos, zero-mul}
-use native.Mathlib.Nat.{mul-le-mul-right, mul-le-mul-left, mul-lt-mul-of-pos-right, lt-of-mul-lt-mul-right}
-use native.Mathlib.Nat.{lt-of-le-of-lt, lt-of-lt-of-le, le-of-eq, le-trans, le-refl}
+use mathlib.Core.Bool.{Bool, true, false, cond, _&&_}
+use Prim.Native.Nat.{ℕ, zero, _+_, _-_, _*_, _/_, _%_, _^_, _≤_, _<_}
+use native.Mathlib.Nat.{zero-add, add-comm, add-mul, mul-assoc, mul-pos, zero-mul, mul-le-mul-right, mul-le-mul-left}
+use native.Mathlib.Nat.{mul-lt-mul-of-pos-right, lt-of-le-of-lt, lt-of-lt-of-le, le-of-eq, le-trans}
 use borrow.Author.Tests.{lt-ltb, le-ltb}
 use native.Mathlib.Omega.{arith}
-use lib.Dec.{T, ltb, lit≤, lit<}
+use lib.Dec.{T, ltb, lit<}
 use lib.Pow.{pow-add, pow-pos, pow-mono}
-use lib.Ieee.{Float, nan, inf, fin, binary32, binary64, round, units, add, sub, neg, fits, ofBits, toBits, sum, size}
-use lib.Ieee.Bits.{ofBits-toBits, toBits-lt}
+use lib.Ieee.{Float, binary32, binary64, round, units, add, sub, neg, fits, ofBits, toBits, sum, size}
+use lib.Ieee.Bits.{toBits-lt}
 use lib.Ieee.Exact.{HasValue, round-exact, units-val}
 use lib.Ieee.Fits.{round-fits, fits-widens}
 use lib.Ieee.Nearest.{closest}
@@ -22,7 +21,7 @@ use Rattle.rounding.proofs.Adding.{add-units, minus}
 use Rattle.rounding.proofs.Closest.{closest-ge, closest-le, closest-shift}
 use Rattle.rounding.proofs.Dropped.{round-finer}
 use Rattle.rounding.proofs.Orders.{lt-or-ge, clash}
-use Rattle.rounding.proofs.Sums.{sum-like, sum-over, sum-level}
+use Rattle.rounding.proofs.Sums.{sum-like, sum-over}
 use Rattle.rounding.proofs.Units.{units-over, toBits-value}
 use Rattle.rounding.proofs.Values.{rescale, neg-value}
 use Rattle.rounding.proofs.Own.{value-unique}
@@ -91,7 +90,9 @@ module _ (s : Bool) (b : ℕ) (fine : b < 0x7ff0_0000_0000_0000) where
           let z : 0 < k = omega arith in
           let e : 277 ≤ 23 + k = omega arith in
           let c : 2 ^ 23 ≤ q = closest-ge v (2 ^ j) (2 ^ 23) (pow-pos j) (v-ge z) in
-          absurd (clash (q * 2 ^ k) (2 ^ 277) small (le-trans (pow-mono e) (le-trans (le-of-eq (pow-add 2 23 k)) (mul-le-mul-right (2 ^ k) c))))
+          absurd
+          (clash (q * 2 ^ k) (2 ^ 277) small
+          (le-trans (pow-mono e) (le-trans (le-of-eq (pow-add 2 23 k)) (mul-le-mul-right (2 ^ k) c))))
     ]
 
     -- ---- the sum: a whole number of the unit, from 2^52 to 2^53
@@ -101,7 +102,8 @@ module _ (s : Bool) (b : ℕ) (fine : b < 0x7ff0_0000_0000_0000) where
     abbrev big : ℕ
     big = 3 * 2 ^ 50 * 2 * u
 
-    at-unit : (n : ℕ) → 2 ^ 52 * u ≤ n → n < 2 ^ 53 * u → round binary64 false n (2 ^ 1074) ≡ units binary64 false (closest n u) j
+    at-unit : (n : ℕ) → 2 ^ 52 * u ≤ n → n < 2 ^ 53 * u
+        → round binary64 false n (2 ^ 1074) ≡ units binary64 false (closest n u) j
     at-unit n lo hi =
         round-finer binary64 false n 0 j (λ _. rw (zero-add j) lo) (rw (zero-add j) hi)
         ∙ ap (λ (i : ℕ). units binary64 false (closest n (2 ^ i)) j) (zero-add j)
@@ -116,11 +118,13 @@ module _ (s : Bool) (b : ℕ) (fine : b < 0x7ff0_0000_0000_0000) where
       sum-is : add binary64 x c ≡ units binary64 false total j
       sum-is = add-units binary64 x c s false v big (2 ^ 1074) (pow-pos 1074) own added ∙ go s
         where
-          go : (t : Bool) → sum binary64 t v false big (2 ^ 1074) ≡ units binary64 false (cond t (3 * 2 ^ 50 * 2 - q) (3 * 2 ^ 50 * 2 + q)) j
+          go : (t : Bool) → sum binary64 t v false big (2 ^ 1074)
+              ≡ units binary64 false (cond t (3 * 2 ^ 50 * 2 - q) (3 * 2 ^ 50 * 2 + q)) j
           go true =
               sum-over binary64 true false v big (2 ^ 1074) refl (omega (arith, v-lt, pow-pos j))
               ∙ at-unit (big - v) (omega (arith, v-lt)) (omega (arith, pow-pos j))
-              ∙ ap (λ (z : ℕ). units binary64 false z j) (closest-less (3 * 2 ^ 50) v u (pow-pos j) (omega (arith, v-lt)))
+              ∙ ap (λ (z : ℕ). units binary64 false z j)
+              (closest-less (3 * 2 ^ 50) v u (pow-pos j) (omega (arith, v-lt)))
           go false =
               sum-like binary64 false false v big (2 ^ 1074) refl
               ∙ ap (λ (z : ℕ). round binary64 false z (2 ^ 1074)) (add-comm v big)
@@ -141,11 +145,15 @@ module _ (s : Bool) (b : ℕ) (fine : b < 0x7ff0_0000_0000_0000) where
           lt-of-le-of-lt (mul-le-mul-right u h) (lt-of-le-of-lt (mul-le-mul-left (2 ^ 53) (pow-mono e)) (lit< tt))
 
       sum-value : HasValue (add binary64 x c) false (total * u) (2 ^ 1074)
-      sum-value = subst (λ (z : Float). HasValue z false (total * u) (2 ^ 1074)) (sym sum-is) (units-val binary64 false total j (held total total-le))
+      sum-value =
+          subst (λ (z : Float). HasValue z false (total * u) (2 ^ 1074)) (sym sum-is)
+          (units-val binary64 false total j (held total total-le))
 
       -- ---- the difference, exact
       exact : (t : Bool) → HasValue (round binary64 t (q * u) (2 ^ 1074)) t (q * u) (2 ^ 1074)
-      exact t = round-exact binary64 t (q * u) (2 ^ 1074) q j (pow-pos 1074) (omega (arith, q-le)) (held q (omega (arith, q-le))) refl
+      exact t =
+          let l : q < 2 ^ 53 = omega (arith, q-le) in
+          round-exact binary64 t (q * u) (2 ^ 1074) q j (pow-pos 1074) l (held q (omega arith)) refl
 
       abbrev y : Float
       y = sub binary64 (add binary64 x c) c
@@ -162,14 +170,16 @@ module _ (s : Bool) (b : ℕ) (fine : b < 0x7ff0_0000_0000_0000) where
       back : (n : ℕ) → HasValue t false n (2 ^ 1074) → big ≤ n → n - big ≡ q * u → HasValue y false (q * u) (2 ^ 1074)
       back n h l e =
           subst (λ (z : Float). HasValue z false (q * u) (2 ^ 1074))
-          (sym (minus binary64 t c n big (2 ^ 1074) (pow-pos 1074) l h added ∙ ap (λ (z : ℕ). round binary64 false z (2 ^ 1074)) e))
+          (sym (minus binary64 t c n big (2 ^ 1074) (pow-pos 1074) l h added
+          ∙ ap (λ (z : ℕ). round binary64 false z (2 ^ 1074)) e))
           (exact false)
 
       forth : (n : ℕ) → HasValue t false n (2 ^ 1074) → n < big → big - n ≡ q * u → HasValue y true (q * u) (2 ^ 1074)
       unfolding sub
       forth n h l e =
           subst (λ (z : Float). HasValue z true (q * u) (2 ^ 1074))
-          (sym (add-units binary64 t (neg c) false true n big (2 ^ 1074) (pow-pos 1074) h (neg-value c false big (2 ^ 1074) added)
+          (sym (add-units binary64 t (neg c) false true n big (2 ^ 1074) (pow-pos 1074) h
+          (neg-value c false big (2 ^ 1074) added)
           ∙ sum-over binary64 false true n big (2 ^ 1074) refl l
           ∙ ap (λ (z : ℕ). round binary64 true z (2 ^ 1074)) e))
           (exact true)
@@ -182,7 +192,9 @@ module _ (s : Bool) (b : ℕ) (fine : b < 0x7ff0_0000_0000_0000) where
               → HasValue y (r && ltb 0 q) (q * u) (2 ^ 1074)
           go false h = back ((3 * 2 ^ 50 * 2 + q) * u) h (omega (arith, part)) (omega (arith, part))
           go true h = elim (lt-or-ge 0 q) [
-            | inl l ↦ rw (lt-ltb 0 q l) (forth ((3 * 2 ^ 50 * 2 - q) * u) h (omega (arith, less, mul-pos l (pow-pos j))) (omega (arith, less)))
+            | inl l ↦
+                let m = mul-pos l (pow-pos j) in
+                rw (lt-ltb 0 q l) (forth ((3 * 2 ^ 50 * 2 - q) * u) h (omega (arith, less)) (omega (arith, less)))
             | inr g ↦
                 let z : q * u ≡ 0 = ap (λ (n : ℕ). n * u) (omega arith) ∙ zero-mul u in
                 rw (le-ltb 0 q g) (back ((3 * 2 ^ 50 * 2 - q) * u) h (omega (arith, less)) (omega (arith, less)))
@@ -200,9 +212,11 @@ module _ (s : Bool) (b : ℕ) (fine : b < 0x7ff0_0000_0000_0000) where
           mul-assoc q (2 ^ k) (2 ^ 1074)
           ∙ ap (λ (z : ℕ). q * z) (sym (pow-add 2 k 1074) ∙ ap (λ (i : ℕ). 2 ^ i) (omega arith) ∙ pow-add 2 j 149)
           ∙ sym (mul-assoc q u (2 ^ 149)) in
-          let m = subst (λ (z : Float). T (fits binary32 z)) (sym (narrows b fine s)) (round-fits binary32 s v (2 ^ 1074)) in
-          value-unique binary64 w (narrowed x) s (q * u) (round-fits binary64 s (q * u) (2 ^ 1074)) (fits-widens (narrowed x) m)
-          (exact s) (rescale (narrowed x) s (q * 2 ^ k) (2 ^ 149) (q * u) (2 ^ 1074) (pow-pos 149) e n)
+          let m =
+          subst (λ (z : Float). T (fits binary32 z)) (sym (narrows b fine s)) (round-fits binary32 s v (2 ^ 1074)) in
+          value-unique binary64 w (narrowed x) s (q * u) (round-fits binary64 s (q * u) (2 ^ 1074))
+          (fits-widens (narrowed x) m) (exact s)
+          (rescale (narrowed x) s (q * 2 ^ k) (2 ^ 149) (q * u) (2 ^ 1074) (pow-pos 149) e n)
 
       pub pattern : toBits binary64 y % 2 ^ 63 + cond s (2 ^ 63) 0 ≡ toBits binary64 (narrowed x)
       pattern =

@@ -1,19 +1,17 @@
 -- W2. A block of samples as stored bytes, and which refusal is due. Definitions only.
 use Prim.Native.Nat.{ℕ, zero, suc, _*_}
-use mathlib.Core.Path.{_≡_}
-use mathlib.Core.Bool.{Bool, true, false, _&&_}
+use mathlib.Core.Bool.{Bool, true, _&&_}
 use mathlib.Core.List.{List, [], _∷_, _++_}
 use lib.Dec.{eqb}
 use lib.ListN.{length}
-use lib.IntN.{negsuc}
-use lib.Ieee.{Float, fin}
+use lib.Ieee.{Float}
 use Rattle.refusal_order.specs.Order.{_unless_, firstOf}
 use Rattle.sample_kind.specs.declared.SampleKind.{SampleKind}
 use Rattle.sample_kind.specs.Kinds.{widthOf}
 use Rattle.stored_samples.specs.Stored.{fitsIn, wordOf}
 use Rattle.word_bytes.specs.Bytes.{lowBytes}
 
--- Every sample fits: none is a NaN or out of range.
+-- W2e. Every sample fits: none is a NaN or out of range.
 unfoldable pub allFit : SampleKind → List Float → Bool
 allFit kind [] = true
 allFit kind (x ∷ xs) = fitsIn kind x && allFit kind xs
@@ -24,7 +22,7 @@ unfolding lowBytes
 bytesOf kind [] = []
 bytesOf kind (x ∷ xs) = lowBytes (widthOf kind) (wordOf kind x) ++ bytesOf kind xs
 
--- 2: a lent slice of n bytes that is not as long as the samples' bytes. 15: a sample is out of range or a NaN.
+-- W2f. 2: a lent slice of n bytes that is not as long as the samples' bytes. 15: a sample is out of range or a NaN.
 unfoldable pub verdict : SampleKind → List Float → ℕ → ℕ
 unfolding allFit
 verdict kind xs n = firstOf (2 unless eqb n (length xs * widthOf kind) ∷ 15 unless allFit kind xs ∷ [])
@@ -36,11 +34,3 @@ storedBy (suc k) new old = old
 
 abbrev pub stored : SampleKind → List Float → List ℕ → List ℕ
 stored kind xs old = storedBy (verdict kind xs (length old)) (bytesOf kind xs) old
-
--- ---- inner: what writing asks of its caller, and 3 · 2^-98, the least that rounding to an f32 adds
-pub record Ready (kind : SampleKind) (xs : List Float) (out : List ℕ) : Type 0 where
-  pub long : length out ≡ length xs * widthOf kind
-  pub fit : allFit kind xs ≡ true
-
-abbrev pub leastAdded : Float
-leastAdded = fin false 3 (negsuc 97)

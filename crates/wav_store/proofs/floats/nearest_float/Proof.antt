@@ -27,26 +27,35 @@ float-to-bits-n c = rw (c .larger .ensures) (digits.y-no-nan (c .before .args .x
 
 add-n : tie.Need-add-n
 unfolding ofBits
-add-n c = record { fits = rw (c .larger .ensures) (digits.fits-word (c .before .args .x) (held (c .before)) (c .before .pre)) }
+add-n c =
+    let b = c .before in
+    record { fits = rw (c .larger .ensures) (digits.fits-word (b .args .x) (held b) (b .pre)) }
 
 float-from-bits-result : tie.Need-float-from-bits-result
 unfolding ofBits
-float-from-bits-result c = rw (c .larger .ensures) (digits.pattern-no-nan (c .before .args .x) (held (c .before)) (c .before .pre))
+float-from-bits-result c =
+    rw (c .larger .ensures) (digits.pattern-no-nan (c .before .args .x) (held (c .before)) (c .before .pre))
 
 float-to-float-result : tie.Need-float-to-float-result
 unfolding ofBits
-float-to-float-result c = rw (c .before .larger .ensures) (digits.casts (c .before .before .args .x) (held (c .before .before)) (c .before .before .pre))
+float-to-float-result c =
+    let b = c .before .before in
+    rw (c .before .larger .ensures) (digits.casts (b .args .x) (held b) (b .pre))
 
 float-to-bits-result : tie.Need-float-to-bits-result
 unfolding ofBits
-float-to-bits-result c = rw (c .before .larger .ensures) (digits.no-nan-there (c .before .before .args .x) (held (c .before .before)) (c .before .before .pre))
+float-to-bits-result c =
+    let b = c .before .before in
+    rw (c .before .larger .ensures) (digits.no-nan-there (b .args .x) (held b) (b .pre))
 
 returns : tie.Need-returns
 unfolding ofBits
-returns c = rw (c .before .larger .ensures) (digits.word (c .before .before .args .x) (held (c .before .before)) (c .before .before .pre))
+returns c =
+    let b = c .before .before in
+    rw (c .before .larger .ensures) (digits.word (b .args .x) (held b) (b .pre))
 
 pub nearest-float-spec : {M : Type 1} → statement M
 nearest-float-spec =
     tie.close
-    (tie.spec float-to-bits-b (λ c. search needs) float-from-bits-power (λ c κs. search needs) mul-sign float-to-bits-n add-n
-    float-from-bits-result float-to-float-result float-to-bits-result returns)
+    (tie.spec float-to-bits-b (λ c. search needs) float-from-bits-power (λ c κs. search needs) mul-sign float-to-bits-n
+    add-n float-from-bits-result float-to-float-result float-to-bits-result returns)
