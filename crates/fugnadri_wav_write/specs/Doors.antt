@@ -1,24 +1,18 @@
 -- W2. What stands in the exports' contracts: a kind by its code, an answer as a number and plain numbers, and all that an
--- export may write as one record, so that one equation gives it. Definitions only.
+-- export may write as one record, so that one equation gives it. A code above 2 is no kind's: it is refused by 13, and by
+-- 1 where that is due for the rate or for broken frames, as its samples have no width. Definitions only.
 use Prim.Native.Nat.{ℕ}
-use mathlib.Core.Bool.{false, cond, _&&_}
-use mathlib.Core.List.{List, [], _∷_}
+use mathlib.Core.Bool.{cond}
+use mathlib.Core.List.{List}
 use lib.Dec.{leb}
 use lib.ListN.{length}
 use lib.Ieee.{Float}
-use Rattle.refusal_order.specs.Order.{_unless_, firstOf}
 use Rattle.sample_kind.specs.Kinds.{kindOf}
-use Rattle.wav_header.specs.Refusals.{rateOk, wholeFrames, headerVerdict, headerIn, lengthFor}
+use Rattle.wav_header.specs.Refusals.{unlistedVerdict, headerVerdict, headerIn, lengthFor}
 use Rattle.wav_store.specs.Storing as storing
 use Rattle.wav_write.specs.declared.Written.{Written}
 use Rattle.wav_write.specs.declared.Written.the-variants as answers
 use Rattle.wav_write.specs.Writing.{answerOf, written}
-
--- W2f. A code above 2 is no kind's, and refused by 13. Its samples have no width: of what 1 covers the rate and broken frames
--- can be asked, a file past 32 bits cannot.
-abbrev pub unknownVerdict : ℕ → ℕ → ℕ → ℕ
-unknownVerdict channels rate count =
-    firstOf (1 unless (rateOk rate && wholeFrames channels count) ∷ 13 unless false ∷ [])
 
 -- What a call leaves: the refusal's number, which it returns, 0 for none, a file's length where it tells one, and the lent
 -- bytes.
@@ -45,14 +39,14 @@ fileLeft code channels rate samples old =
     let answer = answerOf (kindOf code) channels rate samples (length old) in
     cond (leb code 2)
     (leaves (numberOf answer) (sizeOf answer) (written (kindOf code) channels rate samples old))
-    (leaves (unknownVerdict channels rate (length samples)) 0 old)
+    (leaves (unlistedVerdict channels rate (length samples)) 0 old)
 
 -- ---- its parts, which tell no length: 0 stands there
 abbrev pub headerLeft : ℕ → ℕ → ℕ → ℕ → List ℕ → Left
 headerLeft code channels rate count old =
     cond (leb code 2)
     (leaves (headerVerdict (kindOf code) channels rate count (length old)) 0 (headerIn (kindOf code) channels rate count old))
-    (leaves (unknownVerdict channels rate count) 0 old)
+    (leaves (unlistedVerdict channels rate count) 0 old)
 
 -- A block of samples of an unknown kind has no length that could be wrong: 13.
 abbrev pub blockLeft : ℕ → List Float → List ℕ → Left

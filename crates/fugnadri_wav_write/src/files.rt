@@ -2,8 +2,8 @@
 ghost use mathlib.Core.Path.{_≡_};
 ghost use Rattle.fugnadri_wav_write.specs.Doors.{leaves, fileLeft, numberOf, sizeOf, lengthOf};
 use crate::codes::known;
-use crate::codes::unknown;
 use sample_kind::of_code;
+use wav_header::refusal_unlisted;
 use wav_write::Written;
 
 #[no_mangle]
@@ -24,7 +24,7 @@ pub extern "C" fn fugnadri_wav_write(
         return number(answer);
     }
     *written = 0;
-    unknown(channels, rate, samples.len())
+    refusal_unlisted(channels, rate, samples.len())
 }
 
 #[no_mangle]
@@ -45,7 +45,7 @@ pub extern "C" fn fugnadri_wav_write_f32(
         return number(answer);
     }
     *written = 0;
-    unknown(channels, rate, samples.len())
+    refusal_unlisted(channels, rate, samples.len())
 }
 
 // How long a file of `count` samples is, over all channels; 0 where it would be refused by 1 or 13 whatever the rate.

@@ -2,8 +2,8 @@
 ghost use mathlib.Core.Path.{_≡_};
 ghost use Rattle.fugnadri_wav_write.specs.Doors.{leaves, headerLeft, blockLeft};
 use crate::codes::known;
-use crate::codes::unknown;
 use sample_kind::of_code;
+use wav_header::refusal_unlisted;
 
 // The bytes before the samples, `count` of them over all channels: 44 for PCM, 58 for float.
 #[no_mangle]
@@ -19,7 +19,7 @@ pub extern "C" fn fugnadri_wav_header(
     if known(kind) {
         return wav_header::write_header(of_code(kind), channels, rate, count, &mut out[..]);
     }
-    unknown(channels, rate, count)
+    refusal_unlisted(channels, rate, count)
 }
 
 // A block of samples as they are stored.

@@ -1,8 +1,8 @@
 -- W2b. A written header as it is read: every number of it at its place, whatever stands behind. By computing the place,
 -- and by the law that a number is the number of its bytes. Assumes nothing.
-use mathlib.Core.Path.{_≡_, refl, ap, _∙_}
+use mathlib.Core.Path.{_≡_, refl, ap}
 use mathlib.Core.List.{List, [], _∷_, _++_}
-use Prim.Native.Nat.{ℕ, zero, suc, _+_, _-_, _*_, _^_, _≤_, _<_}
+use Prim.Native.Nat.{ℕ, zero, suc, _+_, _*_, _^_, _≤_, _<_}
 use native.Mathlib.Omega.{arith}
 use lib.ListN.{take, drop}
 use lib.Seq.{take-take}
@@ -12,9 +12,9 @@ use Rattle.sample_kind.specs.declared.SampleKind.{SampleKind}
 use Rattle.sample_kind.specs.Kinds.{widthOf, frameOf}
 use Rattle.wav.specs.Format.{number}
 use Rattle.wav.specs.Wave.{riffId, waveId}
-use Rattle.riff_chunks.specs.Walk.{fmtId, dataId}
+use Rattle.riff_chunks.specs.Walk.{fmtId}
 use Rattle.wav_header.specs.Header.{tagOf}
-use Rattle.wav_header.specs.Fields.{formatSize, riffFor, formatStart, formatEnd, startFor, factFor, dataFor}
+use Rattle.wav_header.specs.Fields.{formatSize, riffFor, formatStart, formatEnd, startFor}
 
 -- a header's first 36 bytes, and what follows
 module _ (kind : SampleKind) (channels rate size : ℕ) (rest : List ℕ) where

@@ -27,23 +27,18 @@ use Rattle.wav_header.proofs.Sizes.{narrow, long-header}
 use Rattle.wav_back.proofs.Formats.{format-long, small-tag, kind-is, fields-ok}
 use Rattle.wav_back.proofs.Fields.{riff-id, wave-id, tag-is, channels-are, rate-is, block-is, bits-are}
 use Rattle.wav_back.proofs.Fields.{number-inside}
-use Rattle.wav_back.proofs.Walk.{middle, header-is, seen, bytes, riff-size-is, whole-length, walk-is}
+use Rattle.wav_back.proofs.Places.{middle, header-is, bytes}
+use Rattle.wav_back.proofs.Walk.{seen, riff-size-is, whole-length, walk-is}
+
+-- What is read of a file of so many samples.
+abbrev pub waveFor : SampleKind → ℕ → ℕ → ℕ → Wave
+waveFor kind channels rate count =
+    record { kind = kind; channels = channels; rate = rate; start = headerLength kind; length = sizeOf kind count }
 
 module _ (kind : SampleKind) (channels rate' count : ℕ) (rest : List ℕ)
     (p : Planned kind channels rate' count) (held : sizeOf kind count + padOf kind count ≤ length rest) where
   abbrev b : List ℕ
   b = bytes channels rate' count rest kind
-
-  -- what is read
-  abbrev pub waveOf : Wave
-  waveOf =
-      record {
-        kind = kind;
-        channels = channels;
-        rate = rate';
-        start = headerLength kind;
-        length = sizeOf kind count;
-      }
 
   size : ℕ
   size = fileLength kind count - 8
@@ -115,7 +110,7 @@ module _ (kind : SampleKind) (channels rate' count : ℕ) (rest : List ℕ)
         ∷ 13 unless formatOk (tagIn told b) (fmtOf b) (v .format .size) (v .samples .size) ∷ [])) walk
         ∙ rw f)
 
-    wave-read : waveIn told b ≡ waveOf
+    wave-read : waveIn told b ≡ waveFor kind channels rate' count
     wave-read =
         rw (tag-told, bits-read, channels-read, rate-read, kind-is kind)
         (ap
@@ -128,10 +123,10 @@ module _ (kind : SampleKind) (channels rate' count : ℕ) (rest : List ℕ)
           length = v .samples .size;
         }) walk)
 
-    pub read-by : foundBy told b ≡ found.Wave waveOf
+    pub read-by : foundBy told b ≡ found.Wave (waveFor kind channels rate' count)
     read-by = rw (not-refused, wave-read)
 
-  pub read-plain : foundIn b ≡ found.Wave waveOf
+  pub read-plain : foundIn b ≡ found.Wave (waveFor kind channels rate' count)
   read-plain = read-by plainTag refl
 
   -- a plain tag is not the wrapper's
@@ -139,5 +134,5 @@ module _ (kind : SampleKind) (channels rate' count : ℕ) (rest : List ℕ)
   unfolding wraps
   not-wrapped = rw (ne-eqb (tag (fmtOf b)) wrapper (λ z. omega (arith, tag-read, small-tag kind)))
 
-  pub read-wrapped : foundWrapped b ≡ found.Wave waveOf
+  pub read-wrapped : foundWrapped b ≡ found.Wave (waveFor kind channels rate' count)
   read-wrapped = read-by wrappedTag (rw not-wrapped)

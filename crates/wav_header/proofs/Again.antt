@@ -1,6 +1,6 @@
 -- W2. A file that neither 1 nor 13 refuses has a length, and its header is written into a block of that header's
 -- length. Assumes nothing.
-use mathlib.Core.Path.{_≡_, refl}
+use mathlib.Core.Path.{_≡_}
 use Prim.Native.Nat.{ℕ}
 use borrow.Author.Tests.{eq-eqb}
 use Rattle.sample_kind.specs.declared.SampleKind.{SampleKind}

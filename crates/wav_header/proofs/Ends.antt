@@ -3,11 +3,11 @@
 use mathlib.Core.Path.{_≡_, refl}
 use mathlib.Core.Bool.{true, false}
 use mathlib.Core.List.{[], _∷_}
-use Prim.Native.Nat.{_+_, _-_, _^_}
+use Prim.Native.Nat.{_-_, _^_}
 use Rattle.word_bytes.specs.Bytes.{lowBytes}
 use Rattle.sample_kind.specs.declared.SampleKind.the-variants.{Pcm16, Pcm24, Float32}
 use Rattle.wav_header.specs.Header.{fileLength, headerOf}
-use Rattle.wav_header.specs.Refusals.{fitsRiff, fileVerdict, headerVerdict, lengthFor}
+use Rattle.wav_header.specs.Refusals.{fitsRiff, fileVerdict, unlistedVerdict, headerVerdict, lengthFor}
 
 -- ---- a RIFF's size has 32 bits
 pub last-16 : fitsRiff Pcm16 2_147_483_629 ≡ true
@@ -63,6 +63,16 @@ three-channels = refl
 
 pub rate-before-channels : fileVerdict Float32 3 768001 3 ≡ 1
 rate-before-channels = refl
+
+-- a kind that is none of the three
+pub unlisted : unlistedVerdict 3 48000 1 ≡ 13
+unlisted = refl
+
+pub frames-before-kind : unlistedVerdict 2 48000 1 ≡ 1
+frames-before-kind = refl
+
+pub rate-before-kind : unlistedVerdict 3 768001 1 ≡ 1
+rate-before-kind = refl
 
 pub count-before-block : headerVerdict Pcm16 2 48000 1 0 ≡ 1
 count-before-block = refl

@@ -6,7 +6,7 @@ use Rattle.word_bytes.specs.Bytes.{lowBytes}
 use Rattle.sample_kind.specs.declared.SampleKind.{SampleKind}
 use Rattle.sample_kind.specs.declared.SampleKind.the-variants.{Pcm16, Pcm24, Float32}
 use Rattle.sample_kind.specs.Kinds.{widthOf, frameOf}
-use Rattle.wav_header.specs.Header.{headerLength, riff, wave, fmt, fact, data', tagOf}
+use Rattle.wav_header.specs.Header.{headerLength, riffName, waveName, fmtName, factName, dataName, tagOf}
 
 -- A block of the header's length, some channels, and few enough samples that no number of them passes a word.
 pub record Room (kind : SampleKind) (channels count room : ℕ) : Type 0 where
@@ -22,11 +22,11 @@ formatSize Float32 = 18
 
 -- ---- the header in five parts
 unfoldable pub riffFor : ℕ → List ℕ
-riffFor size = riff ++ lowBytes 4 size ++ wave
+riffFor size = riffName ++ lowBytes 4 size ++ waveName
 
 unfoldable pub formatStart : SampleKind → ℕ → ℕ → List ℕ
 formatStart kind channels rate =
-    fmt ++ lowBytes 4 (formatSize kind) ++ lowBytes 2 (tagOf kind) ++ lowBytes 2 channels ++ lowBytes 4 rate
+    fmtName ++ lowBytes 4 (formatSize kind) ++ lowBytes 2 (tagOf kind) ++ lowBytes 2 channels ++ lowBytes 4 rate
 
 unfoldable pub formatEnd : SampleKind → ℕ → ℕ → List ℕ
 formatEnd kind channels rate =
@@ -37,7 +37,7 @@ abbrev pub startFor : SampleKind → ℕ → ℕ → ℕ → List ℕ
 startFor kind channels rate size = riffFor size ++ formatStart kind channels rate ++ formatEnd kind channels rate
 
 unfoldable pub factFor : ℕ → List ℕ
-factFor frames = lowBytes 2 0 ++ fact ++ lowBytes 4 4 ++ lowBytes 4 frames
+factFor frames = lowBytes 2 0 ++ factName ++ lowBytes 4 4 ++ lowBytes 4 frames
 
 unfoldable pub dataFor : ℕ → List ℕ
-dataFor size = data' ++ lowBytes 4 size
+dataFor size = dataName ++ lowBytes 4 size

@@ -27,20 +27,20 @@ fileLength kind count = headerLength kind + sizeOf kind count + padOf kind count
 
 -- ---- the chunks
 -- `RIFF`, `WAVE`, `fmt `, `fact` and `data`, letter by letter.
-abbrev pub riff : List ℕ
-riff = 82 ∷ 73 ∷ 70 ∷ 70 ∷ []
+abbrev pub riffName : List ℕ
+riffName = 82 ∷ 73 ∷ 70 ∷ 70 ∷ []
 
-abbrev pub wave : List ℕ
-wave = 87 ∷ 65 ∷ 86 ∷ 69 ∷ []
+abbrev pub waveName : List ℕ
+waveName = 87 ∷ 65 ∷ 86 ∷ 69 ∷ []
 
-abbrev pub fmt : List ℕ
-fmt = 102 ∷ 109 ∷ 116 ∷ 32 ∷ []
+abbrev pub fmtName : List ℕ
+fmtName = 102 ∷ 109 ∷ 116 ∷ 32 ∷ []
 
-abbrev pub fact : List ℕ
-fact = 102 ∷ 97 ∷ 99 ∷ 116 ∷ []
+abbrev pub factName : List ℕ
+factName = 102 ∷ 97 ∷ 99 ∷ 116 ∷ []
 
-abbrev pub data' : List ℕ
-data' = 100 ∷ 97 ∷ 116 ∷ 97 ∷ []
+abbrev pub dataName : List ℕ
+dataName = 100 ∷ 97 ∷ 116 ∷ 97 ∷ []
 
 -- A chunk: its name, the size of its body, its body.
 abbrev pub chunkOf : List ℕ → List ℕ → List ℕ
@@ -61,7 +61,7 @@ extensionOf Float32 = lowBytes 2 0
 abbrev pub factOf : SampleKind → ℕ → ℕ → List ℕ
 factOf Pcm16 channels count = []
 factOf Pcm24 channels count = []
-factOf Float32 channels count = chunkOf fact (lowBytes 4 (count / channels))
+factOf Float32 channels count = chunkOf factName (lowBytes 4 (count / channels))
 
 -- The tag, the channels, the rate, bytes a second, bytes a frame, bits a sample.
 abbrev pub formatOf : SampleKind → ℕ → ℕ → List ℕ
@@ -72,6 +72,6 @@ formatOf kind channels rate =
 -- The RIFF's size counts from place 8 on to the file's end, the pad byte with it; that of `data` counts the samples.
 unfoldable pub headerOf : SampleKind → ℕ → ℕ → ℕ → List ℕ
 headerOf kind channels rate count =
-    riff ++ lowBytes 4 (fileLength kind count - 8) ++ wave
-    ++ chunkOf fmt (formatOf kind channels rate) ++ factOf kind channels count
-    ++ data' ++ lowBytes 4 (sizeOf kind count)
+    riffName ++ lowBytes 4 (fileLength kind count - 8) ++ waveName
+    ++ chunkOf fmtName (formatOf kind channels rate) ++ factOf kind channels count
+    ++ dataName ++ lowBytes 4 (sizeOf kind count)

@@ -1,6 +1,6 @@
 -- W2. Which refusal is due where a header is written, and what the lent block then holds. Definitions only.
 use Prim.Native.Nat.{ℕ, zero, suc, _-_, _%_, _^_}
-use mathlib.Core.Bool.{Bool, true, cond, _&&_, _||_}
+use mathlib.Core.Bool.{Bool, true, false, cond, _&&_, _||_}
 use mathlib.Core.List.{List, [], _∷_}
 use lib.Dec.{eqb, leb}
 use lib.ListN.{length}
@@ -31,6 +31,11 @@ countOk kind channels count = wholeFrames channels count && fitsRiff kind count
 abbrev pub fileVerdict : SampleKind → ℕ → ℕ → ℕ → ℕ
 fileVerdict kind channels rate count =
     firstOf (1 unless (rateOk rate && countOk kind channels count) ∷ 13 unless oneOrTwo channels ∷ [])
+
+-- The same for a kind that is none of the three, which has no sizes: 13, where 1 is not due for what it can be due for.
+abbrev pub unlistedVerdict : ℕ → ℕ → ℕ → ℕ
+unlistedVerdict channels rate count =
+    firstOf (1 unless (rateOk rate && wholeFrames channels count) ∷ 13 unless false ∷ [])
 
 -- W2f. The same for a header alone: between the two 2, a block of another length than the header's.
 abbrev pub headerVerdict : SampleKind → ℕ → ℕ → ℕ → ℕ → ℕ

@@ -5,7 +5,7 @@ mod tests; // what is refused
 ghost use mathlib.Core.Path.{_≡_};
 ghost use lib.ListN.{length};
 ghost use Rattle.wav_header.specs.Header.{headerLength};
-ghost use Rattle.wav_header.specs.Refusals.{fileVerdict, headerVerdict, headerIn, lengthFor};
+ghost use Rattle.wav_header.specs.Refusals.{fileVerdict, unlistedVerdict, headerVerdict, headerIn, lengthFor};
 use fields::length_of;
 use fields::put_header;
 use refusal_order::both;
@@ -15,6 +15,7 @@ use tests::first_of_file;
 use tests::header_refusal;
 use tests::one_or_two;
 use tests::rate_ok;
+use tests::whole_frames;
 
 pub fn header_length(kind: SampleKind) -> usize
     ensures { λ r. ⌜ r ≡ headerLength kind ⌝ }
@@ -32,6 +33,14 @@ pub fn refusal(kind: SampleKind, channels: u8, rate: u32, count: usize) -> u8
 {
     let t1 = both(rate_ok(rate), count_ok(kind, channels, count));
     first_of_file(t1, one_or_two(channels))
+}
+
+// The same for a kind that is none of the three: 1 for the rate or broken frames, else 13.
+pub fn refusal_unlisted(channels: u8, rate: u32, count: usize) -> u8
+    ensures { λ r. ⌜ r ≡ unlistedVerdict channels rate count ⌝ }
+{
+    let t1 = both(rate_ok(rate), whole_frames(channels, count));
+    first_of_file(t1, false)
 }
 
 // How long a file of `count` samples is, over all channels; 0 where 1 or 13 is due whatever the rate.

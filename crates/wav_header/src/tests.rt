@@ -27,7 +27,7 @@ pub(crate) fn count_ok(kind: SampleKind, channels: u8, count: usize) -> bool
 }
 
 // One channel's samples are always whole frames.
-fn whole_frames(channels: u8, count: usize) -> bool
+pub(crate) fn whole_frames(channels: u8, count: usize) -> bool
     ensures { λ r. ⌜ r ≡ wholeFrames channels count ⌝ }
 {
     if channels == 2 { count % 2 == 0 } else { true }

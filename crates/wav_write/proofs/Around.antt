@@ -1,15 +1,14 @@
 -- W2a. A file put together in a lent buffer: the samples first, then the header before them and the pad byte behind,
 -- and the rest of the buffer as it was. Laws on lists. Assumes nothing.
-use mathlib.Core.Path.{_≡_, refl, sym, ap, _∙_}
-use mathlib.Core.List.{List, [], _∷_, _++_, append-assoc}
+use mathlib.Core.Path.{_≡_, sym, ap, _∙_}
+use mathlib.Core.List.{List, _++_, append-assoc}
 use Prim.Native.Nat.{ℕ, suc, _+_, _≤_, _<_}
 use native.Mathlib.Omega.{arith}
-use lib.ListN.{length, take, drop, set, length-append, length-take, length-drop, take-append-drop}
+use lib.ListN.{length, take, drop, set, length-append, take-append-drop}
 use lib.Seq.{take-at, drop-at, length-take-le, set-split, drop-drop}
 use Rattle.word_bytes.specs.Bytes.{lowBytes}
 use Rattle.sample_kind.specs.declared.SampleKind.{SampleKind}
 use Rattle.wav_header.specs.Header.{headerLength, sizeOf, padOf, fileLength}
-use Rattle.wav_header.proofs.Pieces.{length-low}
 use Rattle.wav_write.specs.Placing.{padded}
 
 -- a part that came back as it was lent leaves the list as it was

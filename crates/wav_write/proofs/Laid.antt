@@ -2,13 +2,12 @@
 -- and all together the file that is defined. Assumes nothing.
 use mathlib.Core.Path.{_≡_, refl, sym, ap, _∙_}
 use mathlib.Core.List.{List, _++_}
-use Prim.Native.Nat.{ℕ, zero, suc, _+_, _*_, _≤_}
+use Prim.Native.Nat.{ℕ, zero, suc, _+_, _≤_}
 use native.Mathlib.Omega.{arith}
 use lib.ListN.{length, take, drop, length-append, length-take, length-drop}
 use lib.Ieee.{Float}
 use Rattle.word_bytes.specs.Bytes.{lowBytes}
 use Rattle.sample_kind.specs.declared.SampleKind.{SampleKind}
-use Rattle.sample_kind.specs.Kinds.{widthOf}
 use Rattle.wav_store.specs.Storing.{bytesOf, storedBy}
 use Rattle.wav_store.proofs.Placed.{length-bytes}
 use Rattle.wav_header.specs.Header.{headerLength, sizeOf, padOf, fileLength, headerOf}

@@ -3,3 +3,4 @@ pub mod Verdicts
 pub mod Laid
 pub mod Calls
 pub mod Order
+pub mod Ends

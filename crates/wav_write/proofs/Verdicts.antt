@@ -3,20 +3,18 @@
 use mathlib.Core.Path.{_≡_, refl, sym, ap, _∙_}
 use mathlib.Core.Bool.{Bool, true, false, cond, _&&_}
 use mathlib.Core.List.{List, [], _∷_}
-use Prim.Native.Nat.{ℕ, zero, suc, _+_, _*_, _≤_}
+use Prim.Native.Nat.{ℕ, zero, suc}
 use native.Mathlib.Omega.{arith}
-use borrow.Author.Tests.{eq-eqb, le-leb, lt-leb, leb-true}
+use borrow.Author.Tests.{eq-eqb, leb-true}
 use lib.Dec.{leb}
 use lib.ListN.{length}
 use lib.Ieee.{Float}
 use Rattle.refusal_order.specs.Order.{_unless_, firstOf}
 use Rattle.sample_kind.specs.declared.SampleKind.{SampleKind}
-use Rattle.sample_kind.specs.Kinds.{widthOf}
 use Rattle.wav_store.specs.Storing.{allFit}
 use Rattle.wav_store.specs.Storing.{verdict as storeVerdict}
 use Rattle.wav_header.specs.Header.{sizeOf, fileLength}
 use Rattle.wav_header.specs.Refusals.{rateOk, oneOrTwo, countOk, fileVerdict}
-use Rattle.wav_write.specs.declared.Written.{Written}
 use Rattle.wav_write.specs.declared.Written.the-variants as answers
 use Rattle.wav_write.specs.Writing.{verdict, answerBy}
 use Rattle.wav_write.specs.Placing.{earlyVerdict, Room}

@@ -11,7 +11,7 @@ returns c =
     rw (sym (k .before .before .known .ensures) ∙ k .before .if1 .taken, h .write-header .ensures .0, h .write-header .ensures .1, k .of-code .ensures)
 
 returns-2 : tie.Need-returns-2
-returns-2 c = rw (sym (c .before .before .known .ensures) ∙ c .before .if1 .left, c .unknown .ensures)
+returns-2 c = rw (sym (c .before .before .known .ensures) ∙ c .before .if1 .left, c .refusal-unlisted .ensures)
 
 pub fugnadri-wav-header-spec : {M : Type 1} → statement M
 fugnadri-wav-header-spec =

@@ -6,7 +6,7 @@ use native.Mathlib.Omega.{arith}
 use lib.ListN.{length, take}
 use lib.Seq.{take-all}
 use Rattle.word_bytes.specs.Bytes.{lowBytes}
-use Rattle.wav_header.specs.Header.{data'}
+use Rattle.wav_header.specs.Header.{dataName}
 use Rattle.wav_header.specs.Fields.{dataFor}
 use Rattle.wav_header.proofs.Pieces.{two-behind}
 use Rattle.wav_header.proofs.fields.put_data.Statement.{statement}
@@ -22,7 +22,7 @@ returns c =
     let l = p2 .put2 .ensures .0 ∙ p1 .put .ensures .0 in
     sym (take-all (at + 4 + 4) (p2 .put2 .last .1 .0) (omega (arith, l, s .pre)))
     ∙ rw (p2 .put2 .ensures .1, p1 .put .ensures .1)
-    (two-behind (take at (s .args .out .now)) data' (lowBytes 4 (s .args .size)))
+    (two-behind (take at (s .args .out .now)) dataName (lowBytes 4 (s .args .size)))
 
 pub put-data-spec : {M : Type 1} → statement M
 put-data-spec =

@@ -2,7 +2,7 @@
 use borrow.Author.Needs.{needs}
 use lib.ListN.{take}
 use Rattle.word_bytes.specs.Bytes.{lowBytes}
-use Rattle.wav_header.specs.Header.{fact}
+use Rattle.wav_header.specs.Header.{factName}
 use Rattle.wav_header.specs.Fields.{factFor}
 use Rattle.wav_header.proofs.Pieces.{four-behind}
 use Rattle.wav_header.proofs.fields.put_fact.Statement.{statement}
@@ -18,7 +18,7 @@ returns c =
     let s = p1 .before .before .before .args in (
       search needs,
       rw (p4 .put4 .ensures .1, p3 .put3 .ensures .1, p2 .put2 .ensures .1, p1 .put .ensures .1)
-          (four-behind (take 36 (s .out .now)) (lowBytes 2 0) fact (lowBytes 4 4) (lowBytes 4 (s .frames))),
+          (four-behind (take 36 (s .out .now)) (lowBytes 2 0) factName (lowBytes 4 4) (lowBytes 4 (s .frames))),
     )
 
 pub put-fact-spec : {M : Type 1} → statement M

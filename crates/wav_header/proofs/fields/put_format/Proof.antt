@@ -2,7 +2,7 @@
 use borrow.Author.Needs.{needs}
 use lib.ListN.{take}
 use Rattle.word_bytes.specs.Bytes.{lowBytes}
-use Rattle.wav_header.specs.Header.{fmt, tagOf}
+use Rattle.wav_header.specs.Header.{fmtName, tagOf}
 use Rattle.wav_header.specs.Fields.{formatSize, formatStart}
 use Rattle.wav_header.proofs.Pieces.{five-behind}
 use Rattle.wav_header.proofs.fields.put_format.Statement.{statement}
@@ -29,8 +29,8 @@ returns c =
         t .tag .ensures,
         f .format-size .ensures,
       )
-          (five-behind (take 12 (s .out .now)) fmt (lowBytes 4 (formatSize (s .kind))) (lowBytes 2 (tagOf (s .kind)))
-          (lowBytes 2 (s .channels)) (lowBytes 4 (s .rate))),
+          (five-behind (take 12 (s .out .now)) fmtName (lowBytes 4 (formatSize (s .kind)))
+          (lowBytes 2 (tagOf (s .kind))) (lowBytes 2 (s .channels)) (lowBytes 4 (s .rate))),
     )
 
 pub put-format-spec : {M : Type 1} → statement M
