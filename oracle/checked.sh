@@ -56,7 +56,7 @@ c_forms() { # MODULE SIGNATURES
             line = $0; sub(/^fn /, "", line)
             name = line; sub(/\(.*/, "", name)
             if (!(name in inner)) { print name > "/dev/stderr"; bad = 1; exit }
-            result = line; sub(/.* -> /, "", result)
+            result = line; if (!sub(/.* -> /, "", result)) result = ""
             sub(/^[^(]*\(/, "", line); sub(/\).*/, "", line)
             many = split(line, part, ", "); formal = handed = body = ""
             for (i = 1; i <= many; i++) {
@@ -74,7 +74,10 @@ c_forms() { # MODULE SIGNATURES
                 formal = formal (formal == "" ? "" : ", ") t " noundef " from
                 handed = handed (handed == "" ? "" : ", ") t " " from
             }
-            printf "\ndefine noundef %s @%s(%s) {\nstart:\n%s  %%r = call %s %s(%s)\n  ret %s %%r\n}\n", is[result], name, formal, body, is[result], inner[name], handed, is[result]
+            if (result == "")
+                printf "\ndefine void @%s(%s) {\nstart:\n%s  call void %s(%s)\n  ret void\n}\n", name, formal, body, inner[name], handed
+            else
+                printf "\ndefine noundef %s @%s(%s) {\nstart:\n%s  %%r = call %s %s(%s)\n  ret %s %%r\n}\n", is[result], name, formal, body, is[result], inner[name], handed, is[result]
         }
         END { exit bad }
     ' "$1" "$2"

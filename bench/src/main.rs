@@ -27,7 +27,7 @@ use std::hint::black_box;
 use std::time::Instant;
 
 /// A file of workloads/ each, by name: making one may take seconds.
-const WORKLOADS: [(&str, fn() -> Workload); 40] = [
+const WORKLOADS: [(&str, fn() -> Workload); 42] = [
     ("narrow", workloads::narrow::workload),
     ("fused32", workloads::fused32::workload),
     ("fused64", workloads::fused64::workload),
@@ -59,6 +59,8 @@ const WORKLOADS: [(&str, fn() -> Workload); 40] = [
     ("wav_pcm24", workloads::wav::pcm24_f64),
     ("wav_pcm24_stereo", workloads::wav::pcm24_stereo),
     ("wav_pcm24_f32", workloads::wav::pcm24_f32),
+    ("wav_whole16", workloads::wav::whole16),
+    ("wav_whole24", workloads::wav::whole24),
     ("wav_float", workloads::wav::float_f64),
     ("wav_float_stereo", workloads::wav::float_stereo),
     ("wav_float_f32", workloads::wav::float_f32),

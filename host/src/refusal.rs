@@ -65,7 +65,7 @@ impl Refusal {
             14 => Room,
             15 => Sample,
             other => unreachable!(
-                "the static libraries refuse by 1 to 15, not by {other}: they are not the ones that this crate was written for"
+                "the static libraries refuse by 1 to 15, not by {other}: this crate was written for others"
             ),
         })
     }

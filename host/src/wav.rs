@@ -1,8 +1,8 @@
 //! RIFF WAVE files that lie in memory: the part that holds samples, what they are, and each channel's samples; and files
 //! written.
 //!
-//! [`read`] takes PCM of 16 and 24 bits and IEEE float of 32, of one or two channels. [`read_wrapped`] takes besides what
-//! sox and ffmpeg wrap as WAVE_FORMAT_EXTENSIBLE (tag FFFE). A file that is neither is refused by 9 to 13; [`told`] says
+//! [`read`] takes PCM of 16 and 24 bits and IEEE float of 32, of one or two channels. [`read_wrapped`] takes besides
+//! what sox and ffmpeg wrap as WAVE_FORMAT_EXTENSIBLE (tag FFFE). Any other file is refused by 9 to 13; [`told`] says
 //! what it tells of itself.
 //!
 //! [`write`] makes a file of samples: rounded to nearest, ties to even, and refused where one does not fit. What is read
@@ -66,8 +66,8 @@ impl Wave<'_> {
         self.part.len().checked_div(self.kind.width() * usize::from(self.channels)).unwrap_or(0)
     }
 
-    /// A channel's samples, counted from 0: PCM as whole multiples of 2^-15 or 2^-23, float as it is stored, a NaN as the
-    /// one that is handed out. A channel that is not there is refused by 1.
+    /// A channel's samples, counted from 0: PCM as whole multiples of 2^-15 or 2^-23, float as it is stored, every NaN
+    /// as the one that is handed out. A channel that is not there is refused by 1.
     pub fn channel(&self, channel: u8) -> Result<Vec<f64>, Refusal> {
         self.filled(channel, b::wav_samples)
     }

@@ -1,26 +1,31 @@
 #!/usr/bin/env python3
-"""Writes the stored list of small and damaged files: their bytes, and what Wish 1 of document 02 says of each (riff_model.py).
+"""Writes the stored list of small and damaged files: their bytes, and what Wish 1 of document 02 says of each.
 
-  oracle/lists/files.py            writes crates/replay_files/stdin and crates/replay_files/stdout, and says what is in them
-  oracle/lists/files.py --check    writes nothing; fails, by exit status 1 and one line, where the two files are not what it would write
+  oracle/lists/files.py            writes crates/replay_files/stdin and stdout, and says what is in them
+  oracle/lists/files.py --check    writes nothing; fails, by exit status 1 and one line, where the two files are not
+                                   what it would write
   oracle/lists/files.py --help     this text
 
-A line of stdin is a file: the number of its bytes in four hex digits, a blank, two digits for each byte. Its first line of stdout has 18 numbers: what
-`read` answers (the refusal's number, 0 for none; the kind's code, channels, rate, start and length, zeros where it is refused), what `read_wrapped`
-answers, and what `fmt_told` tells (the size of `fmt `, tag, channels, block size, bits, the size of `data`). Where `read_wrapped` refuses nothing a line
-follows for each channel: the refusals' numbers of the samples as f64, as f32 and as whole numbers, then for each frame the three, as patterns in hex: 16,
-8 and 8 digits. A NaN is 7ff8000000000000 and 7fc00000.
+A line of stdin is a file: the number of its bytes in four hex digits, a blank, two digits for each byte. Its first line
+of stdout has 18 numbers: what `read` answers (the refusal's number, 0 for none; the kind's code, channels, rate, start
+and length, zeros where it is refused), what `read_wrapped` answers, and what `fmt_told` tells (the size of `fmt `, tag,
+channels, block size, bits, the size of `data`). Where `read_wrapped` refuses nothing a line follows for each channel:
+the refusals' numbers of the samples as f64, as f32 and as whole numbers, then for each frame the three, as patterns in
+hex: 16, 8 and 8 digits. A NaN is 7ff8000000000000 and 7fc00000.
 
-It says how many lines each of the wrong readings of riff_wrong.py would change, and fails where one changes none.
+The answers are riff_model.py's, the files riff_files.py's. It says for how many files each of the wrong readings of
+riff_wrong.py answers otherwise, and fails where one never does.
 
-Needs Python 3.8 or newer and nothing else. The inputs come from a generator of its own with the seed below, so every run writes the same bytes.
+Needs Python 3.8 or newer and nothing else. The inputs come from a generator of its own with the seed below, so every
+run writes the same bytes.
 """
 import os
 import struct
 import sys
 
 sys.dont_write_bytecode = True
-sys.path.append(sys.path.pop(0))    # this folder comes last: Python's own module `numbers`, which `fractions` needs, has the name of a script here
+# this folder comes last: Python's own module `numbers`, which `fractions` needs, has the name of a script here
+sys.path.append(sys.path.pop(0))
 from collections import Counter
 
 from hostile import Draws
@@ -30,7 +35,7 @@ from riff_wrong import WRONG
 
 SEED = 0x9E3779B97F4A7C15
 ROOT = os.path.join(os.path.dirname(os.path.abspath(__file__)), "..", "..", "crates", "replay_files")
-LONGEST, MOST = 1024, 256       # bytes of a file and frames, as the program has room for
+LONGEST, MOST = 512, 128        # a file's bytes and its frames: the program has room for so many
 
 
 def found(reading, wrapped, file):
@@ -47,21 +52,23 @@ def samples(reading, file, wave):
     for k in range(wave[1]):
         said = ["0 0 %d " % (wave[0] == FLOAT32)]
         for value, whole in reading.channel(file, wave, k):
-            wide, narrow = struct.pack(">d", value), struct.pack(">f", value)
-            nan = value != value
-            said.append("%s %s %08x " % ("7ff8000000000000" if nan else wide.hex(), "7fc00000" if nan else narrow.hex(), whole % 2 ** 32))
+            wide, narrow = struct.pack(">d", value).hex(), struct.pack(">f", value).hex()
+            if value != value:
+                wide, narrow = "7ff8000000000000", "7fc00000"
+            said.append("%s %s %08x " % (wide, narrow, whole % 2 ** 32))
         yield "".join(said)
 
 
 def answer(reading, file):
     """The lines of stdout for one file."""
     plain, wrapped = found(reading, False, file), found(reading, True, file)
-    numbers = plain + wrapped + reading.told(file)
-    return ["".join("%d " % n for n in numbers)] + (list(samples(reading, file, wrapped[1:])) if wrapped[0] == 0 else [])
+    numbers = "".join("%d " % n for n in plain + wrapped + reading.told(file))
+    return [numbers] + (list(samples(reading, file, wrapped[1:])) if wrapped[0] == 0 else [])
 
 
 def summary(made, answers):
-    yield "seed %016X, %d files, %d bytes, %d lines" % (SEED, len(made), sum(len(file) for _, file in made), sum(map(len, answers)))
+    size, lines = sum(len(file) for _, file in made), sum(map(len, answers))
+    yield "seed %016X, %d files, %d bytes, %d lines" % (SEED, len(made), size, lines)
     for k, name in ((0, "read"), (6, "read_wrapped")):
         counts = Counter(int(lines[0].split()[k]) for lines in answers)
         yield "%-13s %s" % (name, ", ".join("%d: %d" % pair for pair in sorted(counts.items())))
@@ -77,8 +84,9 @@ def main(arguments):
         print(__doc__.strip())
         return 0 if arguments in (["--help"], ["-h"]) else 2
     made = list({file: (name, file) for name, file in files(Draws(SEED))}.values())
-    assert max(len(file) for _, file in made) <= LONGEST
     answers = [answer(Reading(), file) for _, file in made]
+    assert max(len(file) for _, file in made) <= LONGEST
+    assert max(len(line.split()) for lines in answers for line in lines) <= 3 + 3 * MOST
     content = {
         "stdin": "".join("%04X %s\n" % (len(file), file.hex().upper()) for _, file in made),
         "stdout": "".join(line + "\n" for lines in answers for line in lines),

@@ -1,4 +1,6 @@
-"""Small RIFF WAVE files, whole and damaged, for files.py: the edges of document 02's Wish 1, each named, and random ones. No answer is computed here."""
+"""Small RIFF WAVE files, whole and damaged, for files.py: the edges of document 02's Wish 1, and random damage. No answer
+is computed here.
+"""
 import struct
 
 from riff_model import FLOAT32, PCM16, PCM24, TAIL
@@ -9,7 +11,7 @@ HUGE = (0x7FFFFFFF, 0x80000000, 0xFFFFFFF0, 0xFFFFFFF7, 0xFFFFFFF8, 0xFFFFFFFE, 
 
 
 def chunk(name, body, size=None, pad=b"\0"):
-    """An identifier, a size, which is the body's unless another is given, the body, and a pad byte behind an odd one."""
+    """An identifier, a size, the body's unless another is given, the body, and a pad byte behind an odd one."""
     return name + struct.pack("<I", len(body) if size is None else size) + body + (pad if len(body) % 2 else b"")
 
 
@@ -38,7 +40,8 @@ def stored(d, kind, count):
     """So many stored samples: the ends of the width, what lies beside them, and any."""
     width = WIDTH[kind]
     if kind == FLOAT32:
-        edges = (0, 0x80000000, 1, 0x807FFFFF, 0x00800000, 0x3F800000, 0xBF800000, 0x7F7FFFFF, 0x7F800000, 0xFF800000, 0x7FC00000, 0xFFC00001, 0x7F800001)
+        edges = (0, 0x80000000, 1, 0x807FFFFF, 0x00800000, 0x3F800000, 0xBF800000, 0x7F7FFFFF, 0x7F800000, 0xFF800000,
+                 0x7FC00000, 0xFFC00001, 0x7F800001)
     else:
         top = 256 ** width // 2
         edges = (0, 1, 2 * top - 1, top - 1, top, top + 1, 127, 128, 255, 256, 0x7FFF % (2 * top), 0x80FF)
@@ -69,7 +72,8 @@ def firsts(d):
     for size in (0, 1, 2, 3, 4, 5, 11, 12, len(whole) - 9, len(whole) - 8, len(whole) - 7, len(whole)) + HUGE:
         yield whole[:4] + struct.pack("<I", size) + whole[8:]
         yield whole[:4] + struct.pack("<I", size) + whole[8:] + bytes(9)
-    for name, form in ((b"RIFX", b"WAVE"), (b"riff", b"WAVE"), (b"FORM", b"WAVE"), (b"RF64", b"WAVE"), (b"RIFF", b"WAVF"), (b"RIFF", b"AVI "), (b"WAVE", b"RIFF")):
+    names = ("RIFX WAVE", "riff WAVE", "FORM WAVE", "RF64 WAVE", "RIFF WAVF", "RIFF AVI ", "WAVE RIFF")
+    for name, form in ((n[:4].encode(), n[5:].encode()) for n in names):
         yield name + whole[4:8] + form + whole[12:]
         yield name + struct.pack("<I", len(whole)) + form + whole[12:]      # 9 before 10
         yield name + struct.pack("<I", 3) + form + whole[12:]
@@ -77,7 +81,8 @@ def firsts(d):
 
 def cut(d):
     """A small file cut at every byte: with the RIFF size that it had, and with one that fits."""
-    whole = riff(chunk(b"LIST", b"odd"), chunk(b"fmt ", fmt(PCM24, 1)), chunk(b"data", stored(d, PCM24, 3)), chunk(b"junk", b"1234"))
+    data = chunk(b"data", stored(d, PCM24, 3))
+    whole = riff(chunk(b"LIST", b"odd"), chunk(b"fmt ", fmt(PCM24, 1)), data, chunk(b"junk", b"1234"))
     for k in range(len(whole) + 1):
         yield whole[:k]
         if k >= 12:
@@ -91,9 +96,10 @@ def walks(d):
     a, b = chunk(b"data", stored(d, PCM16, 4)), chunk(b"data", stored(d, PCM16, 8))
     odd, even = chunk(b"LIST", b"odd"), chunk(b"junk", b"even")
     bare = chunk(b"LIST", b"odd", pad=b"")
-    for parts in ((), (f,), (a,), (a, f), (f, a), (g, f, a), (f, g, a), (f, a, b), (f, b, a), (f, a, g), (f, a, f), (a, f, a), (a, f, b), (odd, f, a), (even, f, a), (f, odd, a),
-                  (f, even, a), (f, odd, even, a), (odd, odd, f, odd, odd, a), (f, bare, a), (bare, f, a), (f, odd), (f, bare), (odd,), (bare,), (even, odd), (f, odd, b, odd, a),
-                  (odd, a), (bare, a), (a, bare), (f, f, a, a), (g, a), (f, a, bare)):
+    for parts in ((), (f,), (a,), (a, f), (f, a), (g, f, a), (f, g, a), (f, a, b), (f, b, a), (f, a, g), (f, a, f),
+                  (a, f, a), (a, f, b), (odd, f, a), (even, f, a), (f, odd, a), (f, even, a), (f, odd, even, a),
+                  (odd, odd, f, odd, odd, a), (f, bare, a), (bare, f, a), (f, odd), (f, bare), (odd,), (bare,),
+                  (even, odd), (f, odd, b, odd, a), (odd, a), (bare, a), (a, bare), (f, f, a, a), (g, a), (f, a, bare)):
         yield riff(*parts)
         yield riff(*parts, behind=b"1234567")
         yield riff(*parts, b"1234567")                  # fewer than 8 bytes left over
@@ -104,8 +110,9 @@ def walks(d):
         yield riff(chunk(name, fmt(PCM16, 1)), a)
         yield riff(f, chunk(name, b"1234"))
     for size in (0, 1, 2, 3, 7, 8, 9, 15, 16, 17) + HUGE:
-        for whole in (riff(chunk(b"LIST", b"12345678", size), f, a), riff(chunk(b"fmt ", fmt(PCM16, 1), size), a), riff(f, chunk(b"data", b"12345678", size)),
-                      riff(f, a, chunk(b"LIST", b"12345678", size)), riff(chunk(b"data", b"12345678", size), f), riff(f, chunk(b"junk", b"12345678", size))):
+        junk, data = chunk(b"junk", b"12345678", size), chunk(b"data", b"12345678", size)
+        for whole in (riff(junk, f, a), riff(chunk(b"fmt ", fmt(PCM16, 1), size), a), riff(f, data), riff(f, a, junk),
+                      riff(data, f), riff(f, junk)):
             yield whole
             yield whole + b"12345678"
     for left in range(18):
@@ -132,7 +139,8 @@ def formats(d):
         for channels in (0, 1, 2, 3, 4, 255, 256, 257, 258, 0xFFFF):
             for block in {channels * width % 65536, width, 2 * width, 0}:
                 yield riff(chunk(b"fmt ", fmt(kind, channels, block=block)), chunk(b"data", bytes(12 * width)))
-        for block in (0, 1, width - 1, width, width + 1, 2 * width - 1, 2 * width, 2 * width + 1, 4 * width, 256 * width, 0x8000 + width):
+        beside = [n * width + k for n in (1, 2) for k in (-1, 0, 1)]
+        for block in beside + [0, 1, 4 * width, 256 * width, 0x8000 + width]:
             for channels in (1, 2):
                 yield riff(chunk(b"fmt ", fmt(kind, channels, block=block)), chunk(b"data", a))
         for channels in (1, 2):
@@ -151,26 +159,35 @@ def wraps(d):
     for kind in KINDS:
         for channels in (1, 2):
             data = chunk(b"data", stored(d, kind, 4 * channels))
-            for change in ({}, {"extension": 21}, {"extension": 23}, {"extension": 0}, {"extension": 65535}, {"valid": 0}, {"valid": 8 * WIDTH[kind] - 4}, {"valid": 8 * WIDTH[kind] + 1}, {"inside": 0},
-                           {"inside": 1}, {"inside": 3}, {"inside": 2}, {"inside": 0x10001}, {"inside": 0x1000003}, {"inside": 0xFFFE}, {"tag": 1}, {"tag": 3}, {"more": b"\0"},
-                           {"more": b"more"}, {"block": 1}, {"bits": 8}, {"bits": 16}, {"bits": 24}, {"bits": 32}, {"tag": 0xFFFD}):
-                yield riff(chunk(b"fmt ", wrapped(kind, channels, **change)), data)
+            bits = 8 * WIDTH[kind]
+            changes = {"extension": (22, 21, 23, 0, 65535), "valid": (0, bits - 4, bits + 1), "tag": (1, 3, 0xFFFD),
+                       "inside": (0, 1, 2, 3, 0x10001, 0x1000003, 0xFFFE), "bits": (8, 16, 24, 32), "block": (1,),
+                       "more": (b"\0", b"more")}
+            for name, others in changes.items():
+                for other in others:
+                    yield riff(chunk(b"fmt ", wrapped(kind, channels, **{name: other})), data)
             for size in (15, 16, 18, 24, 26, 28, 38, 39):
                 yield riff(chunk(b"fmt ", wrapped(kind, channels)[:size]), data)
-            yield riff(chunk(b"fmt ", wrapped(kind, channels)[:39], pad=TAIL[11:]), data)    # the tail's last byte stands behind `fmt `
+            # the tail's last bytes stand behind `fmt `
+            yield riff(chunk(b"fmt ", wrapped(kind, channels)[:39], pad=TAIL[11:]), data)
             yield riff(chunk(b"fmt ", wrapped(kind, channels)[:38]), chunk(TAIL[10:] + b"..", b""), data)
             for k in range(12):
-                yield riff(chunk(b"fmt ", wrapped(kind, channels, tail=TAIL[:k] + bytes([TAIL[k] ^ 1]) + TAIL[k + 1:])), data)
+                tail = TAIL[:k] + bytes([TAIL[k] ^ 1]) + TAIL[k + 1:]
+                yield riff(chunk(b"fmt ", wrapped(kind, channels, tail=tail)), data)
             yield riff(chunk(b"fmt ", wrapped(kind, channels)), chunk(b"data", stored(d, kind, 3) + b"x"))
         yield riff(chunk(b"fmt ", wrapped(kind, 3)), chunk(b"data", bytes(12)))
-        yield riff(chunk(b"LIST", b"odd"), chunk(b"fmt ", wrapped(kind, 2)), chunk(b"fact", b"1234"), chunk(b"data", stored(d, kind, 6)), behind=b"123")
+        fact, data = chunk(b"fact", b"1234"), chunk(b"data", stored(d, kind, 6))
+        yield riff(chunk(b"LIST", b"odd"), chunk(b"fmt ", wrapped(kind, 2)), fact, data, behind=b"123")
 
 
 def random(d, count):
     """Files of some chunks, mostly in order, with a few of their bytes changed, or a part taken out or doubled."""
     for _ in range(count):
         kind, channels = d.of(KINDS), d.between(1, 2)
-        parts = [chunk(d.of((b"LIST", b"fact", b"junk")), bytes(d.between(0, 5)), pad=d.of((b"\0", b"\0", b"\0", b""))) for _ in range(d.between(0, 2))]
+        parts = []
+        for _ in range(d.between(0, 2)):
+            name, body, pad = d.of((b"LIST", b"fact", b"junk")), bytes(d.between(0, 5)), d.of((b"\0", b"\0", b""))
+            parts.append(chunk(name, body, pad=pad))
         body = wrapped(kind, channels) if d.bits(1) else fmt(kind, channels, more=d.of((b"", b"", b"\0\0")))
         parts.insert(d.between(0, len(parts)), chunk(b"fmt ", body))
         parts.insert(d.between(1, len(parts)), chunk(b"data", stored(d, kind, channels * d.between(0, 4))))

@@ -1,6 +1,8 @@
-"""RIFF WAVE as Wish 1 of document 02 says it, written from that text alone: the model behind files.py.
+"""RIFF WAVE as Wish 1 of document 02 says it: the model behind files.py, which knows no source of this repository.
+Wrapped kinds, of which the document says nothing, follow the published layout of WAVE_FORMAT_EXTENSIBLE.
 
-A method or a constant of `Reading` is one of its sentences, so that a wrong reading is one that changes a single one of them (riff_wrong.py).
+A method or a constant of `Reading` is one of its sentences, so that a wrong reading changes a single one of them
+(riff_wrong.py).
 """
 import struct
 
@@ -53,7 +55,7 @@ class Reading:
         return name not in found
 
     def walk(self, file):
-        """The chunks by their identifiers, (body, size), and whether one runs past the end, which then is the last. No byte outside is looked at."""
+        """The chunks by their identifiers, (body, size), and whether the last runs past the end."""
         found, at, end = {}, 12, min(self.end(file), len(file))
         while end - at >= self.least_left:
             name, size, body = file[at:at + 4], number(file[at + 4:at + 8]), at + 8
@@ -81,7 +83,7 @@ class Reading:
         return self.inside(fmt, bits) if self.wrapped and tag == 0xFFFE else tag
 
     def wraps(self, fmt, bits):
-        """A `fmt ` of 40 bytes or more, an extension of 22 or more, as many valid bits, and the tail that all such kinds have."""
+        """A `fmt ` of 40 bytes or more, an extension of 22 or more, all bits valid, and the tail of all such kinds."""
         return len(fmt) >= 40, number(fmt[16:18]) >= 22, number(fmt[18:20]) == bits, fmt[28:40] == TAIL
 
     def inside(self, fmt, bits):
@@ -99,7 +101,8 @@ class Reading:
         return block == 0 or size % block != 0
 
     def kind(self, fmt, size):
-        """13: a kind not listed, a `fmt ` under 16 bytes, a block size other than channels × bytes or a `data` of broken frames."""
+        """13: a kind not listed, a `fmt ` under 16 bytes, a block size other than channels × bytes or a `data` of
+        broken frames."""
         _, channels, _, _, block, bits = self.fields(fmt)
         kind = self.kinds.get((self.tag(fmt), bits))
         if len(fmt) < self.least or kind is None or channels not in self.channels:
@@ -129,7 +132,7 @@ class Reading:
         return kind, self.fields(fmt)[1], self.fields(fmt)[2], start, length
 
     def told(self, file):
-        """For whoever explains a refusal, of any file: the size of `fmt `, its fields, the size of `data`, zeros where there is none."""
+        """For who explains a refusal: the size of `fmt `, its fields, the size of `data`; zeros where there is none."""
         found, _ = self.walk(file)
         tag, channels, _, _, block, bits = self.fields(self.format(file, found))
         return found.get(b"fmt ", (0, 0))[1], tag, channels, block, bits, found.get(b"data", (0, 0))[1]

@@ -1,5 +1,5 @@
-"""Readings of RIFF WAVE that differ from riff_model.py's in one sentence. What each would answer is compared with the true answer, so that files.py
-can say how many lines of its list tell the two apart.
+"""Readings of RIFF WAVE that differ from riff_model.py's in one sentence. What each would answer is compared with the
+true answer, so that files.py can say how many of its files tell the two apart.
 """
 from riff_model import FLOAT32, PCM16, Reading, number
 
@@ -36,13 +36,16 @@ def high_first(s, kind, stored):
 
 WRONG = [
     # 9
-    wrong("a RIFF size of 3 is accepted", is_wave=lambda s, f: len(f) >= 12 and f[:4] == b"RIFF" and f[8:12] == b"WAVE"),
+    wrong("a RIFF size of 3 is accepted",
+          is_wave=lambda s, f: len(f) >= 12 and f[:4] == b"RIFF" and f[8:12] == b"WAVE"),
     wrong("a RIFF size of 4 is refused", is_wave=lambda s, f: Reading.is_wave(s, f) and number(f[4:8]) > 4),
     wrong("RIFX is accepted", is_wave=lambda s, f: Reading.is_wave(s, f.replace(b"RIFX", b"RIFF", 1))),
-    wrong("the form's name is not looked at", is_wave=lambda s, f: len(f) >= 12 and f[:4] == b"RIFF" and number(f[4:8]) >= 4),
+    wrong("the form's name is not looked at",
+          is_wave=lambda s, f: len(f) >= 12 and f[:4] == b"RIFF" and number(f[4:8]) >= 4),
     # 10
     wrong("the walk is bounded by the file", end=lambda s, f: len(f)),
-    wrong("the RIFF does not count for 10", riff_fits=lambda s, f: True, end=lambda s, f: min(8 + number(f[4:8]), len(f))),
+    wrong("the RIFF does not count for 10", riff_fits=lambda s, f: True,
+          end=lambda s, f: min(8 + number(f[4:8]), len(f))),
     wrong("a chunk may run past the RIFF's end", overruns=lambda s, f, b, n: b + n > len(f)),
     wrong("a missing last pad byte is 10", overruns=lambda s, f, b, n: b + n + n % 2 > s.end(f)),
     wrong("a chunk that ends with the RIFF is 10", overruns=lambda s, f, b, n: b + n >= s.end(f)),
@@ -52,7 +55,8 @@ WRONG = [
     # the walk
     wrong("the walk goes on behind `data`", ends=lambda s, name: False),
     wrong("the last `fmt ` counts", counts=lambda s, name, found: name == b"fmt " or name not in found),
-    wrong("the last `data` counts", ends=lambda s, name: False, counts=lambda s, name, found: name == b"data" or name not in found),
+    wrong("the last `data` counts", ends=lambda s, name: False,
+          counts=lambda s, name, found: name == b"data" or name not in found),
     wrong("no pad byte is skipped", behind=lambda s, b, n: b + n),
     wrong("a pad byte behind every chunk", behind=lambda s, b, n: b + n + 1),
     wrong("8 bytes left over are no chunk", least_left=9),
@@ -78,7 +82,8 @@ WRONG = [
     wrong("wrapped with an extension under 22", wraps=without(1)),
     wrong("wrapped with other valid bits", wraps=without(2)),
     wrong("wrapped with another tail", wraps=without(3)),
-    wrong("half of the wrapped tag", inside=lambda s, fmt, bits: number(fmt[24:26]) if all(s.wraps(fmt, bits)) else None),
+    wrong("half of the wrapped tag",
+          inside=lambda s, fmt, bits: number(fmt[24:26]) if all(s.wraps(fmt, bits)) else None),
     wrong("FFFE is always PCM", inside=lambda s, fmt, bits: 1 if all(s.wraps(fmt, bits)) else None),
     # samples
     wrong("PCM without a sign", value=unsigned),

@@ -55,8 +55,7 @@ fn each() -> impl Iterator<Item = (String, usize, u32, u32)> {
 
 fn write_tones(folder: &Path) -> Result<()> {
     for (name, kind, channels, rate) in each() {
-        let samples: Vec<Vec<u8>> =
-            tone(KINDS[kind].1, channels, rate).into_iter().map(|n| stored(kind, n)).collect();
+        let samples: Vec<Vec<u8>> = tone(KINDS[kind].1, channels, rate).into_iter().map(|n| stored(kind, n)).collect();
         fs::write(folder.join(format!("{name}.raw")), samples.concat())?;
         fs::write(folder.join(format!("{name}.au")), au(kind, channels, rate, &samples))?;
     }
@@ -108,7 +107,11 @@ fn channel(w: &b::WavePart, part: &[u8], channel: u8) -> (Vec<f64>, bool) {
 fn words(theirs: &[u8], high_first: bool) -> impl Iterator<Item = u64> + '_ {
     theirs.chunks_exact(8).map(move |eight| {
         let bytes: [u8; 8] = eight.try_into().expect("eight bytes");
-        if high_first { u64::from_be_bytes(bytes) } else { u64::from_le_bytes(bytes) }
+        if high_first {
+            u64::from_be_bytes(bytes)
+        } else {
+            u64::from_le_bytes(bytes)
+        }
     })
 }
 
@@ -123,11 +126,16 @@ fn compared(file: &[u8], theirs: &[u8], high_first: bool, of: (usize, u32, u32),
     if number != 0 {
         return Some(format!("refused by {number}: {:?}", b::wav_told(file)));
     }
-    if plain { seen.plain += 1 } else { seen.wrapped += 1 }
+    if plain {
+        seen.plain += 1
+    } else {
+        seen.wrapped += 1
+    }
     if (usize::from(w.kind), u32::from(w.channels), w.rate) != of {
         return Some(format!("{w:?} for kind {kind}, {channels} channels, rate {rate}"));
     }
-    let meant: Vec<u64> = tone(KINDS[kind].1, channels, rate).into_iter().map(|n| value(KINDS[kind].1, n).to_bits()).collect();
+    let meant: Vec<u64> =
+        tone(KINDS[kind].1, channels, rate).into_iter().map(|n| value(KINDS[kind].1, n).to_bits()).collect();
     if !words(theirs, high_first).eq(meant.iter().copied()) {
         return Some("the program reads another tone".into());
     }
@@ -144,7 +152,8 @@ fn compared(file: &[u8], theirs: &[u8], high_first: bool, of: (usize, u32, u32),
 }
 
 fn compare(folder: &Path) -> Result<i32> {
-    let known: BTreeMap<String, (usize, u32, u32)> = each().map(|(name, kind, c, rate)| (name, (kind, c, rate))).collect();
+    let known: BTreeMap<String, (usize, u32, u32)> =
+        each().map(|(name, kind, c, rate)| (name, (kind, c, rate))).collect();
     let (list, opened) = (fs::read_to_string(folder.join("list"))?, fs::read_to_string(folder.join("opened"))?);
     let pair = |line: &str| {
         let (program, name) = line.split_once(' ').expect("a program and a tone");

@@ -1,6 +1,6 @@
-//! One channel's samples of a WAVE file's part, an answer being a sample. The Rust is a loop over the frames whose bytes are
-//! a constant, which a compiler takes several samples at a time. No float is a NaN: the Rust hands a NaN's pattern on, the
-//! port the one NaN.
+//! One channel's samples of a WAVE file's part, an answer being a sample. The Rust is a loop over the frames whose
+//! bytes are a constant, which a compiler takes several samples at a time. No float is a NaN: the Rust hands a NaN's
+//! pattern on, the port the one NaN.
 
 use crate::random::Random;
 use crate::Workload;
@@ -25,10 +25,10 @@ fn float(bytes: &[u8]) -> f32 {
     f32::from_le_bytes([bytes[0], bytes[1], bytes[2], bytes[3]])
 }
 
-/// The answers' room, seen as the samples' type: nothing is copied. A narrower type leaves the end of it unused, and there
-/// the first pass puts zeros.
+/// The answers' room, seen as the samples' type: nothing is copied. A narrower type leaves the end of it unused, and
+/// there the first pass puts zeros.
 fn room<T>(answers: &mut [u64]) -> &mut [T] {
-    let (used, rest) = answers.split_at_mut(FRAMES * size_of::<T>() / 8);
+    let (used, rest) = answers.split_at_mut(FRAMES * std::mem::size_of::<T>() / 8);
     if rest.last().is_some_and(|last| *last != 0) {
         rest.fill(0);
     }
@@ -36,14 +36,14 @@ fn room<T>(answers: &mut [u64]) -> &mut [T] {
 }
 
 macro_rules! fill {
-    ($name:ident, $to:ty, $port:ident, $kind:literal, $width:literal, $channels:literal, |$bytes:ident| $sample:expr) => {
+    ($name:ident, $to:ty, $port:ident, $kind:literal, $width:literal, $channels:literal, |$b:ident| $sample:expr) => {
         pub fn $name() -> Workload {
             const FRAME: usize = $width * $channels;
             const FIRST: usize = $width * ($channels - 1);
             #[inline(never)]
             fn rust(part: &[u8], out: &mut [$to]) {
                 for (to, frame) in out.iter_mut().zip(part.chunks_exact(FRAME)) {
-                    let $bytes = &frame[FIRST..];
+                    let $b = &frame[FIRST..];
                     *to = $sample;
                 }
             }
@@ -68,6 +68,8 @@ fill!(pcm16_f32, f32, wav_samples_f32, 0, 2, 1, |b| pcm16(b) as f32 * TO_15 as f
 fill!(pcm24_f64, f64, wav_samples, 1, 3, 1, |b| pcm24(b) as f64 * TO_23);
 fill!(pcm24_stereo, f64, wav_samples, 1, 3, 2, |b| pcm24(b) as f64 * TO_23);
 fill!(pcm24_f32, f32, wav_samples_f32, 1, 3, 1, |b| pcm24(b) as f32 * TO_23 as f32);
+fill!(whole16, i32, wav_whole, 0, 2, 1, |b| pcm16(b) * 256);
+fill!(whole24, i32, wav_whole, 1, 3, 1, |b| pcm24(b));
 fill!(float_f64, f64, wav_samples, 2, 4, 1, |b| float(b) as f64);
 fill!(float_stereo, f64, wav_samples, 2, 4, 2, |b| float(b) as f64);
 fill!(float_f32, f32, wav_samples_f32, 2, 4, 1, |b| float(b));

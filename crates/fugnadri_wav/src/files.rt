@@ -1,5 +1,5 @@
-// W1. A file read: the refusal's number, 0 for none, and what was found, zeros where it is refused. What it tells, refused or
-// not, is for who explains a refusal.
+// W1. A file read: the refusal's number, 0 for none, and what was found, zeros where it is refused. What its `fmt `
+// tells, refused or not, is for who explains a refusal.
 ghost use mathlib.Core.Path.{_≡_};
 ghost use Rattle.wav.specs.Wave.{foundIn, foundWrapped, toldIn};
 ghost use Rattle.fugnadri_wav.specs.Doors.{numberOf, waveOf, leaves, leftBy, tells};

@@ -20,8 +20,10 @@ unfolding listOf
 element f zero j d h = absurd (omega arith)
 element f (suc n) j d h =
     ⊎-elim
-    (λ (e : j ≡ n). ap (λ (i : ℕ). getD (listOf f n ++ (f n ∷ [])) i d) e ∙ getD-at (listOf f n) (f n) [] d n (length-list f n) ∙ ap f (sym e))
-    (λ (l : j < n). List·getD-append (listOf f n) (f n ∷ []) d j (subst (λ (z : ℕ). j < z) (sym (length-list f n)) l) ∙ element f n j d l)
+    (λ (e : j ≡ n). ap (λ (i : ℕ). getD (listOf f n ++ (f n ∷ [])) i d) e
+    ∙ getD-at (listOf f n) (f n) [] d n (length-list f n) ∙ ap f (sym e))
+    (λ (l : j < n). List·getD-append (listOf f n) (f n ∷ []) d j (subst (λ (z : ℕ). j < z) (sym (length-list f n)) l)
+    ∙ element f n j d l)
     (eq-or-lt-of-le (le-of-suc-le-suc h))
 
 pub same-list : {A : Type 0} (f g : ℕ → A) (n : ℕ) → ((k : ℕ) → k < n → f k ≡ g k) → listOf f n ≡ listOf g n
@@ -34,7 +36,8 @@ pub nothing : {A : Type 0} (f : ℕ → A) (xs : List A) → take 0 xs ≡ listO
 unfolding listOf
 nothing f xs = refl
 
-pub written : {A : Type 0} (f : ℕ → A) (xs : List A) (k : ℕ) (v : A) → k < length xs → take k xs ≡ listOf f k → v ≡ f k → take (k + 1) (set xs k v) ≡ listOf f (k + 1)
+pub written : {A : Type 0} (f : ℕ → A) (xs : List A) (k : ℕ) (v : A) → k < length xs → take k xs ≡ listOf f k → v ≡ f k
+    → take (k + 1) (set xs k v) ≡ listOf f (k + 1)
 unfolding listOf
 written f xs k v l h e = rw add-one (take-suc-set xs k v l ∙ rw (h, e))
 
@@ -42,10 +45,12 @@ pub whole : {A : Type 0} (f : ℕ → A) (xs : List A) (n : ℕ) → n ≡ lengt
 whole f xs n l h = sym (take-all n xs (omega arith)) ∙ h
 
 -- ---- any list by its elements
-front-elements : {A : Type 0} (xs : List A) (d : A) (k : ℕ) → k ≤ length xs → take k xs ≡ listOf (λ (i : ℕ). getD xs i d) k
+front-elements : {A : Type 0} (xs : List A) (d : A) (k : ℕ) → k ≤ length xs → take k xs
+    ≡ listOf (λ (i : ℕ). getD xs i d) k
 unfolding listOf
 front-elements xs d zero h = refl
 front-elements xs d (suc k) h = take-suc xs k d h ∙ rw (front-elements xs d k (omega arith))
 
 pub elements : {A : Type 0} (xs : List A) (d : A) → xs ≡ listOf (λ (i : ℕ). getD xs i d) (length xs)
-elements xs d = whole (λ (i : ℕ). getD xs i d) xs (length xs) refl (front-elements xs d (length xs) (le-refl (length xs)))
+elements xs d = whole (λ (i : ℕ). getD xs i d) xs (length xs) refl
+    (front-elements xs d (length xs) (le-refl (length xs)))

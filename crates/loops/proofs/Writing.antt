@@ -1,4 +1,5 @@
--- A loop that writes a lent list `&mut xs[k]` from the front on: its invariant, over any rule for an element. Assumes nothing.
+-- A loop that writes a lent list `&mut xs[k]` from the front on: its invariant, over any rule for an element. Assumes
+-- nothing.
 use mathlib.Core.Path.{_≡_, refl, ap, _∙_}
 use mathlib.Core.List.{List}
 use Prim.Native.Nat.{ℕ, _+_, _≤_, _<_}

@@ -1,4 +1,4 @@
-// A file from standard input: the number of its bytes in four hex digits, a blank, two digits for each byte, the line's end.
+// A file from standard input: the number of its bytes in four hex digits, a blank, two digits a byte, a line's end.
 use libc::STDIN_FILENO;
 use replay_lines::within;
 use word_bytes::word_at;
@@ -10,7 +10,7 @@ pub struct Heard {
 }
 
 // No file of the list is longer.
-const LONGEST: usize = 1024;
+const LONGEST: usize = 512;
 
 // The next line's file, put into a lent slice.
 pub fn hear(file: &mut [u8]) -> Heard {
@@ -19,7 +19,7 @@ pub fn hear(file: &mut [u8]) -> Heard {
     let bytes = within(word_at(&count, 0) as usize, LONGEST);
     let rest = 2 * bytes + 2;
     // Sixteen more, so that a word can be read at every place.
-    let mut text = [0u8; 2066];
+    let mut text = [0u8; 1042];
     let got = io::read_full(STDIN_FILENO, &mut text[..rest]);
     put_bytes(&text, &mut file[..]);
     Heard {
@@ -29,7 +29,7 @@ pub fn hear(file: &mut [u8]) -> Heard {
 }
 
 // A byte is the first two of the sixteen digits that a word has.
-fn put_bytes(text: &[u8; 2066], file: &mut [u8]) {
+fn put_bytes(text: &[u8; 1042], file: &mut [u8]) {
     let mut k: usize = 0;
     while k < LONGEST {
         put(

@@ -1,5 +1,5 @@
-// One channel's samples as f64, as f32 and as whole numbers of 2^-23: the three refusals' numbers, 0 for none, then for each
-// frame the three as patterns.
+// One channel's samples as f64, as f32 and as whole numbers of 2^-23: the three refusals' numbers, 0 for none, then for
+// each frame the three as patterns.
 use crate::said::end_of_line;
 use crate::said::number;
 use crate::said::pattern;
@@ -11,7 +11,7 @@ use sample_kind::frame_width;
 use wav_samples::filling;
 
 // No file of the list has more frames.
-const MOST: usize = 256;
+const MOST: usize = 128;
 
 fn frames(kind: SampleKind, channels: u8, size: usize) -> usize {
     let frame = frame_width(kind, channels);
@@ -33,7 +33,7 @@ pub fn channel(kind: SampleKind, channels: u8, channel: u8, part: &[u8]) {
     end_of_line();
 }
 
-fn tell(doubles: &[f64; 256], floats: &[f32; 256], wholes: &[i32; 256], n: usize) {
+fn tell(doubles: &[f64; 128], floats: &[f32; 128], wholes: &[i32; 128], n: usize) {
     let mut k: usize = 0;
     while k < MOST {
         if k < n {

@@ -1,6 +1,6 @@
 -- The number of k + 1 bytes at a place is its byte and the number of k bytes behind it, past the end too. By the place.
 -- Assumes nothing.
-use mathlib.Core.Path.{_≡_, refl, sym, ap, _∙_}
+use mathlib.Core.Path.{_≡_, refl}
 use mathlib.Core.List.{List, [], _∷_}
 use Prim.Native.Nat.{ℕ, zero, suc, _+_, _*_}
 use native.Mathlib.Nat.{add-suc}
@@ -14,7 +14,8 @@ unfolding bytesValue
 none zero = refl
 none (suc k) = refl
 
-byte-at : (k : ℕ) (b : List ℕ) (at : ℕ) → bytesValue (take (suc k) (drop at b)) ≡ bytesValue (take k (drop (suc at) b)) * 256 + getD b at 0
+byte-at : (k : ℕ) (b : List ℕ) (at : ℕ) → bytesValue (take (suc k) (drop at b))
+    ≡ bytesValue (take k (drop (suc at) b)) * 256 + getD b at 0
 unfolding bytesValue
 byte-at k [] zero = omega (arith, none k)
 byte-at k [] (suc at) = omega (arith, none k)
@@ -22,7 +23,8 @@ byte-at k (x ∷ xs) zero = refl
 byte-at k (x ∷ xs) (suc at) = byte-at k xs at
 
 -- as code counts the places: the first byte, and the one that stands j behind it
-pub first-byte : (k : ℕ) (b : List ℕ) (at : ℕ) → bytesValue (take (suc k) (drop at b)) ≡ bytesValue (take k (drop (at + 1) b)) * 256 + getD b at 0
+pub first-byte : (k : ℕ) (b : List ℕ) (at : ℕ) → bytesValue (take (suc k) (drop at b))
+    ≡ bytesValue (take k (drop (at + 1) b)) * 256 + getD b at 0
 first-byte k b at = rw add-one (byte-at k b at)
 
 pub later-byte : (k : ℕ) (b : List ℕ) (at j : ℕ)

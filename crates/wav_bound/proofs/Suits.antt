@@ -1,8 +1,8 @@
--- W1e, D3. A stored PCM sample of at most 24 digits is a whole sample of the desk: signed w n · 2^(24-w) of 2^23. By one
--- law over the width. Assumes nothing.
-use mathlib.Core.Path.{_≡_, refl, sym, ap, _∙_}
+-- W1e, D3. A stored PCM sample of at most 24 digits is a whole sample of the desk: signed w n · 2^(24-w) of 2^23. By
+-- one law over the width. Assumes nothing.
+use mathlib.Core.Path.{_≡_, sym, ap, _∙_}
 use mathlib.Core.Bool.{Bool, true, false, cond}
-use Prim.Native.Nat.{ℕ, suc, _+_, _-_, _*_, _%_, _^_, _≤_, _<_}
+use Prim.Native.Nat.{ℕ, _+_, _-_, _*_, _^_, _≤_, _<_}
 use native.Mathlib.Nat.{mul-assoc, mul-comm, mul-le-mul-right, mul-zero, zero-mul}
 use native.Mathlib.Omega.{arith}
 use lib.Dec.{lit≤}
@@ -11,7 +11,7 @@ use lib.Pow.{pow-add, pow-pos}
 use lib.Ieee.{Format}
 use lib.Ieee.Exact.{HasValue}
 use Rattle.rounding.proofs.Values.{rescale}
-use Rattle.fraction.specs.Fraction.{frac, whole, zp, zn, Same}
+use Rattle.fraction.specs.Fraction.{whole, Same}
 use Rattle.fraction.specs.Value.{Is}
 use Rattle.fraction.specs.Value as value
 use Rattle.fraction.proofs.Same.{same-trans}
@@ -28,7 +28,8 @@ absolute (pos k) false a r = omega (arith, r .is)
 absolute (negsuc k) true a r = omega (arith, r .is)
 absolute (negsuc k) false a r = absurd (omega (arith, r .is))
 
-same-size : (z : ℤ) (s : Bool) (a d : ℕ) → 0 < d → Rep z (cond s 0 a) (cond s a 0) → Same (value.signed s a d) (whole z d)
+same-size : (z : ℤ) (s : Bool) (a d : ℕ) → 0 < d → Rep z (cond s 0 a) (cond s a 0)
+    → Same (value.signed s a d) (whole z d)
 same-size z true a d p r = rep-same d p r
 same-size z false a d p r = rep-same d p r
 
@@ -49,8 +50,10 @@ suits f w n p h =
     let o : a * 2 ^ 23 ≡ a * m * 2 ^ (w - 1) = ap (λ (t : ℕ). a * t) (sym e) ∙ sym (mul-assoc a m (2 ^ (w - 1))) in
     let v : HasValue (wholeOf f w n) s (a * m) (2 ^ 23) =
     rescale (wholeOf f w n) s a (2 ^ (w - 1)) (a * m) (2 ^ 23) (pow-pos (w - 1)) o (exact f w n p h) in
-    let i : Is (wholeOf f w n) (value.signed s (a * m) (2 ^ 23)) = value-is (wholeOf f w n) s (a * m) (2 ^ 23) (lit≤ tt) v in
+    let i : Is (wholeOf f w n) (value.signed s (a * m) (2 ^ 23)) =
+    value-is (wholeOf f w n) s (a * m) (2 ^ 23) (lit≤ tt) v in
     record {
       is = record { real = i .real; same = same-trans (i .same) (same-size z s (a * m) (2 ^ 23) (lit≤ tt) r) };
-      small = rw (absolute z s (a * m) r) (omega (arith, mul-le-mul-right m (small w n p), e, mul-comm m (2 ^ (w - 1))));
+      small = rw (absolute z s (a * m) r) (omega
+          (arith, mul-le-mul-right m (small w n p), e, mul-comm m (2 ^ (w - 1))));
     }

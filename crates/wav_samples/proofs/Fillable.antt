@@ -1,5 +1,5 @@
--- W1c. What is read can be filled: with one or two channels, one of them named, and an element for each frame nothing is
--- refused; and a refusal of 1 or 2 is given exactly when its test is the first that fails. Assumes nothing.
+-- W1c. What is read can be filled: with one or two channels, one of them named, and an element for each frame nothing
+-- is refused; and a refusal of 1 or 2 is given exactly when its test is the first that fails. Assumes nothing.
 use mathlib.Core.Path.{_≡_, refl}
 use mathlib.Core.Logic.{_↔_}
 use mathlib.Core.Bool.{Bool, true, _&&_}
@@ -17,14 +17,25 @@ use Rattle.wav_samples.specs.Filling.{refusedBy, verdict, wholeVerdict}
 module _ (kind : SampleKind) (channels channel size n : ℕ) where
   -- the table of refusals, as `refusedBy` has it
   abbrev pub tests : Bool → List Test
-  tests asked = 1 unless (asked && (leb channels 2 && ltb channel channels)) ∷ 2 unless eqb size (n * frameOf kind channels) ∷ []
+  tests asked = 1 unless (asked && (leb channels 2 && ltb channel channels)) ∷ 2 unless eqb size
+      (n * frameOf kind channels) ∷ []
 
-  pub exactly-when : (asked : Bool) (k : ℕ) → refusedBy asked kind channels channel size n ≡ suc k ↔ First (tests asked) k
+  pub exactly-when : (asked : Bool) (k : ℕ) → refusedBy asked kind channels channel size n
+      ≡ suc k ↔ First (tests asked) k
   exactly-when asked k = lowest (tests asked) refl k
 
   module _ (few : channels ≤ 2) (there : channel < channels) (whole : size ≡ n * frameOf kind channels) where
     pub fillable : verdict kind channels channel size n ≡ 0
-    fillable = simp (le-leb channels 2 few, lt-ltb channel channels there, eq-eqb size (n * frameOf kind channels) whole)
+    fillable = simp (
+      le-leb channels 2 few,
+      lt-ltb channel channels there,
+      eq-eqb size (n * frameOf kind channels) whole,
+    )
 
     pub whole-fillable : isPcm kind ≡ true → wholeVerdict kind channels channel size n ≡ 0
-    whole-fillable pcm = simp (pcm, le-leb channels 2 few, lt-ltb channel channels there, eq-eqb size (n * frameOf kind channels) whole)
+    whole-fillable pcm = simp (
+      pcm,
+      le-leb channels 2 few,
+      lt-ltb channel channels there,
+      eq-eqb size (n * frameOf kind channels) whole,
+    )

@@ -6,7 +6,7 @@ use mathlib.Core.List.{List, [], _∷_}
 use Prim.Native.Nat.{ℕ, zero, suc, _+_, _*_, _/_, _%_, _≤_, _<_}
 use native.Mathlib.Nat.{suc-mul, mul-le-mul-right, mul-mod-left, mul-div-left, div-add-mod'}
 use native.Mathlib.Omega.{arith}
-use borrow.Author.Tests.{leb-true, ltb-true, eqb-true, eq-eqb, le-leb, lt-ltb}
+use borrow.Author.Tests.{leb-true, ltb-true, eqb-true}
 use lib.Dec.{eqb, leb, ltb}
 use Rattle.refusal_order.specs.Order.{_unless_, firstOf}
 use Rattle.sample_kind.specs.declared.SampleKind.{SampleKind}
@@ -15,25 +15,30 @@ use Rattle.sample_kind.proofs.Widths.{fewer-bytes}
 use Rattle.wav_samples.specs.Filling.{refusedBy, filledBy}
 use Rattle.wav_samples.specs.Frames.{Whole, Framed}
 
-pub place : {size n frame first width : ℕ} (k : ℕ) → Whole size n frame first width → k < n → k * frame + first + width ≤ size
+pub place : {size n frame first width : ℕ} (k : ℕ) → Whole size n frame first width → k < n
+    → k * frame + first + width ≤ size
 place {frame = frame} k w h = omega (arith, w .all, w .inside, mul-le-mul-right frame h, suc-mul k frame)
 
 -- the frames of one kind, and of one or two channels
-pub whole-of : {kind k : SampleKind} {channels first size n : ℕ} (c : ℕ) → Framed kind channels first size n → kind ≡ k → channels ≡ c
+pub whole-of : {kind k : SampleKind} {channels first size n : ℕ} (c : ℕ) → Framed kind channels first size n → kind ≡ k
+    → channels ≡ c
     → Whole size n (frameOf k c) first (widthOf k)
 whole-of c f p q = rw (p, q) at (f .whole)
 
-pub two-channels : {kind : SampleKind} {channels first size n : ℕ} → Framed kind channels first size n → (channels ≡ 1 → ⊥) → channels ≡ 2
+pub two-channels : {kind : SampleKind} {channels first size n : ℕ} → Framed kind channels first size n
+    → (channels ≡ 1 → ⊥) → channels ≡ 2
 two-channels f h = omega (arith, f .some, f .few)
 
 -- what a call that is not refused knows
-pub framed : (asked : Bool) (kind : SampleKind) (channels channel size n : ℕ) → refusedBy asked kind channels channel size n ≡ 0
+pub framed : (asked : Bool) (kind : SampleKind) (channels channel size n : ℕ)
+    → refusedBy asked kind channels channel size n ≡ 0
     → Framed kind channels (frameOf kind channel) size n
 framed asked kind channels channel size n h =
     by asked (leb channels 2) (ltb channel channels) (eqb size (n * frameOf kind channels)) refl refl refl h
   where
     by : (s a b c : Bool) → leb channels 2 ≡ a → ltb channel channels ≡ b → eqb size (n * frameOf kind channels) ≡ c
-        → _≡_ {A = ℕ} (firstOf (1 unless (s && (a && b)) ∷ 2 unless c ∷ [])) 0 → Framed kind channels (frameOf kind channel) size n
+        → _≡_ {A = ℕ} (firstOf (1 unless (s && (a && b)) ∷ 2 unless c ∷ [])) 0
+        → Framed kind channels (frameOf kind channel) size n
     by true true true true p q r z =
         let l = ltb-true channel channels q in
         record {
@@ -70,7 +75,8 @@ broken size n frame h e = h (ap (λ (m : ℕ). m % frame) e ∙ mul-mod-left n f
 pub other-number : (size n frame : ℕ) → 0 < frame → (size / frame ≡ n → ⊥) → size ≡ n * frame → ⊥
 other-number size n frame p h e = h (ap (λ (m : ℕ). m / frame) e ∙ mul-div-left n p)
 
-pub asked-is : (asked : Bool) (kind : SampleKind) (channels channel size n : ℕ) → refusedBy asked kind channels channel size n ≡ 0 → asked ≡ true
+pub asked-is : (asked : Bool) (kind : SampleKind) (channels channel size n : ℕ)
+    → refusedBy asked kind channels channel size n ≡ 0 → asked ≡ true
 asked-is true kind channels channel size n h = refl
 asked-is false kind channels channel size n h = absurd (omega arith)
 

@@ -1,2 +1,5 @@
 pub mod Framing
+pub mod Values
 pub mod Fillable
+pub mod Files
+pub mod Ends

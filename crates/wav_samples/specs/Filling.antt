@@ -1,6 +1,5 @@
 -- W1. One channel's samples, frame by frame, whatever a sample is. Definitions only.
-use Prim.Native.Nat.{ℕ, zero, suc, _+_, _*_, _≤_}
-use mathlib.Core.Path.{_≡_}
+use Prim.Native.Nat.{ℕ, zero, suc, _+_, _*_}
 use mathlib.Core.Bool.{Bool, true, _&&_}
 use mathlib.Core.List.{List, [], _∷_}
 use lib.Dec.{eqb, leb, ltb}
@@ -10,11 +9,11 @@ use lib.Ieee.{Float, Format}
 use Rattle.loops.specs.Loops.{listOf}
 use Rattle.refusal_order.specs.Order.{_unless_, firstOf}
 use Rattle.sample_kind.specs.declared.SampleKind.{SampleKind}
-use Rattle.sample_kind.specs.Kinds.{widthOf, frameOf}
+use Rattle.sample_kind.specs.Kinds.{frameOf}
 use Rattle.wav_samples.specs.Samples.{sampleOf, isPcm, wholeNumber}
 
--- 1: not one or two channels, no channel of that number, or a kind that is not asked for. 2: a part of `size` bytes that
--- is not n whole frames.
+-- 1: not one or two channels, no channel of that number, or a kind that is not asked for. 2: a part of `size` bytes
+-- that is not n whole frames.
 abbrev pub refusedBy : Bool → SampleKind → ℕ → ℕ → ℕ → ℕ → ℕ
 refusedBy asked kind channels channel size n =
     firstOf
@@ -29,8 +28,8 @@ verdict kind = refusedBy true kind
 abbrev pub wholeVerdict : SampleKind → ℕ → ℕ → ℕ → ℕ → ℕ
 wholeVerdict kind = refusedBy (isPcm kind) kind
 
--- The samples of n frames of `frame` bytes, each `first` bytes behind its frame's beginning. What stands at a place is a
--- function, so that any layout's samples are such a list.
+-- The samples of n frames of `frame` bytes, each `first` bytes behind its frame's beginning. What stands at a place is
+-- a function, so that any layout's samples are such a list.
 abbrev pub framesOf : {A : Type 0} → (ℕ → A) → ℕ → ℕ → ℕ → List A
 framesOf sample frame first n = listOf (λ (k : ℕ). sample (k * frame + first)) n
 

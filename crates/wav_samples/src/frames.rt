@@ -18,7 +18,8 @@ pub(crate) fn frames(kind: SampleKind, channels: u8, first: usize, part: &[u8], 
     requires { ⌜ Framed kind channels first (length (now part)) (length (now out)) ⌝ }
     ensures { λ _. ⌜
         now (out .exit)
-        ≡ framesOf (sampleOf binary64 kind (now (part .entry))) (frameOf kind channels) first (length (now (out .entry)))
+        ≡ framesOf (sampleOf binary64 kind (now (part .entry))) (frameOf kind channels) first
+        (length (now (out .entry)))
         ⌝ }
 {
     match kind {
@@ -75,7 +76,8 @@ fn pcm24(frame: usize, first: usize, part: &[u8], out: &mut [f64])
 fn float32(frame: usize, first: usize, part: &[u8], out: &mut [f64])
     requires { ⌜ Whole (length (now part)) (length (now out)) frame first 4 ⌝ }
     ensures { λ _. ⌜
-        now (out .exit) ≡ framesOf (sampleOf binary64 Float32 (now (part .entry))) frame first (length (now (out .entry)))
+        now (out .exit) ≡ framesOf (sampleOf binary64 Float32 (now (part .entry))) frame first
+        (length (now (out .entry)))
         ⌝ }
 {
     let mut k: usize = 0;

@@ -17,7 +17,8 @@ pub(crate) fn frames(kind: SampleKind, channels: u8, first: usize, part: &[u8], 
     requires { ⌜ Framed kind channels first (length (now part)) (length (now out)) ⌝ }
     ensures { λ _. ⌜
         now (out .exit)
-        ≡ framesOf (sampleOf binary32 kind (now (part .entry))) (frameOf kind channels) first (length (now (out .entry)))
+        ≡ framesOf (sampleOf binary32 kind (now (part .entry))) (frameOf kind channels) first
+        (length (now (out .entry)))
         ⌝ }
 {
     match kind {
@@ -74,7 +75,8 @@ fn pcm24(frame: usize, first: usize, part: &[u8], out: &mut [f32])
 fn float32(frame: usize, first: usize, part: &[u8], out: &mut [f32])
     requires { ⌜ Whole (length (now part)) (length (now out)) frame first 4 ⌝ }
     ensures { λ _. ⌜
-        now (out .exit) ≡ framesOf (sampleOf binary32 Float32 (now (part .entry))) frame first (length (now (out .entry)))
+        now (out .exit) ≡ framesOf (sampleOf binary32 Float32 (now (part .entry))) frame first
+        (length (now (out .entry)))
         ⌝ }
 {
     let mut k: usize = 0;

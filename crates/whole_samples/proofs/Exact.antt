@@ -1,4 +1,5 @@
--- W1, D3. The law once over the width: up to 24 digits a sample is signed w n / 2^(w-1) with nothing rounded off, in both formats. Assumes nothing.
+-- W1, D3. The law once over the width: up to 24 digits a sample is signed w n / 2^(w-1) with nothing rounded off, in
+-- both formats. Assumes nothing.
 use mathlib.Core.Path.{_≡_, refl, sym, ap, _∙_}
 use mathlib.Core.Bool.{Bool, true, false, cond}
 use Prim.Native.Nat.{ℕ, suc, _+_, _-_, _*_, _%_, _^_, _≤_, _<_}
@@ -40,4 +41,6 @@ exact f w n p h =
     let e : 2 ^ low f ≡ 2 ^ j * 2 ^ (w - 1) = ap (λ (v : ℕ). 2 ^ v) (omega (arith, deep f)) ∙ pow-add 2 j (w - 1) in
     let g : low f < low f + suc (emax f) = omega arith in
     let c : size w n * 2 ^ j ≤ 2 ^ (w - 1) * 2 ^ j = mul-le-mul-right (2 ^ j) s in
-    round-exact f (negative w n) (size w n) (2 ^ (w - 1)) (size w n) j (pow-pos (w - 1)) (omega (arith, wide f)) (omega (arith, c, e, mul-comm (2 ^ j) (2 ^ (w - 1)), pow-lt g)) (ap (λ (v : ℕ). size w n * v) e ∙ sym (mul-assoc (size w n) (2 ^ j) (2 ^ (w - 1))))
+    round-exact f (negative w n) (size w n) (2 ^ (w - 1)) (size w n) j (pow-pos (w - 1)) (omega (arith, wide f))
+    (omega (arith, c, e, mul-comm (2 ^ j) (2 ^ (w - 1)), pow-lt g))
+    (ap (λ (v : ℕ). size w n * v) e ∙ sym (mul-assoc (size w n) (2 ^ j) (2 ^ (w - 1))))

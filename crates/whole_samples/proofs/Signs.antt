@@ -1,5 +1,5 @@
--- Two's complement over the width: by one sum, one remainder and one difference it is what `signed` says, and how large it
--- can be, as it is and in units of 2^-23. Assumes nothing.
+-- Two's complement over the width: by one sum, one remainder and one difference it is what `signed` says, and how large
+-- it can be, as it is and in units of 2^-23. Assumes nothing.
 use mathlib.Core.Path.{_≡_, refl, sym, ap, _∙_}
 use mathlib.Core.Bool.{Bool, true, false, cond}
 use Prim.Native.Nat.{ℕ, zero, suc, _+_, _-_, _*_, _%_, _^_, _≤_, _<_}
@@ -26,7 +26,8 @@ module _ (h m d : ℕ) (two : m ≡ h + h) (l : d < m) where
       by : (t : Bool) → leb h d ≡ t → subℕ ((d + h) % m) h ≡ cond t (negℤ (pos (size t))) (pos (size t))
       by true e =
           let g = leb-true h d e in
-          let cut : (d + h) % m ≡ d - h = mod-eq-sub-mod {n = d + h} {m = m} (omega arith) ∙ mod-eq-of-lt {m = m} (omega arith) ∙ omega arith in
+          let cut : (d + h) % m ≡ d - h = mod-eq-sub-mod {n = d + h} {m = m} (omega arith)
+          ∙ mod-eq-of-lt {m = m} (omega arith) ∙ omega arith in
           let back : m - d ≡ suc (h - suc (d - h)) = omega arith in
           rw (cut, lt-ltb (d - h) h (omega arith), back)
       by false e =
@@ -50,7 +51,8 @@ signed-small w n p = by (leb (2 ^ (w - 1)) (n % 2 ^ w)) refl
     below = mod-lt n (pow-pos w)
 
     by : (t : Bool) → leb (2 ^ (w - 1)) (n % 2 ^ w) ≡ t
-        → mag (cond t (negℤ (pos (cond t (2 ^ w - n % 2 ^ w) (n % 2 ^ w)))) (pos (cond t (2 ^ w - n % 2 ^ w) (n % 2 ^ w)))) < 2 ^ (w - 1)
+        → mag (cond t (negℤ (pos (cond t (2 ^ w - n % 2 ^ w) (n % 2 ^ w))))
+        (pos (cond t (2 ^ w - n % 2 ^ w) (n % 2 ^ w)))) < 2 ^ (w - 1)
     by true e =
         rw (mag-negative (2 ^ w - n % 2 ^ w) (omega (arith, below)))
         (omega (arith, leb-true (2 ^ (w - 1)) (n % 2 ^ w) e, twice, below))
@@ -65,7 +67,8 @@ signed-few w n p h =
 
 scaled-small : (z : ℤ) (b m : ℕ) → 0 < m → mag z < b → mag (z *ℤ pos m) < b * m
 scaled-small (pos a) b m p h = omega (arith, mul-le-mul-right m h, suc-mul a m)
-scaled-small (negsuc a) b m p h = rw (mag-negative (suc a * m) (omega (arith, suc-mul a m))) (omega (arith, mul-le-mul-right m h, suc-mul a m))
+scaled-small (negsuc a) b m p h = rw (mag-negative (suc a * m) (omega (arith, suc-mul a m)))
+    (omega (arith, mul-le-mul-right m h, suc-mul a m))
 
 -- W1e. Up to 24 digits the number in units of 2^-23 is one of 24 bits.
 pub units-small : (w n : ℕ) → 0 < w → w ≤ 24 → mag (unitsOf w n) < 2 ^ 23

@@ -43,8 +43,8 @@ pub fn wav_read_wrapped(file: &[u8]) -> (u8, WavePart) {
     (number, w)
 }
 
-/// What a file says of its samples, refused or not: the size of its first `fmt `, tag, channels, block size and bits, and
-/// the size of its first `data`; zeros where there is none.
+/// What a file says of its samples, refused or not: the size of its first `fmt `, tag, channels, block size and bits,
+/// and the size of its first `data`; zeros where there is none.
 #[derive(Clone, Copy, Debug, Default, PartialEq, Eq)]
 pub struct FormatTold {
     pub size: usize,

@@ -13,7 +13,7 @@ pub const EXPORTS: &[Export] = &[
     ("fugnadri_wav_read_wrapped", |t| read(t, true, b::wav_read_wrapped)),
     ("fugnadri_wav_told", told),
     ("fugnadri_wav_samples", |t| samples(t, t.memory.doubles, b::wav_samples, 2, value)),
-    ("fugnadri_wav_samples_f32", |t| samples(t, t.memory.floats, b::wav_samples_f32, 2, |k, b, n| value(k, b, n) as f32)),
+    ("fugnadri_wav_samples_f32", |t| samples(t, t.memory.floats, b::wav_samples_f32, 2, value_f32)),
     ("fugnadri_wav_whole", |t| samples(t, t.memory.wholes, b::wav_whole, 1, whole)),
 ];
 
@@ -63,6 +63,10 @@ fn value(kind: u8, part: &[u8], k: usize) -> f64 {
         2 => f64::from(f32::from_le_bytes(part[4 * k..4 * k + 4].try_into().unwrap())),
         _ => f64::from(whole(kind, part, k)) / 8388608.0,
     }
+}
+
+fn value_f32(kind: u8, part: &[u8], k: usize) -> f32 {
+    value(kind, part, k) as f32
 }
 
 /// Sample k of PCM in units of 2^-23.

@@ -78,11 +78,13 @@ pub fn file(r: &mut Random) -> Vec<u8> {
             }),
             _ => (b"LIST", (0..r.word() % 9).map(|_| r.word() as u8).collect::<Vec<u8>>()),
         };
-        let size = if r.one_in(64) { r.pick(&[0, u32::MAX, body.len() as u32 + 1, 1 << 31]) } else { body.len() as u32 };
+        let length = body.len() as u32;
+        let size = if r.one_in(64) { r.pick(&[0, u32::MAX, length + 1, 1 << 31]) } else { length };
         chunk(&mut rest, id, size, &body, !r.one_in(32));
     }
     rest.truncate(if r.one_in(8) { rest.len() - (r.word() % 9) as usize } else { rest.len() });
-    let size = if r.one_in(16) { r.pick(&[0, 3, 4, 5, rest.len() as u32 + 1, (rest.len() / 2) as u32, u32::MAX]) } else { rest.len() as u32 };
+    let length = rest.len() as u32;
+    let size = if r.one_in(16) { r.pick(&[0, 3, 4, 5, length + 1, length / 2, u32::MAX]) } else { length };
     let mut all = Vec::new();
     chunk(&mut all, if r.one_in(64) { b"RIFX" } else { b"RIFF" }, size, &rest, false);
     all.resize(all.len() + if r.one_in(4) { (r.word() % 12) as usize } else { 0 }, 3);
@@ -99,7 +101,7 @@ fn half(f: &[u8], at: usize) -> u16 {
 
 type Spot = Option<(usize, usize)>;
 
-/// The same walk, plainly, before an end: the first `fmt ` and the first `data`, and whether the last chunk runs past it.
+/// The walk, plainly, before an end: the first `fmt ` and the first `data`, and whether the last chunk runs past it.
 pub fn walk(f: &[u8], end: usize) -> (Spot, Spot, bool) {
     let (mut at, mut fmt, mut data, mut over) = (12, None, None, false);
     while at + 8 <= end && data.is_none() && !over {

@@ -1,4 +1,5 @@
--- `wav_samples::widened` meets its contract: which patterns are read as the NaN, and any other f32 is an f64 too. Assumes nothing.
+-- `wav_samples::widened` meets its contract: which patterns are read as the NaN, and any other f32 is an f64 too.
+-- Assumes nothing.
 use borrow.Author.Needs.{needs}
 use mathlib.Core.Path.{_≡_, refl, _∙_}
 use native.Mathlib.Omega.{arith}
@@ -25,7 +26,8 @@ float-to-float-result : tie.Need-float-to-float-result
 float-to-float-result c =
     let n = c .before .before .args .n in
     let x = ofBits binary32 n in
-    and-i (fits binary64 x) (not (isNan x)) (fits-widens x (ofBits-fits binary32 n)) (rw (nanBits-is binary32 n) at (float-from-bits-result (c .before)))
+    and-i (fits binary64 x) (not (isNan x)) (fits-widens x (ofBits-fits binary32 n))
+    (rw (nanBits-is binary32 n) at (float-from-bits-result (c .before)))
 
 pub widened-spec : {M : Type 1} → statement M
 widened-spec = tie.close (tie.spec returns float-from-bits-result float-to-float-result (λ c. search needs))

@@ -1,4 +1,5 @@
--- `whole_samples::whole16` meets its contract: the number handed back, times 256, is still one of 24 bits. Assumes nothing.
+-- `whole_samples::whole16` meets its contract: the number handed back, times 256, is still one of 24 bits. Assumes
+-- nothing.
 use borrow.Author.Needs.{needs}
 use mathlib.Core.Path.{_≡_, ap}
 use lib.Dec.{lit≤}
@@ -11,10 +12,12 @@ use Rattle.whole_samples.proofs.whole16.Statement.{statement}
 use Rattle.whole_samples.proofs.whole16.Tie as tie
 
 worked : (c : tie.After-signed16) → toZ w32 (ofZ w32 (c .signed16 .result)) *ℤ pos 256 ≡ unitsOf 16 (c .before .args .n)
-worked c = ap (λ (z : ℤ). z *ℤ pos 256) (kept (c .signed16 .ensures) (signed-few 16 (c .before .args .n) (lit≤ tt) (lit≤ tt)))
+worked c = ap (λ (z : ℤ). z *ℤ pos 256) (kept (c .signed16 .ensures)
+    (signed-few 16 (c .before .args .n) (lit≤ tt) (lit≤ tt)))
 
 mul-result : tie.Need-mul-result
-mul-result c = rw (worked c) (fits-i32 (unitsOf 16 (c .before .args .n)) (units-small 16 (c .before .args .n) (lit≤ tt) (lit≤ tt)))
+mul-result c = rw (worked c) (fits-i32 (unitsOf 16 (c .before .args .n))
+    (units-small 16 (c .before .args .n) (lit≤ tt) (lit≤ tt)))
 
 returns : tie.Need-returns
 returns c = kept (worked c) (units-small 16 (c .before .args .n) (lit≤ tt) (lit≤ tt))

@@ -7,10 +7,10 @@ use Rattle.replay_files.proofs.heard.put_bytes.Statement.{statement}
 use Rattle.replay_files.proofs.heard.put_bytes.Tie as tie
 
 abbrev Inv-loop : tie.InvT-loop
-Inv-loop text file₀ k₀ file k = (k ≤ 1024) × (length file ≡ length file₀)
+Inv-loop text file₀ k₀ file k = (k ≤ 512) × (length file ≡ length file₀)
 
 abbrev μ-loop : tie.MeasureT-loop
-μ-loop text file₀ k₀ file k = 1024 - k
+μ-loop text file₀ k₀ file k = 512 - k
 
 pub put-bytes-spec : {M : Type 1} → statement M
 put-bytes-spec =

@@ -5,10 +5,10 @@ use Rattle.replay_files.proofs.samples.tell.Statement.{statement}
 use Rattle.replay_files.proofs.samples.tell.Tie as tie
 
 abbrev Inv-loop : tie.InvT-loop
-Inv-loop doubles floats wholes n k₀ k = k ≤ 256
+Inv-loop doubles floats wholes n k₀ k = k ≤ 128
 
 abbrev μ-loop : tie.MeasureT-loop
-μ-loop doubles floats wholes n k₀ k = 256 - k
+μ-loop doubles floats wholes n k₀ k = 128 - k
 
 pub tell-spec : {M : Type 1} → statement M
 tell-spec =

@@ -25,22 +25,33 @@ returns-2 c = simp (is-asked (c .before .before .args .asked) (c .before .if1 .l
 returns-3 : tie.Need-returns-3
 returns-3 c =
     let e = c .before in
-    simp (is-asked (e .before .before .args .asked) (e .before .if1 .left), le-leb _ _ (e .if2 .left), le-ltb _ _ (c .if3 .taken))
+    simp (
+      is-asked (e .before .before .args .asked) (e .before .if1 .left),
+      le-leb _ _ (e .if2 .left),
+      le-ltb _ _ (c .if3 .taken),
+    )
 
 -- a frame has bytes, as soon as there is a channel
 some : (c : tie.After-frame-width) → 0 < c .frame-width .result
 some c =
     let s = c .before .before .before .before in
-    rw (c .frame-width .ensures) (some-bytes (s .args .kind) (s .args .channel) (s .args .channels) (c .before .if3 .left))
+    rw (c .frame-width .ensures) (some-bytes (s .args .kind) (s .args .channel) (s .args .channels)
+    (c .before .if3 .left))
 
 -- the tests of 1 are passed: what is due is 2 unless the part is n frames
 passed : (c : tie.After-frame-width) (v : ℕ)
     → v ≡ firstOf (2 unless eqb (started c .args .size) (started c .args .n * c .frame-width .result) ∷ [])
-    → v ≡ refusedBy (started c .args .asked) (started c .args .kind) (started c .args .channels) (started c .args .channel) (started c .args .size) (started c .args .n)
+    → v ≡ refusedBy (started c .args .asked) (started c .args .kind) (started c .args .channels)
+    (started c .args .channel) (started c .args .size) (started c .args .n)
 passed c v h =
     let e = c .before .before in
-    simp (is-asked (e .before .before .args .asked) (e .before .if1 .left), le-leb _ _ (e .if2 .left), lt-ltb _ _ (c .before .if3 .left))
-    (h ∙ ap (λ (m : ℕ). firstOf (2 unless eqb (started c .args .size) (started c .args .n * m) ∷ [])) (c .frame-width .ensures))
+    simp (
+      is-asked (e .before .before .args .asked) (e .before .if1 .left),
+      le-leb _ _ (e .if2 .left),
+      lt-ltb _ _ (c .before .if3 .left),
+    )
+    (h ∙ ap (λ (m : ℕ). firstOf (2 unless eqb (started c .args .size) (started c .args .n * m) ∷ []))
+    (c .frame-width .ensures))
 
 rem-if4 : tie.Need-rem-if4
 rem-if4 c = omega (arith, some c)
@@ -62,4 +73,5 @@ returns-6 c =
     passed b 0 (simp (eq-eqb _ _ (frames-are _ (started b .args .n) _ (c .before .if4 .left) (c .if5 .left))))
 
 pub refusal-spec : {M : Type 1} → statement M
-refusal-spec = tie.close (tie.spec returns returns-2 returns-3 (λ c κs. search needs) rem-if4 returns-4 div-if5 returns-5 returns-6)
+refusal-spec = tie.close (tie.spec returns returns-2 returns-3 (λ c κs. search needs) rem-if4 returns-4 div-if5
+    returns-5 returns-6)

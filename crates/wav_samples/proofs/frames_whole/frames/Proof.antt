@@ -7,7 +7,8 @@ use Rattle.wav_samples.proofs.frames_whole.frames.Statement.{statement}
 use Rattle.wav_samples.proofs.frames_whole.frames.Tie as tie
 
 pcm16-requires : tie.Need-pcm16-requires
-pcm16-requires c κs = let t = c .before .before in whole-of 1 (t .before .before .before .pre .1) (t .enum-told .given .1) (c .before .if1 .taken)
+pcm16-requires c κs = let t = c .before .before in
+    whole-of 1 (t .before .before .before .pre .1) (t .enum-told .given .1) (c .before .if1 .taken)
 
 pcm16-requires-2 : tie.Need-pcm16-requires-2
 pcm16-requires-2 c κs =
@@ -23,10 +24,12 @@ returns c =
 returns-2 : tie.Need-returns-2
 returns-2 c =
     let t = c .before .before .before .before in
-    rw (t .enum-told .given .1, two-channels (t .before .before .before .pre .1) (c .before .before .before .if1 .left)) (c .before .pcm162 .ensures)
+    rw (t .enum-told .given .1, two-channels (t .before .before .before .pre .1) (c .before .before .before .if1 .left))
+    (c .before .pcm162 .ensures)
 
 pcm24-requires : tie.Need-pcm24-requires
-pcm24-requires c κs = let t = c .before .before in whole-of 1 (t .before .before .before .pre .1) (t .enum-told2 .given .1) (c .before .if2 .taken)
+pcm24-requires c κs = let t = c .before .before in
+    whole-of 1 (t .before .before .before .pre .1) (t .enum-told2 .given .1) (c .before .if2 .taken)
 
 pcm24-requires-2 : tie.Need-pcm24-requires-2
 pcm24-requires-2 c κs =
@@ -42,7 +45,11 @@ returns-3 c =
 returns-4 : tie.Need-returns-4
 returns-4 c =
     let t = c .before .before .before .before in
-    rw (t .enum-told2 .given .1, two-channels (t .before .before .before .pre .1) (c .before .before .before .if2 .left)) (c .before .pcm242 .ensures)
+    rw (
+      t .enum-told2 .given .1,
+      two-channels (t .before .before .before .pre .1)
+          (c .before .before .before .if2 .left),
+    ) (c .before .pcm242 .ensures)
 
 returns-5 : tie.Need-returns-5
 returns-5 c = absurd (true≢false (sym (rw (c .enum-told3 .given .1) at (c .before .before .before .pre .0))))
@@ -50,5 +57,7 @@ returns-5 c = absurd (true≢false (sym (rw (c .enum-told3 .given .1) at (c .bef
 pub frames-spec : {M : Type 1} → statement M
 frames-spec =
     tie.close
-    (tie.spec (λ c. search needs) pcm16-requires pcm16-requires-2 (λ c. search needs) pcm24-requires pcm24-requires-2 (λ c. search needs)
-    (λ c. search needs) returns (λ c. search needs) returns-2 (λ c. search needs) returns-3 (λ c. search needs) returns-4 returns-5)
+    (tie.spec (λ c. search needs) pcm16-requires pcm16-requires-2 (λ c. search needs) pcm24-requires pcm24-requires-2
+    (λ c. search needs)
+    (λ c. search needs) returns (λ c. search needs) returns-2 (λ c. search needs) returns-3 (λ c. search needs)
+    returns-4 returns-5)

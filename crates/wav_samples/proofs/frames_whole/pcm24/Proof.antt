@@ -1,4 +1,5 @@
--- `wav_samples::frames_whole::pcm24` meets its contract: a list that is written by a rule, and each sample lies in the part. Assumes nothing.
+-- `wav_samples::frames_whole::pcm24` meets its contract: a list that is written by a rule, and each sample lies in the
+-- part. Assumes nothing.
 use borrow.Author.Needs.{needs}
 use mathlib.Core.Path.{ap, _∙_}
 use Prim.Native.Nat.{ℕ, _+_, _-_, _*_}
@@ -26,7 +27,9 @@ pcm24-spec =
     (λ c. omega (arith, place (c .before .loop .k) (c .before .before .before .pre) (omega arith)))
     (λ c. omega (arith, place (c .before .loop .k) (c .before .before .before .pre) (omega arith)))
     (λ c κs. omega (arith, place (c .before .loop .k) (c .before .before .before .pre) (omega arith)))
-    (λ c κs. search needs) (λ c. search needs) (λ c. search needs) (λ c. search needs) (λ c. simp length-set (omega arith))
+    (λ c κs. search needs) (λ c. search needs) (λ c. search needs) (λ c. search needs)
+    (λ c. simp length-set (omega arith))
     (λ c. written-more (c .before .before .before .loop .inv) (omega arith)
-    (kept (c .whole24 .ensures) (units-small 24 (c .before .three-at .result) (lit≤ tt) (lit≤ tt)) ∙ ap (unitsOf 24) (c .before .three-at .ensures)))
+    (kept (c .whole24 .ensures) (units-small 24 (c .before .three-at .result) (lit≤ tt) (lit≤ tt))
+    ∙ ap (unitsOf 24) (c .before .three-at .ensures)))
     (λ c. search needs) (λ c. all-written (c .before .loop .inv) (omega arith)))

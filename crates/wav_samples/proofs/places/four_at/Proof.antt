@@ -14,4 +14,5 @@ returns c =
     omega (arith, c .of-four .ensures, first-byte 3 b at, later-byte 2 b at 1, later-byte 1 b at 2, later-byte 0 b at 3)
 
 pub four-at-spec : {M : Type 1} → statement M
-four-at-spec = tie.close (tie.spec (λ c. search needs) (λ c. search needs) (λ c. search needs) (λ c. search needs) (λ c. search needs) (λ c. search needs) (λ c. search needs) (λ c κs. search needs) returns)
+four-at-spec = tie.close (tie.spec (λ c. search needs) (λ c. search needs) (λ c. search needs) (λ c. search needs)
+    (λ c. search needs) (λ c. search needs) (λ c. search needs) (λ c κs. search needs) returns)

@@ -14,4 +14,5 @@ returns c =
     omega (arith, c .of-three .ensures .0, first-byte 2 b at, later-byte 1 b at 1, later-byte 0 b at 2)
 
 pub three-at-spec : {M : Type 1} → statement M
-three-at-spec = tie.close (tie.spec (λ c. search needs) (λ c. search needs) (λ c. search needs) (λ c. search needs) (λ c. search needs) (λ c κs. search needs) returns)
+three-at-spec = tie.close (tie.spec (λ c. search needs) (λ c. search needs) (λ c. search needs) (λ c. search needs)
+    (λ c. search needs) (λ c κs. search needs) returns)

@@ -14,4 +14,5 @@ returns c =
     omega (arith, c .of-two .ensures .0, first-byte 1 b at, later-byte 0 b at 1)
 
 pub two-at-spec : {M : Type 1} → statement M
-two-at-spec = tie.close (tie.spec (λ c. search needs) (λ c. search needs) (λ c. search needs) (λ c κs. search needs) returns)
+two-at-spec = tie.close (tie.spec (λ c. search needs) (λ c. search needs) (λ c. search needs) (λ c κs. search needs)
+    returns)
