@@ -14,8 +14,7 @@ use Rattle.wav_write.specs.declared.Written.{Written}
 use Rattle.wav_write.specs.declared.Written.the-variants as answers
 use Rattle.wav_write.specs.Writing.{answerOf, written}
 
--- What a call leaves: the refusal's number, which it returns, 0 for none, a file's length where it tells one, and the lent
--- bytes.
+-- What writing a file leaves: the refusal's number, which it returns, 0 for none, the file's length, and the lent bytes.
 pub record Left : Type 0 where
   pub refusal : ℕ
   pub size : ℕ
@@ -41,19 +40,26 @@ fileLeft code channels rate samples old =
     (leaves (numberOf answer) (sizeOf answer) (written (kindOf code) channels rate samples old))
     (leaves (unlistedVerdict channels rate (length samples)) 0 old)
 
--- ---- its parts, which tell no length: 0 stands there
-abbrev pub headerLeft : ℕ → ℕ → ℕ → ℕ → List ℕ → Left
+-- ---- its parts, which tell no length
+pub record Block : Type 0 where
+  pub refusal : ℕ
+  pub bytes : List ℕ
+
+abbrev pub holds : ℕ → List ℕ → Block
+holds refusal bytes = record { refusal = refusal; bytes = bytes }
+
+abbrev pub headerLeft : ℕ → ℕ → ℕ → ℕ → List ℕ → Block
 headerLeft code channels rate count old =
     cond (leb code 2)
-    (leaves (headerVerdict (kindOf code) channels rate count (length old)) 0 (headerIn (kindOf code) channels rate count old))
-    (leaves (unlistedVerdict channels rate count) 0 old)
+    (holds (headerVerdict (kindOf code) channels rate count (length old)) (headerIn (kindOf code) channels rate count old))
+    (holds (unlistedVerdict channels rate count) old)
 
 -- A block of samples of an unknown kind has no length that could be wrong: 13.
-abbrev pub blockLeft : ℕ → List Float → List ℕ → Left
+abbrev pub blockLeft : ℕ → List Float → List ℕ → Block
 blockLeft code samples old =
     cond (leb code 2)
-    (leaves (storing.verdict (kindOf code) samples (length old)) 0 (storing.stored (kindOf code) samples old))
-    (leaves 13 0 old)
+    (holds (storing.verdict (kindOf code) samples (length old)) (storing.stored (kindOf code) samples old))
+    (holds 13 old)
 
 abbrev pub lengthOf : ℕ → ℕ → ℕ → ℕ
 lengthOf code channels count = cond (leb code 2) (lengthFor (kindOf code) channels count) 0

@@ -68,7 +68,13 @@ fn replay(heard: Heard, words: &[u64; 64]) {
     put_all(words, &mut samples[..]);
     let mut out = [0xA5u8; 512];
     let room = within(heard.room, 512);
-    let answer = wav_write::write(kind, heard.channels, heard.rate, &samples[..n], &mut out[..room]);
+    let answer = wav_write::write(
+        kind,
+        heard.channels,
+        heard.rate,
+        &samples[..n],
+        &mut out[..room],
+    );
     let told = wav_header::file_length(kind, heard.channels, n);
     tell(refusal(answer), length(answer), told, &out, room);
 }
@@ -80,7 +86,13 @@ fn replay_f32(heard: Heard, words: &[u64; 64]) {
     put_all_f32(words, &mut samples[..]);
     let mut out = [0xA5u8; 512];
     let room = within(heard.room, 512);
-    let answer = wav_write::write_f32(kind, heard.channels, heard.rate, &samples[..n], &mut out[..room]);
+    let answer = wav_write::write_f32(
+        kind,
+        heard.channels,
+        heard.rate,
+        &samples[..n],
+        &mut out[..room],
+    );
     let told = wav_header::file_length(kind, heard.channels, n);
     tell(refusal(answer), length(answer), told, &out, room);
 }
