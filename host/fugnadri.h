@@ -1,7 +1,7 @@
 /* fugnadri.h: every function that Fugnadri's static libraries export, for C.
  *
  * Libraries (x86-64, System V calls): libfugnadri.a, libfugnadri_wander.a, libfugnadri_numbers.a, libfugnadri_tables.a, libfugnadri_bank.a,
- * libfugnadri_wav.a, libfugnadri_residual.a;
+ * libfugnadri_wav.a, libfugnadri_wav_write.a, libfugnadri_residual.a;
  * `rt staticlib NAME` makes each. They want `memset` and nothing else of a C library, allocate nothing, keep nothing between calls and may be called by
  * any thread that owns what it lends.
  *
