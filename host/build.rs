@@ -2,7 +2,16 @@
 
 use std::{env, path::PathBuf, process::exit};
 
-const LIBRARIES: [&str; 7] = ["fugnadri_wav", "fugnadri_residual", "fugnadri_bank", "fugnadri_tables", "fugnadri_wander", "fugnadri_numbers", "fugnadri"];
+const LIBRARIES: [&str; 8] = [
+    "fugnadri_wav",
+    "fugnadri_wav_write",
+    "fugnadri_residual",
+    "fugnadri_bank",
+    "fugnadri_tables",
+    "fugnadri_wander",
+    "fugnadri_numbers",
+    "fugnadri",
+];
 
 fn main() {
     println!("cargo:rerun-if-env-changed=FUGNADRI_LIB");

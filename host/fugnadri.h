@@ -1,7 +1,7 @@
 /* fugnadri.h: every function that Fugnadri's static libraries export, for C.
  *
  * Libraries (x86-64, System V calls): libfugnadri.a, libfugnadri_wander.a, libfugnadri_numbers.a, libfugnadri_tables.a, libfugnadri_bank.a,
- * libfugnadri_wav.a, libfugnadri_residual.a;
+ * libfugnadri_wav.a, libfugnadri_wav_write.a, libfugnadri_residual.a;
  * `rt staticlib NAME` makes each. They want `memset` and nothing else of a C library, allocate nothing, keep nothing between calls and may be called by
  * any thread that owns what it lends.
  *
@@ -9,7 +9,7 @@
  * aligned address) and what is written through must not overlap anything else that is lent in the same call.
  *
  * Answers: where a function returns uint8_t, that is the refusal's number, 0 for none. A refused call writes 0 through each pointer to an answer (a
- * sample, a value, offsets, a choice of sets, a file's part) and leaves a state, also one that it was to open, and every lent element as they were.
+ * sample, a value, offsets, a choice of sets, a file's part or length) and leaves a state, also one that it was to open, and every lent element as they were.
  * Each function is proved to answer as said for all arguments.
  *
  *   1  a setting or an argument is outside its range      5  the delay is NaN, infinite or below zero
@@ -21,7 +21,9 @@
  *  10  a chunk of the file, or its RIFF, runs past the end
  *  11  the file has no `fmt ` before its first `data`
  *  12  the file has no `data`
- *  13  the file's samples are of a kind that is not read, its `fmt ` is under 16 bytes, or its sizes do not agree
+ *  13  the samples are of a kind that is not read or written, the file's `fmt ` is under 16 bytes, or its sizes do not agree
+ *  14  the buffer is shorter than the file
+ *  15  a sample is out of range or NaN
  *
  * They are tested in this order. `maximum`, `margin`, taps, phases, rates and the fade length are settings (1) wherever they are handed in.
  * Of the NaNs only two patterns are handed out, as a float too: 7FF8000000000000, and 7FC00000 for float. A name that ends
@@ -50,7 +52,9 @@ enum {
     FUGNADRI_OVERRUN = 10,
     FUGNADRI_NO_FORMAT = 11,
     FUGNADRI_NO_DATA = 12,
-    FUGNADRI_KIND = 13
+    FUGNADRI_KIND = 13,
+    FUGNADRI_ROOM = 14,
+    FUGNADRI_SAMPLE = 15
 };
 
 /* ---- libfugnadri.a: delay readers without a table ----------------------------------------------------------------------------------------
@@ -222,6 +226,29 @@ uint8_t fugnadri_wav_samples_f32(uint8_t kind, uint8_t channels, uint8_t channel
 /* The same as whole numbers in units of 2^-23, as the residual takes them: 24 bits as they are stored, 16 bits times 256. A
  * float's kind is refused by 1. */
 uint8_t fugnadri_wav_whole(uint8_t kind, uint8_t channels, uint8_t channel, const uint8_t *part, size_t part_len, int32_t *out, size_t out_len);
+
+/* ---- libfugnadri_wav_write.a: RIFF WAVE files written ---------------------------------------------------------------
+ *
+ * `kind` is as above, the rate 8000 to 768000, the channels 1 or 2. Samples are those of all channels, frame by frame. Each is
+ * rounded to nearest, ties to even: PCM to whole multiples of 2^-15 or 2^-23, float to 32 bits. One that is NaN, or whose
+ * rounded value does not fit (PCM: -1 to just below 1; float: infinite), is refused by 15 and not clipped. */
+
+/* How long the file of `count` samples is, over all channels: 44 bytes of header for PCM, 58 for float, the samples, and a pad
+ * byte behind an odd number of bytes. 0 where it is refused by 1 or 13 whatever the rate. */
+size_t fugnadri_wav_file_length(uint8_t kind, uint8_t channels, size_t count);
+
+/* The file into `out`; `*written` is its length, and what stands behind it stays as it was. Refused by 1 (the rate, broken
+ * frames, a file past 32 bits), 13 (the kind, the channels), 14 (`out` is shorter than the file) or 15, in this order, and
+ * then nothing is written but 0 to `*written`. */
+uint8_t fugnadri_wav_write(uint8_t kind, uint8_t channels, uint32_t rate, const double *samples, size_t samples_len, uint8_t *out, size_t out_len, size_t *written);
+uint8_t fugnadri_wav_write_f32(uint8_t kind, uint8_t channels, uint32_t rate, const float *samples, size_t samples_len, uint8_t *out, size_t out_len, size_t *written);
+
+/* The same piece by piece: the bytes before `count` samples, into 44 or 58 bytes (refused by 1, 2 or 13), then block by block
+ * the samples, into 2, 3 or 4 bytes each (refused by 2, 13 or 15; an unknown kind has no length that could be wrong). A pad
+ * byte behind an odd number of bytes is the caller's. A refused call writes nothing. */
+uint8_t fugnadri_wav_header(uint8_t kind, uint8_t channels, uint32_t rate, size_t count, uint8_t *out, size_t out_len);
+uint8_t fugnadri_wav_store(uint8_t kind, const double *samples, size_t samples_len, uint8_t *out, size_t out_len);
+uint8_t fugnadri_wav_store_f32(uint8_t kind, const float *samples, size_t samples_len, uint8_t *out, size_t out_len);
 
 /* ---- libfugnadri_residual.a: the residual in whole numbers ---------------------------------------------------------------------------------
  *

@@ -21,13 +21,14 @@ mod workloads {
     pub mod sinc;
     pub mod square_root;
     pub mod wav;
+    pub mod wav_store;
 }
 
 use std::hint::black_box;
 use std::time::Instant;
 
 /// A file of workloads/ each, by name: making one may take seconds.
-const WORKLOADS: [(&str, fn() -> Workload); 37] = [
+const WORKLOADS: [(&str, fn() -> Workload); 43] = [
     ("narrow", workloads::narrow::workload),
     ("fused32", workloads::fused32::workload),
     ("fused64", workloads::fused64::workload),
@@ -65,6 +66,12 @@ const WORKLOADS: [(&str, fn() -> Workload); 37] = [
     ("wav_float_stereo", workloads::wav::float_stereo),
     ("wav_float_f32", workloads::wav::float_f32),
     ("residual", workloads::residual::workload),
+    ("store_pcm16", workloads::wav_store::pcm16),
+    ("store_pcm16_f32", workloads::wav_store::pcm16_f32),
+    ("store_pcm24", workloads::wav_store::pcm24),
+    ("store_pcm24_f32", workloads::wav_store::pcm24_f32),
+    ("store_float", workloads::wav_store::float),
+    ("store_float_f32", workloads::wav_store::float_f32),
 ];
 
 pub struct Workload {

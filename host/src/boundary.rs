@@ -19,6 +19,9 @@ pub use tables::*;
 #[path = "boundary/wav.rs"]
 mod wav;
 pub use wav::*;
+#[path = "boundary/wav_write.rs"]
+mod wav_write;
+pub use wav_write::*;
 
 /// Declares functions over numbers, and wraps each under its name without the prefix.
 macro_rules! numbers {

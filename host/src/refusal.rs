@@ -1,4 +1,4 @@
-//! Why a call was refused: 01's numbers 1 to 8, and 9 to 13 of document 02's Wish 1.
+//! Why a call was refused: 01's numbers 1 to 8, and 9 to 15 of document 02's Wishes 1 and 2.
 
 use std::{error::Error, fmt};
 
@@ -30,8 +30,12 @@ pub enum Refusal {
     NoFormat = 11,
     /// The file has no `data`.
     NoData = 12,
-    /// The file's samples are of a kind that is not read, or its sizes do not agree.
+    /// The samples are of a kind that is not read or written, or the file's sizes do not agree.
     Kind = 13,
+    /// The buffer is shorter than the file that is to be written.
+    Room = 14,
+    /// A sample that is to be written is out of range or NaN.
+    Sample = 15,
 }
 
 use Refusal::*;
@@ -58,8 +62,10 @@ impl Refusal {
             11 => NoFormat,
             12 => NoData,
             13 => Kind,
+            14 => Room,
+            15 => Sample,
             other => unreachable!(
-                "the static libraries refuse by 1 to 13, not by {other}: this crate was written for others"
+                "the static libraries refuse by 1 to 15, not by {other}: this crate was written for others"
             ),
         })
     }
@@ -83,6 +89,11 @@ impl fmt::Display for Refusal {
             Kind => {
                 "the file's samples are of another kind, or its sizes do not agree (`wav::told` says what it tells): \
                  save it as PCM of 16 or 24 bits or float of 32, one or two channels"
+            }
+            Room => "the buffer is shorter than the file: lend as many bytes as `wav::file_length` says",
+            Sample => {
+                "a sample is NaN, or does not fit once it is rounded (PCM holds -1 to just below 1): \
+                 make the samples quieter, or write float of 32"
             }
         };
         write!(f, "refused by {}: {why}", self.number())

@@ -1,8 +1,12 @@
-//! RIFF WAVE files that lie in memory: the part that holds samples, what they are, and each channel's samples.
+//! RIFF WAVE files that lie in memory: the part that holds samples, what they are, and each channel's samples; and files
+//! written.
 //!
 //! [`read`] takes PCM of 16 and 24 bits and IEEE float of 32, of one or two channels. [`read_wrapped`] takes besides
 //! what sox and ffmpeg wrap as WAVE_FORMAT_EXTENSIBLE (tag FFFE). Any other file is refused by 9 to 13; [`told`] says
 //! what it tells of itself.
+//!
+//! [`write`] makes a file of samples: rounded to nearest, ties to even, and refused where one does not fit. What is read
+//! back has the same kind, channels and rate, and the same stored samples.
 
 use crate::{boundary as b, Refusal};
 
@@ -82,4 +86,42 @@ impl Wave<'_> {
         let mut out = vec![T::default(); self.frames()];
         Refusal::of(fill(self.kind as u8, self.channels, channel, self.part, &mut out)).map(|()| out)
     }
+}
+
+/// A file of samples, which are those of all channels, frame by frame. Refused by 1 (a rate outside 8000 to 768000, broken
+/// frames, a file past 32 bits), 13 (channels other than one or two) or 15 (a sample is NaN, or does not fit once it is
+/// rounded).
+pub fn write(kind: SampleKind, channels: u8, rate: u32, samples: &[f64]) -> Result<Vec<u8>, Refusal> {
+    let mut file = vec![0; file_length(kind, channels, samples.len())];
+    write_into(kind, channels, rate, samples, &mut file).map(|_| file)
+}
+
+/// The same of f32s.
+pub fn write_f32(kind: SampleKind, channels: u8, rate: u32, samples: &[f32]) -> Result<Vec<u8>, Refusal> {
+    let mut file = vec![0; file_length(kind, channels, samples.len())];
+    write_into_f32(kind, channels, rate, samples, &mut file).map(|_| file)
+}
+
+/// How long a file of `count` samples is, over all channels; 0 where it is refused by 1 or 13 whatever the rate.
+pub fn file_length(kind: SampleKind, channels: u8, count: usize) -> usize {
+    b::wav_file_length(kind as u8, channels, count)
+}
+
+/// [`write`] into a buffer: the file's length. What stands behind the file stays as it was. Refused besides by 14, a buffer
+/// that is shorter than the file; a refused call writes nothing.
+pub fn write_into(kind: SampleKind, channels: u8, rate: u32, samples: &[f64], out: &mut [u8]) -> Result<usize, Refusal> {
+    let (number, length) = b::wav_write(kind as u8, channels, rate, samples, out);
+    Refusal::of(number).map(|()| length)
+}
+
+/// The same of f32s.
+pub fn write_into_f32(
+    kind: SampleKind,
+    channels: u8,
+    rate: u32,
+    samples: &[f32],
+    out: &mut [u8],
+) -> Result<usize, Refusal> {
+    let (number, length) = b::wav_write_f32(kind as u8, channels, rate, samples, out);
+    Refusal::of(number).map(|()| length)
 }

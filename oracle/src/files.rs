@@ -1,5 +1,6 @@
-//! `files tone FOLDER` writes a tone for every kind, number of channels and rate; `files compare FOLDER` reads the WAV
-//! files that oracle/files had made of it, and compares what the static libraries and what each program read with the tone.
+//! `files tone FOLDER` writes a tone for every kind, number of channels and rate; `files write FOLDER` writes it as WAV by
+//! the static libraries; `files compare FOLDER` reads the WAV files that oracle/files had made of it, compares what the
+//! static libraries and what each program read with the tone, and so what each program read from the files written here.
 // The emulator that runs this on Arm cannot open what Rust's own `main` opens.
 #![no_main]
 
@@ -9,6 +10,8 @@ use std::{collections::BTreeMap, f64::consts::TAU, fs, io::Result, path::Path};
 const KINDS: [(&str, u32); 3] = [("pcm16", 16), ("pcm24", 24), ("float32", 24)];
 const RATES: [u32; 3] = [44_100, 48_000, 96_000];
 const FRAMES: usize = 2000;
+/// An odd number, so that PCM of 24 bits has a pad byte.
+const WRITTEN: usize = 1999;
 
 /// The whole numbers of a tone, frame by frame: the ends of the range first, then a sine, another for each channel.
 fn tone(bits: u32, channels: u32, rate: u32) -> Vec<i32> {
@@ -59,12 +62,32 @@ fn write_tones(folder: &Path) -> Result<()> {
     Ok(())
 }
 
+/// The samples of the files written here.
+fn written(kind: usize, channels: u32, rate: u32) -> Vec<f64> {
+    let bits = KINDS[kind].1;
+    tone(bits, channels, rate).into_iter().take(WRITTEN * channels as usize).map(|n| value(bits, n)).collect()
+}
+
+fn write_files(folder: &Path) -> Result<()> {
+    for (name, kind, channels, rate) in each() {
+        let samples = written(kind, channels, rate);
+        let mut file = vec![0; b::wav_file_length(kind as u8, channels as u8, samples.len())];
+        let (number, length) = b::wav_write(kind as u8, channels as u8, rate, &samples, &mut file);
+        assert_eq!((number, length), (0, file.len()), "{name}");
+        fs::write(folder.join(format!("ours-{name}.wav")), file)?;
+    }
+    Ok(())
+}
+
 /// What one program's files showed.
 #[derive(Default)]
 struct Seen {
     plain: usize,
     wrapped: usize,
     samples: usize,
+    /// Of the files that are written here.
+    opened: usize,
+    heard: usize,
     wrong: usize,
 }
 
@@ -78,6 +101,18 @@ fn channel(w: &b::WavePart, part: &[u8], channel: u8) -> (Vec<f64>, bool) {
     let counted = b::wav_whole(w.kind, w.channels, channel, part, &mut whole);
     let units = wide.iter().zip(&whole).all(|(x, n)| x.to_bits() == value(24, *n).to_bits());
     (wide, filled && same && if w.kind == 2 { counted == 1 } else { counted == 0 && units })
+}
+
+/// A program's samples, as patterns.
+fn words(theirs: &[u8], high_first: bool) -> impl Iterator<Item = u64> + '_ {
+    theirs.chunks_exact(8).map(move |eight| {
+        let bytes: [u8; 8] = eight.try_into().expect("eight bytes");
+        if high_first {
+            u64::from_be_bytes(bytes)
+        } else {
+            u64::from_le_bytes(bytes)
+        }
+    })
 }
 
 /// What is wrong with a file, if something is.
@@ -101,15 +136,7 @@ fn compared(file: &[u8], theirs: &[u8], high_first: bool, of: (usize, u32, u32),
     }
     let meant: Vec<u64> =
         tone(KINDS[kind].1, channels, rate).into_iter().map(|n| value(KINDS[kind].1, n).to_bits()).collect();
-    let word = |eight: &[u8]| {
-        let bytes: [u8; 8] = eight.try_into().expect("eight bytes");
-        if high_first {
-            u64::from_be_bytes(bytes)
-        } else {
-            u64::from_le_bytes(bytes)
-        }
-    };
-    if !theirs.chunks_exact(8).map(word).eq(meant.iter().copied()) {
+    if !words(theirs, high_first).eq(meant.iter().copied()) {
         return Some("the program reads another tone".into());
     }
     let part = &file[w.start..w.start + w.length];
@@ -127,22 +154,37 @@ fn compared(file: &[u8], theirs: &[u8], high_first: bool, of: (usize, u32, u32),
 fn compare(folder: &Path) -> Result<i32> {
     let known: BTreeMap<String, (usize, u32, u32)> =
         each().map(|(name, kind, c, rate)| (name, (kind, c, rate))).collect();
-    let mut programs: BTreeMap<String, Seen> = BTreeMap::new();
-    for line in fs::read_to_string(folder.join("list"))?.lines() {
+    let (list, opened) = (fs::read_to_string(folder.join("list"))?, fs::read_to_string(folder.join("opened"))?);
+    let pair = |line: &str| {
         let (program, name) = line.split_once(' ').expect("a program and a tone");
+        (program.to_string(), name.to_string())
+    };
+    let mut programs: BTreeMap<String, Seen> = BTreeMap::new();
+    for (program, name) in list.lines().map(pair) {
         let read = |end: &str| fs::read(folder.join(format!("{program}-{name}.{end}")));
-        let seen = programs.entry(program.into()).or_default();
+        let seen = programs.entry(program.clone()).or_default();
         let high_first = program == "sndfile-convert";
-        if let Some(what) = compared(&read("wav")?, &read("theirs")?, high_first, known[name], seen) {
+        if let Some(what) = compared(&read("wav")?, &read("theirs")?, high_first, known[&name], seen) {
             println!("{program} {name}: {what}");
             seen.wrong += 1;
         }
     }
+    for (program, name) in opened.lines().map(pair) {
+        let theirs = fs::read(folder.join(format!("{program}-ours-{name}.theirs")))?;
+        let (kind, channels, rate) = known[&name];
+        let meant = written(kind, channels, rate);
+        let same = words(&theirs, program == "sndfile-convert").eq(meant.iter().map(|x| x.to_bits()));
+        let seen = programs.entry(program.clone()).or_default();
+        seen.opened += 1;
+        seen.heard += meant.len();
+        if !same {
+            println!("{program} reads another tone from ours-{name}.wav");
+            seen.wrong += 1;
+        }
+    }
     for (program, s) in &programs {
-        println!(
-            "{program:<16} {:>3} plain, {:>3} wrapped, {:>7} samples, {} files differ",
-            s.plain, s.wrapped, s.samples, s.wrong
-        );
+        println!("{program:<16} {:>3} plain, {:>3} wrapped, {:>7} samples", s.plain, s.wrapped, s.samples);
+        println!("{:<16} {:>3} written here, {:>7} samples; {} files differ", "", s.opened, s.heard, s.wrong);
     }
     Ok(i32::from(programs.is_empty() || programs.values().any(|s| s.wrong > 0)))
 }
@@ -153,6 +195,7 @@ pub extern "C" fn main(_: i32, _: *const *const u8) -> i32 {
     let folder = word(2);
     let done = match &word(1)[..] {
         "tone" => write_tones(Path::new(&folder)).map(|()| 0),
+        "write" => write_files(Path::new(&folder)).map(|()| 0),
         _ => compare(Path::new(&folder)),
     };
     done.unwrap_or_else(|e| {

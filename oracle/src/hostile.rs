@@ -26,16 +26,19 @@ mod hostile {
     pub mod watch;
     pub mod wav;
     pub mod wav_files;
+    pub mod wav_write;
 }
 
-use hostile::{bank, numbers, on_purpose, outside, pool::Memory, readers, residual, tables, tally::Tally, turn::Turn, wander, watch, wav};
+use hostile::{bank, numbers, on_purpose, outside, pool::Memory, readers, residual, tables, tally::Tally, turn::Turn, wander, watch, wav, wav_write};
 use std::time::{Duration, Instant};
 
 /// An export, and one hostile call of it, which gives the number that it answered: 0 for none, and where there is none.
 pub type Export = (&'static str, fn(&mut Turn) -> u8);
 
 fn exports() -> Vec<Export> {
-    [numbers::EXPORTS, outside::EXPORTS, wander::EXPORTS, readers::EXPORTS, tables::EXPORTS, bank::EXPORTS, wav::EXPORTS, residual::EXPORTS].concat()
+    let readers = [wander::EXPORTS, readers::EXPORTS, tables::EXPORTS, bank::EXPORTS].concat();
+    let files = [wav::EXPORTS, residual::EXPORTS, wav_write::EXPORTS].concat();
+    [numbers::EXPORTS, outside::EXPORTS, &readers, &files].concat()
 }
 
 #[no_mangle]

@@ -1,0 +1,78 @@
+// W2. A whole file into a lent buffer: the refusal's number, 0 for none, and the file's length, 0 where it is refused.
+ghost use mathlib.Core.Path.{_≡_};
+ghost use Rattle.fugnadri_wav_write.specs.Doors.{leaves, fileLeft, numberOf, sizeOf, lengthOf};
+use crate::codes::known;
+use sample_kind::of_code;
+use wav_header::refusal_unlisted;
+use wav_write::Written;
+
+#[no_mangle]
+pub extern "C" fn fugnadri_wav_write(
+    kind: u8,
+    channels: u8,
+    rate: u32,
+    samples: &[f64],
+    out: &mut [u8],
+    written: &mut usize,
+) -> u8
+    ensures { λ r. ⌜ leaves r (now (written .exit)) (now (out .exit))
+        ≡ fileLeft kind channels rate (now (samples .entry)) (now (out .entry)) ⌝ }
+{
+    if known(kind) {
+        let answer = wav_write::write(of_code(kind), channels, rate, samples, &mut out[..]);
+        *written = size(answer);
+        return number(answer);
+    }
+    *written = 0;
+    refusal_unlisted(channels, rate, samples.len())
+}
+
+#[no_mangle]
+pub extern "C" fn fugnadri_wav_write_f32(
+    kind: u8,
+    channels: u8,
+    rate: u32,
+    samples: &[f32],
+    out: &mut [u8],
+    written: &mut usize,
+) -> u8
+    ensures { λ r. ⌜ leaves r (now (written .exit)) (now (out .exit))
+        ≡ fileLeft kind channels rate (now (samples .entry)) (now (out .entry)) ⌝ }
+{
+    if known(kind) {
+        let answer = wav_write::write_f32(of_code(kind), channels, rate, samples, &mut out[..]);
+        *written = size(answer);
+        return number(answer);
+    }
+    *written = 0;
+    refusal_unlisted(channels, rate, samples.len())
+}
+
+// How long a file of `count` samples is, over all channels; 0 where it would be refused by 1 or 13 whatever the rate.
+#[no_mangle]
+pub extern "C" fn fugnadri_wav_file_length(kind: u8, channels: u8, count: usize) -> usize
+    ensures { λ r. ⌜ r ≡ lengthOf kind channels count ⌝ }
+{
+    if known(kind) {
+        return wav_header::file_length(of_code(kind), channels, count);
+    }
+    0
+}
+
+fn number(answer: Written) -> u8
+    ensures { λ r. ⌜ r ≡ numberOf answer ⌝ }
+{
+    match answer {
+        Written::Length(_) => 0,
+        Written::Refused(k) => k,
+    }
+}
+
+fn size(answer: Written) -> usize
+    ensures { λ r. ⌜ r ≡ sizeOf answer ⌝ }
+{
+    match answer {
+        Written::Length(n) => n,
+        Written::Refused(_) => 0,
+    }
+}

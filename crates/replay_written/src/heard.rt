@@ -1,0 +1,46 @@
+// A call from standard input: six words of sixteen hex digits, then one for each sample, a blank behind each, the line's end.
+use libc::STDIN_FILENO;
+use replay_lines::within;
+use word_bytes::word_at;
+
+// Whether there was a line, and what it asks for.
+pub struct Heard {
+    pub whole: bool,
+    pub kind: u8,
+    pub channels: u8,
+    pub rate: u32,
+    pub room: usize,
+    pub narrow: bool,
+    pub count: usize,
+}
+
+// No call of the list has more samples.
+const MOST: usize = 64;
+
+// The next line's call, its samples' patterns put into a lent array.
+pub fn hear(words: &mut [u64; 64]) -> Heard {
+    let mut head = [0u8; 102];
+    let told = io::read_full(STDIN_FILENO, &mut head);
+    let count = within(word_at(&head, 85) as usize, MOST);
+    let rest = 17 * count + 1;
+    let mut text = [0u8; 1089];
+    let got = io::read_full(STDIN_FILENO, &mut text[..rest]);
+    put_words(&text, words);
+    Heard {
+        whole: told == 102 && got == rest,
+        kind: (word_at(&head, 0) % 0x100) as u8,
+        channels: (word_at(&head, 17) % 0x100) as u8,
+        rate: (word_at(&head, 34) % 0x1_0000_0000) as u32,
+        room: word_at(&head, 51) as usize,
+        narrow: word_at(&head, 68) == 1,
+        count,
+    }
+}
+
+fn put_words(text: &[u8; 1089], words: &mut [u64; 64]) {
+    let mut k: usize = 0;
+    while k < MOST {
+        words[k] = word_at(text, 17 * k);
+        k += 1;
+    }
+}

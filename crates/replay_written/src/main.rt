@@ -1,0 +1,116 @@
+// W2. Replays a stored list of files to be written. A line of standard input is a call: the kind's code, channels, rate, the
+// buffer's length, whether the samples are f32s (0 or 1) and their number, then each sample's pattern, all in sixteen hex
+// digits with a blank behind them. A line is written for each: the refusal's number, 0 for none, the length that is
+// answered, 0 where it is refused, what `wav_header::file_length` says, and the buffer's bytes, which were A5 before, two hex
+// digits each. oracle/lists/written.py makes the list, from document 02 alone. A trailing part of a line is ignored.
+mod heard; // a call from standard input
+mod said; // what is written to standard output
+
+use heard::Heard;
+use heard::hear;
+use patterns::float_of;
+use patterns::float_of_f32;
+use replay_lines::within;
+use said::tell;
+use sample_kind::of_code;
+use wav_write::Written;
+
+fn refusal(answer: Written) -> u8 {
+    match answer {
+        Written::Length(_) => 0,
+        Written::Refused(no) => no,
+    }
+}
+
+fn length(answer: Written) -> usize {
+    match answer {
+        Written::Length(n) => n,
+        Written::Refused(_) => 0,
+    }
+}
+
+fn put(samples: &mut [f64], k: usize, x: f64) {
+    if k < samples.len() {
+        samples[k] = x;
+    }
+}
+
+fn put_all(words: &[u64; 64], samples: &mut [f64]) {
+    let mut k: usize = 0;
+    while k < 64 {
+        put(&mut samples[..], k, float_of(words[k]));
+        k += 1;
+    }
+}
+
+fn put_f32(samples: &mut [f32], k: usize, a: f32) {
+    if k < samples.len() {
+        samples[k] = a;
+    }
+}
+
+fn put_all_f32(words: &[u64; 64], samples: &mut [f32]) {
+    let mut k: usize = 0;
+    while k < 64 {
+        put_f32(
+            &mut samples[..],
+            k,
+            float_of_f32((words[k] % 0x1_0000_0000) as u32),
+        );
+        k += 1;
+    }
+}
+
+fn replay(heard: Heard, words: &[u64; 64]) {
+    let kind = of_code(heard.kind);
+    let n = within(heard.count, 64);
+    let mut samples = [0.0f64; 64];
+    put_all(words, &mut samples[..]);
+    let mut out = [0xA5u8; 512];
+    let room = within(heard.room, 512);
+    let answer = wav_write::write(
+        kind,
+        heard.channels,
+        heard.rate,
+        &samples[..n],
+        &mut out[..room],
+    );
+    let told = wav_header::file_length(kind, heard.channels, n);
+    tell(refusal(answer), length(answer), told, &out, room);
+}
+
+fn replay_f32(heard: Heard, words: &[u64; 64]) {
+    let kind = of_code(heard.kind);
+    let n = within(heard.count, 64);
+    let mut samples = [0.0f32; 64];
+    put_all_f32(words, &mut samples[..]);
+    let mut out = [0xA5u8; 512];
+    let room = within(heard.room, 512);
+    let answer = wav_write::write_f32(
+        kind,
+        heard.channels,
+        heard.rate,
+        &samples[..n],
+        &mut out[..room],
+    );
+    let told = wav_header::file_length(kind, heard.channels, n);
+    tell(refusal(answer), length(answer), told, &out, room);
+}
+
+// Line after line: as many as a u64 counts, which no input outlasts.
+fn main() {
+    let mut words = [0u64; 64];
+    let mut heard = hear(&mut words);
+    let mut more = heard.whole;
+    let mut turns = u64::MAX;
+    while turns > 0 && more {
+        if heard.narrow {
+            replay_f32(heard, &words);
+        } else {
+            replay(heard, &words);
+        }
+        heard = hear(&mut words);
+        more = heard.whole;
+        turns -= 1;
+    }
+}

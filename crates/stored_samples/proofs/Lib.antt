@@ -1,0 +1,13 @@
+pub mod Halves
+pub mod Ranges
+pub mod Scaled
+pub mod Pattern
+pub mod Digits
+pub mod Words
+pub mod Floats
+pub mod Narrow
+pub mod Back
+pub mod Below
+pub mod NoNearer
+pub mod Edges
+pub mod Refused

@@ -1,0 +1,14 @@
+-- `stored_samples::fits24` meets its contract, by the law over the width. Assumes nothing.
+use borrow.Author.Needs.{needs}
+use mathlib.Core.Path.{_∙_}
+use lib.Ieee.{neg, ofBits}
+use Rattle.stored_samples.proofs.Ranges.{in-range}
+use Rattle.stored_samples.proofs.fits24.Statement.{statement}
+use Rattle.stored_samples.proofs.fits24.Tie as tie
+
+returns : tie.Need-returns
+unfolding neg ofBits
+returns c = c .both .ensures ∙ in-range 22 (c .before .args .x)
+
+pub fits24-spec : {M : Type 1} → statement M
+fits24-spec = tie.close (tie.spec (λ c κs. search needs) returns)

@@ -1,0 +1,143 @@
+#!/usr/bin/env python3
+"""Writes the stored list of files to be written: the samples, and what Wish 2 of document 02 says of each call
+(riff_written.py).
+
+  oracle/lists/written.py            writes crates/replay_written/stdin and stdout, and says what is in them
+  oracle/lists/written.py --check    writes nothing; fails, by exit status 1 and one line, where the two are not what it
+                                     would write
+  oracle/lists/written.py --help     this text
+
+A line of stdin is a call: the kind's code, channels, rate, the buffer's length, whether the samples are f32s (0 or 1),
+their number, then each sample's pattern, all in sixteen hex digits with a blank behind them. Its line of stdout has
+the refusal's number, 0 for none, the file's length, 0 where it is refused, the length that is told beforehand, and the
+buffer's bytes, A5 before the call.
+
+It says how many lines each of the wrong writings of riff_written.py would change, and fails where one changes none.
+
+Needs Python 3.8 or newer and nothing else. The inputs come from a generator of its own with the seed below, so every
+run writes the same bytes.
+"""
+import os
+import sys
+
+sys.dont_write_bytecode = True
+# This folder comes last: Python's own module `numbers`, which `fractions` needs, has the name of a script here.
+sys.path.append(sys.path.pop(0))
+from collections import Counter
+from fractions import Fraction
+
+from exact import F32, F64
+from hostile import Draws, beside, nans
+from riff_written import FLOAT32, WRONG, Writing
+
+SEED = 0xD1B54A32D192ED03
+ROOT = os.path.join(os.path.dirname(os.path.abspath(__file__)), "..", "..", "crates", "replay_written")
+MOST, ROOM = 64, 512        # samples of a call and bytes of a buffer, as the program has room for
+
+
+def ends(f):
+    """Values about which something turns: the widths' ends, the ties at them, zeros, subnormals, the ends of an f32."""
+    one = Fraction(1)
+    near = [one, 2 * one]
+    for bits in (16, 24):
+        unit = one / 2 ** (bits - 1)
+        near += [unit, unit / 2, 3 * unit / 2, one - unit, one - unit / 2, one + unit / 2]
+    near += [F32.value(F32.infinity - 1), F32.value(F32.infinity - 1) + Fraction(2) ** 103, Fraction(2) ** 127]
+    near += [one / 2 ** 149, one / 2 ** 150, 3 * one / 2 ** 150, one / 2 ** 126]
+    words = [0, 1, f.hidden, f.infinity - 1, f.infinity] + [f.near(value) for value in near]
+    if f is F64:
+        words.append(f.near(Fraction(2) ** 1023))
+    return [word + sign for word in dict.fromkeys(words) for sign in (0, f.sign)]
+
+
+def tie(d, f):
+    """Halfway between two stored samples, or beside that."""
+    bits = d.of((16, 24))
+    x = f.near(Fraction(2 * d.between(-2 ** (bits - 1), 2 ** (bits - 1) - 1) + 1, 2 ** bits))
+    return d.of(beside(f, x))
+
+
+def good(d, f):
+    """A sample that every kind holds."""
+    if d.between(0, 2) == 0:
+        n = d.between(-2 ** 15, 2 ** 15 - 1)
+        return f.near(Fraction(n, 2 ** 15)) if n else 0
+    x = tie(d, f)
+    return x if abs(f.value(x)) < 1 - Fraction(1, 2 ** 15) else 0
+
+
+def calls(d):
+    """(name, kind, channels, rate, room, format, samples)"""
+    right = Writing().length
+    for f in (F64, F32):
+        for kind in range(3):
+            # each end by itself, and an f64's neighbours, which an f32 does not tell apart
+            for x in ends(f):
+                for word in dict.fromkeys(beside(f, x) if f is F64 else [x]):
+                    yield "an end", kind, 1, 48000, right(kind, [word]), f, [word]
+            for word in nans(f)[:4]:
+                yield "a NaN", kind, 1, 48000, right(kind, [word]), f, [word]
+            # no samples, one, odd data; in buffers that fit, are one short, are longer, are none
+            for channels in (1, 2):
+                for frames in (0, 1, 2, d.between(3, 20)):
+                    some = [good(d, f) for _ in range(frames * channels)]
+                    long = right(kind, some)
+                    for room in (long, long - 1, long + d.between(1, 60), d.between(0, long - 2)):
+                        yield "a buffer", kind, channels, d.of((8000, 44100, 96000, 768000)), room, f, some
+                    if some:
+                        odd = list(some)
+                        far = f.sign + f.infinity if kind == FLOAT32 else f.near(Fraction(3))
+                        odd[d.between(0, len(odd) - 1)] = d.of([f.nan, f.infinity, far])
+                        for room in (long, long - 1):
+                            yield "one that does not fit", kind, channels, 44100, room, f, odd
+            # settings, with what comes behind them due as well
+            for rate in (0, 7999, 8000, 768000, 768001, 2 ** 32 - 1):
+                for channels in (0, 1, 2, 3, 255):
+                    some = [good(d, f) for _ in range(d.between(0, 3))]
+                    some += [f.nan] * d.between(0, 1)
+                    yield "settings", kind, channels, rate, d.of((0, right(kind, some), 200)), f, some
+
+
+def text(call):
+    _, kind, channels, rate, room, f, samples = call
+    return "".join("%016X " % n for n in (kind, channels, rate, room, f is F32, len(samples), *samples)) + "\n"
+
+
+def answer(writing, call):
+    _, kind, channels, rate, room, f, samples = call
+    number, length, buffer = writing.write(kind, channels, rate, room, f, samples, b"\xA5" * room)
+    return "%d %d %d %s\n" % (number, length, writing.told(kind, channels, samples), buffer[:room].hex())
+
+
+def summary(made, answers):
+    yield "seed %016X, %d calls, %d samples" % (SEED, len(made), sum(len(call[6]) for call in made))
+    refusals = Counter(int(said.split()[0]) for said in answers)
+    yield "refusals      " + ", ".join("%d: %d" % pair for pair in sorted(refusals.items()))
+    yield "made as       " + ", ".join("%s %d" % pair for pair in Counter(call[0] for call in made).items())
+    for name, wrong in WRONG:
+        told = sum(answer(wrong(), call) != said for call, said in zip(made, answers))
+        assert told, "no line tells: " + name
+        yield "%5d calls tell: %s" % (told, name)
+
+
+def main(arguments):
+    if arguments not in ([], ["--check"]):
+        print(__doc__.strip())
+        return 0 if arguments in (["--help"], ["-h"]) else 2
+    made = list({text(call): call for call in calls(Draws(SEED))}.values())
+    assert all(len(call[6]) <= MOST and call[4] <= ROOM for call in made)
+    answers = [answer(Writing(), call) for call in made]
+    content = {"stdin": "".join(map(text, made)), "stdout": "".join(answers)}
+    for name, wanted in content.items():
+        path = os.path.join(ROOT, name)
+        if arguments == []:
+            with open(path, "w", newline="") as out:
+                out.write(wanted)
+        elif not os.path.exists(path) or open(path, newline="").read() != wanted:
+            print("written.py: crates/replay_written/%s is not what this script writes" % name, file=sys.stderr)
+            return 1
+    print("\n".join(summary(made, answers)))
+    return 0
+
+
+sys.exit(main(sys.argv[1:]))
