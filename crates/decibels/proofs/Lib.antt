@@ -1,0 +1,5 @@
+pub mod Factors
+pub mod Greatest
+pub mod Meaning
+pub mod Smallest
+pub mod Figures
