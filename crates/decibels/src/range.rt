@@ -1,7 +1,6 @@
 // The range of a level: 1 to 2^36 samples were compared, and the sum of their squared differences is above 0 and no
 // larger than differences of 24-bit samples give.
 ghost use mathlib.Core.Path.{_≡_};
-ghost use mathlib.Core.Bool.{_&&_};
 ghost use Prim.Native.Nat.{_+_, _*_, _^_};
 ghost use lib.Dec.{leb, ltb};
 ghost use Rattle.decibels.specs.Decibels.{inRange, largest};

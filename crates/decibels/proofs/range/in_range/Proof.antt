@@ -1,5 +1,5 @@
 -- `decibels::range::in_range` meets its contract, test by test. Assumes nothing.
-use mathlib.Core.Path.{_∙_, sym}
+use mathlib.Core.Path.{_∙_}
 use borrow.Author.Tests.{le-leb, lt-leb}
 use Rattle.decibels.proofs.range.in_range.Statement.{statement}
 use Rattle.decibels.proofs.range.in_range.Tie as tie
