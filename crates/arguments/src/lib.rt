@@ -10,16 +10,16 @@ ghost use Rattle.arguments.specs.Settings.{changedTo};
 mod names; // which name it is
 mod values; // what its value says
 mod wanted; // what a value has to be, in words
-mod words; // texts compared, and split
+mod spelling; // texts compared, and split
 
 use decimals::read_f64;
 use decimals::read_u64;
 use modulation_params::ModulationParams;
 use sample_kind::SampleKind;
+pub use spelling::is_named;
+pub use spelling::same;
+pub use spelling::split;
 pub use wanted::put_wanted;
-pub use words::is_named;
-pub use words::same;
-pub use words::split;
 
 // One of 001's eight settings, by the name that it has there.
 pub enum Setting {

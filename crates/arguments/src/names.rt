@@ -5,7 +5,7 @@ ghost use Rattle.arguments.specs.Words.{sameBytes};
 ghost use Rattle.arguments.specs.Names.{wanderOr, nameIn};
 use crate::Name;
 use crate::Setting;
-use crate::words::same;
+use crate::spelling::same;
 
 pub(crate) fn name_of(word: &[u8]) -> Name
     ensures { λ r. ⌜ r ≡ nameIn (now (word .entry)) ⌝ }

@@ -10,7 +10,7 @@ use crate::Frames;
 use crate::Kind;
 use crate::Name;
 use crate::Setting;
-use crate::words::same;
+use crate::spelling::same;
 use decimals::Number;
 use decimals::Value;
 use sample_kind::SampleKind;

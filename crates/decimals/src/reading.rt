@@ -1,7 +1,7 @@
 // Decimal digits, read as a number.
 ghost use mathlib.Core.Path.{_≡_};
 ghost use Prim.Native.Nat.{_≤_};
-ghost use Rattle.decimals.specs.Reading.{isDigit, numberUpTo, wholeIn};
+ghost use Rattle.decimals.specs.Reading.{numberUpTo, wholeIn};
 use crate::Number;
 
 // A whole number of 64 bits: digits, at least one, and nothing else.

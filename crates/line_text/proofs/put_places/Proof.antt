@@ -8,7 +8,7 @@ use native.Mathlib.Omega.{arith}
 use lib.ListN.{length, drop, length-set, length-drop}
 use lib.Seq.{take-all}
 use Rattle.text.specs.Text.{putAt, placeAfter}
-use Rattle.line_text.specs.Columns.{lastDigits, placesIn}
+use Rattle.line_text.specs.Columns.{lastDigits}
 use Rattle.line_text.proofs.Rows.{digit-next, no-digits}
 use Rattle.line_text.proofs.put_places.Statement.{statement}
 use Rattle.line_text.proofs.put_places.Tie as tie

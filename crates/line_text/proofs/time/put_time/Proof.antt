@@ -1,7 +1,6 @@
 -- `line_text::put_time` meets its contract: whole seconds and what is left over are the thousandths. Assumes nothing.
 use borrow.Author.Needs.{needs}
 use borrow.Author.Tests.{eq-eqb, ne-eqb}
-use mathlib.Core.Path.{_≡_}
 use Prim.Native.Nat.{_%_, _<_}
 use native.Mathlib.Nat.{mod-lt}
 use native.Mathlib.Omega.{arith}

@@ -9,8 +9,8 @@ use lib.ListN.{length, drop}
 use lib.Seq.{drop-length}
 use Rattle.arguments.specs.Words.{allInName}
 use Rattle.arguments.proofs.Letters.{name-ends, name-goes-on, all-of-it}
-use Rattle.arguments.proofs.words.all_in_name.Statement.{statement}
-use Rattle.arguments.proofs.words.all_in_name.Tie as tie
+use Rattle.arguments.proofs.spelling.all_in_name.Statement.{statement}
+use Rattle.arguments.proofs.spelling.all_in_name.Tie as tie
 
 abbrev Inv-loop : tie.InvT-loop
 Inv-loop text i₀ i = (i ≤ length text) × (allInName text ≡ allInName (drop i text))

@@ -9,8 +9,8 @@ use lib.ListN.{length, drop}
 use lib.Seq.{drop-length}
 use Rattle.arguments.specs.Words.{sameBytes}
 use Rattle.arguments.proofs.Letters.{unlike-lengths, unlike-here, like-here, at-end}
-use Rattle.arguments.proofs.words.same.Statement.{statement}
-use Rattle.arguments.proofs.words.same.Tie as tie
+use Rattle.arguments.proofs.spelling.same.Statement.{statement}
+use Rattle.arguments.proofs.spelling.same.Tie as tie
 
 abbrev Inv-loop : tie.InvT-loop
 Inv-loop a b i₀ i = (i ≤ length a) × (sameBytes a b ≡ sameBytes (drop i a) (drop i b))

@@ -1,7 +1,6 @@
 // Texts compared byte by byte, and split at the first `=`.
 ghost use mathlib.Core.Path.{_≡_};
-ghost use Prim.Native.Nat.{_≤_, _<_};
-ghost use mathlib.Core.Bool.{true};
+ghost use Prim.Native.Nat.{_≤_};
 ghost use lib.ListN.{length};
 ghost use Rattle.arguments.specs.Words.{sameBytes, splitIn, inName, allInName, isNamed};
 
