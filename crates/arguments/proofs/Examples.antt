@@ -5,7 +5,7 @@ use Rattle.bytes.specs.Bytes.{indexOf}
 use Rattle.text.specs.Text.{ascii}
 use Rattle.sample_kind.specs.declared.SampleKind.the-variants.{Pcm24}
 use Rattle.decimals.specs.Reading.{allDigits, digitsAfter}
-use Rattle.arguments.specs.Words.{sameBytes, allInName}
+use Rattle.spelling.specs.Words.{sameBytes, allInName}
 use Rattle.arguments.specs.Meaning.{meaningOf}
 use Rattle.arguments.specs.declared.Setting.the-variants.{WowRateHz, StereoAmount}
 use Rattle.arguments.specs.declared.Kind.the-variants.{Same, As}

@@ -12,7 +12,7 @@ use Rattle.decimals.specs.declared.Number.the-variants.{Is as Is·number, Not a
 use Rattle.decimals.specs.declared.Value.{Value}
 use Rattle.decimals.specs.declared.Value.the-variants.{Is as Is·value, Not as Not·value}
 use Rattle.decimals.specs.Reading.{wholeIn, valueIn}
-use Rattle.arguments.specs.Words.{sameBytes, splitIn, isNamed}
+use Rattle.spelling.specs.Words.{sameBytes, splitIn, isNamed}
 use Rattle.arguments.specs.Names.{nameIn}
 use Rattle.arguments.specs.declared.Setting.{Setting as Setting·}
 use Rattle.arguments.specs.declared.Kind.the-variants.{Same, As}

@@ -4,7 +4,7 @@ use Prim.Native.String.{String}
 use mathlib.Core.Bool.{cond}
 use mathlib.Core.List.{List}
 use Rattle.text.specs.Text.{ascii}
-use Rattle.arguments.specs.Words.{sameBytes}
+use Rattle.spelling.specs.Words.{sameBytes}
 use Rattle.arguments.specs.declared.Setting.the-variants.{WowRateHz, WowDepthCents, WowShape}
 use Rattle.arguments.specs.declared.Setting.the-variants.{FlutterRateHz, FlutterDepthCents, FlutterShape}
 use Rattle.arguments.specs.declared.Setting.the-variants.{DriftAmount, StereoAmount}

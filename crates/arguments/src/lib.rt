@@ -3,23 +3,20 @@
 ghost use mathlib.Core.Path.{_≡_};
 ghost use Prim.Native.Nat.{_+_, _≤_, min};
 ghost use lib.ListN.{length};
-ghost use Rattle.arguments.specs.Words.{splitIn};
+ghost use Rattle.spelling.specs.Words.{splitIn};
 ghost use Rattle.arguments.specs.Meaning.{valuedAs, meaningOf};
 ghost use Rattle.arguments.specs.Settings.{changedTo};
 
 mod names; // which name it is
 mod values; // what its value says
-mod wanted; // what a value has to be, in words
-mod spelling; // texts compared, and split
 
 use decimals::read_f64;
 use decimals::read_u64;
 use modulation_params::ModulationParams;
 use sample_kind::SampleKind;
-pub use spelling::is_named;
-pub use spelling::same;
-pub use spelling::split;
-pub use wanted::put_wanted;
+use spelling::is_named;
+use spelling::same;
+use spelling::split;
 
 // One of 001's eight settings, by the name that it has there.
 pub enum Setting {

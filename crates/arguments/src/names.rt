@@ -1,11 +1,11 @@
 // The names that a setting can have.
 ghost use mathlib.Core.Path.{_≡_};
 ghost use mathlib.Core.Bool.{cond};
-ghost use Rattle.arguments.specs.Words.{sameBytes};
+ghost use Rattle.spelling.specs.Words.{sameBytes};
 ghost use Rattle.arguments.specs.Names.{wanderOr, nameIn};
 use crate::Name;
 use crate::Setting;
-use crate::spelling::same;
+use spelling::same;
 
 pub(crate) fn name_of(word: &[u8]) -> Name
     ensures { λ r. ⌜ r ≡ nameIn (now (word .entry)) ⌝ }

@@ -1,7 +1,7 @@
 // What a value says, name by name.
 ghost use mathlib.Core.Path.{_≡_};
 ghost use mathlib.Core.Bool.{cond};
-ghost use Rattle.arguments.specs.Words.{sameBytes};
+ghost use Rattle.spelling.specs.Words.{sameBytes};
 ghost use Rattle.arguments.specs.Meaning.{asSeed, asDelay, asKind, asSetting, asFirstSkip, asSecondSkip};
 ghost use Rattle.arguments.specs.Meaning.{asFrames, asChannel, asPicture};
 use crate::Argument;
@@ -10,10 +10,10 @@ use crate::Frames;
 use crate::Kind;
 use crate::Name;
 use crate::Setting;
-use crate::spelling::same;
 use decimals::Number;
 use decimals::Value;
 use sample_kind::SampleKind;
+use spelling::same;
 
 pub(crate) fn as_seed(number: Number) -> Argument
     ensures { λ r. ⌜ r ≡ asSeed number ⌝ }

@@ -5,9 +5,9 @@ use Prim.Native.Nat.{_+_, _-_}
 use native.Mathlib.Omega.{arith}
 use lib.ListN.{length, drop, length-drop}
 use lib.Seq.{take-all, length-take-le}
-use Rattle.arguments.specs.Words.{splitIn}
+use Rattle.spelling.specs.Words.{splitIn}
 use Rattle.arguments.specs.Meaning.{valuedAs}
-use Rattle.arguments.proofs.Letters.{has-value}
+use Rattle.spelling.proofs.Letters.{has-value}
 use Rattle.arguments.proofs.meaning.Statement.{statement}
 use Rattle.arguments.proofs.meaning.Tie as tie
 

@@ -4,7 +4,7 @@ use mathlib.Core.Path.{_≡_, sym, ap, _∙_}
 use mathlib.Core.List.{List}
 use Prim.Native.Nat.{ℕ}
 use Rattle.text.specs.Text.{ascii}
-use Rattle.arguments.specs.Words.{sameBytes}
+use Rattle.spelling.specs.Words.{sameBytes}
 use Rattle.arguments.specs.Meaning.{asSeed, asDelay, asSetting, asFirstSkip, asSecondSkip, asFrames, valuedAs}
 use Rattle.arguments.specs.declared.Name.{Name}
 use Rattle.arguments.proofs.valued.Statement.{statement}

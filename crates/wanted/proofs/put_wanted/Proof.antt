@@ -1,4 +1,4 @@
--- `arguments::put_wanted` meets its contract: an arm puts the sentence of the name that it is told. Assumes nothing.
+-- `wanted::put_wanted` meets its contract: an arm puts the sentence of the name that it is told. Assumes nothing.
 use borrow.Author.Needs.{needs}
 use mathlib.Core.Path.{_≡_}
 use mathlib.Core.List.{List}
@@ -6,10 +6,10 @@ use denote.Ref.{now}
 use Prim.Native.Nat.{ℕ}
 use Rattle.text.specs.Text.{ascii}
 use Rattle.text.proofs.Texts.{Puts}
-use Rattle.arguments.specs.Wanted.{wantedOf}
+use Rattle.wanted.specs.Wanted.{wantedOf}
 use Rattle.arguments.specs.declared.Name.{Name}
-use Rattle.arguments.proofs.wanted.put_wanted.Statement.{statement}
-use Rattle.arguments.proofs.wanted.put_wanted.Tie as tie
+use Rattle.wanted.proofs.put_wanted.Statement.{statement}
+use Rattle.wanted.proofs.put_wanted.Tie as tie
 
 told : (xs : List ℕ) (at : ℕ) {r : ℕ} {ys : List ℕ} {n m : Name} → n ≡ m → Puts xs at (wantedOf m) r ys
     → Puts xs at (wantedOf n) r ys

@@ -1,4 +1,4 @@
--- `arguments::same` meets its contract. The loop's invariant: what is left of the texts from i on is the same exactly
+-- `spelling::same` meets its contract. The loop's invariant: what is left of the texts from i on is the same exactly
 -- when the whole texts are. Assumes nothing.
 use borrow.Author.Needs.{needs}
 use mathlib.Core.Path.{_≡_, sym, _∙_}
@@ -7,10 +7,10 @@ use native.Mathlib.Numerals.{add-one}
 use native.Mathlib.Omega.{arith}
 use lib.ListN.{length, drop}
 use lib.Seq.{drop-length}
-use Rattle.arguments.specs.Words.{sameBytes}
-use Rattle.arguments.proofs.Letters.{unlike-lengths, unlike-here, like-here, at-end}
-use Rattle.arguments.proofs.spelling.same.Statement.{statement}
-use Rattle.arguments.proofs.spelling.same.Tie as tie
+use Rattle.spelling.specs.Words.{sameBytes}
+use Rattle.spelling.proofs.Letters.{unlike-lengths, unlike-here, like-here, at-end}
+use Rattle.spelling.proofs.same.Statement.{statement}
+use Rattle.spelling.proofs.same.Tie as tie
 
 abbrev Inv-loop : tie.InvT-loop
 Inv-loop a b i₀ i = (i ≤ length a) × (sameBytes a b ≡ sameBytes (drop i a) (drop i b))

@@ -1,8 +1,8 @@
--- `arguments::split` meets its contract, by that of the search. Assumes nothing.
+-- `spelling::split` meets its contract, by that of the search. Assumes nothing.
 use borrow.Author.Needs.{needs}
 use Rattle.decimals.proofs.Points.{found}
-use Rattle.arguments.proofs.spelling.split.Statement.{statement}
-use Rattle.arguments.proofs.spelling.split.Tie as tie
+use Rattle.spelling.proofs.split.Statement.{statement}
+use Rattle.spelling.proofs.split.Tie as tie
 
 returns : tie.Need-returns
 returns c = (found 61 (c .before .before .args .text .now) (c .find .ensures .0), c .find .ensures .1)

@@ -1,11 +1,11 @@
--- `arguments::is_named` meets its contract: each test is the definition's. Assumes nothing.
+-- `spelling::is_named` meets its contract: each test is the definition's. Assumes nothing.
 use borrow.Author.Needs.{needs}
 use borrow.Author.Tests.{lt-ltb, le-ltb}
 use mathlib.Core.Path.{sym}
 use native.Mathlib.Omega.{arith}
 use lib.Seq.{length-take-le}
-use Rattle.arguments.proofs.spelling.is_named.Statement.{statement}
-use Rattle.arguments.proofs.spelling.is_named.Tie as tie
+use Rattle.spelling.proofs.is_named.Statement.{statement}
+use Rattle.spelling.proofs.is_named.Tie as tie
 
 returns : tie.Need-returns
 returns c = let s = c .before .split in rw (← s .ensures .0, le-ltb 0 (s .result) (omega arith))

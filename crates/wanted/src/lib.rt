@@ -2,8 +2,8 @@
 ghost use mathlib.Core.Path.{_≡_};
 ghost use lib.ListN.{length};
 ghost use Rattle.text.specs.Text.{putAt, placeAfter};
-ghost use Rattle.arguments.specs.Wanted.{wantedOf};
-use crate::Name;
+ghost use Rattle.wanted.specs.Wanted.{wantedOf};
+use arguments::Name;
 use text::put;
 
 // Puts the sentence at a place, and gives the place after it.

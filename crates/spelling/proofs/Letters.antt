@@ -8,7 +8,7 @@ use borrow.Author.Tests.{eq-eqb, ne-eqb, ltb-true}
 use lib.Dec.{eqb, ltb}
 use lib.ListN.{length, take, drop, getD}
 use lib.Seq.{drop-cons}
-use Rattle.arguments.specs.Words.{sameBytes, splitIn, inName, allInName, isNamed}
+use Rattle.spelling.specs.Words.{sameBytes, splitIn, inName, allInName, isNamed}
 
 -- ---- two texts
 pub unlike-lengths : (a b : List ℕ) → (length a ≡ length b → ⊥) → sameBytes a b ≡ false

@@ -2,7 +2,7 @@
 ghost use mathlib.Core.Path.{_≡_};
 ghost use Prim.Native.Nat.{_≤_};
 ghost use lib.ListN.{length};
-ghost use Rattle.arguments.specs.Words.{sameBytes, splitIn, inName, allInName, isNamed};
+ghost use Rattle.spelling.specs.Words.{sameBytes, splitIn, inName, allInName, isNamed};
 
 // Whether two texts have the same bytes.
 pub fn same(a: &[u8], b: &[u8]) -> bool

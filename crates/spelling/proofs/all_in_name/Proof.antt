@@ -1,4 +1,4 @@
--- `arguments::all_in_name` meets its contract. The loop's invariant: the whole text is a name exactly when what is left
+-- `spelling::all_in_name` meets its contract. The loop's invariant: the whole text is a name exactly when what is left
 -- from i on is one. Assumes nothing.
 use borrow.Author.Needs.{needs}
 use mathlib.Core.Path.{_≡_, sym, _∙_}
@@ -7,10 +7,10 @@ use native.Mathlib.Numerals.{add-one}
 use native.Mathlib.Omega.{arith}
 use lib.ListN.{length, drop}
 use lib.Seq.{drop-length}
-use Rattle.arguments.specs.Words.{allInName}
-use Rattle.arguments.proofs.Letters.{name-ends, name-goes-on, all-of-it}
-use Rattle.arguments.proofs.spelling.all_in_name.Statement.{statement}
-use Rattle.arguments.proofs.spelling.all_in_name.Tie as tie
+use Rattle.spelling.specs.Words.{allInName}
+use Rattle.spelling.proofs.Letters.{name-ends, name-goes-on, all-of-it}
+use Rattle.spelling.proofs.all_in_name.Statement.{statement}
+use Rattle.spelling.proofs.all_in_name.Tie as tie
 
 abbrev Inv-loop : tie.InvT-loop
 Inv-loop text i₀ i = (i ≤ length text) × (allInName text ≡ allInName (drop i text))

@@ -1,7 +1,7 @@
--- `arguments::in_name` meets its contract: the code's tests are the definition's. Assumes nothing.
+-- `spelling::in_name` meets its contract: the code's tests are the definition's. Assumes nothing.
 use borrow.Author.Tests.{lt-ltb, le-ltb}
-use Rattle.arguments.proofs.spelling.in_name.Statement.{statement}
-use Rattle.arguments.proofs.spelling.in_name.Tie as tie
+use Rattle.spelling.proofs.in_name.Statement.{statement}
+use Rattle.spelling.proofs.in_name.Tie as tie
 
 returns : tie.Need-returns
 returns c = simp (lt-ltb _ _ (c .before .if1 .taken), lt-ltb _ _ (c .if2 .taken))
