@@ -32,16 +32,26 @@ fn say_why(name: &[u8], number: u8, bytes: &[u8]) {
 fn say_kind(name: &[u8], fmt: &[u8]) {
     say(b"tag ");
     say_number(two(fmt, 0) as u64);
-    say(b", ");
-    say_number(two(fmt, 14) as u64);
-    say(b" bits, ");
-    say_number(two(fmt, 2) as u64);
-    say(b" channels, ");
-    say_number(two(fmt, 12) as u64);
+    say_counted(two(fmt, 14), b" bit");
+    say_counted(two(fmt, 2), b" channel");
+    say_counted(two(fmt, 12), b" byte");
     say(
-        b" bytes a frame: whole frames of one or two channels, PCM of 16 or 24 bits or float of 32, are read; ",
+        b" a frame: whole frames of one or two channels, PCM of 16 or 24 bits or float of 32, are read; ",
     );
     say(b"write it as such, for instance: sox ");
     say(name);
-    say(b" -t wavpcm -b 24 OUT.wav");
+    say(b" -t wavpcm -b 24");
+    if two(fmt, 2) > 2 {
+        say(b" -c 2");
+    }
+    say(b" OUT.wav");
+}
+
+fn say_counted(n: u32, thing: &[u8]) {
+    say(b", ");
+    say_number(n as u64);
+    say(thing);
+    if n != 1 {
+        say(b"s");
+    }
 }
