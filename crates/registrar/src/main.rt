@@ -15,7 +15,6 @@ mod settings; // what the arguments ask for
 mod signs; // standard error, and the sign of success
 mod storing; // samples that a kind cannot hold
 
-use arguments::same;
 use settings::IMITATE;
 use settings::PLAIN;
 use settings::RESIDUAL;
@@ -24,6 +23,7 @@ use settings::wished;
 use signs::misused;
 use signs::say;
 use signs::succeed;
+use spelling::same;
 
 fn main() {
     let mut word = [0u8; 16];

@@ -16,7 +16,7 @@ pub(crate) enum Made {
 }
 
 fn is_standard(name: &[u8]) -> bool {
-    arguments::same(name, b"-")
+    spelling::same(name, b"-")
 }
 
 // Opens NAME.part, or says why not.

@@ -146,7 +146,7 @@ fn bad(command: &[u8], wishes: Wishes, words: &[u8], name: Name) -> Wishes {
 fn put_wanted(line: &mut [u8], name: Name) -> usize {
     match name {
         Name::Channel => text::put(line, 0, b"a channel is 1, 2 or all"),
-        _ => arguments::put_wanted(line, 0, name),
+        _ => wanted::put_wanted(line, 0, name),
     }
 }
 
@@ -223,10 +223,10 @@ fn with_frames(wishes: Wishes, frames: Frames) -> Wishes {
 
 // Channels count from 1 wherever a person reads or writes them; 0 for none.
 fn channel_named(words: &[u8]) -> u8 {
-    if arguments::same(words, b"channel=1") {
+    if spelling::same(words, b"channel=1") {
         return 1;
     }
-    if arguments::same(words, b"channel=2") {
+    if spelling::same(words, b"channel=2") {
         return 2;
     }
     0
