@@ -14,7 +14,10 @@ struct Turn {
     more: bool,
 }
 
-// Whether to go on after a block of n bytes. A read or a write that failed is said on standard error: there is no exit status to say it by.
+// The descriptor that ./run opens for the sign that all went well: there is no exit status to say it by.
+const SIGN: i32 = 3;
+
+// Whether to go on after a block of n bytes. A read or a write that failed is said on standard error.
 fn goes_on(n: usize, written: bool, spare: &mut [u8]) -> bool {
     if !written {
         io::write_all(STDERR_FILENO, b"render: standard output takes no more\n");
@@ -23,7 +26,9 @@ fn goes_on(n: usize, written: bool, spare: &mut [u8]) -> bool {
     if n < BLOCK {
         if libc::read(STDIN_FILENO, spare) < 0 {
             io::write_all(STDERR_FILENO, b"render: standard input cannot be read\n");
+            return false;
         }
+        libc::write(SIGN, b"end\n");
         return false;
     }
     true

@@ -1,0 +1,2 @@
+pub mod Decibels
+pub mod Counting

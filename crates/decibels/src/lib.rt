@@ -1,0 +1,25 @@
+// The level of a residual in tenths of a decibel, worked out in whole numbers alone.
+mod powers; // the two powers that are compared, and the count of tenths between them
+mod range; // which numbers and sums have a level
+
+ghost use mathlib.Core.Path.{_≡_};
+ghost use Prim.Native.Nat.{_+_, _*_, _^_};
+ghost use Rattle.decibels.specs.Decibels.{levelOf};
+
+// What two stretches have: no level, where nothing was compared or nothing differs; or one as many tenths of a decibel
+// below +6.1 dB as it says.
+pub enum Level {
+    None,
+    Below(u32),
+}
+
+// The level of two stretches by the number compared and the sum of squared differences, which is given in halves of 64
+// bits as `residual` reports it.
+pub fn tenths(number: u64, high: u64, low: u64) -> Level
+    ensures { λ r. ⌜ r ≡ levelOf number (high * 2 ^ 64 + low) ⌝ }
+{
+    if range::in_range(number, high, low) {
+        return Level::Below(powers::tenths_below(number, high, low));
+    }
+    Level::None
+}

@@ -1,0 +1,4 @@
+pub mod Fronts
+pub mod Calls
+pub mod Turning
+pub mod Rendered

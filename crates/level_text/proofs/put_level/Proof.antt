@@ -1,0 +1,26 @@
+-- `level_text::put_level` meets its contract: the variant that an arm is told gives the text. Assumes nothing.
+use borrow.Author.Needs.{needs}
+use mathlib.Core.Path.{_∙_, ap, sym}
+use Rattle.text.specs.Text.{ascii, putAt, placeAfter}
+use Rattle.level_text.specs.LevelText.{levelText}
+use Rattle.level_text.proofs.put_level.Statement.{statement}
+use Rattle.level_text.proofs.put_level.Tie as tie
+
+returns : tie.Need-returns
+unfolding ascii
+returns c =
+    let p = c .before .before in
+    let t = ap levelText (sym (p .before .before .before .enum-told .given .1)) in
+    (p .put .ensures .0 ∙ ap (placeAfter _ _) t, p .put .ensures .1 ∙ ap (putAt _ _) t)
+
+returns-2 : tie.Need-returns-2
+returns-2 c =
+    let p = c .before .before in
+    let t = ap levelText (sym (p .before .before .before .level .given .1)) in
+    (p .put-tenths .ensures .0 ∙ ap (placeAfter _ _) t, p .put-tenths .ensures .1 ∙ ap (putAt _ _) t)
+
+pub put-level-spec : {M : Type 1} → statement M
+put-level-spec =
+    tie.close
+    (tie.spec (λ c. search needs) (λ c. search needs) (λ c κs. tt) (λ c. search needs) (λ c κs. tt)
+    (λ c. search needs) returns (λ c. search needs) returns-2)

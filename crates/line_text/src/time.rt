@@ -1,0 +1,41 @@
+// How long so many frames last: hours, minutes and seconds, to a thousandth.
+ghost use mathlib.Core.Path.{_≡_};
+ghost use lib.ListN.{length};
+ghost use Rattle.text.specs.Text.{putAt, placeAfter};
+ghost use Rattle.line_text.specs.Time.{clockOf, secondsOf, timeOf};
+use crate::put_places;
+use text::put;
+use text::put_decimal;
+
+// Puts h:mm:ss.ttt for frames at a rate of so many in a second, or `?` where the rate is 0.
+pub fn put_time(out: &mut [u8], at: usize, frames: u64, rate: u32) -> usize
+    ensures { λ r. ⌜ r ≡ placeAfter (length (now (out .entry))) at (timeOf frames rate) ⌝ }
+    ensures { λ r. ⌜ now (out .exit) ≡ putAt (now (out .entry)) at (timeOf frames rate) ⌝ }
+{
+    if rate == 0 {
+        return put(out, at, b"?");
+    }
+    let second = rate as u64;
+    // The rest is below the rate, so times 1000 it fits, as frames * 1000 need not.
+    put_clock(out, at, frames / second, frames % second * 1000 / second)
+}
+
+fn put_clock(out: &mut [u8], at: usize, seconds: u64, thousandths: u64) -> usize
+    ensures { λ r. ⌜ r ≡ placeAfter (length (now (out .entry))) at (clockOf seconds thousandths) ⌝ }
+    ensures { λ r. ⌜ now (out .exit) ≡ putAt (now (out .entry)) at (clockOf seconds thousandths) ⌝ }
+{
+    let to = put_decimal(out, at, seconds / 3600);
+    let to = put(out, to, b":");
+    let to = put_places(out, to, seconds / 60 % 60, 2);
+    let to = put(out, to, b":");
+    put_seconds(out, to, seconds % 60, thousandths)
+}
+
+fn put_seconds(out: &mut [u8], at: usize, seconds: u64, thousandths: u64) -> usize
+    ensures { λ r. ⌜ r ≡ placeAfter (length (now (out .entry))) at (secondsOf seconds thousandths) ⌝ }
+    ensures { λ r. ⌜ now (out .exit) ≡ putAt (now (out .entry)) at (secondsOf seconds thousandths) ⌝ }
+{
+    let to = put_places(out, at, seconds, 2);
+    let to = put(out, to, b".");
+    put_places(out, to, thousandths, 3)
+}

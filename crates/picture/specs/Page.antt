@@ -1,0 +1,46 @@
+-- The head and the tail of a picture. Definitions only.
+use Prim.Native.Nat.{ℕ, _+_, _*_}
+use mathlib.Core.List.{List, _++_}
+use Rattle.text.specs.Text.{ascii}
+use Rattle.picture.specs.Names.{escaped}
+use Rattle.picture.specs.Bars.{numberText}
+
+-- What light and dark mean.
+unfoldable pub legendText : List ℕ
+legendText =
+    ascii "<rect x=\"90\" y=\"46\" width=\"14\" height=\"14\" fill=\"#c4c4c4\"/>\n" ++
+    (ascii "<text x=\"110\" y=\"58\">light: the largest sample of a stretch, in either file</text>\n" ++
+    (ascii "<rect x=\"480\" y=\"46\" width=\"14\" height=\"14\" fill=\"#000\"/>\n" ++
+    ascii "<text x=\"500\" y=\"58\">dark, in front: the largest difference of the stretch</text>\n"))
+
+-- What the two directions mean.
+unfoldable pub scalesText : List ℕ
+scalesText =
+    ascii "<text x=\"90\" y=\"80\">Upwards: how many bits it has. One bit more is twice as large, " ++
+    (ascii "24 are full scale, 0 is silence or no difference.</text>\n" ++
+    (ascii "<text x=\"90\" y=\"98\">From left to right: time since the first frame compared, " ++
+    ascii "in hours:minutes:seconds.</text>\n"))
+
+-- Which files the picture is of.
+unfoldable pub titleText : List ℕ → List ℕ → List ℕ
+titleText first second =
+    ascii "<text x=\"90\" y=\"30\" font-size=\"18\">How far " ++
+    (escaped first ++
+    (ascii " and " ++
+    (escaped second ++
+    ascii " differ</text>\n")))
+
+-- The beginning of a picture of so many channels.
+unfoldable pub headText : ℕ → List ℕ → List ℕ → List ℕ
+headText channels first second =
+    numberText (ascii "<svg xmlns=\"http://www.w3.org/2000/svg\" width=\"1160\" height=\"") (channels * 300 + 130) ++
+    (ascii "\" font-family=\"sans-serif\" font-size=\"14\">\n" ++
+    (ascii "<rect width=\"100%\" height=\"100%\" fill=\"#fff\"/>\n" ++
+    (titleText first second ++
+    (legendText ++
+    scalesText))))
+
+-- The end of a picture.
+unfoldable pub tailText : List ℕ
+tailText =
+    ascii "</svg>\n"

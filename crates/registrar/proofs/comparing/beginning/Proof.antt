@@ -1,0 +1,19 @@
+-- `registrar::comparing::beginning` stays inside its slices and ends. Assumes nothing.
+use mathlib.Core.Path.{sym}
+use native.Mathlib.Omega.{arith}
+use lib.Seq.{length-take-le}
+use borrow.Author.Needs.{needs}
+use Rattle.registrar.proofs.comparing.beginning.Statement.{statement}
+use Rattle.registrar.proofs.comparing.beginning.Tie as tie
+
+slice-aggregate-result : tie.Need-slice-aggregate-result
+slice-aggregate-result c = sym (length-take-le _ _ (omega arith))
+
+returns : tie.Need-returns
+returns c = search needs
+
+returns-2 : tie.Need-returns-2
+returns-2 c = search needs
+
+pub beginning-spec : {M : Type 1} → statement M
+beginning-spec = tie.close (tie.spec slice-aggregate-result returns returns-2)
