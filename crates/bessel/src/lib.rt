@@ -1,6 +1,20 @@
-// 000's bessel_i0, with the number of terms an argument.
+// 000's bessel_i0, the sum that stands for I0 in a table's window, and the mode in which it goes on until its terms
+// no longer count.
 ghost use mathlib.Core.Path.{_≡_};
 ghost use Rattle.bessel.specs.Series.{seriesOf};
+ghost use Rattle.bessel.specs.Modes.{termsOf, sumIn, namedOf, codeOf};
+
+// W5. Ported is 000's: 24 terms after the first do not reach I0 for a beta above about 10.9. In Full the tolerance always
+// ends the sum, for 41 terms do up to a beta of 20 (`tolerance-ends`).
+pub enum Mode {
+    Ported,
+    Full,
+}
+
+pub enum Named {
+    Mode(Mode),
+    Refused(u8),
+}
 
 // F5, T2. The series of I0: 1 and at most `terms` terms after it, up to the first that is below sum * 1.0e-16.
 pub fn series(x: f64, terms: u32) -> f64
@@ -29,4 +43,41 @@ pub fn bessel_i0(x: f64) -> f64
     ensures { λ r. ⌜ r ≡ seriesOf 24 x ⌝ }
 {
     series(x, 24)
+}
+
+// The number of terms that a mode may add.
+pub fn terms(mode: Mode) -> u32
+    ensures { λ r. ⌜ r ≡ termsOf mode ⌝ }
+{
+    match mode {
+        Mode::Ported => 24,
+        Mode::Full => 64,
+    }
+}
+
+// W5c. The sum called I0, in a mode.
+pub fn sum(mode: Mode, x: f64) -> f64
+    ensures { λ r. ⌜ r ≡ sumIn mode x ⌝ }
+{
+    series(x, terms(mode))
+}
+
+// What a mode is called where only numbers cross, and the mode of such a number.
+pub fn code(mode: Mode) -> u8
+    ensures { λ r. ⌜ r ≡ codeOf mode ⌝ }
+{
+    match mode {
+        Mode::Ported => 0,
+        Mode::Full => 1,
+    }
+}
+
+pub fn of_code(code: u8) -> Named
+    ensures { λ r. ⌜ r ≡ namedOf code ⌝ }
+{
+    match code {
+        0 => Named::Mode(Mode::Ported),
+        1 => Named::Mode(Mode::Full),
+        _ => Named::Refused(1),
+    }
 }
