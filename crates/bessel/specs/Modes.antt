@@ -30,3 +30,12 @@ codeOf Full = 1
 abbrev pub numberOf : Named → ℕ
 numberOf (named.Mode m) = 0
 numberOf (named.Refused k) = k
+
+-- Where only numbers cross: the refusal of a number that names no mode, else the one that is due else, v; and the mode.
+abbrev pub orElse : Named → ℕ → ℕ
+orElse (named.Mode m) v = v
+orElse (named.Refused k) v = k
+
+abbrev pub modeIn : Named → Mode
+modeIn (named.Mode m) = m
+modeIn (named.Refused k) = Ported
