@@ -2,18 +2,13 @@
 // no longer count.
 ghost use mathlib.Core.Path.{_≡_};
 ghost use Rattle.bessel.specs.Series.{seriesOf};
-ghost use Rattle.bessel.specs.Modes.{termsOf, sumIn, namedOf, codeOf};
+ghost use Rattle.bessel.specs.Modes.{termsOf, sumIn, codeOf, modeOf, knownCode};
 
 // W5. Ported is 000's: 24 terms after the first do not reach I0 for a beta above about 10.9. In Full the tolerance always
 // ends the sum, for 41 terms do up to a beta of 20 (`tolerance-ends`).
 pub enum Mode {
     Ported,
     Full,
-}
-
-pub enum Named {
-    Mode(Mode),
-    Refused(u8),
 }
 
 // F5, T2. The series of I0: 1 and at most `terms` terms after it, up to the first that is below sum * 1.0e-16.
@@ -62,7 +57,7 @@ pub fn sum(mode: Mode, x: f64) -> f64
     series(x, terms(mode))
 }
 
-// What a mode is called where only numbers cross, and the mode of such a number.
+// What a mode is called where only numbers cross.
 pub fn code(mode: Mode) -> u8
     ensures { λ r. ⌜ r ≡ codeOf mode ⌝ }
 {
@@ -72,12 +67,15 @@ pub fn code(mode: Mode) -> u8
     }
 }
 
-pub fn of_code(code: u8) -> Named
-    ensures { λ r. ⌜ r ≡ namedOf code ⌝ }
+pub fn of_code(code: u8) -> Mode
+    ensures { λ r. ⌜ r ≡ modeOf code ⌝ }
 {
-    match code {
-        0 => Named::Mode(Mode::Ported),
-        1 => Named::Mode(Mode::Full),
-        _ => Named::Refused(1),
-    }
+    if code == 0 { Mode::Ported } else { Mode::Full }
+}
+
+// Whether a number names a mode.
+pub fn known(code: u8) -> bool
+    ensures { λ r. ⌜ r ≡ knownCode code ⌝ }
+{
+    code <= 1
 }

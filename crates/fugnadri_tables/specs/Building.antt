@@ -8,7 +8,7 @@ use Rattle.sinc_settings.specs.declared.Settings.{Settings}
 use Rattle.sinc_settings.specs.Refusals.{verdict, forRate, rateVerdict}
 use Rattle.bessel.specs.declared.Mode.{Mode}
 use Rattle.bessel.specs.declared.Mode.the-variants.{Ported}
-use Rattle.bessel.specs.Modes.{namedOf, orElse, modeIn}
+use Rattle.bessel.specs.Modes.{modeOf, dueIn}
 use Rattle.windowed_sinc.specs.Table.{tableIn, tableAfter, builtIn, numberOf}
 use Rattle.windowed_sinc_f32.specs.Table as single
 
@@ -36,7 +36,7 @@ madeF32By = madeF32In Ported
 
 -- W5. By a mode's number: 1 where it names none.
 abbrev pub coded : (Mode → ℕ → Settings → List Float → Made) → ℕ → ℕ → Settings → List Float → Made
-coded made code v = made (modeIn (namedOf code)) (orElse (namedOf code) v)
+coded made code v = made (modeOf code) (dueIn code v)
 
 -- new and for_max_rate, of either width
 abbrev pub newOf : (ℕ → Settings → List Float → Made) → Settings → List Float → Made

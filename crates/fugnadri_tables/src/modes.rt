@@ -5,7 +5,8 @@ ghost use Rattle.fugnadri_tables.specs.Building.{makes, madeIn, madeF32I
 ghost use Rattle.fugnadri_tables.specs.Doors.{settingsOf};
 use crate::tables::number;
 use crate::tables::number_f32;
-use bessel::Named;
+use bessel::known;
+use bessel::of_code;
 use sinc_settings::Settings;
 
 #[no_mangle]
@@ -26,11 +27,10 @@ pub extern "C" fn fugnadri_windowed_sinc_new_in(
         cutoff: cutoff,
         beta: beta,
     };
-    let named = bessel::of_code(mode);
-    match named {
-        Named::Mode(m) => number(windowed_sinc::new_in(settings, m, &mut table[..])),
-        Named::Refused(k) => k,
+    if known(mode) {
+        return number(windowed_sinc::new_in(settings, of_code(mode), &mut table[..]));
     }
+    1
 }
 
 #[no_mangle]
@@ -46,19 +46,18 @@ pub extern "C" fn fugnadri_windowed_sinc_for_max_rate_in(
     ensures { λ r. ⌜ makes r (now (table .exit))
         ≡ forRateOf (coded madeIn mode) taps phases «max_rate» passband beta (now (table .entry)) ⌝ }
 {
-    let named = bessel::of_code(mode);
-    match named {
-        Named::Mode(m) => number(windowed_sinc::for_max_rate_in(
+    if known(mode) {
+        return number(windowed_sinc::for_max_rate_in(
             taps,
             phases,
             max_rate,
             passband,
             beta,
-            m,
+            of_code(mode),
             &mut table[..],
-        )),
-        Named::Refused(k) => k,
+        ));
     }
+    1
 }
 
 #[no_mangle]
@@ -79,11 +78,10 @@ pub extern "C" fn fugnadri_windowed_sinc_f32_new_in(
         cutoff: cutoff,
         beta: beta,
     };
-    let named = bessel::of_code(mode);
-    match named {
-        Named::Mode(m) => number_f32(windowed_sinc_f32::new_in(settings, m, &mut table[..])),
-        Named::Refused(k) => k,
+    if known(mode) {
+        return number_f32(windowed_sinc_f32::new_in(settings, of_code(mode), &mut table[..]));
     }
+    1
 }
 
 #[no_mangle]
@@ -99,17 +97,16 @@ pub extern "C" fn fugnadri_windowed_sinc_f32_for_max_rate_in(
     ensures { λ r. ⌜ makes r (now (table .exit))
         ≡ forRateOf (coded madeF32In mode) taps phases «max_rate» passband beta (now (table .entry)) ⌝ }
 {
-    let named = bessel::of_code(mode);
-    match named {
-        Named::Mode(m) => number_f32(windowed_sinc_f32::for_max_rate_in(
+    if known(mode) {
+        return number_f32(windowed_sinc_f32::for_max_rate_in(
             taps,
             phases,
             max_rate,
             passband,
             beta,
-            m,
+            of_code(mode),
             &mut table[..],
-        )),
-        Named::Refused(k) => k,
+        ));
     }
+    1
 }
