@@ -17,10 +17,6 @@ abbrev pub sumIn : Mode → Float → Float
 sumIn mode x = seriesOf (termsOf mode) x
 
 -- Where only numbers cross, 0 names the ported mode and 1 the full one.
-abbrev pub codeOf : Mode → ℕ
-codeOf Ported = 0
-codeOf Full = 1
-
 abbrev pub modeOf : ℕ → Mode
 modeOf zero = Ported
 modeOf (suc k) = Full

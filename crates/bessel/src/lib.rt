@@ -2,7 +2,7 @@
 // no longer count.
 ghost use mathlib.Core.Path.{_≡_};
 ghost use Rattle.bessel.specs.Series.{seriesOf};
-ghost use Rattle.bessel.specs.Modes.{termsOf, sumIn, codeOf, modeOf, knownCode};
+ghost use Rattle.bessel.specs.Modes.{termsOf, sumIn, modeOf, knownCode};
 
 // W5. Ported is 000's: 24 terms after the first do not reach I0 for a beta above about 10.9. In Full the tolerance always
 // ends the sum, for 41 terms do up to a beta of 20 (`tolerance-ends`).
@@ -41,7 +41,7 @@ pub fn bessel_i0(x: f64) -> f64
 }
 
 // The number of terms that a mode may add.
-pub fn terms(mode: Mode) -> u32
+fn terms(mode: Mode) -> u32
     ensures { λ r. ⌜ r ≡ termsOf mode ⌝ }
 {
     match mode {
@@ -57,16 +57,7 @@ pub fn sum(mode: Mode, x: f64) -> f64
     series(x, terms(mode))
 }
 
-// What a mode is called where only numbers cross.
-pub fn code(mode: Mode) -> u8
-    ensures { λ r. ⌜ r ≡ codeOf mode ⌝ }
-{
-    match mode {
-        Mode::Ported => 0,
-        Mode::Full => 1,
-    }
-}
-
+// The mode of a number, where only numbers cross. One above 1 is no mode's: who takes numbers from outside tests that.
 pub fn of_code(code: u8) -> Mode
     ensures { λ r. ⌜ r ≡ modeOf code ⌝ }
 {
