@@ -5,7 +5,7 @@ use super::{
     pool::{SET, SETS},
     readers::left,
     shapes::Shape,
-    tables::built,
+    tables::{built, built_in, mode},
     turn::Turn,
     value::Value,
 };
@@ -18,6 +18,8 @@ pub const EXPORTS: &[Export] = &[
     ("fugnadri_bank_build_set", |t| build(t, 2.0, b::bank_build_set)),
     // up to 1.02 a bank has one set
     ("fugnadri_bank_build", |t| build(t, 1.02, b::bank_build)),
+    ("fugnadri_bank_build_set_in", |t| build_in(t, 2.0, b::bank_build_set_in)),
+    ("fugnadri_bank_build_in", |t| build_in(t, 1.02, b::bank_build_in)),
     ("fugnadri_quality_open", |t| {
         let quality = t.random.count(0, 3) as u8;
         opened(t, |reader| reader.open(quality))
@@ -55,6 +57,14 @@ fn build(t: &mut Turn, most: f64, call: fn(f64, &mut [f32]) -> u8) -> u8 {
     let set = t.memory.ring.lend(&mut t.random, t.memory.floats, length);
     let number = call(rate, set.slice());
     built(t, number, &set)
+}
+
+fn build_in(t: &mut Turn, most: f64, call: fn(f64, u8, &mut [f32]) -> u8) -> u8 {
+    let length = t.random.pick(&[0, 1, 7, SET / 1000, 100]);
+    let (rate, mode) = (t.random.ranged(1.0, most), mode(t));
+    let set = t.memory.ring.lend(&mut t.random, t.memory.floats, length);
+    let number = call(rate, mode, set.slice());
+    built_in(t, mode, number, &set)
 }
 
 /// A state that is mostly an open reader's, over a ring that is lent.
