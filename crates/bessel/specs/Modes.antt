@@ -1,5 +1,5 @@
--- W5c. How the sum that stands for I0 may end: the ported mode after 24 terms, as in 000, the full mode after 64. Where only
--- numbers cross, 0 is the ported mode and 1 the full one. Definitions only.
+-- W5c. How the sum that stands for I0 may end: the ported mode after 24 terms, as in 000, the full mode after 64. Where
+-- only numbers cross, 0 is the ported mode and 1 the full one. Definitions only.
 use Prim.Native.Nat.{ℕ, zero, suc}
 use mathlib.Core.Bool.{Bool, cond}
 use lib.Dec.{leb}

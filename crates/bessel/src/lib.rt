@@ -4,8 +4,8 @@ ghost use mathlib.Core.Path.{_≡_};
 ghost use Rattle.bessel.specs.Series.{seriesOf};
 ghost use Rattle.bessel.specs.Modes.{termsOf, sumIn, modeOf, knownCode};
 
-// W5. Ported is 000's: 24 terms after the first do not reach I0 for a beta above about 10.9. In Full the tolerance always
-// ends the sum, for 41 terms do up to a beta of 20 (`tolerance-ends`).
+// W5. Ported is 000's: 24 terms after the first do not reach I0 for a beta above about 10.9. In Full the tolerance
+// always ends the sum, for 41 terms do up to a beta of 20 (`tolerance-ends`).
 pub enum Mode {
     Ported,
     Full,

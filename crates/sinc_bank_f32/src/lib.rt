@@ -13,7 +13,8 @@ ghost use Rattle.sinc_settings.specs.Refusals.{forRate, rateVerdict};
 ghost use Rattle.windowed_sinc.specs.Table.{tableAfter};
 ghost use Rattle.windowed_sinc_f32.specs.Table.{tableF32In};
 ghost use Rattle.bank_choice.specs.Rates.{bankOk, stepsOf};
-ghost use Rattle.sinc_bank_f32.specs.Sets.{setLength, passband, withPart, setIn, setOf, bankIn, bankOf, bankLength};
+ghost use Rattle.sinc_bank_f32.specs.Sets.{setLength, passband, withPart, bankLength};
+ghost use Rattle.sinc_bank_f32.specs.Sets.{setIn, setOf, bankIn, bankOf};
 ghost use Rattle.sinc_bank_f32.specs.Building.{setVerdict, bankVerdict, builtBy};
 
 pub enum Built {
