@@ -196,7 +196,8 @@ uint8_t fugnadri_windowed_sinc_f32_for_max_rate(size_t taps, size_t phases, doub
     double beta, float *table, size_t table_len);
 
 /* The same with the window in a mode of the sum called I0: 0 the original's, which 24 terms end, so that it is not I0
- * for a beta above about 10.9; 1 full, which goes on until its terms no longer count. Any other number is refused by 1. */
+ * for a beta above about 10.9; 1 full, which goes on until its terms no longer count. Any other number is refused
+ * by 1. */
 uint8_t fugnadri_windowed_sinc_new_in(size_t taps, size_t phases, double cutoff, double beta, uint8_t mode,
     double *table, size_t table_len);
 uint8_t fugnadri_windowed_sinc_for_max_rate_in(size_t taps, size_t phases, double max_rate, double passband,

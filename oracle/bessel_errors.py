@@ -88,8 +88,9 @@ def main(count=20000, seed=1):
     for mode in LIMITS:
         e, beta = worst[mode]
         print(f"{mode}: {count} random betas, at most {most[mode]} terms, {by_limit[mode]} ended by the limit; "
-              f"error at most {e:.2e} ({e / HALF_STEP:.2f} of 2^-53) at {beta!r}")
-    print(f"ported, where the tolerance ended it: error at most {where_ended:.2e} ({where_ended / HALF_STEP:.2f} of 2^-53)")
+              f"error at most {e:.2e} ({e / HALF_STEP:.1f} of 2^-53) at {beta!r}")
+    e = where_ended
+    print(f"ported, where the tolerance ended it: error at most {e:.2e} ({e / HALF_STEP:.1f} of 2^-53)")
     print(f"ported: the tolerance ends it up to {last_ended(10.0, 12.0, LIMITS['ported'])!r}")
 
 
