@@ -92,7 +92,7 @@ pub fn mode(t: &mut Turn) -> u8 {
 }
 
 /// What a build in a mode gives: 1 where the number names none.
-pub fn built_in<T: Value>(t: &mut Turn, mode: u8, number: u8, table: &Lent<T>) -> u8 {
+fn built_in<T: Value>(t: &mut Turn, mode: u8, number: u8, table: &Lent<T>) -> u8 {
     t.hold(mode <= 1 || number == 1, "a number that names no mode is taken");
     built(t, number, table)
 }
