@@ -1,12 +1,12 @@
 -- Samples of floats by blocks: patterns that are put together tell that none of them is a NaN's, and a block that is
 -- lent and written is that many samples more. Assumes nothing.
-use mathlib.Core.Path.{_≡_, refl, sym, ap, _∙_, subst}
+use mathlib.Core.Path.{_≡_, sym, ap, _∙_, subst}
 use mathlib.Core.List.{List, [], _∷_, _++_, append-assoc, append-nil}
 use mathlib.Core.Logic.{⊎-elim}
-use Prim.Native.Nat.{ℕ, zero, suc, _+_, _-_, _*_, _%_, _≤_, _<_}
+use Prim.Native.Nat.{ℕ, zero, suc, _+_, _*_, _%_, _≤_, _<_}
 use native.Mathlib.Nat.{add-mul, add-zero, add-suc, eq-or-lt-of-le, mul-le-mul-right}
 use native.Mathlib.Omega.{arith}
-use lib.Bits.{bitAnd, bitOr, or-mod, or-add-and, and-le-l, and-le-r}
+use lib.Bits.{bitOr, or-mod, or-add-and, and-le-l, and-le-r}
 use lib.Ieee.{binary32, ofBits}
 use lib.ListN.{length, getD, take, drop, length-append, length-drop}
 use lib.Seq.{take-at, length-take-le}
@@ -47,10 +47,10 @@ module _ (pattern : ℕ → ℕ) where
   pub no-pattern : (m : ℕ) → NoneAbove pattern 0 m
   no-pattern m k h = absurd (omega arith)
 
-  module _ (k all n : ℕ) (e : n ≡ pattern k) where
-    pub one-more : NoneAbove pattern k (all % 0x8000_0000)
+  module _ (k n : ℕ) (e : n ≡ pattern k) where
+    pub one-more : (all : ℕ) → NoneAbove pattern k (all % 0x8000_0000)
         → NoneAbove pattern (k + 1) (bitOr all n % 0x8000_0000)
-    one-more h =
+    one-more all h =
         let a = all % 0x8000_0000 in
         let b = n % 0x8000_0000 in
         let o : bitOr all n % 0x8000_0000 ≡ bitOr a b = or-mod all n 31 in
@@ -58,13 +58,11 @@ module _ (pattern : ℕ → ℕ) where
         (λ i l. omega (arith, h i l, o, left-part a b))
         (rw (sym e) (omega (arith, o, right-part a b)))
 
-    pub one-raised : NoneAbove pattern k (all - 0x7f_ffff)
-        → NoneAbove pattern (k + 1) (bitOr all (n % 0x8000_0000 + 0x7f_ffff) - 0x7f_ffff)
-    one-raised h =
-        let b = n % 0x8000_0000 + 0x7f_ffff in
-        up-to (λ (i : ℕ). pattern i % 0x8000_0000 ≤ bitOr all b - 0x7f_ffff) k
-        (λ i l. omega (arith, h i l, left-part all b))
-        (rw (sym e) (omega (arith, right-part all b)))
+    pub one-counted : (d found : ℕ) → (d ≡ 0 → n % 0x8000_0000 ≤ 0x7f80_0000)
+        → (found ≡ 0 → NoneAbove pattern k 0x7f80_0000)
+        → found + d ≡ 0 → NoneAbove pattern (k + 1) 0x7f80_0000
+    one-counted d found z h q =
+        up-to (λ (i : ℕ). pattern i % 0x8000_0000 ≤ 0x7f80_0000) k (h (omega arith)) (rw (sym e) (z (omega arith)))
 
   pub lower : (n m m' : ℕ) → m ≤ m' → NoneAbove pattern n m → NoneAbove pattern n m'
   lower n m m' l h k b = omega (arith, h k b)

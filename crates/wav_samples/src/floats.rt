@@ -48,7 +48,7 @@ pub(crate) fn of_two(first: usize, part: &[u8], out: &mut [f64])
 }
 
 fn block_of_one(first: usize, part: &[u8], out: &mut [f64])
-    requires { ⌜ Inside (length (now part)) (length (now out)) 4 first ⌝ }
+    requires { ⌜ Inside (length (now part)) (length (now out)) 4 first × (length (now out) ≡ 96) ⌝ }
     ensures { λ _. ⌜
         now (out .exit) ≡ framesOf (sampleOf binary64 Float32 (now (part .entry))) 4 first (length (now (out .entry)))
         ⌝ }

@@ -6,7 +6,7 @@ use Rattle.wav_samples.proofs.floats.block_of_one.Tie as tie
 untested-requires : tie.Need-untested-requires
 untested-requires c κs =
     let n = c .before .before in
-    (n .before .before .before .before .pre, n .numbers .ensures (c .before .if1 .taken))
+    (n .before .before .before .before .pre .0, n .numbers .ensures (c .before .if1 .taken))
 
 pub block-of-one-spec : {M : Type 1} → statement M
 block-of-one-spec = tie.close (tie.spec (λ c κs. search needs) (λ c κs. search needs) untested-requires

@@ -1,11 +1,10 @@
 -- `wav_samples::floats::block_of_two` meets its contract, whether or not all are known to be numbers. Assumes nothing.
 use borrow.Author.Needs.{needs}
-use mathlib.Core.Path.{_≡_, sym, ap, _∙_, subst}
+use mathlib.Core.Path.{sym, ap, _∙_, subst}
 use Prim.Native.Nat.{ℕ}
+use lib.Dec.{lit≤}
 use lib.ListN.{length}
-use lib.Ieee.{binary32, ofBits}
 use denote.Ref.{now}
-use Rattle.loops.specs.Loops.{listOf}
 use Rattle.loops.proofs.Lists.{length-list}
 use Rattle.wav_samples.specs.Frames.{Inside, patterns}
 use Rattle.wav_samples.proofs.Blocks.{kept-numbers, kept-samples}
@@ -21,7 +20,7 @@ gathered-requires c κs = inside (c .before .before .before)
 numbers-requires : tie.Need-numbers-requires
 numbers-requires c κs =
     let g = c .before in
-    (inside (g .before .before .before .before), g .gathered .ensures .0)
+    (inside (g .before .before .before .before), lit≤ tt, g .gathered .ensures .0)
 
 handed-requires : tie.Need-handed-requires
 handed-requires c κs =

@@ -45,7 +45,7 @@ block-of-one-requires c κs =
     let i = c .before in
     let l = i .before .loop in
     let n = length-part (l .out) (l .k) (l .k + 96 - l .k) 96 (omega arith) (room i) in
-    (λ k b. block (l .k) 96 (begun i .pre) (omega (arith, room i, l .inv .long)) k (omega (arith, b, n)))
+    ((λ k b. block (l .k) 96 (begun i .pre) (omega (arith, room i, l .inv .long)) k (omega (arith, b, n))), n)
 
 loop-again : tie.Need-loop-again Inv-loop μ-loop
 loop-again c =

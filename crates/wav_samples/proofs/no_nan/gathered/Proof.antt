@@ -1,7 +1,7 @@
 -- `wav_samples::no_nan::gathered` meets its contract: a list that is written by a rule, and one pattern more. Assumes
 -- nothing.
 use borrow.Author.Needs.{needs}
-use Prim.Native.Nat.{ℕ, _+_, _-_, _*_, _%_, _≤_}
+use Prim.Native.Nat.{_+_, _-_, _*_, _%_, _≤_}
 use native.Mathlib.Omega.{arith}
 use denote.Ref.{now}
 use lib.ListN.{length, length-set}
@@ -28,7 +28,7 @@ loop-again : tie.Need-loop-again Inv-loop μ-loop
 loop-again c =
     let i = c .before .before .loop .inv in (
       written-more (i .0) (omega arith) (c .four-at .ensures),
-      one-more _ _ _ _ (c .four-at .ensures) (i .1),
+      one-more _ _ _ (c .four-at .ensures) _ (i .1),
     )
 
 returns : tie.Need-returns Inv-loop μ-loop

@@ -1,6 +1,6 @@
 -- `wav_samples::no_nan::together` meets its contract: one pattern more. Assumes nothing.
 use borrow.Author.Needs.{needs}
-use Prim.Native.Nat.{ℕ, _-_, _%_}
+use Prim.Native.Nat.{_-_, _%_}
 use native.Mathlib.Omega.{arith}
 use Rattle.wav_samples.specs.Frames.{patterns, NoneAbove}
 use Rattle.wav_samples.proofs.Blocks.{no-pattern, one-more}
@@ -20,5 +20,5 @@ together-spec =
     (λ c. omega (arith, c .before .before .before .pre (c .before .loop .k) (omega arith)))
     (λ c κs. omega (arith, c .before .before .before .pre (c .before .loop .k) (omega arith)))
     (λ c. search needs) (λ c. omega arith)
-    (λ c. one-more _ _ _ _ (c .four-at .ensures) (c .before .before .loop .inv))
+    (λ c. one-more _ _ _ (c .four-at .ensures) _ (c .before .before .loop .inv))
     (λ c k l. c .before .loop .inv k (omega arith)))
