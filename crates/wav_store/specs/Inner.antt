@@ -1,13 +1,15 @@
 -- What the crate's own functions ask and promise each other. Definitions only.
-use Prim.Native.Nat.{ℕ, _*_}
+use Prim.Native.Nat.{ℕ, zero, suc, _*_, _/_, _%_, _^_, _<_}
 use mathlib.Core.Path.{_≡_}
 use mathlib.Core.Bool.{true, false}
 use mathlib.Core.List.{List}
-use lib.IntN.{negsuc}
-use lib.ListN.{length}
-use lib.Ieee.{Float, fin}
+use lib.IntN.{pos, negsuc}
+use lib.ListN.{length, getD}
+use lib.Ieee.{Float, fin, binary64, toBits}
 use Rattle.sample_kind.specs.declared.SampleKind.{SampleKind}
+use Rattle.sample_kind.specs.declared.SampleKind.the-variants.{Float32}
 use Rattle.sample_kind.specs.Kinds.{widthOf}
+use Rattle.stored_samples.specs.Stored.{fitsIn}
 use Rattle.wav_store.specs.Storing.{allFit}
 
 -- What writing asks: a slice of the right length, and samples that fit.
@@ -18,3 +20,31 @@ pub record Ready (kind : SampleKind) (xs : List Float) (out : List ℕ) : Type 0
 -- 3 · 2^-98, the least that is added to a sample so that it rounds at an f32's last unit.
 abbrev pub leastAdded : Float
 leastAdded = fin false 3 (negsuc 97)
+
+-- A sample that is a normal f32 when it is rounded: by its pattern it is no less than 2^-126.
+pub record Plain (x : Float) : Type 0 where
+  pub fit : fitsIn Float32 x ≡ true
+  pub large : 897 < toBits binary64 x / 2 ^ 52 % 2048
+
+abbrev pub AllPlain : List Float → Type 0
+AllPlain xs = (k : ℕ) → k < length xs → (d : Float) → Plain (getD xs k d)
+
+abbrev pub two : Float
+two = fin false 1 (pos 1)
+
+-- What a sample's pattern, cut at 2, tells: with the digit 2^62 away it fits, and with the four below it also there it
+-- is plain.
+pub record Tells (x : Float) (b : ℕ) : Type 0 where
+  pub fits : b / 2 ^ 62 % 2 ≡ 0 → fitsIn Float32 x ≡ true
+  pub plain : b / 2 ^ 62 % 2 ≡ 0 → b / 2 ^ 58 % 16 ≡ 15 → Plain x
+
+-- What looking at all samples tells. 0: some does not fit. 1: all fit. Above: all are plain, and are stored as floats.
+abbrev pub Seen : SampleKind → List Float → ℕ → Type 0
+Seen kind xs zero = allFit kind xs ≡ false
+Seen kind xs (suc zero) = allFit kind xs ≡ true
+Seen kind xs (suc (suc n)) = (kind ≡ Float32) × AllPlain xs
+
+-- What writing plain samples as floats asks.
+pub record PlainReady (xs : List Float) (out : List ℕ) : Type 0 where
+  pub long : length out ≡ length xs * 4
+  pub plain : AllPlain xs
