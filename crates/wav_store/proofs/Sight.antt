@@ -136,13 +136,13 @@ module _ {xs : List Float} {some every i : ℕ} (l : Sighted xs some every i) wh
             λ e k m d. elim (lt-or-ge k i) [
               | inl n ↦ l .fit (or-away some b e .0) k n d
               | inr g ↦ subst (λ (x : Float). fitsIn Float32 x ≡ true) (here k d (omega (arith, m, g)))
-                        (t .fits (or-away some b e .1))
+                  (t .fits (or-away some b e .1))
             ];
         plain =
             λ e j k m d. elim (lt-or-ge k i) [
               | inl n ↦ l .plain (or-away some b e .0) (and-there every b (l .under) j .0) k n d
               | inr g ↦ subst Plain (here k d (omega (arith, m, g)))
-                        (t .plain (or-away some b e .1) (and-there every b (l .under) j .1))
+                  (t .plain (or-away some b e .1) (and-there every b (l .under) j .1))
             ];
       }
     where
