@@ -18,7 +18,7 @@ use Rattle.rounding.proofs.Orders.{lt-or-ge}
 use Rattle.rounding.proofs.Patterns.{sign-rest}
 use Rattle.sample_kind.specs.declared.SampleKind.the-variants.{Float32}
 use Rattle.stored_samples.specs.Stored.{fitsIn}
-use Rattle.wav_store.specs.Inner.{Plain, AllPlain, Tells, two}
+use Rattle.wav_store.specs.Inner.{Plain, AllPlain, PlainFrom, Tells, two, four}
 use Rattle.wav_store.specs.Storing.{allFit}
 use Rattle.wav_store.proofs.Rounded.{below-two}
 
@@ -84,9 +84,6 @@ or-away a b e =
     none q m c d h l k o = (omega arith, omega arith)
 
 -- the four digits from 2^58 on are in both numbers where they are in `and`
-abbrev pub four : ℕ
-four = 0x3c00_0000_0000_0000
-
 and-there : (a b : ℕ) → a ≤ four → bitAnd a b ≡ four → (a ≡ four) × (b / 2 ^ 58 % 16 ≡ 15)
 and-there a b l e =
     let i : a ≡ four = omega (arith, and-le-l a b, e, l) in
@@ -155,3 +152,29 @@ module _ {xs : List Float} {some every i : ℕ} (l : Sighted xs some every i) wh
 
     pub all-plain : every ≡ four → AllPlain xs
     all-plain e k h d = l .plain away e k (omega (arith, h, end)) d
+
+-- ---- sixteen samples from the i-th on, of which the first k were looked at
+pub record Shared (xs : List Float) (i all k : ℕ) : Type 0 where
+  pub under : all ≤ four
+  pub most : k ≤ 16
+  pub plain : all ≡ four → (m : ℕ) → m < k → (d : Float) → Plain (getD xs (i + m) d)
+
+pub unshared : {xs : List Float} {i : ℕ} → Shared xs i four 0
+unshared = record { under = omega arith; most = omega arith; plain = λ e m h d. absurd (omega (arith, h)) }
+
+pub shared-more : {xs : List Float} {i all k : ℕ} → Shared xs i all k → (c : Float) {b : ℕ} → k < 16
+    → i + k < length xs → fitsIn Float32 (getD xs (i + k) c) ≡ true → b ≡ toBits binary64 (getD xs (i + k) c)
+    → Shared xs i (bitAnd all b) (k + 1)
+shared-more {xs} {i} {all} {k} l c {b} few h f e =
+    record {
+      under = omega (arith, and-le-l all b, l .under);
+      most = omega arith;
+      plain =
+          λ j m n d. elim (lt-or-ge m k) [
+            | inl o ↦ l .plain (and-there all b (l .under) j .0) m o d
+            | inr g ↦
+                let a : k ≡ m = omega (arith, n, g) in
+                subst Plain (same-get xs (i + k) c d h ∙ ap (λ (z : ℕ). getD xs (i + z) d) a)
+                (record { fit = f; large = omega (arith, sym e, and-there all b (l .under) j .1) })
+          ];
+    }

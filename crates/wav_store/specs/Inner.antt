@@ -1,16 +1,16 @@
 -- What the crate's own functions ask and promise each other. Definitions only.
-use Prim.Native.Nat.{ℕ, zero, suc, _*_, _/_, _%_, _^_, _<_}
+use Prim.Native.Nat.{ℕ, zero, suc, _+_, _*_, _/_, _%_, _^_, _≤_, _<_}
 use mathlib.Core.Path.{_≡_}
 use mathlib.Core.Bool.{true, false}
-use mathlib.Core.List.{List}
+use mathlib.Core.List.{List, _++_}
 use lib.IntN.{pos, negsuc}
-use lib.ListN.{length, getD}
+use lib.ListN.{length, take, drop, getD}
 use lib.Ieee.{Float, fin, binary64, toBits}
 use Rattle.sample_kind.specs.declared.SampleKind.{SampleKind}
 use Rattle.sample_kind.specs.declared.SampleKind.the-variants.{Float32}
 use Rattle.sample_kind.specs.Kinds.{widthOf}
 use Rattle.stored_samples.specs.Stored.{fitsIn}
-use Rattle.wav_store.specs.Storing.{allFit}
+use Rattle.wav_store.specs.Storing.{allFit, bytesOf}
 
 -- What writing asks: a slice of the right length, and samples that fit.
 pub record Ready (kind : SampleKind) (xs : List Float) (out : List ℕ) : Type 0 where
@@ -48,3 +48,30 @@ Seen kind xs (suc (suc n)) = (kind ≡ Float32) × AllPlain xs
 pub record PlainReady (xs : List Float) (out : List ℕ) : Type 0 where
   pub long : length out ≡ length xs * 4
   pub plain : AllPlain xs
+
+-- ---- sixteen samples a turn
+-- Of the samples the first i are written.
+pub record Placed (kind : SampleKind) (xs : List Float) (out : List ℕ) (i : ℕ) : Type 0 where
+  pub long : length out ≡ length xs * widthOf kind
+  pub most : i ≤ length xs
+  pub whole : bytesOf kind xs ≡ take (i * widthOf kind) out ++ bytesOf kind (drop i xs)
+
+-- n samples from the i-th on are there, and fit.
+pub record Next (n : ℕ) (xs : List Float) (i : ℕ) : Type 0 where
+  pub room : i + n ≤ length xs
+  pub fit : allFit Float32 xs ≡ true
+
+abbrev pub PlainFrom : ℕ → List Float → ℕ → Type 0
+PlainFrom n xs i = (k : ℕ) → k < n → (d : Float) → Plain (getD xs (i + k) d)
+
+pub record Turn (n : ℕ) (xs : List Float) (out : List ℕ) (i : ℕ) : Type 0 where
+  pub next : Next n xs i
+  pub placed : Placed Float32 xs out i
+
+pub record PlainTurn (n : ℕ) (xs : List Float) (out : List ℕ) (i : ℕ) : Type 0 where
+  pub turn : Turn n xs out i
+  pub plain : PlainFrom n xs i
+
+-- The four digits from 2^58 on.
+abbrev pub four : ℕ
+four = 0x3c00_0000_0000_0000

@@ -11,6 +11,7 @@ mod looking; // whether every sample fits
 mod looking_f32;
 mod placing; // the bytes
 mod placing_f32;
+mod turns; // sixteen floats at a time
 
 use refusal_order::both;
 use sample_kind::SampleKind;
