@@ -75,9 +75,11 @@ module _ {kind : SampleKind} {xs : List Float} where
 
 -- ---- four samples' bytes, as the code writes them
 pub step : {xs : List Float} {out o : List ℕ} {i w : ℕ} → Placed Float32 xs out i → i < length xs
-    → w ≡ wordOf Float32 (getD xs i nan) → o ≡ sets out (i * 4) (lowBytes 4 w) → Placed Float32 xs o (i + 1)
-step {xs} {out} {o} {i} {w} p h e f =
-    subst (λ (b : List ℕ). Placed Float32 xs b (i + 1)) (sym f) (placed-more p h nan (ap (lowBytes 4) e))
+    → w ≡ wordOf Float32 (getD xs i nan) → {n : ℕ} → o ≡ sets out n (lowBytes 4 w) → n ≡ i * 4
+    → Placed Float32 xs o (i + 1)
+step {xs} {out} {o} {i} {w} p h e f g =
+    subst (λ (b : List ℕ). Placed Float32 xs b (i + 1)) (sym (f ∙ ap (λ (n : ℕ). sets out n (lowBytes 4 w)) g))
+    (placed-more p h nan (ap (lowBytes 4) e))
 
 pub moved : {xs : List Float} {out : List ℕ} {m n : ℕ} → Placed Float32 xs out m → m ≡ n → Placed Float32 xs out n
 moved {xs} {out} p e = subst (λ (i : ℕ). Placed Float32 xs out i) e p
@@ -85,12 +87,14 @@ moved {xs} {out} p e = subst (λ (i : ℕ). Placed Float32 xs out i) e p
 pub four-placed : {xs : List Float} {out p q r s : List ℕ} {i a b c d : ℕ} → Placed Float32 xs out i
     → i + 4 ≤ length xs → a ≡ wordOf Float32 (getD xs i nan) → b ≡ wordOf Float32 (getD xs (i + 1) nan)
     → c ≡ wordOf Float32 (getD xs (i + 1 + 1) nan) → d ≡ wordOf Float32 (getD xs (i + 1 + 1 + 1) nan)
-    → p ≡ sets out (i * 4) (lowBytes 4 a) → q ≡ sets p ((i + 1) * 4) (lowBytes 4 b)
-    → r ≡ sets q ((i + 1 + 1) * 4) (lowBytes 4 c) → s ≡ sets r ((i + 1 + 1 + 1) * 4) (lowBytes 4 d)
+    → p ≡ sets out (i * 4) (lowBytes 4 a) → q ≡ sets p (i * 4 + 4) (lowBytes 4 b)
+    → r ≡ sets q (i * 4 + 8) (lowBytes 4 c) → s ≡ sets r (i * 4 + 12) (lowBytes 4 d)
     → Placed Float32 xs s (i + 4)
 four-placed z l a b c d p q r w =
-    moved (step (step (step (step z (omega arith) a p) (omega arith) b q) (omega arith) c r) (omega arith) d w)
-    (omega arith)
+    let first = step z (omega arith) a p refl in
+    let second = step first (omega arith) b q (omega arith) in
+    let third = step second (omega arith) c r (omega arith) in
+    moved (step third (omega arith) d w (omega arith)) (omega arith)
 
 -- ---- four of sixteen
 pub next-four : {xs : List Float} {i : ℕ} → Next 16 xs i → (o : ℕ) {j : ℕ} → o ≤ 12 → i + o ≡ j → Next 4 xs j

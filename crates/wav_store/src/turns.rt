@@ -82,10 +82,11 @@ fn four_any(samples: &[f64], i: usize, out: &mut [u8])
     let b = nearest_float(samples[j]);
     let c = nearest_float(samples[k]);
     let d = nearest_float(samples[l]);
-    put(i * 4, a, &mut out[..]);
-    put(j * 4, b, &mut out[..]);
-    put(k * 4, c, &mut out[..]);
-    put(l * 4, d, &mut out[..]);
+    let at = i * 4;
+    put(at, a, &mut out[..]);
+    put(at + 4, b, &mut out[..]);
+    put(at + 8, c, &mut out[..]);
+    put(at + 12, d, &mut out[..]);
 }
 
 fn four_plain(samples: &[f64], i: usize, out: &mut [u8])
@@ -99,10 +100,11 @@ fn four_plain(samples: &[f64], i: usize, out: &mut [u8])
     let b = nearest_plain(samples[j]);
     let c = nearest_plain(samples[k]);
     let d = nearest_plain(samples[l]);
-    put(i * 4, a, &mut out[..]);
-    put(j * 4, b, &mut out[..]);
-    put(k * 4, c, &mut out[..]);
-    put(l * 4, d, &mut out[..]);
+    let at = i * 4;
+    put(at, a, &mut out[..]);
+    put(at + 4, b, &mut out[..]);
+    put(at + 8, c, &mut out[..]);
+    put(at + 12, d, &mut out[..]);
 }
 
 pub(crate) fn put(at: usize, w: u32, out: &mut [u8])

@@ -1,7 +1,7 @@
 -- `wav_store::placing::place_float` meets its contract: each turn writes the bytes of the next samples, sixteen of them
 -- while there are so many. Assumes nothing.
 use borrow.Author.Needs.{needs}
-use mathlib.Core.Path.{sym, _∙_}
+use mathlib.Core.Path.{refl, sym, _∙_}
 use Prim.Native.Nat.{_-_}
 use native.Mathlib.Omega.{arith}
 use lib.ListN.{length}
@@ -53,7 +53,8 @@ put-requires c κs = inside (c .before .before .before .before .loop2 .inv) (ome
 loop2-again : tie.Need-loop2-again Inv-loop μ-loop Inv-loop2 μ-loop2
 loop2-again c =
     let w = c .before .before .before .before in
-    step (w .before .before .before .loop2 .inv) (omega arith) (w .nearest-float .ensures) (c .before .before .put .ensures)
+    step (w .before .before .before .loop2 .inv) (omega arith) (w .nearest-float .ensures)
+    (c .before .before .put .ensures) refl
 
 same-length : tie.Need-same-length Inv-loop μ-loop Inv-loop2 μ-loop2
 same-length c = c .before .loop2 .inv .long ∙ sym (c .before .before .before .before .before .before .pre .long)
