@@ -21,7 +21,7 @@ pub record Ready (kind : SampleKind) (xs : List Float) (out : List ℕ) : Type 0
 abbrev pub leastAdded : Float
 leastAdded = fin false 3 (negsuc 97)
 
--- A sample that is a normal f32 when it is rounded: by its pattern it is no less than 2^-126.
+-- A sample that is plain to store as an f32: by its exponent it is at least 2^-125.
 pub record Plain (x : Float) : Type 0 where
   pub fit : fitsIn Float32 x ≡ true
   pub large : 897 < toBits binary64 x / 2 ^ 52 % 2048
@@ -56,7 +56,7 @@ pub record Placed (kind : SampleKind) (xs : List Float) (out : List ℕ) (i : �
   pub most : i ≤ length xs
   pub whole : bytesOf kind xs ≡ take (i * widthOf kind) out ++ bytesOf kind (drop i xs)
 
--- n samples from the i-th on are there, and fit.
+-- From the i-th on there are n more samples, and all fit.
 pub record Next (n : ℕ) (xs : List Float) (i : ℕ) : Type 0 where
   pub room : i + n ≤ length xs
   pub fit : allFit Float32 xs ≡ true

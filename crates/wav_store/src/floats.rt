@@ -30,7 +30,8 @@ pub(crate) fn nearest_float(x: f64) -> u32
     f32::to_bits(f64::from_bits(n) as f32)
 }
 
-// The same for a sample from 2^-63 to 2: what is added is large enough, and the sum that is taken apart again is no zero.
+// The same for a sample of at least 2^-125: what is added needs no least, and what is left of the sum is no zero, so it
+// has its sign.
 pub(crate) fn nearest_plain(x: f64) -> u32
     requires { ⌜ Plain x ⌝ }
     ensures { λ r. ⌜ r ≡ wordOf Float32 x ⌝ }

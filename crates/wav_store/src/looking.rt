@@ -11,6 +11,7 @@ use stored_samples::fits_float;
 use stored_samples::fits16;
 use stored_samples::fits24;
 
+// 0 where some sample does not fit, 1 where all do, 2 where all are plain too and are to be floats.
 pub(crate) fn seen(kind: SampleKind, samples: &[f64]) -> u8
     ensures { λ r. ⌜ Seen kind (now (samples .entry)) r ⌝ }
 {
@@ -76,8 +77,8 @@ fn cut(x: f64) -> u64
     f64::to_bits(below_two(x))
 }
 
-// Digits that some sample has, and that all have. Of a magnitude below 2 the exponent's first digit is 0, and from 2^-63
-// on the next four are 1: one pass tells of most blocks that they fit and are plain, another looks at the rest.
+// Digits that some sample has, and that all have. Of a magnitude below 2 the exponent's first digit is 0, and from
+// 2^-63 on the next four are 1: one pass tells of most blocks that they fit and are plain, another looks at the rest.
 fn seen_float(samples: &[f64]) -> u8
     ensures { λ r. ⌜ Seen Float32 (now (samples .entry)) r ⌝ }
 {

@@ -50,6 +50,7 @@ fn sixteen_plain(samples: &[f64], i: usize, out: &mut [u8])
     four_plain(samples, l, &mut out[..]);
 }
 
+// What fits is no NaN, so it has a pattern.
 fn pattern(x: f64) -> u64
     requires { ⌜ fitsIn Float32 x ≡ true ⌝ }
     ensures { λ r. ⌜ r ≡ toBits binary64 x ⌝ }

@@ -34,12 +34,18 @@ nearest-float-requires-4 c κs =
 
 returns : tie.Need-returns
 returns c =
-    let w = c .before .before .before .before .before .before .before .before .before .before .before .before .before .before .before .before in
-    let b = w .before .before .before .before .before .before .before .before .before .before in
-    four-placed (b .pre .placed) (b .pre .next .room) (w .before .before .before .before .before .before .nearest-float .ensures)
-    (w .before .before .before .before .nearest-float2 .ensures) (w .before .before .nearest-float3 .ensures) (w .nearest-float4 .ensures)
-    (c .before .before .before .before .before .before .before .before .before .before .before .before .before .before .put .ensures) (c .before .before .before .before .before .before .before .before .before .before .put2 .ensures)
-    (c .before .before .before .before .before .before .put3 .ensures) (c .before .before .put4 .ensures)
+    let s = c .before .before in
+    let r = s .before .before .before .before in
+    let q = r .before .before .before .before in
+    let p = q .before .before .before .before in
+    let l = p .before .before in
+    let k = l .before .before in
+    let j = k .before .before in
+    let i = j .before .before in
+    let b = i .before .before .before .before in
+    four-placed (b .pre .placed) (b .pre .next .room) (i .nearest-float .ensures) (j .nearest-float2 .ensures)
+    (k .nearest-float3 .ensures) (l .nearest-float4 .ensures) (p .put .ensures) (q .put2 .ensures) (r .put3 .ensures)
+    (s .put4 .ensures)
 
 pub four-any-spec : {M : Type 1} → statement M
 four-any-spec =

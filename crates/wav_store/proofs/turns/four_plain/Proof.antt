@@ -36,12 +36,19 @@ nearest-plain-requires-4 c κs =
 
 returns : tie.Need-returns
 returns c =
-    let w = c .before .before .before .before .before .before .before .before .before .before .before .before .before .before .before .before in
-    let b = w .before .before .before .before .before .before .before .before .before .before in
-    four-placed (b .pre .turn .placed) (b .pre .turn .next .room) (w .before .before .before .before .before .before .nearest-plain .ensures)
-    (w .before .before .before .before .nearest-plain2 .ensures) (w .before .before .nearest-plain3 .ensures) (w .nearest-plain4 .ensures)
-    (c .before .before .before .before .before .before .before .before .before .before .before .before .before .before .put .ensures) (c .before .before .before .before .before .before .before .before .before .before .put2 .ensures)
-    (c .before .before .before .before .before .before .put3 .ensures) (c .before .before .put4 .ensures)
+    let s = c .before .before in
+    let r = s .before .before .before .before in
+    let q = r .before .before .before .before in
+    let p = q .before .before .before .before in
+    let l = p .before .before in
+    let k = l .before .before in
+    let j = k .before .before in
+    let i = j .before .before in
+    let b = i .before .before .before .before in
+    four-placed (b .pre .turn .placed) (b .pre .turn .next .room) (i .nearest-plain .ensures)
+    (j .nearest-plain2 .ensures)
+    (k .nearest-plain3 .ensures) (l .nearest-plain4 .ensures) (p .put .ensures) (q .put2 .ensures) (r .put3 .ensures)
+    (s .put4 .ensures)
 
 pub four-plain-spec : {M : Type 1} → statement M
 four-plain-spec =

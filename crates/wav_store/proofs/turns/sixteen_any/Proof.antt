@@ -7,8 +7,9 @@ use Rattle.wav_store.proofs.turns.sixteen_any.Tie as tie
 
 four-any-requires-4 : tie.Need-four-any-requires-4
 four-any-requires-4 c κs =
-    let b = c .before .before .before .before .before .before .before .before .before .before .before .before .before .before .before in
-    record { next = next-four (b .pre .next) 12 (omega arith) (omega arith); placed = c .before .before .before .four-any3 .ensures }
+    let k = c .before .before .before in
+    let b = k .before .before .before .before .before .before .before .before .before .before .before .before in
+    record { next = next-four (b .pre .next) 12 (omega arith) (omega arith); placed = k .four-any3 .ensures }
 
 returns : tie.Need-returns
 returns c = moved (c .before .before .four-any4 .ensures) (omega arith)

@@ -35,8 +35,9 @@ four-plain-requires-3 c κs =
 
 four-plain-requires-4 : tie.Need-four-plain-requires-4
 four-plain-requires-4 c κs =
-    let b = c .before .before .before .before .before .before .before .before .before .before .before .before .before .before .before in
-    turn b 12 (omega arith) (omega arith) (c .before .before .before .four-plain3 .ensures)
+    let k = c .before .before .before in
+    let b = k .before .before .before .before .before .before .before .before .before .before .before .before in
+    turn b 12 (omega arith) (omega arith) (k .four-plain3 .ensures)
 
 returns : tie.Need-returns
 returns c = moved (c .before .before .four-plain4 .ensures) (omega arith)
