@@ -30,7 +30,7 @@ use std::hint::black_box;
 use std::time::Instant;
 
 /// A file of workloads/ each, by name: making one may take seconds.
-const WORKLOADS: [(&str, fn() -> Workload); 44] = [
+const WORKLOADS: [(&str, fn() -> Workload); 48] = [
     ("narrow", workloads::narrow::workload),
     ("fused32", workloads::fused32::workload),
     ("fused64", workloads::fused64::workload),
@@ -67,6 +67,10 @@ const WORKLOADS: [(&str, fn() -> Workload); 44] = [
     ("wav_whole24", workloads::wav::whole24),
     ("wav_float", workloads::wav::float_f64),
     ("wav_float_stereo", workloads::wav::float_stereo),
+    ("wav_float_any", workloads::wav::float_any),
+    ("wav_float_any_stereo", workloads::wav::float_any_stereo),
+    ("wav_float_one_nan", workloads::wav::float_one_nan),
+    ("wav_float_one_nan_stereo", workloads::wav::float_one_nan_stereo),
     ("wav_float_f32", workloads::wav::float_f32),
     ("residual", workloads::residual::workload),
     ("store_pcm16", workloads::wav_store::pcm16),

@@ -1,17 +1,22 @@
 //! One channel's samples of a WAVE file's part, an answer being a sample. The Rust is a loop over the frames whose
 //! bytes are a constant, which a compiler takes several samples at a time. No float is a NaN: the Rust hands a NaN's
-//! pattern on, the port the one NaN.
+//! pattern on, the port the one NaN; beside that stands a Rust that tests each float and hands out the one NaN too.
+//! Floats are below 2 in size, as sound is; those of the workloads `…_any` are of any size.
 
 use crate::random::Random;
 use crate::Workload;
 
 const FRAMES: usize = 20000;
 
-/// A part of random bytes; in each 4, were they a float, the exponent's last digits are not all ones.
-fn part(frame: usize) -> Vec<u8> {
+/// A part of random bytes; of each 4, were they a float, those bits are taken that the mask has, its low byte first.
+fn part(frame: usize, mask: u32) -> Vec<u8> {
     let mut random = Random::new(1);
-    (0..FRAMES * frame).map(|k| random.word() as u8 & if k % 4 == 2 { 0x7f } else { 0xff }).collect()
+    (0..FRAMES * frame).map(|k| random.word() as u8 & mask.to_le_bytes()[k % 4]).collect()
 }
+
+/// The exponent's last bit is 0, so that no float is a NaN; and its first, so that each is below 2 in size.
+const ANY: u32 = 0xff7f_ffff;
+const SOUND: u32 = 0xbf7f_ffff;
 
 fn pcm16(bytes: &[u8]) -> i32 {
     i16::from_le_bytes([bytes[0], bytes[1]]) as i32
@@ -25,6 +30,10 @@ fn float(bytes: &[u8]) -> f32 {
     f32::from_le_bytes([bytes[0], bytes[1], bytes[2], bytes[3]])
 }
 
+fn one_nan(x: f32) -> f64 {
+    if x.is_nan() { f64::from_bits(0x7ff8_0000_0000_0000) } else { x as f64 }
+}
+
 /// The answers' room, seen as the samples' type: nothing is copied. A narrower type leaves the end of it unused, and
 /// there the first pass puts zeros.
 fn room<T>(answers: &mut [u64]) -> &mut [T] {
@@ -36,7 +45,8 @@ fn room<T>(answers: &mut [u64]) -> &mut [T] {
 }
 
 macro_rules! fill {
-    ($name:ident, $to:ty, $port:ident, $kind:literal, $width:literal, $channels:literal, |$b:ident| $sample:expr) => {
+    ($name:ident, $to:ty, $port:ident, $kind:literal, $width:literal, $channels:literal, $mask:ident,
+    |$b:ident| $sample:expr) => {
         pub fn $name() -> Workload {
             const FRAME: usize = $width * $channels;
             const FIRST: usize = $width * ($channels - 1);
@@ -47,7 +57,7 @@ macro_rules! fill {
                     *to = $sample;
                 }
             }
-            let (part, again) = (part(FRAME), part(FRAME));
+            let (part, again) = (part(FRAME, $mask), part(FRAME, $mask));
             Workload {
                 answers: FRAMES,
                 rust: Box::new(move |answers| rust(&part, room(answers))),
@@ -62,14 +72,18 @@ macro_rules! fill {
 const TO_15: f64 = 1.0 / 32768.0;
 const TO_23: f64 = 1.0 / 8388608.0;
 
-fill!(pcm16_f64, f64, wav_samples, 0, 2, 1, |b| pcm16(b) as f64 * TO_15);
-fill!(pcm16_stereo, f64, wav_samples, 0, 2, 2, |b| pcm16(b) as f64 * TO_15);
-fill!(pcm16_f32, f32, wav_samples_f32, 0, 2, 1, |b| pcm16(b) as f32 * TO_15 as f32);
-fill!(pcm24_f64, f64, wav_samples, 1, 3, 1, |b| pcm24(b) as f64 * TO_23);
-fill!(pcm24_stereo, f64, wav_samples, 1, 3, 2, |b| pcm24(b) as f64 * TO_23);
-fill!(pcm24_f32, f32, wav_samples_f32, 1, 3, 1, |b| pcm24(b) as f32 * TO_23 as f32);
-fill!(whole16, i32, wav_whole, 0, 2, 1, |b| pcm16(b) * 256);
-fill!(whole24, i32, wav_whole, 1, 3, 1, |b| pcm24(b));
-fill!(float_f64, f64, wav_samples, 2, 4, 1, |b| float(b) as f64);
-fill!(float_stereo, f64, wav_samples, 2, 4, 2, |b| float(b) as f64);
-fill!(float_f32, f32, wav_samples_f32, 2, 4, 1, |b| float(b));
+fill!(pcm16_f64, f64, wav_samples, 0, 2, 1, ANY, |b| pcm16(b) as f64 * TO_15);
+fill!(pcm16_stereo, f64, wav_samples, 0, 2, 2, ANY, |b| pcm16(b) as f64 * TO_15);
+fill!(pcm16_f32, f32, wav_samples_f32, 0, 2, 1, ANY, |b| pcm16(b) as f32 * TO_15 as f32);
+fill!(pcm24_f64, f64, wav_samples, 1, 3, 1, ANY, |b| pcm24(b) as f64 * TO_23);
+fill!(pcm24_stereo, f64, wav_samples, 1, 3, 2, ANY, |b| pcm24(b) as f64 * TO_23);
+fill!(pcm24_f32, f32, wav_samples_f32, 1, 3, 1, ANY, |b| pcm24(b) as f32 * TO_23 as f32);
+fill!(whole16, i32, wav_whole, 0, 2, 1, ANY, |b| pcm16(b) * 256);
+fill!(whole24, i32, wav_whole, 1, 3, 1, ANY, |b| pcm24(b));
+fill!(float_f64, f64, wav_samples, 2, 4, 1, SOUND, |b| float(b) as f64);
+fill!(float_stereo, f64, wav_samples, 2, 4, 2, SOUND, |b| float(b) as f64);
+fill!(float_f32, f32, wav_samples_f32, 2, 4, 1, ANY, |b| float(b));
+fill!(float_any, f64, wav_samples, 2, 4, 1, ANY, |b| float(b) as f64);
+fill!(float_any_stereo, f64, wav_samples, 2, 4, 2, ANY, |b| float(b) as f64);
+fill!(float_one_nan, f64, wav_samples, 2, 4, 1, SOUND, |b| one_nan(float(b)));
+fill!(float_one_nan_stereo, f64, wav_samples, 2, 4, 2, SOUND, |b| one_nan(float(b)));

@@ -1,4 +1,5 @@
 pub mod Framing
+pub mod Blocks
 pub mod Values
 pub mod Fillable
 pub mod Files

@@ -3,15 +3,15 @@
 ghost use mathlib.Core.Path.{_≡_};
 ghost use lib.ListN.{length};
 ghost use lib.Ieee.{binary64};
-ghost use Rattle.sample_kind.specs.declared.SampleKind.the-variants.{Pcm16, Pcm24, Float32};
+ghost use Rattle.sample_kind.specs.declared.SampleKind.the-variants.{Pcm16, Pcm24};
 ghost use Rattle.sample_kind.specs.Kinds.{frameOf};
 ghost use Rattle.wav_samples.specs.Samples.{sampleOf};
 ghost use Rattle.wav_samples.specs.Filling.{framesOf};
 ghost use Rattle.wav_samples.specs.Frames.{Whole, Framed};
-use crate::places::four_at;
+use crate::floats::of_one;
+use crate::floats::of_two;
 use crate::places::three_at;
 use crate::places::two_at;
-use crate::widened;
 use sample_kind::SampleKind;
 
 pub(crate) fn frames(kind: SampleKind, channels: u8, first: usize, part: &[u8], out: &mut [f64])
@@ -39,9 +39,9 @@ pub(crate) fn frames(kind: SampleKind, channels: u8, first: usize, part: &[u8], 
         }
         SampleKind::Float32 => {
             if channels == 1 {
-                float32(4, first, part, &mut out[..]);
+                of_one(first, part, &mut out[..]);
             } else {
-                float32(8, first, part, &mut out[..]);
+                of_two(first, part, &mut out[..]);
             }
         }
     }
@@ -69,20 +69,6 @@ fn pcm24(frame: usize, first: usize, part: &[u8], out: &mut [f64])
     let mut k: usize = 0;
     while k < out.len() {
         out[k] = whole_samples::pcm24(three_at(part, k * frame + first));
-        k += 1;
-    }
-}
-
-fn float32(frame: usize, first: usize, part: &[u8], out: &mut [f64])
-    requires { ⌜ Whole (length (now part)) (length (now out)) frame first 4 ⌝ }
-    ensures { λ _. ⌜
-        now (out .exit) ≡ framesOf (sampleOf binary64 Float32 (now (part .entry))) frame first
-        (length (now (out .entry)))
-        ⌝ }
-{
-    let mut k: usize = 0;
-    while k < out.len() {
-        out[k] = widened(four_at(part, k * frame + first));
         k += 1;
     }
 }

@@ -4,9 +4,11 @@ ghost use lib.Ieee.{binary32, binary64, ofBits};
 ghost use Rattle.wav_samples.specs.Samples.{sampleOf};
 
 pub mod filling;
+mod floats; // the loops of floats into f64, a block at a time
 mod frames; // the loops into f64, one for each kind
 mod frames_f32; // into f32
 mod frames_whole; // into i32
+mod no_nan; // whether a block of floats holds no NaN
 mod places; // the bytes of a sample whose place is known to lie in the part
 
 use sample_kind::SampleKind;

@@ -71,20 +71,25 @@ module _ (E : ℕ) (l : E < 1151) where
   abbrev chosen : Bool → Float
   chosen t = cond t (scaled E l) leastAdded
 
+  -- from 2^-126 on it is not the least that is added
+  pub above : 897 < E → HasValue (scaled E l) false (3 * 2 ^ 50 * 2 * 2 ^ (925 + (E - 897))) (2 ^ 1074)
+  above g =
+      let z : 0 < E = omega arith in
+      let m : 2 ^ (79 + E) ≡ 2 ^ 51 * 2 ^ (925 + (E - 897)) =
+      ap (λ (i : ℕ). 2 ^ i) (omega arith) ∙ pow-add 2 51 (925 + (E - 897)) in
+      let e : 3 * 2 ^ (79 + E) ≡ 3 * 2 ^ 50 * 2 * 2 ^ (925 + (E - 897)) = omega arith in
+      subst (λ (n : ℕ). HasValue (scaled E l) false n (2 ^ 1074)) e (scaled-value E l z)
+
   pub added : HasValue (chosen (lt leastAdded (scaled E l))) false (3 * 2 ^ 50 * 2 * 2 ^ (925 + (E - 897))) (2 ^ 1074)
   added = elim (lt-or-ge 897 E) [
     | inl g ↦
         let n : 976 < 79 + E = omega arith in
         let z : 0 < E = omega arith in
-        let m : 2 ^ (79 + E) ≡ 2 ^ 51 * 2 ^ (925 + (E - 897)) =
-        ap (λ (i : ℕ). 2 ^ i) (omega arith) ∙ pow-add 2 51 (925 + (E - 897)) in
-        let e : 3 * 2 ^ (79 + E) ≡ 3 * 2 ^ 50 * 2 * 2 ^ (925 + (E - 897)) = omega arith in
-        let y = scaled-value E l z in
         let t : lt leastAdded (scaled E l) ≡ true =
         lt-units leastAdded (scaled E l) false false (3 * 2 ^ 976) (3 * 2 ^ (79 + E)) (2 ^ 1074) (pow-pos 1074)
-        least-value y
+        least-value (scaled-value E l z)
         ∙ lt-ltb (3 * 2 ^ 976) (3 * 2 ^ (79 + E)) (triple-lt _ _ (pow-lt n)) in
-        rw t (subst (λ (n : ℕ). HasValue (scaled E l) false n (2 ^ 1074)) e y)
+        rw t (above g)
     | inr g ↦
         let z : E - 897 ≡ 0 = omega arith in
         rw (not-above E l g, z) least-value

@@ -21,8 +21,8 @@ use Rattle.sample_kind.specs.declared.SampleKind.the-variants.{Float32}
 use Rattle.stored_samples.proofs.Below.{narrow-fits}
 use Rattle.stored_samples.specs.Stored.{fitsIn, wordOf}
 use Rattle.wav_store.specs.Inner.{leastAdded}
-use Rattle.wav_store.proofs.Added.{times, added}
-use Rattle.wav_store.proofs.Rounded.{k-lt, apart, pattern}
+use Rattle.wav_store.proofs.Added.{times, above, added}
+use Rattle.wav_store.proofs.Rounded.{k-lt, apart, is-nearest, pattern}
 
 was-finite : (x : Float) → T (finite (narrowed x)) → T (finite x)
 unfolding narrowed
@@ -138,3 +138,30 @@ module _ (x : Float) (held : T (fits binary64 x)) (ok : fitsIn Float32 x ≡ tru
 
   pub word : toBits binary32 (ofBits binary64 m) ≡ wordOf Float32 x
   word = ap (toBits binary32) nearest-is ∙ sym (ap (λ (t : Bool). cond t (toBits binary32 (narrowed x)) 0) ok)
+
+  -- ---- from 2^-126 on
+  module _ (large : 897 < field) where
+    abbrev z : Float
+    z = sub binary64 (add binary64 x scaled) scaled
+
+    scaled-value : HasValue scaled false (3 * 2 ^ 50 * 2 * 2 ^ (925 + (b / 2 ^ 52 - 897))) (2 ^ 1074)
+    scaled-value =
+        subst
+        (λ (E : ℕ).
+        HasValue (mul binary64 (ofBits binary64 (E * 2 ^ 52)) times) false
+        (3 * 2 ^ 50 * 2 * 2 ^ (925 + (b / 2 ^ 52 - 897))) (2 ^ 1074))
+        (sym field-is) (above (b / 2 ^ 52) few (omega (arith, field-is, large)))
+
+    z-is : z ≡ narrowed x
+    z-is =
+        subst (λ (i : Float). sub binary64 (add binary64 i scaled) scaled ≡ narrowed i) own
+        (is-nearest s b fine finite-own scaled scaled-value (omega (arith, field-is, large)))
+
+    pub plain-casts : T (fits binary32 z && not (isNan z))
+    plain-casts = rw z-is (and-i (fits binary32 (narrowed x)) (not (isNan (narrowed x))) (narrow-fits x) number)
+
+    pub plain-no-nan : T (not (isNan z))
+    plain-no-nan = rw z-is number
+
+    pub plain-word : toBits binary32 z ≡ wordOf Float32 x
+    plain-word = ap (toBits binary32) z-is ∙ sym (ap (λ (t : Bool). cond t (toBits binary32 (narrowed x)) 0) ok)

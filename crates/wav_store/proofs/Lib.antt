@@ -7,3 +7,4 @@ pub mod Again
 pub mod Rounded
 pub mod Added
 pub mod FloatDigits
+pub mod Sight

@@ -1,6 +1,6 @@
 -- A loop over samples that remembers whether all of them so far fit: its invariant, over the kind. Assumes nothing.
 use mathlib.Core.Path.{_≡_, refl, sym, ap, _∙_}
-use mathlib.Core.Bool.{Bool, true, false, _&&_, true≢false}
+use mathlib.Core.Bool.{Bool, true, false, cond, _&&_, true≢false}
 use mathlib.Core.List.{List, [], _∷_}
 use Prim.Native.Nat.{ℕ, zero, suc, _+_, _≤_, _<_}
 use native.Mathlib.Numerals.{add-one}
@@ -10,6 +10,7 @@ use lib.Seq.{drop-cons}
 use lib.Ieee.{Float}
 use Rattle.sample_kind.specs.declared.SampleKind.{SampleKind}
 use Rattle.stored_samples.specs.Stored.{fitsIn}
+use Rattle.wav_store.specs.Inner.{Seen}
 use Rattle.wav_store.specs.Storing.{allFit}
 
 pub and-assoc : (a b c : Bool) → ((a && b) && c) ≡ (a && (b && c))
@@ -62,3 +63,8 @@ unfolding allFit
 each-fits kind [] i d e h = absurd (omega arith)
 each-fits kind (x ∷ xs) zero d e h = left (fitsIn kind x) (allFit kind xs) e
 each-fits kind (x ∷ xs) (suc i) d e h = each-fits kind xs i d (right (fitsIn kind x) (allFit kind xs) e) (omega arith)
+
+-- ---- its number
+pub seen-by : (kind : SampleKind) (xs : List Float) (ok : Bool) → ok ≡ allFit kind xs → Seen kind xs (cond ok 1 0)
+seen-by kind xs true e = sym e
+seen-by kind xs false e = sym e

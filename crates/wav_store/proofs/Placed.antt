@@ -1,5 +1,5 @@
 -- A loop that writes each sample's bytes behind those before it: its invariant, over the kind. Assumes nothing.
-use mathlib.Core.Path.{_≡_, refl, sym, ap, _∙_}
+use mathlib.Core.Path.{_≡_, refl, sym, ap, _∙_, subst}
 use mathlib.Core.List.{List, [], _∷_, _++_, append-assoc, append-nil}
 use Prim.Native.Nat.{ℕ, zero, suc, _+_, _*_, _≤_, _<_}
 use native.Mathlib.Nat.{add-comm, zero-mul, suc-mul, mul-le-mul-right}
@@ -7,11 +7,13 @@ use native.Mathlib.Numerals.{add-one}
 use native.Mathlib.Omega.{arith}
 use lib.ListN.{length, take, drop, getD, length-append, drop-of-length-le}
 use lib.Seq.{drop-cons, take-at, take-all, length-take-le, sets, sets-eq, length-sets}
-use lib.Ieee.{Float}
+use lib.Ieee.{Float, nan}
 use Rattle.word_bytes.specs.Bytes.{lowBytes}
 use Rattle.sample_kind.specs.declared.SampleKind.{SampleKind}
+use Rattle.sample_kind.specs.declared.SampleKind.the-variants.{Float32}
 use Rattle.sample_kind.specs.Kinds.{widthOf}
 use Rattle.stored_samples.specs.Stored.{wordOf}
+use Rattle.wav_store.specs.Inner.{Placed, Plain, Next, PlainFrom}
 use Rattle.wav_store.specs.Storing.{bytesOf}
 
 pub length-low : (k n : ℕ) → length (lowBytes k n) ≡ k
@@ -27,12 +29,6 @@ length-bytes kind (x ∷ xs) =
     length-append (lowBytes (widthOf kind) (wordOf kind x)) (bytesOf kind xs)
     ∙ rw (length-low (widthOf kind) (wordOf kind x), length-bytes kind xs)
     (add-comm (widthOf kind) (length xs * widthOf kind) ∙ sym (suc-mul (length xs) (widthOf kind)))
-
--- of the samples the first i are written
-pub record Placed (kind : SampleKind) (xs : List Float) (out : List ℕ) (i : ℕ) : Type 0 where
-  pub long : length out ≡ length xs * widthOf kind
-  pub most : i ≤ length xs
-  pub whole : bytesOf kind xs ≡ take (i * widthOf kind) out ++ bytesOf kind (drop i xs)
 
 module _ {kind : SampleKind} {xs : List Float} where
   pub unplaced : {out : List ℕ} → length out ≡ length xs * widthOf kind → Placed kind xs out 0
@@ -76,3 +72,35 @@ module _ {kind : SampleKind} {xs : List Float} where
       let all : take (i * widthOf kind) out ≡ out = take-all (i * widthOf kind) out (rw e (omega (arith, p .long))) in
       sym (p .whole ∙ ap (λ (ys : List Float). take (i * widthOf kind) out ++ bytesOf kind ys) (drop-of-length-le xs h)
       ∙ append-nil (take (i * widthOf kind) out) ∙ all)
+
+-- ---- four samples' bytes, as the code writes them
+pub step : {xs : List Float} {out o : List ℕ} {i w : ℕ} → Placed Float32 xs out i → i < length xs
+    → w ≡ wordOf Float32 (getD xs i nan) → {n : ℕ} → o ≡ sets out n (lowBytes 4 w) → n ≡ i * 4
+    → Placed Float32 xs o (i + 1)
+step {xs} {out} {o} {i} {w} p h e f g =
+    subst (λ (b : List ℕ). Placed Float32 xs b (i + 1)) (sym (f ∙ ap (λ (n : ℕ). sets out n (lowBytes 4 w)) g))
+    (placed-more p h nan (ap (lowBytes 4) e))
+
+pub moved : {xs : List Float} {out : List ℕ} {m n : ℕ} → Placed Float32 xs out m → m ≡ n → Placed Float32 xs out n
+moved {xs} {out} p e = subst (λ (i : ℕ). Placed Float32 xs out i) e p
+
+pub four-placed : {xs : List Float} {out p q r s : List ℕ} {i a b c d : ℕ} → Placed Float32 xs out i
+    → i + 4 ≤ length xs → a ≡ wordOf Float32 (getD xs i nan) → b ≡ wordOf Float32 (getD xs (i + 1) nan)
+    → c ≡ wordOf Float32 (getD xs (i + 1 + 1) nan) → d ≡ wordOf Float32 (getD xs (i + 1 + 1 + 1) nan)
+    → p ≡ sets out (i * 4) (lowBytes 4 a) → q ≡ sets p (i * 4 + 4) (lowBytes 4 b)
+    → r ≡ sets q (i * 4 + 8) (lowBytes 4 c) → s ≡ sets r (i * 4 + 12) (lowBytes 4 d)
+    → Placed Float32 xs s (i + 4)
+four-placed z l a b c d p q r w =
+    let first = step z (omega arith) a p refl in
+    let second = step first (omega arith) b q (omega arith) in
+    let third = step second (omega arith) c r (omega arith) in
+    moved (step third (omega arith) d w (omega arith)) (omega arith)
+
+-- ---- four of sixteen
+pub next-four : {xs : List Float} {i : ℕ} → Next 16 xs i → (o : ℕ) {j : ℕ} → o ≤ 12 → i + o ≡ j → Next 4 xs j
+next-four n o l e = record { room = omega (arith, n .room, e); fit = n .fit }
+
+pub plain-four : (xs : List Float) (i : ℕ) → PlainFrom 16 xs i → (o j : ℕ) → o ≤ 12 → i + o ≡ j → PlainFrom 4 xs j
+plain-four xs i p o j l e k h d =
+    let a : i + (o + k) ≡ j + k = omega (arith, e) in
+    subst (λ (n : ℕ). Plain (getD xs n d)) a (p (o + k) (omega (arith, h)) d)

@@ -13,7 +13,7 @@ use lib.Pow.{pow-add, pow-pos, pow-mono}
 use lib.Ieee.{Float, binary32, binary64, round, units, add, sub, neg, fits, ofBits, toBits, sum, size}
 use lib.Ieee.Bits.{toBits-lt}
 use lib.Ieee.Exact.{HasValue, round-exact, units-val}
-use lib.Ieee.Fits.{round-fits, fits-widens}
+use lib.Ieee.Fits.{round-fits, sub-fits, fits-widens}
 use lib.Ieee.Nearest.{closest}
 use lib.Ieee.Scale.{finite}
 use Rattle.rounding.specs.Operations.{narrowed}
@@ -23,7 +23,7 @@ use Rattle.rounding.proofs.Dropped.{round-finer}
 use Rattle.rounding.proofs.Orders.{lt-or-ge, clash}
 use Rattle.rounding.proofs.Sums.{sum-like, sum-over}
 use Rattle.rounding.proofs.Units.{units-over, toBits-value}
-use Rattle.rounding.proofs.Values.{rescale, neg-value}
+use Rattle.rounding.proofs.Values.{rescale, neg-value, value-finite}
 use Rattle.rounding.proofs.Own.{value-unique}
 use Rattle.narrowing.proofs.Patterns.{exponent, count, under, value, narrows}
 use Rattle.stored_samples.proofs.Halves.{closest-less}
@@ -75,6 +75,16 @@ module _ (s : Bool) (b : ℕ) (fine : b < 0x7ff0_0000_0000_0000) where
 
   q-le : q ≤ 2 ^ 24
   q-le = closest-le v (2 ^ j) (2 ^ 24) (pow-pos j) v-lt
+
+  -- a magnitude below 2 is finite as an f32
+  pub below-two : b / 2 ^ 52 < 1024 → T (finite (narrowed x))
+  below-two h =
+      let e : k ≤ 126 = omega arith in
+      let l : q * 2 ^ k < 2 ^ 277 =
+      lt-of-le-of-lt (mul-le-mul-right (2 ^ k) q-le)
+      (lt-of-le-of-lt (mul-le-mul-left (2 ^ 24) (pow-mono e)) (lit< tt)) in
+      value-finite (narrowed x) s (q * 2 ^ k) (2 ^ 149)
+      (subst (λ (z : Float). HasValue z s (q * 2 ^ k) (2 ^ 149)) (sym narrow-is) (units-val binary32 s q k l))
 
   module _ (ok : T (finite (narrowed x))) where
     small : q * 2 ^ k < 2 ^ 277
@@ -217,6 +227,18 @@ module _ (s : Bool) (b : ℕ) (fine : b < 0x7ff0_0000_0000_0000) where
           value-unique binary64 w (narrowed x) s (q * u) (round-fits binary64 s (q * u) (2 ^ 1074))
           (fits-widens (narrowed x) m) (exact s)
           (rescale (narrowed x) s (q * 2 ^ k) (2 ^ 149) (q * u) (2 ^ 1074) (pow-pos 149) e n)
+
+      -- from 2^-126 on it has x's sign by itself
+      pub is-nearest : 0 < k → y ≡ narrowed x
+      is-nearest z =
+          let some : 0 < q = lt-of-lt-of-le (lit< tt) (closest-ge v (2 ^ j) (2 ^ 23) (pow-pos j) (v-ge z)) in
+          value-unique binary64 y w s (q * u) (sub-fits binary64 (add binary64 x c) c)
+          (round-fits binary64 s (q * u) (2 ^ 1074)) (signed s (rw (lt-ltb 0 q some) at apart)) (exact s)
+          ∙ w-is
+        where
+          signed : (r : Bool) → HasValue y (r && true) (q * u) (2 ^ 1074) → HasValue y r (q * u) (2 ^ 1074)
+          signed true h = h
+          signed false h = h
 
       pub pattern : toBits binary64 y % 2 ^ 63 + cond s (2 ^ 63) 0 ≡ toBits binary64 (narrowed x)
       pattern =

@@ -2,7 +2,7 @@
 use mathlib.Core.Path.{_≡_, refl, sym, ap, _∙_}
 use mathlib.Core.Bool.{Bool, true, false, _&&_}
 use mathlib.Core.List.{List}
-use Prim.Native.Nat.{ℕ, _*_, _/_, _%_, _<_}
+use Prim.Native.Nat.{ℕ, zero, suc, _*_, _/_, _%_, _<_}
 use native.Mathlib.Nat.{mul-div-cancel, mul-mod-left, div-add-mod'}
 use native.Mathlib.Omega.{arith}
 use borrow.Author.Tests.{eqb-true, eq-eqb}
@@ -16,7 +16,9 @@ use Rattle.rounding.proofs.Orders.{same-test}
 use Rattle.sample_kind.specs.declared.SampleKind.{SampleKind}
 use Rattle.sample_kind.specs.declared.SampleKind.the-variants.{Pcm16, Pcm24, Float32}
 use Rattle.sample_kind.specs.Kinds.{widthOf}
+use Rattle.wav_store.specs.Inner.{AllPlain, Seen, PlainReady}
 use Rattle.wav_store.specs.Storing.{allFit, bytesOf, verdict, stored}
+use Rattle.wav_store.proofs.Sight.{plain-fit}
 
 pub some-bytes : (kind : SampleKind) → 0 < widthOf kind
 some-bytes Pcm16 = omega arith
@@ -37,6 +39,13 @@ counted n count w W =
     (passes _ (eq-eqb (n % w) 0 (ap (λ (z : ℕ). z % w) e ∙ mul-mod-left count w)))
     (passes _ (eq-eqb (n / w) count (ap (λ (z : ℕ). z / w) e ∙ mul-div-cancel count W))))
 
+-- neither 0 nor 1 was seen
+pub plain-seen : (kind : SampleKind) (xs : List Float) (r : ℕ) → (r ≡ 0 → ⊥) → (r ≡ 1 → ⊥) → Seen kind xs r
+    → (kind ≡ Float32) × AllPlain xs
+plain-seen kind xs zero e f h = absurd (e refl)
+plain-seen kind xs (suc zero) e f h = absurd (f refl)
+plain-seen kind xs (suc (suc r)) e f h = h
+
 -- ---- the two tests, as the code made them
 module _ (kind : SampleKind) (xs : List Float) (old : List ℕ) {t : Bool}
     (e : t ≡ eqb (length old) (length xs * widthOf kind)) where
@@ -55,3 +64,18 @@ module _ (kind : SampleKind) (xs : List Float) (old : List ℕ) {t : Bool}
     pub written : {out : List ℕ} → u ≡ true → out ≡ bytesOf kind xs → Answers 0 out
     unfolding verdict
     written f w = rw (sym e ∙ ok, sym g ∙ f) (refl, w)
+
+  pub plain-ready : t ≡ true → (kind ≡ Float32) × AllPlain xs → PlainReady xs old
+  plain-ready ok (k, p) =
+      record {
+        long =
+            eqb-true (length old) (length xs * widthOf kind) (sym e ∙ ok)
+            ∙ ap (λ (z : SampleKind). length xs * widthOf z) k;
+        plain = p;
+      }
+
+  pub plain-written : {out : List ℕ} → t ≡ true → (kind ≡ Float32) × AllPlain xs → out ≡ bytesOf Float32 xs
+      → Answers 0 out
+  plain-written ok (k, p) w =
+      written ok (sym (ap (λ (z : SampleKind). allFit z xs) k ∙ plain-fit xs p)) refl
+      (w ∙ ap (λ (z : SampleKind). bytesOf z xs) (sym k))

@@ -4,7 +4,7 @@ ghost use mathlib.Core.Bool.{true, cond};
 ghost use lib.Ieee as Ieee;
 ghost use Rattle.sample_kind.specs.declared.SampleKind.the-variants.{Float32};
 ghost use Rattle.stored_samples.specs.Stored.{fitsIn, wordOf};
-ghost use Rattle.wav_store.specs.Inner.{leastAdded};
+ghost use Rattle.wav_store.specs.Inner.{leastAdded, Plain};
 
 // What is added, and at the least 3 × 2^-98: below 2^-126 an f32's last unit is 2^-149.
 fn larger(c: f64) -> f64
@@ -28,4 +28,15 @@ pub(crate) fn nearest_float(x: f64) -> u32
     let sign = b / 0x8000_0000_0000_0000 * 0x8000_0000_0000_0000;
     let n = f64::to_bits(y) % 0x8000_0000_0000_0000 + sign;
     f32::to_bits(f64::from_bits(n) as f32)
+}
+
+// The same for a sample of at least 2^-125: what is added needs no least, and what is left of the sum is no zero, so it
+// has its sign.
+pub(crate) fn nearest_plain(x: f64) -> u32
+    requires { ⌜ Plain x ⌝ }
+    ensures { λ r. ⌜ r ≡ wordOf Float32 x ⌝ }
+{
+    let b = f64::to_bits(x);
+    let c = f64::from_bits(b / 0x10_0000_0000_0000 % 0x800 * 0x10_0000_0000_0000) * 805306368.0;
+    f32::to_bits((x + c - c) as f32)
 }

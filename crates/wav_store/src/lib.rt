@@ -11,6 +11,7 @@ mod looking; // whether every sample fits
 mod looking_f32;
 mod placing; // the bytes
 mod placing_f32;
+mod turns; // sixteen floats at a time
 
 use refusal_order::both;
 use sample_kind::SampleKind;
@@ -22,11 +23,16 @@ pub fn store(kind: SampleKind, samples: &[f64], out: &mut [u8]) -> u8
     ensures { λ _. ⌜ now (out .exit) ≡ stored kind (now (samples .entry)) (now (out .entry)) ⌝ }
 {
     if whole(kind, samples.len(), out.len()) {
-        if looking::all_fit(kind, samples) {
+        let seen = looking::seen(kind, samples);
+        if seen == 0 {
+            return 15;
+        }
+        if seen == 1 {
             placing::place(kind, samples, &mut out[..]);
             return 0;
         }
-        return 15;
+        placing::place_plain(samples, &mut out[..]);
+        return 0;
     }
     2
 }

@@ -1,6 +1,9 @@
 // W2e. Every sample is looked at, with no way out between: a compiler takes several at once.
 ghost use mathlib.Core.Path.{_≡_};
+ghost use mathlib.Core.Bool.{cond};
+ghost use lib.Ieee as Ieee;
 ghost use Rattle.sample_kind.specs.declared.SampleKind.the-variants.{Pcm16, Pcm24, Float32};
+ghost use Rattle.wav_store.specs.Inner.{Seen, Tells, two};
 ghost use Rattle.wav_store.specs.Storing.{allFit};
 use refusal_order::both;
 use sample_kind::SampleKind;
@@ -8,14 +11,21 @@ use stored_samples::fits_float;
 use stored_samples::fits16;
 use stored_samples::fits24;
 
-pub(crate) fn all_fit(kind: SampleKind, samples: &[f64]) -> bool
-    ensures { λ r. ⌜ r ≡ allFit kind (now (samples .entry)) ⌝ }
+// 0 where some sample does not fit, 1 where all do, 2 where all are plain too and are to be floats.
+pub(crate) fn seen(kind: SampleKind, samples: &[f64]) -> u8
+    ensures { λ r. ⌜ Seen kind (now (samples .entry)) r ⌝ }
 {
     match kind {
-        SampleKind::Pcm16 => all16(samples),
-        SampleKind::Pcm24 => all24(samples),
-        SampleKind::Float32 => all_float(samples),
+        SampleKind::Pcm16 => number(all16(samples)),
+        SampleKind::Pcm24 => number(all24(samples)),
+        SampleKind::Float32 => seen_float(samples),
     }
+}
+
+fn number(ok: bool) -> u8
+    ensures { λ r. ⌜ r ≡ cond ok 1 0 ⌝ }
+{
+    if ok { 1 } else { 0 }
 }
 
 fn all16(samples: &[f64]) -> bool
@@ -52,4 +62,40 @@ fn all_float(samples: &[f64]) -> bool
         i += 1;
     }
     ok
+}
+
+// A NaN is not less than 2.
+fn below_two(x: f64) -> f64
+    ensures { λ r. ⌜ r ≡ cond (Ieee.lt x two) x two ⌝ }
+{
+    if x < 2.0 { x } else { 2.0 }
+}
+
+fn cut(x: f64) -> u64
+    ensures { λ r. ⌜ Tells x r ⌝ }
+{
+    f64::to_bits(below_two(x))
+}
+
+// Digits that some sample has, and that all have. Of a magnitude below 2 the exponent's first digit is 0, and from
+// 2^-63 on the next four are 1: one pass tells of most blocks that they fit and are plain, another looks at the rest.
+fn seen_float(samples: &[f64]) -> u8
+    ensures { λ r. ⌜ Seen Float32 (now (samples .entry)) r ⌝ }
+{
+    let mut some: u64 = 0;
+    let mut every: u64 = 0x3c00_0000_0000_0000;
+    let mut i: usize = 0;
+    while i < samples.len() {
+        let b = cut(samples[i]);
+        some = some | b;
+        every = every & b;
+        i += 1;
+    }
+    if some / 0x4000_0000_0000_0000 % 2 == 0 {
+        if every == 0x3c00_0000_0000_0000 {
+            return 2;
+        }
+        return 1;
+    }
+    number(all_float(samples))
 }

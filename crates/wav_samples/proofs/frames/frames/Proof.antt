@@ -52,12 +52,12 @@ returns-4 c =
           (c .before .before .before .before .if2 .left),
     ) (c .before .before .pcm242 .ensures)
 
-float32-requires : tie.Need-float32-requires
-float32-requires c κs = let t = c .before .before in
+of-one-requires : tie.Need-of-one-requires
+of-one-requires c κs = let t = c .before .before in
     whole-of 1 (t .before .before .before .before .pre) (t .enum-told3 .given .1) (c .before .if3 .taken)
 
-float32-requires-2 : tie.Need-float32-requires-2
-float32-requires-2 c κs =
+of-two-requires : tie.Need-of-two-requires
+of-two-requires c κs =
     let t = c .before .before in
     let f = t .before .before .before .before .pre in
     whole-of 2 f (t .enum-told3 .given .1) (two-channels f (c .before .if3 .left))
@@ -65,7 +65,7 @@ float32-requires-2 c κs =
 returns-5 : tie.Need-returns-5
 returns-5 c =
     let t = c .before .before .before .before .before in
-    rw (t .enum-told3 .given .1, c .before .before .before .before .if3 .taken) (c .before .before .float32 .ensures)
+    rw (t .enum-told3 .given .1, c .before .before .before .before .if3 .taken) (c .before .before .of-one .ensures)
 
 returns-6 : tie.Need-returns-6
 returns-6 c =
@@ -74,12 +74,12 @@ returns-6 c =
       t .enum-told3 .given .1,
       two-channels (t .before .before .before .before .pre)
           (c .before .before .before .before .if3 .left),
-    ) (c .before .before .float322 .ensures)
+    ) (c .before .before .of-two .ensures)
 
 pub frames-spec : {M : Type 1} → statement M
 frames-spec =
     tie.close
     (tie.spec (λ c. search needs) pcm16-requires pcm16-requires-2 (λ c. search needs) pcm24-requires pcm24-requires-2
-    (λ c. search needs) float32-requires float32-requires-2
+    (λ c. search needs) of-one-requires of-two-requires
     (λ c. search needs) returns (λ c. search needs) returns-2 (λ c. search needs) returns-3 (λ c. search needs)
     returns-4 (λ c. search needs) returns-5 (λ c. search needs) returns-6)

@@ -1,15 +1,14 @@
--- `wav_store::placing::place_float` meets its contract: each turn writes the next sample's bytes.
--- Assumes nothing.
+-- `wav_store::placing::place_float` meets its contract: each turn writes the bytes of the next samples, sixteen of them
+-- while there are so many. Assumes nothing.
 use borrow.Author.Needs.{needs}
-use mathlib.Core.Path.{_≡_, sym, ap, _∙_}
-use Prim.Native.Nat.{suc, _+_, _-_, _*_}
-use native.Mathlib.Numerals.{add-one}
+use mathlib.Core.Path.{refl, sym, _∙_}
+use Prim.Native.Nat.{_-_}
 use native.Mathlib.Omega.{arith}
-use lib.ListN.{length, length-set}
+use lib.ListN.{length}
 use Rattle.sample_kind.specs.declared.SampleKind.the-variants.{Float32}
-use Rattle.word_bytes.specs.Bytes.{lowBytes}
+use Rattle.wav_store.specs.Inner.{Placed}
 use Rattle.wav_store.proofs.Looked.{each-fits}
-use Rattle.wav_store.proofs.Placed.{Placed, unplaced, placed-more, all-placed}
+use Rattle.wav_store.proofs.Placed.{unplaced, inside, step, all-placed}
 use Rattle.wav_store.proofs.placing.place_float.Statement.{statement}
 use Rattle.wav_store.proofs.placing.place_float.Tie as tie
 
@@ -19,34 +18,53 @@ Inv-loop samples out₀ i₀ out i = Placed Float32 samples out i
 abbrev μ-loop : tie.MeasureT-loop
 μ-loop samples out₀ i₀ out i = length samples - i
 
-loop-holds : tie.Need-loop-holds Inv-loop μ-loop
+abbrev Inv-loop2 : tie.InvT-loop2
+Inv-loop2 samples out₀ i₀ out i = Placed Float32 samples out i
+
+abbrev μ-loop2 : tie.MeasureT-loop2
+μ-loop2 samples out₀ i₀ out i = length samples - i
+
+loop-holds : tie.Need-loop-holds Inv-loop μ-loop Inv-loop2 μ-loop2
 loop-holds c = unplaced (c .before .before .pre .long)
 
-nearest-float-requires : tie.Need-nearest-float-requires Inv-loop μ-loop
-nearest-float-requires c κs =
+sub-loop : tie.Need-sub-loop Inv-loop μ-loop Inv-loop2 μ-loop2
+sub-loop c = c .loop .inv .most
+
+sixteen-requires : tie.Need-sixteen-requires Inv-loop μ-loop Inv-loop2 μ-loop2
+sixteen-requires c κs =
     let b = c .before .before .before .before .before in
-    each-fits Float32 (b .args .samples .now) (c .before .before .loop .i) _ (b .pre .fit) (omega arith)
+    let l = c .before .before .loop in
+    record { next = record { room = omega (arith, l .inv .most); fit = b .pre .fit }; placed = l .inv }
 
-loop-again : tie.Need-loop-again Inv-loop μ-loop
-unfolding lowBytes
-loop-again c =
-    let l = c .before .before .before .loop in
-    let at = l .i * 4 in
-    let two : at + 2 ≡ suc (suc at) = omega arith in
-    let three : at + 3 ≡ suc (suc (suc at)) = omega arith in
-    rw (add-one at, two, three) (placed-more (l .inv) (omega arith) _ (ap (lowBytes 4) (c .nearest-float .ensures)))
+loop-again : tie.Need-loop-again Inv-loop μ-loop Inv-loop2 μ-loop2
+loop-again c = c .before .before .sixteen .ensures
 
-same-length : tie.Need-same-length Inv-loop μ-loop
-same-length c = c .before .loop .inv .long ∙ sym (c .before .before .before .before .pre .long)
+loop2-holds : tie.Need-loop2-holds Inv-loop μ-loop Inv-loop2 μ-loop2
+loop2-holds c = c .before .loop .inv
+
+nearest-float-requires : tie.Need-nearest-float-requires Inv-loop μ-loop Inv-loop2 μ-loop2
+nearest-float-requires c κs =
+    let b = c .before .before .before .before .before .before .before in
+    each-fits Float32 (b .args .samples .now) (c .before .before .loop2 .i) _ (b .pre .fit) (omega arith)
+
+put-requires : tie.Need-put-requires Inv-loop μ-loop Inv-loop2 μ-loop2
+put-requires c κs = inside (c .before .before .before .before .loop2 .inv) (omega arith)
+
+loop2-again : tie.Need-loop2-again Inv-loop μ-loop Inv-loop2 μ-loop2
+loop2-again c =
+    let w = c .before .before .before .before in
+    step (w .before .before .before .loop2 .inv) (omega arith) (w .nearest-float .ensures)
+    (c .before .before .put .ensures) refl
+
+same-length : tie.Need-same-length Inv-loop μ-loop Inv-loop2 μ-loop2
+same-length c = c .before .loop2 .inv .long ∙ sym (c .before .before .before .before .before .before .pre .long)
+
+returns : tie.Need-returns Inv-loop μ-loop Inv-loop2 μ-loop2
+returns c = all-placed (c .before .loop2 .inv) (omega arith)
 
 pub place-float-spec : {M : Type 1} → statement M
 place-float-spec =
     tie.close
-    (tie.spec Inv-loop μ-loop loop-holds (λ c. search needs) (λ c. omega arith) nearest-float-requires
-    (λ c. omega arith)
-    (λ c. search needs) (λ c. omega arith) (λ c. search needs)
-    (λ c. omega arith) (λ c. simp length-set (omega arith)) (λ c. search needs)
-    (λ c. omega arith) (λ c. simp length-set (omega arith)) (λ c. search needs)
-    (λ c. omega arith) (λ c. simp length-set (omega arith))
-    (λ c. omega arith) (λ c. omega arith) loop-again
-    same-length (λ c. all-placed (c .before .loop .inv) (omega arith)))
+    (tie.spec Inv-loop μ-loop Inv-loop2 μ-loop2 loop-holds sub-loop sixteen-requires (λ c. omega arith)
+    (λ c. omega arith) loop-again loop2-holds (λ c. omega arith) (λ c. search needs) (λ c. omega arith)
+    nearest-float-requires put-requires (λ c. omega arith) (λ c. omega arith) loop2-again same-length returns)

@@ -1,17 +1,17 @@
--- `wav_samples::frames::float32` meets its contract: a list that is written by a rule, and each sample lies in the
--- part. Assumes nothing.
+-- `wav_samples::floats::tested` meets its contract: a list that is written by a rule, and each sample lies in the part.
+-- Assumes nothing.
 use borrow.Author.Needs.{needs}
 use mathlib.Core.Path.{ap, _∙_}
-use Prim.Native.Nat.{ℕ, _+_, _-_, _*_}
+use Prim.Native.Nat.{ℕ, _+_, _-_, _*_, _≤_}
 use native.Mathlib.Omega.{arith}
+use denote.Ref.{now}
 use lib.ListN.{length, length-set}
 use lib.Ieee.{binary32, binary64, ofBits}
 use Rattle.loops.proofs.Writing.{Written, unwritten, written-more, all-written}
 use Rattle.sample_kind.specs.declared.SampleKind.the-variants.{Float32}
 use Rattle.wav_samples.specs.Samples.{sampleOf}
-use Rattle.wav_samples.proofs.Framing.{place}
-use Rattle.wav_samples.proofs.frames.float32.Statement.{statement}
-use Rattle.wav_samples.proofs.frames.float32.Tie as tie
+use Rattle.wav_samples.proofs.floats.tested.Statement.{statement}
+use Rattle.wav_samples.proofs.floats.tested.Tie as tie
 
 abbrev Inv-loop : tie.InvT-loop
 Inv-loop frame first part out₀ k₀ out k = Written (λ (j : ℕ). sampleOf binary64 Float32 part (j * frame + first)) out₀
@@ -20,12 +20,16 @@ Inv-loop frame first part out₀ k₀ out k = Written (λ (j : ℕ). sampleOf bi
 abbrev μ-loop : tie.MeasureT-loop
 μ-loop frame first part out₀ k₀ out k = length out - k
 
-pub float32-spec : {M : Type 1} → statement M
-float32-spec =
+-- the sample lies in the part
+sample : (c : tie.In-loop Inv-loop μ-loop)
+    → let s = c .before .before .before .before .args in
+    c .before .loop .k * s .frame + s .first + 4 ≤ length (now (s .part))
+sample c = c .before .before .before .before .pre (c .before .loop .k) (omega (arith, c .before .loop .inv .long))
+
+pub tested-spec : {M : Type 1} → statement M
+tested-spec =
     tie.close (tie.spec Inv-loop μ-loop (λ c. unwritten)
-    (λ c. omega (arith, place (c .before .loop .k) (c .before .before .before .before .pre) (omega arith)))
-    (λ c. omega (arith, place (c .before .loop .k) (c .before .before .before .before .pre) (omega arith)))
-    (λ c κs. omega (arith, place (c .before .loop .k) (c .before .before .before .before .pre) (omega arith)))
+    (λ c. omega (arith, sample c)) (λ c. omega (arith, sample c)) (λ c κs. omega (arith, sample c))
     (λ c κs. search needs) (λ c. search needs) (λ c. search needs) (λ c. search needs)
     (λ c. simp length-set (omega arith))
     (λ c. written-more (c .before .before .before .loop .inv) (omega arith)
