@@ -195,6 +195,18 @@ uint8_t fugnadri_windowed_sinc_f32_new(size_t taps, size_t phases, double cutoff
 uint8_t fugnadri_windowed_sinc_f32_for_max_rate(size_t taps, size_t phases, double max_rate, double passband,
     double beta, float *table, size_t table_len);
 
+/* The same with the window in a mode of the sum called I0: 0 the original's, which 24 terms end, so that it is not I0
+ * for a beta above about 10.9; 1 full, which goes on until its terms no longer count. Any other number is refused
+ * by 1. */
+uint8_t fugnadri_windowed_sinc_new_in(size_t taps, size_t phases, double cutoff, double beta, uint8_t mode,
+    double *table, size_t table_len);
+uint8_t fugnadri_windowed_sinc_for_max_rate_in(size_t taps, size_t phases, double max_rate, double passband,
+    double beta, uint8_t mode, double *table, size_t table_len);
+uint8_t fugnadri_windowed_sinc_f32_new_in(size_t taps, size_t phases, double cutoff, double beta, uint8_t mode,
+    float *table, size_t table_len);
+uint8_t fugnadri_windowed_sinc_f32_for_max_rate_in(size_t taps, size_t phases, double max_rate, double passband,
+    double beta, uint8_t mode, float *table, size_t table_len);
+
 /* A table's reading of a slice, as the kernels' above. Refused by 1 or 2. */
 uint8_t fugnadri_windowed_sinc_sample(const double *table, size_t table_len, size_t taps, size_t phases,
     const double *source, size_t source_len, uint64_t count, double position, double *sample);
@@ -236,6 +248,9 @@ uint8_t fugnadri_bank_choose(double max_rate, double rate, size_t *safe, size_t 
 /* Build one set of a rate, or the whole bank. Refused by 1 or 2. */
 uint8_t fugnadri_bank_build_set(double rate, float *set, size_t set_len);
 uint8_t fugnadri_bank_build(double max_rate, float *sets, size_t sets_len);
+/* The same with every window in a mode, as for a table above. */
+uint8_t fugnadri_bank_build_set_in(double rate, uint8_t mode, float *set, size_t set_len);
+uint8_t fugnadri_bank_build_in(double max_rate, uint8_t mode, float *sets, size_t sets_len);
 
 /* A quality reader's state is a reader's and current, target, crossfade_position; crossfade_samples, 0 to 16777216, is
  * the fade's length. Opening is refused by 1 or 2, and then leaves the four as they were; reset by 3 too. */

@@ -6,6 +6,8 @@
 // The emulator that runs this on Arm cannot open what Rust's own `main` opens.
 #![no_main]
 
+#[path = "../../oracle/src/full.rs"]
+mod full;
 #[path = "../../oracle/src/random.rs"]
 mod random;
 mod workloads {
@@ -28,7 +30,7 @@ use std::hint::black_box;
 use std::time::Instant;
 
 /// A file of workloads/ each, by name: making one may take seconds.
-const WORKLOADS: [(&str, fn() -> Workload); 47] = [
+const WORKLOADS: [(&str, fn() -> Workload); 48] = [
     ("narrow", workloads::narrow::workload),
     ("fused32", workloads::fused32::workload),
     ("fused64", workloads::fused64::workload),
@@ -50,6 +52,7 @@ const WORKLOADS: [(&str, fn() -> Workload); 47] = [
     ("sinc_f32_96", workloads::sinc::sinc_f32_96),
     ("sinc_f32_128", workloads::sinc::sinc_f32_128),
     ("table_f32", workloads::sinc::table_f32),
+    ("table_f32_full", workloads::sinc::table_f32_full),
     ("quality_draft", workloads::quality::draft),
     ("quality_hq", workloads::quality::plain),
     ("quality_hq_two_sets", workloads::quality::blended),

@@ -2,7 +2,7 @@
 //! by `--cfg compare`; a user never sees it.
 
 pub use crate::boundary::QualityReader;
-use crate::{lenient, strict, strict::table::Table};
+use crate::{lenient, strict, strict::table::Table, Mode};
 
 /// A reader's count and its ring, in either width.
 macro_rules! readers {
@@ -26,7 +26,7 @@ readers! {
 impl strict::WindowedSinc {
     /// Over a table of anything.
     pub fn of(taps: usize, phases: usize, values: Vec<f64>) -> Self {
-        Self { table: Table { taps, phases, values }, cutoff: 1.0 }
+        Self { table: Table { taps, phases, mode: Mode::Ported, values }, cutoff: 1.0 }
     }
     pub fn values(&self) -> &[f64] {
         &self.table.values
@@ -35,7 +35,7 @@ impl strict::WindowedSinc {
 
 impl strict::WindowedSincF32 {
     pub fn of(taps: usize, phases: usize, values: Vec<f32>) -> Self {
-        Self { table: Table { taps, phases, values } }
+        Self { table: Table { taps, phases, mode: Mode::Ported, values } }
     }
     pub fn values(&self) -> &[f32] {
         &self.table.values

@@ -21,6 +21,7 @@ pub mod compare;
 mod doors;
 mod kernels;
 pub mod lenient;
+mod mode;
 mod params;
 mod quality_mode;
 mod refusal;
@@ -30,5 +31,6 @@ pub mod strict;
 pub mod wav;
 
 pub use lenient::*;
+pub use mode::Mode;
 pub use refusal::Refusal;
 pub use residual::Residual;

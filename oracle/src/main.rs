@@ -11,6 +11,7 @@ mod context;
 mod delays;
 mod engines;
 mod format;
+mod full;
 mod hosts;
 mod inputs;
 mod kernels;
@@ -24,6 +25,7 @@ mod subjects {
     pub mod bank;
     pub mod fused;
     pub mod integer_part;
+    pub mod modes;
     pub mod modulation;
     pub mod narrow;
     pub mod order;
@@ -42,7 +44,7 @@ use context::Context;
 use std::time::{Duration, Instant};
 
 /// A file of subjects/ each. `run` compares one batch of every kind of input that it has.
-const SUBJECTS: [fn(&mut Context); 15] = [
+const SUBJECTS: [fn(&mut Context); 16] = [
     subjects::patterns::run,
     subjects::order::run,
     subjects::narrow::run,
@@ -53,6 +55,7 @@ const SUBJECTS: [fn(&mut Context); 15] = [
     subjects::slices::run,
     subjects::readers::run,
     subjects::tables::run,
+    subjects::modes::run,
     subjects::sinc::run,
     subjects::bank::run,
     subjects::quality::run,

@@ -1,6 +1,7 @@
 //! The windowed sinc: tables, an answer being an element, and the delay readers over them, one call a
 //! sample: a ring of 1024, samples from -1 to 1, delays of 200 to 400 samples that wander.
 
+use crate::full;
 use crate::random::Random;
 use crate::Workload;
 use boundary::Width;
@@ -49,10 +50,8 @@ reader!(sinc_f32_80, f32, VariableDelayF32, WindowedSincF32, 80, 512);
 reader!(sinc_f32_96, f32, VariableDelayF32, WindowedSincF32, 96, 512);
 reader!(sinc_f32_128, f32, VariableDelayF32, WindowedSincF32, 128, 512);
 
-/// A table of 96 taps and 64 phases, as an anti-aliasing kernel for a rate.
-pub fn table_f32() -> Workload {
-    const TAPS: usize = 96;
-    const PHASES: usize = 64;
+/// A table of 96 taps and 64 phases, as an anti-aliasing kernel for a rate: by the Rust and by the port.
+fn table(rust: impl Fn() -> Vec<f32> + 'static, port: impl Fn(&mut [f32]) + 'static) -> Workload {
     let mut table = vec![0.0f32; (PHASES + 1) * TAPS];
     let patterns = |answers: &mut [u64], table: &[f32]| {
         for (to, x) in answers.iter_mut().zip(table) {
@@ -61,10 +60,28 @@ pub fn table_f32() -> Workload {
     };
     Workload {
         answers: table.len(),
-        rust: Box::new(move |answers| patterns(answers, &WindowedSincF32::for_max_rate(TAPS, PHASES, 1.02, 0.995, 14.0).table)),
+        rust: Box::new(move |answers| patterns(answers, &rust())),
         port: Box::new(move |answers| {
-            f32::build_for_max_rate(TAPS, PHASES, 1.02, 0.995, 14.0, &mut table);
+            port(&mut table);
             patterns(answers, &table)
         }),
     }
+}
+
+const TAPS: usize = 96;
+const PHASES: usize = 64;
+
+pub fn table_f32() -> Workload {
+    table(
+        || WindowedSincF32::for_max_rate(TAPS, PHASES, 1.02, 0.995, 14.0).table,
+        |table| _ = f32::build_for_max_rate(TAPS, PHASES, 1.02, 0.995, 14.0, table),
+    )
+}
+
+/// The same in the full mode of the sum called I0, beside 000's lines with 64 terms.
+pub fn table_f32_full() -> Workload {
+    table(
+        || full::table(TAPS, PHASES, 0.995 / 1.02, 14.0).into_iter().map(|x| x as f32).collect(),
+        |table| _ = f32::build_for_max_rate_in(TAPS, PHASES, 1.02, 0.995, 14.0, 1, table),
+    )
 }

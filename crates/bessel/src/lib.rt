@@ -1,6 +1,15 @@
-// 000's bessel_i0, with the number of terms an argument.
+// 000's bessel_i0, the sum that stands for I0 in a table's window, and the mode in which it goes on until its terms
+// no longer count.
 ghost use mathlib.Core.Path.{_≡_};
 ghost use Rattle.bessel.specs.Series.{seriesOf};
+ghost use Rattle.bessel.specs.Modes.{termsOf, sumIn, modeOf, knownCode};
+
+// W5. Ported is 000's: 24 terms after the first do not reach I0 for a beta above about 10.9. In Full the tolerance
+// always ends the sum, for 41 terms do up to a beta of 20 (`tolerance-ends`).
+pub enum Mode {
+    Ported,
+    Full,
+}
 
 // F5, T2. The series of I0: 1 and at most `terms` terms after it, up to the first that is below sum * 1.0e-16.
 pub fn series(x: f64, terms: u32) -> f64
@@ -29,4 +38,35 @@ pub fn bessel_i0(x: f64) -> f64
     ensures { λ r. ⌜ r ≡ seriesOf 24 x ⌝ }
 {
     series(x, 24)
+}
+
+// The number of terms that a mode may add.
+fn terms(mode: Mode) -> u32
+    ensures { λ r. ⌜ r ≡ termsOf mode ⌝ }
+{
+    match mode {
+        Mode::Ported => 24,
+        Mode::Full => 64,
+    }
+}
+
+// W5c. The sum called I0, in a mode.
+pub fn sum(mode: Mode, x: f64) -> f64
+    ensures { λ r. ⌜ r ≡ sumIn mode x ⌝ }
+{
+    series(x, terms(mode))
+}
+
+// The mode of a number, where only numbers cross. One above 1 is no mode's: who takes numbers from outside tests that.
+pub fn of_code(code: u8) -> Mode
+    ensures { λ r. ⌜ r ≡ modeOf code ⌝ }
+{
+    if code == 0 { Mode::Ported } else { Mode::Full }
+}
+
+// Whether a number names a mode.
+pub fn known(code: u8) -> bool
+    ensures { λ r. ⌜ r ≡ knownCode code ⌝ }
+{
+    code <= 1
 }

@@ -88,7 +88,7 @@ pub extern "C" fn fugnadri_bank_build_set(rate: f64, set: &mut [f32]) -> u8
     sinc_bank_f32::build_set(rate, &mut set[..])
 }
 
-fn number(b: Built) -> u8
+pub(crate) fn number(b: Built) -> u8
     ensures { λ r. ⌜ r ≡ numberOf b ⌝ }
 {
     match b {

@@ -6,7 +6,10 @@ use lib.ListN.{length}
 use lib.Ieee.{Float}
 use Rattle.sinc_settings.specs.declared.Settings.{Settings}
 use Rattle.sinc_settings.specs.Refusals.{verdict, forRate, rateVerdict}
-use Rattle.windowed_sinc.specs.Table.{tableOf, tableAfter, builtBy, numberOf}
+use Rattle.bessel.specs.declared.Mode.{Mode}
+use Rattle.bessel.specs.declared.Mode.the-variants.{Ported}
+use Rattle.bessel.specs.Modes.{modeOf, dueIn}
+use Rattle.windowed_sinc.specs.Table.{tableIn, tableAfter, builtIn, numberOf}
 use Rattle.windowed_sinc_f32.specs.Table as single
 
 pub record Made : Type 0 where
@@ -16,12 +19,24 @@ pub record Made : Type 0 where
 abbrev pub makes : ℕ → List Float → Made
 makes number table = record { number = number; table = table }
 
--- by the refusal that is due, and from the settings
+-- in a mode, by the refusal that is due, and from the settings
+abbrev pub madeIn : Mode → ℕ → Settings → List Float → Made
+madeIn mode v s table = makes (numberOf (builtIn mode v s)) (tableAfter v (tableIn mode s) table)
+
+abbrev pub madeF32In : Mode → ℕ → Settings → List Float → Made
+madeF32In mode v s table =
+    makes (single.numberOf (single.builtIn mode v s)) (tableAfter v (single.tableF32In mode s) table)
+
+-- 000's
 abbrev pub madeBy : ℕ → Settings → List Float → Made
-madeBy v s table = makes (numberOf (builtBy v s)) (tableAfter v (tableOf s) table)
+madeBy = madeIn Ported
 
 abbrev pub madeF32By : ℕ → Settings → List Float → Made
-madeF32By v s table = makes (single.numberOf (single.builtBy v s)) (tableAfter v (single.tableF32Of s) table)
+madeF32By = madeF32In Ported
+
+-- W5. By a mode's number: 1 where it names none.
+abbrev pub coded : (Mode → ℕ → Settings → List Float → Made) → ℕ → ℕ → Settings → List Float → Made
+coded made code v = made (modeOf code) (dueIn code v)
 
 -- new and for_max_rate, of either width
 abbrev pub newOf : (ℕ → Settings → List Float → Made) → Settings → List Float → Made

@@ -6,7 +6,7 @@ ghost use Rattle.fugnadri_tables.specs.Building.{makes, madeBy, madeF32B
 ghost use Rattle.fugnadri_tables.specs.Doors.{settingsOf};
 use sinc_settings::Settings;
 
-fn number(b: windowed_sinc::Built) -> u8
+pub(crate) fn number(b: windowed_sinc::Built) -> u8
     ensures { λ r. ⌜ r ≡ numberOf b ⌝ }
 {
     match b {
@@ -15,7 +15,7 @@ fn number(b: windowed_sinc::Built) -> u8
     }
 }
 
-fn number_f32(b: windowed_sinc_f32::Built) -> u8
+pub(crate) fn number_f32(b: windowed_sinc_f32::Built) -> u8
     ensures { λ r. ⌜ r ≡ single.numberOf b ⌝ }
 {
     match b {

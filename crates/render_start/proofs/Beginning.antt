@@ -11,6 +11,7 @@ use lib.Ieee.{Float, le, ofBits, size}
 use Rattle.ring.specs.Length.{lengthFor, zeros}
 use Rattle.sinc_settings.specs.Refusals.{verdict}
 use Rattle.windowed_sinc.specs.Table.{tableAfter}
+use Rattle.bessel.specs.declared.Mode.the-variants.{Ported}
 use Rattle.windowed_sinc_f32.specs.Table.{tableF32Of, builtBy}
 use Rattle.windowed_sinc_f32.specs.declared.Built.{Built}
 use Rattle.windowed_sinc_f32.specs.declared.Built.the-variants as tables
@@ -43,7 +44,8 @@ reader-opens e = rw (e, reader-needs)
 pub ring-opens : (xs : List Float) → length xs ≡ 1024 → delay.ringOpened 1016 0 xs ≡ zeros 1024
 ring-opens xs e = rw (e, reader-needs) (ap zeros e)
 
-pub table-opens : {n : ℕ} → n ≡ 2080 → builtBy (verdict settings n) settings ≡ Kernel (record { taps = 32; phases = 64 })
+pub table-opens : {n : ℕ} → n ≡ 2080
+    → builtBy (verdict settings n) settings ≡ Kernel (record { taps = 32; phases = 64; mode = Ported })
 table-opens e = rw (e, table-needs)
 
 pub table-is : (xs : List Float) {n : ℕ} → n ≡ 2080 → tableAfter (verdict settings n) (tableF32Of settings) xs ≡ tableF32Of settings

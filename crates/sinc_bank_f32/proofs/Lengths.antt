@@ -10,16 +10,17 @@ use Rattle.loops.proofs.Rows.{length-rows, row}
 use Rattle.rounding.specs.Operations.{narrowed}
 use Rattle.sinc_settings.specs.declared.Settings.{Settings}
 use Rattle.sinc_settings.specs.Refusals.{tableLength}
-use Rattle.windowed_sinc.specs.Table.{tableOf}
+use Rattle.bessel.specs.declared.Mode.{Mode}
+use Rattle.windowed_sinc.specs.Table.{tableIn}
 use Rattle.windowed_sinc.proofs.Elements.{length-table}
-use Rattle.windowed_sinc_f32.specs.Table.{tableF32Of}
+use Rattle.windowed_sinc_f32.specs.Table.{tableF32In}
 use Rattle.bank_choice.specs.Rates.{stepsOf, rateOf}
 use Rattle.quality_mode.specs.declared.QualityMode.the-variants.{Normal, Hq, Ultra}
-use Rattle.sinc_bank_f32.specs.Sets.{setLength, normalAt, hqAt, ultraAt, setOf, bankOf}
+use Rattle.sinc_bank_f32.specs.Sets.{setLength, normalAt, hqAt, ultraAt, setIn, bankIn}
 use Rattle.sinc_bank_f32.specs.Parts.{partOf}
 
-long : (s : Settings) → length (tableF32Of s) ≡ tableLength (s .taps) (s .phases)
-long s = length-map (tableOf s) narrowed ∙ length-table s
+long : (m : Mode) (s : Settings) → length (tableF32In m s) ≡ tableLength (s .taps) (s .phases)
+long m s = length-map (tableIn m s) narrowed ∙ length-table m s
 
 -- three lists, one behind the other
 one-behind-another : (x y z : List Float) (a b c : ℕ) → length x ≡ a → length y ≡ b → length z ≡ c → (take a (x ++ (y ++ z)) ≡ x) × (take b (drop a (x ++ (y ++ z))) ≡ y) × (take c (drop (a + b) (x ++ (y ++ z))) ≡ z)
@@ -31,39 +32,39 @@ one-behind-another x y z a b c p q r = (
       ∙ take-all c z (omega arith),
 )
 
-module _ (rate : Float) where
-  pub normal-long : length (tableF32Of (normalAt rate)) ≡ 163920
-  normal-long = long (normalAt rate)
+module _ (m : Mode) (rate : Float) where
+  pub normal-long : length (tableF32In m (normalAt rate)) ≡ 163920
+  normal-long = long m (normalAt rate)
 
-  pub hq-long : length (tableF32Of (hqAt rate)) ≡ 393312
-  hq-long = long (hqAt rate)
+  pub hq-long : length (tableF32In m (hqAt rate)) ≡ 393312
+  hq-long = long m (hqAt rate)
 
-  pub ultra-long : length (tableF32Of (ultraAt rate)) ≡ 524416
-  ultra-long = long (ultraAt rate)
+  pub ultra-long : length (tableF32In m (ultraAt rate)) ≡ 524416
+  ultra-long = long m (ultraAt rate)
 
-  pub set-long : length (setOf rate) ≡ setLength
-  unfolding setOf
+  pub set-long : length (setIn m rate) ≡ setLength
+  unfolding setIn
   set-long = simp (length-append, normal-long, hq-long, ultra-long)
 
   -- T5
-  parts : (take 163920 (setOf rate) ≡ tableF32Of (normalAt rate)) × (take 393312 (drop 163920 (setOf rate)) ≡ tableF32Of (hqAt rate)) × (take 524416 (drop (163920 + 393312) (setOf rate)) ≡ tableF32Of (ultraAt rate))
-  unfolding setOf
-  parts = one-behind-another (tableF32Of (normalAt rate)) (tableF32Of (hqAt rate)) (tableF32Of (ultraAt rate)) 163920 393312 524416 normal-long hq-long ultra-long
+  parts : (take 163920 (setIn m rate) ≡ tableF32In m (normalAt rate)) × (take 393312 (drop 163920 (setIn m rate)) ≡ tableF32In m (hqAt rate)) × (take 524416 (drop (163920 + 393312) (setIn m rate)) ≡ tableF32In m (ultraAt rate))
+  unfolding setIn
+  parts = one-behind-another (tableF32In m (normalAt rate)) (tableF32In m (hqAt rate)) (tableF32In m (ultraAt rate)) 163920 393312 524416 normal-long hq-long ultra-long
 
-  pub normal-part : partOf Normal (setOf rate) ≡ tableF32Of (normalAt rate)
+  pub normal-part : partOf Normal (setIn m rate) ≡ tableF32In m (normalAt rate)
   normal-part = parts .0
 
-  pub hq-part : partOf Hq (setOf rate) ≡ tableF32Of (hqAt rate)
+  pub hq-part : partOf Hq (setIn m rate) ≡ tableF32In m (hqAt rate)
   hq-part = parts .1
 
-  pub ultra-part : partOf Ultra (setOf rate) ≡ tableF32Of (ultraAt rate)
+  pub ultra-part : partOf Ultra (setIn m rate) ≡ tableF32In m (ultraAt rate)
   ultra-part = parts .2
 
 -- T3. set i of a bank, counted from 0
-pub set-at : (top : Float) (i : ℕ) → i < stepsOf top → take setLength (drop (i * setLength) (bankOf top)) ≡ setOf (rateOf top (stepsOf top) (i + 1))
-unfolding bankOf
-set-at top i h = row (λ (k : ℕ). setOf (rateOf top (stepsOf top) (k + 1))) setLength (λ k. set-long (rateOf top (stepsOf top) (k + 1))) (stepsOf top) i h
+pub set-at : (m : Mode) (top : Float) (i : ℕ) → i < stepsOf top → take setLength (drop (i * setLength) (bankIn m top)) ≡ setIn m (rateOf top (stepsOf top) (i + 1))
+unfolding bankIn
+set-at m top i h = row (λ (k : ℕ). setIn m (rateOf top (stepsOf top) (k + 1))) setLength (λ k. set-long m (rateOf top (stepsOf top) (k + 1))) (stepsOf top) i h
 
-pub bank-long : (top : Float) → length (bankOf top) ≡ stepsOf top * setLength
-unfolding bankOf
-bank-long top = length-rows (λ (k : ℕ). setOf (rateOf top (stepsOf top) (k + 1))) setLength (λ k. set-long (rateOf top (stepsOf top) (k + 1))) (stepsOf top)
+pub bank-long : (m : Mode) (top : Float) → length (bankIn m top) ≡ stepsOf top * setLength
+unfolding bankIn
+bank-long m top = length-rows (λ (k : ℕ). setIn m (rateOf top (stepsOf top) (k + 1))) setLength (λ k. set-long m (rateOf top (stepsOf top) (k + 1))) (stepsOf top)

@@ -1,4 +1,5 @@
--- T3. 000's RateSincSetF32 and SincBankF32: a set is the tables of Normal, Hq and Ultra for one rate, one behind the other, and a bank its sets. Definitions only.
+-- T3. 000's RateSincSetF32 and SincBankF32: a set is the tables of Normal, Hq and Ultra for one rate, one behind the
+-- other, and a bank its sets. Definitions only.
 use Prim.Native.Nat.{ℕ, _+_, _-_, _*_}
 use mathlib.Core.Bool.{false, cond}
 use mathlib.Core.List.{List, _++_}
@@ -9,7 +10,9 @@ pub use Rattle.constants.specs.Numbers.{setLength}
 use Rattle.loops.specs.Loops.{rows}
 use Rattle.sinc_settings.specs.declared.Settings.{Settings}
 use Rattle.sinc_settings.specs.Refusals.{forRate}
-use Rattle.windowed_sinc_f32.specs.Table.{tableF32Of}
+use Rattle.bessel.specs.declared.Mode.{Mode}
+use Rattle.bessel.specs.declared.Mode.the-variants.{Ported}
+use Rattle.windowed_sinc_f32.specs.Table.{tableF32In}
 use Rattle.bank_choice.specs.Rates.{bankOk, stepsOf, rateOf}
 
 -- the f64 nearest to 0.995
@@ -26,16 +29,25 @@ hqAt rate = forRate 96 4096 rate passband (fin false 7 (pos 1))
 abbrev pub ultraAt : Float → Settings
 ultraAt rate = forRate 128 4096 rate passband (fin false 1 (pos 4))
 
-unfoldable pub setOf : Float → List Float
-setOf rate = tableF32Of (normalAt rate) ++ (tableF32Of (hqAt rate) ++ tableF32Of (ultraAt rate))
+-- W5. All three in one mode.
+unfoldable pub setIn : Mode → Float → List Float
+setIn mode rate =
+    tableF32In mode (normalAt rate) ++ (tableF32In mode (hqAt rate) ++ tableF32In mode (ultraAt rate))
+
+-- 000's
+abbrev pub setOf : Float → List Float
+setOf = setIn Ported
 
 -- a slice with ys written from `start` to `end`
 unfoldable pub withPart : ℕ → ℕ → List Float → List Float → List Float
 withPart start end ys xs = take start xs ++ (ys ++ drop (end - start) (drop start xs))
 
 -- the sets of a bank, in the order of their rates
-unfoldable pub bankOf : Float → List Float
-bankOf top = rows (λ (i : ℕ). setOf (rateOf top (stepsOf top) (i + 1))) (stepsOf top)
+unfoldable pub bankIn : Mode → Float → List Float
+bankIn mode top = rows (λ (i : ℕ). setIn mode (rateOf top (stepsOf top) (i + 1))) (stepsOf top)
+
+abbrev pub bankOf : Float → List Float
+bankOf = bankIn Ported
 
 -- how many f32 a bank needs, 0 out of its range
 abbrev pub bankLength : Float → ℕ

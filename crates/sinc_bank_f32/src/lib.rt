@@ -1,6 +1,8 @@
-// T3, T5. 000's SincBankF32 over lent slices: the sets of a bank are built in their places, and the part of a set that a quality reads is handed back.
+// T3, T5. 000's SincBankF32 over lent slices: the sets of a bank are built in their places, and the part of a set that
+// a quality reads is handed back.
 mod parts; // the part of a set that is to be read
 
+use bessel::Mode;
 use constants::SET_LENGTH;
 pub use parts::chosen;
 ghost use mathlib.Core.Path.{_≡_};
@@ -9,9 +11,10 @@ ghost use Prim.Native.Nat.{_-_, _*_, _≤_};
 ghost use lib.ListN.{length};
 ghost use Rattle.sinc_settings.specs.Refusals.{forRate, rateVerdict};
 ghost use Rattle.windowed_sinc.specs.Table.{tableAfter};
-ghost use Rattle.windowed_sinc_f32.specs.Table.{tableF32Of};
+ghost use Rattle.windowed_sinc_f32.specs.Table.{tableF32In};
 ghost use Rattle.bank_choice.specs.Rates.{bankOk, stepsOf};
-ghost use Rattle.sinc_bank_f32.specs.Sets.{setLength, passband, withPart, setOf, bankOf, bankLength};
+ghost use Rattle.sinc_bank_f32.specs.Sets.{setLength, passband, withPart, bankLength};
+ghost use Rattle.sinc_bank_f32.specs.Sets.{setIn, setOf, bankIn, bankOf};
 ghost use Rattle.sinc_bank_f32.specs.Building.{setVerdict, bankVerdict, builtBy};
 
 pub enum Built {
@@ -19,7 +22,8 @@ pub enum Built {
     Refused(u8),
 }
 
-// One table of a set, in its part of the lent slice. Nothing is refused: a rate from 1 to 2 gives a cutoff from 0.4975 to 0.995.
+// One table of a set, in its part of the lent slice. Nothing is refused: a rate from 1 to 2 gives a cutoff from 0.4975
+// to 0.995.
 fn write_part(
     taps: usize,
     phases: usize,
@@ -28,34 +32,65 @@ fn write_part(
     set: &mut [f32],
     start: usize,
     end: usize,
+    mode: Mode,
 )
-    requires { ⌜ (start ≤ end) × (end ≤ length (now set)) × (rateVerdict (forRate taps phases rate passband beta) rate passband (end - start) ≡ 0) ⌝ }
-    ensures { λ _. ⌜ now (set .exit) ≡ withPart start end (tableF32Of (forRate taps phases rate passband beta)) (now (set .entry)) ⌝ }
+    requires { ⌜
+        (start ≤ end) × (end ≤ length (now set))
+        × (rateVerdict (forRate taps phases rate passband beta) rate passband (end - start) ≡ 0)
+        ⌝ }
+    ensures { λ _. ⌜
+        now (set .exit)
+        ≡ withPart start end (tableF32In mode (forRate taps phases rate passband beta)) (now (set .entry))
+        ⌝ }
 {
-    let _built = windowed_sinc_f32::for_max_rate(
+    let _built = windowed_sinc_f32::for_max_rate_in(
         taps,
         phases,
         rate,
         0.995,
         beta,
+        mode,
         &mut set[start..end],
     );
 }
 
 // The three tables of a set.
-fn write_set(rate: f64, set: &mut [f32])
+fn write_set(rate: f64, set: &mut [f32], mode: Mode)
     requires { ⌜ (bankOk rate ≡ true) × (length (now set) ≡ setLength) ⌝ }
-    ensures { λ _. ⌜ now (set .exit) ≡ setOf rate ⌝ }
+    ensures { λ _. ⌜ now (set .exit) ≡ setIn mode rate ⌝ }
 {
-    write_part(80, 2048, rate, 12.0, &mut set[..], 0, 163920);
-    write_part(96, 4096, rate, 14.0, &mut set[..], 163920, 557232);
-    write_part(128, 4096, rate, 16.0, &mut set[..], 557232, SET_LENGTH);
+    write_part(80, 2048, rate, 12.0, &mut set[..], 0, 163920, mode);
+    write_part(96, 4096, rate, 14.0, &mut set[..], 163920, 557232, mode);
+    write_part(
+        128,
+        4096,
+        rate,
+        16.0,
+        &mut set[..],
+        557232,
+        SET_LENGTH,
+        mode,
+    );
 }
 
 // One set in its place: 0, or the refusal that is due, which leaves the slice.
 pub fn build_set(rate: f64, set: &mut [f32]) -> u8
     ensures { λ r. ⌜ r ≡ setVerdict rate (length (now (set .entry))) ⌝ }
-    ensures { λ r. ⌜ now (set .exit) ≡ tableAfter (setVerdict rate (length (now (set .entry)))) (setOf rate) (now (set .entry)) ⌝ }
+    ensures { λ r. ⌜
+        now (set .exit)
+        ≡ tableAfter (setVerdict rate (length (now (set .entry)))) (setOf rate) (now (set .entry))
+        ⌝ }
+{
+    build_set_in(rate, Mode::Ported, &mut set[..])
+}
+
+// W5. The same with all three windows in a mode.
+pub fn build_set_in(rate: f64, mode: Mode, set: &mut [f32]) -> u8
+    ensures { λ r. ⌜ r ≡ setVerdict rate (length (now (set .entry))) ⌝ }
+    ensures { λ r. ⌜
+        now (set .exit)
+        ≡ tableAfter (setVerdict rate (length (now (set .entry)))) (setIn mode rate) (now (set .entry))
+        ⌝ }
 {
     if !magnitude::within(rate, 1.0, 2.0) {
         return 1;
@@ -63,7 +98,7 @@ pub fn build_set(rate: f64, set: &mut [f32]) -> u8
     if set.len() != SET_LENGTH {
         return 2;
     }
-    write_set(rate, &mut set[..]);
+    write_set(rate, &mut set[..], mode);
     0
 }
 
@@ -75,16 +110,18 @@ pub fn bank_length(max_rate: f64) -> usize
 }
 
 // Lends each set's part of the bank to `write_set`.
-fn write_sets(max_rate: f64, n: usize, width: usize, sets: &mut [f32])
-    requires { ⌜ (bankOk «max_rate» ≡ true) × (n ≡ stepsOf «max_rate») × (width ≡ setLength) × (length (now sets) ≡ n * width) ⌝ }
-    ensures { λ _. ⌜ now (sets .exit) ≡ bankOf «max_rate» ⌝ }
+fn write_sets(max_rate: f64, n: usize, width: usize, sets: &mut [f32], mode: Mode)
+    requires { ⌜
+        (bankOk «max_rate» ≡ true) × (n ≡ stepsOf «max_rate») × (width ≡ setLength) × (length (now sets) ≡ n * width)
+        ⌝ }
+    ensures { λ _. ⌜ now (sets .exit) ≡ bankIn mode «max_rate» ⌝ }
 {
     let mut i: usize = 0;
     while i < n {
         let rate = bank_choice::set_rate(max_rate, i);
         let start = i * width;
         let end = start + width;
-        write_set(rate, &mut sets[start..end]);
+        write_set(rate, &mut sets[start..end], mode);
         i += 1;
     }
 }
@@ -92,7 +129,21 @@ fn write_sets(max_rate: f64, n: usize, width: usize, sets: &mut [f32])
 // 000's SincBankF32::for_max_rate: refuses by 1 or 2, or builds every set.
 pub fn build(max_rate: f64, sets: &mut [f32]) -> Built
     ensures { λ r. ⌜ r ≡ builtBy (bankVerdict «max_rate» (length (now (sets .entry)))) «max_rate» ⌝ }
-    ensures { λ r. ⌜ now (sets .exit) ≡ tableAfter (bankVerdict «max_rate» (length (now (sets .entry)))) (bankOf «max_rate») (now (sets .entry)) ⌝ }
+    ensures { λ r. ⌜
+        now (sets .exit)
+        ≡ tableAfter (bankVerdict «max_rate» (length (now (sets .entry)))) (bankOf «max_rate») (now (sets .entry))
+        ⌝ }
+{
+    build_in(max_rate, Mode::Ported, &mut sets[..])
+}
+
+// W5. The same with every set in a mode.
+pub fn build_in(max_rate: f64, mode: Mode, sets: &mut [f32]) -> Built
+    ensures { λ r. ⌜ r ≡ builtBy (bankVerdict «max_rate» (length (now (sets .entry)))) «max_rate» ⌝ }
+    ensures { λ r. ⌜
+        now (sets .exit)
+        ≡ tableAfter (bankVerdict «max_rate» (length (now (sets .entry)))) (bankIn mode «max_rate») (now (sets .entry))
+        ⌝ }
 {
     let n = bank_choice::steps(max_rate);
     if n == 0 {
@@ -101,6 +152,6 @@ pub fn build(max_rate: f64, sets: &mut [f32]) -> Built
     if sets.len() != bank_length(max_rate) {
         return Built::Refused(2);
     }
-    write_sets(max_rate, n, SET_LENGTH, &mut sets[..]);
+    write_sets(max_rate, n, SET_LENGTH, &mut sets[..], mode);
     Built::Sets(n)
 }

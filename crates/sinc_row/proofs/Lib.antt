@@ -2,3 +2,4 @@ pub mod Distance
 pub mod Ready
 pub mod Rows
 pub mod Lent
+pub mod Argument

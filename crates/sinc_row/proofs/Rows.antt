@@ -9,7 +9,7 @@ use Rattle.loops.proofs.Folds.{same}
 use Rattle.loops.proofs.Lists.{length-list, element, same-list}
 use Rattle.sinc_settings.specs.declared.Settings.{Settings}
 use Rattle.sinc_settings.specs.Ranges.{zero-f}
-use Rattle.sinc_row.specs.Coefficient.{windowOf, distanceOf, coefficientOf}
+use Rattle.sinc_row.specs.Coefficient.{distanceOf, coefficientOf}
 use Rattle.sinc_row.specs.Row.{at, rawOf, gainOf, rowOf}
 
 pub length-row : (s : Settings) (window : ℕ → Float) (phase : ℕ) → length (rowOf s window phase) ≡ s .taps
@@ -30,6 +30,9 @@ module _ (s : Settings) (v w : ℕ → Float) (agree : (k : ℕ) → k < s .taps
   row-same : rowOf s v phase ≡ rowOf s w phase
   row-same = same-list _ _ (s .taps) (λ k h. ap (λ (x : Float). div binary64 x (gainOf s v phase (s .taps))) (raw-same k h) ∙ ap (div binary64 (rawOf s w phase k)) gain-same)
 
--- The row under the window that `write_window` wrote is the row under Kaiser's window.
-pub written : (s : Settings) (xs : List Float) → xs ≡ listOf (windowOf s) (s .taps) → (phase : ℕ) → rowOf s (at xs) phase ≡ rowOf s (windowOf s) phase
-written s xs e phase = row-same s (at xs) (windowOf s) (λ k h. ap (λ (l : List Float). getD l k nan) e ∙ element (windowOf s) (s .taps) k nan h) phase
+-- The row under a window that was written into a list is the row under that window.
+pub written : (s : Settings) (window : ℕ → Float) (xs : List Float) → xs ≡ listOf window (s .taps)
+    → (phase : ℕ) → rowOf s (at xs) phase ≡ rowOf s window phase
+written s window xs e phase =
+    row-same s (at xs) window
+    (λ k h. ap (λ (l : List Float). getD l k nan) e ∙ element window (s .taps) k nan h) phase

@@ -6,7 +6,9 @@ use lib.Ieee.{Float, nan, inf, fin, binary64, round, sub, mul, div, lt, ofInt}
 use Rattle.rounding.specs.Operations.{root}
 use Rattle.order.specs.Choice.{larger}
 use Rattle.elementary.specs.Answers.{sineAt}
-use Rattle.bessel.specs.Series.{seriesOf}
+use Rattle.bessel.specs.declared.Mode.{Mode}
+use Rattle.bessel.specs.declared.Mode.the-variants.{Ported}
+use Rattle.bessel.specs.Modes.{sumIn}
 use Rattle.sinc_settings.specs.declared.Settings.{Settings}
 use Rattle.sinc_settings.specs.Ranges.{zero-f, one-f, two-f}
 
@@ -34,11 +36,19 @@ sincOf x = cond (smallOf x) one-f (div binary64 (sineAt (mul binary64 pi x)) (mu
 abbrev pub normalizedOf : ℕ → ℕ → Float
 normalizedOf taps k = sub binary64 (div binary64 (mul binary64 two-f (num k)) (num (taps - 1))) one-f
 
--- Kaiser's window: I0 of beta times the root of 1 - normalized^2, at least 0, over I0 of beta
-unfoldable pub windowOf : Settings → ℕ → Float
-windowOf s k =
+-- Kaiser's window: I0 of beta times the root of 1 - normalized^2, at least 0, over I0 of beta. I0 is the sum in a mode
+-- (W5).
+abbrev pub argumentOf : Settings → ℕ → Float
+argumentOf s k =
     let n = normalizedOf (s .taps) k in
-    div binary64 (seriesOf 24 (mul binary64 (s .beta) (root binary64 (larger (sub binary64 one-f (mul binary64 n n)) zero-f)))) (seriesOf 24 (s .beta))
+    mul binary64 (s .beta) (root binary64 (larger (sub binary64 one-f (mul binary64 n n)) zero-f))
+
+unfoldable pub windowIn : Mode → Settings → ℕ → Float
+windowIn mode s k = div binary64 (sumIn mode (argumentOf s k)) (sumIn mode (s .beta))
+
+-- 000's
+abbrev pub windowOf : Settings → ℕ → Float
+windowOf = windowIn Ported
 
 -- `k - center - frac`, center being taps / 2 - 1 and frac phase / phases
 abbrev pub centerOf : ℕ → Float

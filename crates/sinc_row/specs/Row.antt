@@ -8,7 +8,9 @@ use lib.Ieee.{Float, nan, binary64, add, div}
 use Rattle.loops.specs.Loops.{fold, listOf}
 use Rattle.sinc_settings.specs.declared.Settings.{Settings}
 use Rattle.sinc_settings.specs.Ranges.{zero-f, settingsOk}
-use Rattle.sinc_row.specs.Coefficient.{windowOf, distanceOf, coefficientOf}
+use Rattle.bessel.specs.declared.Mode.{Mode}
+use Rattle.bessel.specs.declared.Mode.the-variants.{Ported}
+use Rattle.sinc_row.specs.Coefficient.{windowIn, distanceOf, coefficientOf}
 
 abbrev pub rawOf : Settings → (ℕ → Float) → ℕ → ℕ → Float
 rawOf s window phase k = coefficientOf (s .cutoff) (distanceOf s phase k) (window k)
@@ -25,8 +27,11 @@ rowOf s window phase = listOf (λ (k : ℕ). div binary64 (rawOf s window phase 
 abbrev pub windowReady : Settings → ℕ → Bool
 windowReady s len = settingsOk s && eqb len (s .taps)
 
+abbrev pub windowAfterIn : Mode → Settings → List Float → List Float
+windowAfterIn mode s xs = cond (windowReady s (length xs)) (listOf (windowIn mode s) (s .taps)) xs
+
 abbrev pub windowAfter : Settings → List Float → List Float
-windowAfter s xs = cond (windowReady s (length xs)) (listOf (windowOf s) (s .taps)) xs
+windowAfter = windowAfterIn Ported
 
 -- the window as it is lent
 abbrev pub at : List Float → ℕ → Float

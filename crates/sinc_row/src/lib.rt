@@ -2,6 +2,7 @@
 mod window; // what a window has at each tap
 
 pub use window::write_window;
+pub use window::write_window_in;
 ghost use mathlib.Core.Path.{_≡_};
 ghost use mathlib.Core.Bool.{true};
 ghost use mathlib.Core.List.{map};

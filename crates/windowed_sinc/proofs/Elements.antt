@@ -7,21 +7,22 @@ use lib.Ieee.{nan, binary64, div}
 use Rattle.loops.proofs.Rows.{length-rows, row, cell}
 use Rattle.sinc_settings.specs.declared.Settings.{Settings}
 use Rattle.sinc_settings.specs.Refusals.{tableLength}
-use Rattle.sinc_row.specs.Coefficient.{windowOf}
+use Rattle.bessel.specs.declared.Mode.{Mode}
+use Rattle.sinc_row.specs.Coefficient.{windowIn}
 use Rattle.sinc_row.specs.Row.{rawOf, gainOf, rowOf}
 use Rattle.sinc_row.proofs.Rows.{length-row, coefficient-at}
-use Rattle.windowed_sinc.specs.Table.{tableOf}
+use Rattle.windowed_sinc.specs.Table.{tableUnder, tableIn}
 
-module _ (s : Settings) where
-  pub length-table : length (tableOf s) ≡ tableLength (s .taps) (s .phases)
-  unfolding tableOf
-  length-table = length-rows (rowOf s (windowOf s)) (s .taps) (length-row s (windowOf s)) (s .phases + 1)
+module _ (m : Mode) (s : Settings) where
+  pub length-table : length (tableIn m s) ≡ tableLength (s .taps) (s .phases)
+  unfolding tableUnder
+  length-table = length-rows (rowOf s (windowIn m s)) (s .taps) (length-row s (windowIn m s)) (s .phases + 1)
 
-  pub table-row : (phase : ℕ) → phase ≤ s .phases → take (s .taps) (drop (phase * s .taps) (tableOf s)) ≡ rowOf s (windowOf s) phase
-  unfolding tableOf
-  table-row phase h = row (rowOf s (windowOf s)) (s .taps) (length-row s (windowOf s)) (s .phases + 1) phase (omega arith)
+  pub table-row : (phase : ℕ) → phase ≤ s .phases → take (s .taps) (drop (phase * s .taps) (tableIn m s)) ≡ rowOf s (windowIn m s) phase
+  unfolding tableUnder
+  table-row phase h = row (rowOf s (windowIn m s)) (s .taps) (length-row s (windowIn m s)) (s .phases + 1) phase (omega arith)
 
   pub table-element : (phase k : ℕ) → phase ≤ s .phases → k < s .taps
-      → getD (tableOf s) (phase * s .taps + k) nan ≡ div binary64 (rawOf s (windowOf s) phase k) (gainOf s (windowOf s) phase (s .taps))
-  unfolding tableOf
-  table-element phase k h l = cell (rowOf s (windowOf s)) (s .taps) (length-row s (windowOf s)) (s .phases + 1) phase k nan (omega arith) l ∙ coefficient-at s (windowOf s) phase k l
+      → getD (tableIn m s) (phase * s .taps + k) nan ≡ div binary64 (rawOf s (windowIn m s) phase k) (gainOf s (windowIn m s) phase (s .taps))
+  unfolding tableUnder
+  table-element phase k h l = cell (rowOf s (windowIn m s)) (s .taps) (length-row s (windowIn m s)) (s .phases + 1) phase k nan (omega arith) l ∙ coefficient-at s (windowIn m s) phase k l

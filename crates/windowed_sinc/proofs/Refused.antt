@@ -4,7 +4,8 @@ use mathlib.Core.List.{List}
 use Prim.Native.Nat.{ℕ, zero, suc}
 use lib.Ieee.{Float}
 use Rattle.sinc_settings.specs.declared.Settings.{Settings}
-use Rattle.windowed_sinc.specs.Table.{builtBy, tableAfter, numberOf}
+use Rattle.bessel.specs.declared.Mode.{Mode}
+use Rattle.windowed_sinc.specs.Table.{builtIn, tableAfter, numberOf}
 use Rattle.windowed_sinc.specs.declared.Built.the-variants.{Refused}
 
 -- of either width
@@ -12,10 +13,10 @@ pub not-written : (v : ℕ) → (v ≡ 0 → ⊥) → (made xs : List Float) →
 not-written zero h made xs = absurd (h refl)
 not-written (suc k) h made xs = refl
 
-pub not-built : (v : ℕ) → (v ≡ 0 → ⊥) → (s : Settings) → Refused v ≡ builtBy v s
-not-built zero h s = absurd (h refl)
-not-built (suc k) h s = refl
+pub not-built : (m : Mode) (v : ℕ) → (v ≡ 0 → ⊥) → (s : Settings) → Refused v ≡ builtIn m v s
+not-built m zero h s = absurd (h refl)
+not-built m (suc k) h s = refl
 
-pub number-is : (v : ℕ) (s : Settings) → numberOf (builtBy v s) ≡ v
-number-is zero s = refl
-number-is (suc k) s = refl
+pub number-is : (m : Mode) (v : ℕ) (s : Settings) → numberOf (builtIn m v s) ≡ v
+number-is m zero s = refl
+number-is m (suc k) s = refl

@@ -1,21 +1,36 @@
--- T1. A windowed sinc table, and what a builder answers and leaves in the lent slice by the refusal that is due. Definitions only.
+-- T1. A windowed sinc table, and what a builder answers and leaves in the lent slice by the refusal that is due.
+-- Definitions only.
 use Prim.Native.Nat.{ℕ, zero, suc, _+_}
 use mathlib.Core.List.{List}
 use lib.Ieee.{Float}
 use Rattle.loops.specs.Loops.{rows}
 use Rattle.sinc_settings.specs.declared.Settings.{Settings}
-use Rattle.sinc_row.specs.Coefficient.{windowOf}
+use Rattle.bessel.specs.declared.Mode.{Mode}
+use Rattle.bessel.specs.declared.Mode.the-variants.{Ported}
+use Rattle.sinc_row.specs.Coefficient.{windowIn}
 use Rattle.sinc_row.specs.Row.{rowOf}
 use Rattle.windowed_sinc.specs.declared.Built.{Built}
 use Rattle.windowed_sinc.specs.declared.Built.the-variants.{Kernel, Refused}
 
--- a row for each phase from 0 to phases, each divided by its sum
-unfoldable pub tableOf : Settings → List Float
-tableOf s = rows (rowOf s (windowOf s)) (s .phases + 1)
+-- A row for each phase from 0 to phases, each divided by its sum, under a window.
+unfoldable pub tableUnder : (ℕ → Float) → Settings → List Float
+tableUnder window s = rows (rowOf s window) (s .phases + 1)
+
+-- W5. Under Kaiser's window in a mode.
+abbrev pub tableIn : Mode → Settings → List Float
+tableIn mode s = tableUnder (windowIn mode s) s
+
+-- 000's
+abbrev pub tableOf : Settings → List Float
+tableOf = tableIn Ported
+
+-- W5e. A table names its mode.
+abbrev pub builtIn : Mode → ℕ → Settings → Built
+builtIn mode zero s = Kernel (record { taps = s .taps; phases = s .phases; cutoff = s .cutoff; mode = mode })
+builtIn mode (suc k) s = Refused (suc k)
 
 abbrev pub builtBy : ℕ → Settings → Built
-builtBy zero s = Kernel (record { taps = s .taps; phases = s .phases; cutoff = s .cutoff })
-builtBy (suc k) s = Refused (suc k)
+builtBy = builtIn Ported
 
 -- A refusal leaves every element (D1c). Of either width.
 abbrev pub tableAfter : ℕ → List Float → List Float → List Float

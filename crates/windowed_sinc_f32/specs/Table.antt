@@ -1,21 +1,31 @@
--- T1. The windowed sinc table in f32, and what a builder answers by the refusal that is due. What it leaves in the lent slice is windowed_sinc's `tableAfter`.
--- Definitions only.
+-- T1. The windowed sinc table in f32, and what a builder answers by the refusal that is due. What it leaves in the lent
+-- slice is windowed_sinc's `tableAfter`. Definitions only.
 use Prim.Native.Nat.{ℕ, zero, suc}
 use mathlib.Core.List.{List, map}
 use lib.Ieee.{Float}
 use Rattle.rounding.specs.Operations.{narrowed}
 use Rattle.sinc_settings.specs.declared.Settings.{Settings}
-use Rattle.windowed_sinc.specs.Table.{tableOf}
+use Rattle.bessel.specs.declared.Mode.{Mode}
+use Rattle.bessel.specs.declared.Mode.the-variants.{Ported}
+use Rattle.windowed_sinc.specs.Table.{tableIn}
 use Rattle.windowed_sinc_f32.specs.declared.Built.{Built}
 use Rattle.windowed_sinc_f32.specs.declared.Built.the-variants.{Kernel, Refused}
 
 -- each coefficient of the f64 table, rounded once
+abbrev pub tableF32In : Mode → Settings → List Float
+tableF32In mode s = map narrowed (tableIn mode s)
+
+-- 000's
 abbrev pub tableF32Of : Settings → List Float
-tableF32Of s = map narrowed (tableOf s)
+tableF32Of = tableF32In Ported
+
+-- W5e. A table names its mode.
+abbrev pub builtIn : Mode → ℕ → Settings → Built
+builtIn mode zero s = Kernel (record { taps = s .taps; phases = s .phases; mode = mode })
+builtIn mode (suc k) s = Refused (suc k)
 
 abbrev pub builtBy : ℕ → Settings → Built
-builtBy zero s = Kernel (record { taps = s .taps; phases = s .phases })
-builtBy (suc k) s = Refused (suc k)
+builtBy = builtIn Ported
 
 -- C4. 01's number for each case, 0 for a kernel.
 abbrev pub numberOf : Built → ℕ

@@ -4,19 +4,19 @@ ghost use mathlib.Core.Bool.{true};
 ghost use mathlib.Core.List.{map};
 ghost use Prim.Native.Nat.{_≤_};
 ghost use lib.ListN.{length};
-ghost use Rattle.loops.specs.Loops.{listOf};
 ghost use Rattle.rounding.specs.Operations.{narrowed};
 ghost use Rattle.sinc_settings.specs.Ranges.{settingsOk};
 ghost use Rattle.sinc_settings.specs.Refusals.{verdict, forRate, rateVerdict};
-ghost use Rattle.sinc_row.specs.Coefficient.{windowOf};
-ghost use Rattle.sinc_row.specs.Row.{rowOf};
-ghost use Rattle.windowed_sinc.specs.Table.{tableAfter};
-ghost use Rattle.windowed_sinc_f32.specs.Table.{tableF32Of, builtBy};
+ghost use Rattle.sinc_row.specs.Row.{at, rowOf};
+ghost use Rattle.windowed_sinc.specs.Table.{tableUnder, tableAfter};
+ghost use Rattle.windowed_sinc_f32.specs.Table.{tableF32In, tableF32Of, builtIn, builtBy};
+use bessel::Mode;
 use sinc_settings::Settings;
 
 pub struct WindowedSincF32 {
     pub taps: usize,
     pub phases: usize,
+    pub mode: Mode,
 }
 
 pub enum Built {
@@ -38,8 +38,11 @@ fn narrow_row<'a>(row: &mut [f32], from: &'a [f64])
 
 // A phase's row in f64, then each coefficient rounded once.
 fn write_row<'a>(row: &mut [f32], settings: Settings, window: &'a [f64], phase: usize)
-    requires { ⌜ (settingsOk settings ≡ true) × (now window ≡ listOf (windowOf settings) (settings .taps)) × (phase ≤ settings .phases) × (length (now row) ≡ settings .taps) ⌝ }
-    ensures { λ _. ⌜ now (row .exit) ≡ map narrowed (rowOf settings (windowOf settings) phase) ⌝ }
+    requires { ⌜
+        (settingsOk settings ≡ true) × (length (now window) ≡ settings .taps) × (phase ≤ settings .phases)
+        × (length (now row) ≡ settings .taps)
+        ⌝ }
+    ensures { λ _. ⌜ now (row .exit) ≡ map narrowed (rowOf settings (at (now (window .entry))) phase) ⌝ }
 {
     let mut scratch: [f64; 128] = [0.0; 128];
     let taps = settings.taps;
@@ -49,8 +52,8 @@ fn write_row<'a>(row: &mut [f32], settings: Settings, window: &'a [f64], phase: 
 
 // T1. Lends each phase's part of the table to `write_row`, under one window.
 fn write_rows<'a>(table: &mut [f32], settings: Settings, window: &'a [f64])
-    requires { ⌜ (verdict settings (length (now table)) ≡ 0) × (now window ≡ listOf (windowOf settings) (settings .taps)) ⌝ }
-    ensures { λ _. ⌜ now (table .exit) ≡ tableF32Of settings ⌝ }
+    requires { ⌜ (verdict settings (length (now table)) ≡ 0) × (length (now window) ≡ settings .taps) ⌝ }
+    ensures { λ _. ⌜ now (table .exit) ≡ map narrowed (tableUnder (at (now (window .entry))) settings) ⌝ }
 {
     let taps = settings.taps;
     let phases = settings.phases;
@@ -63,29 +66,30 @@ fn write_rows<'a>(table: &mut [f32], settings: Settings, window: &'a [f64])
     }
 }
 
-fn write_table(table: &mut [f32], settings: Settings)
+fn write_table(table: &mut [f32], settings: Settings, mode: Mode)
     requires { ⌜ verdict settings (length (now table)) ≡ 0 ⌝ }
-    ensures { λ _. ⌜ now (table .exit) ≡ tableF32Of settings ⌝ }
+    ensures { λ _. ⌜ now (table .exit) ≡ tableF32In mode settings ⌝ }
 {
     let mut window: [f64; 128] = [0.0; 128];
     let taps = settings.taps;
-    sinc_row::write_window(&mut window[0..taps], settings);
+    sinc_row::write_window_in(&mut window[0..taps], settings, mode);
     write_rows(&mut table[..], settings, &window[0..taps]);
 }
 
-// What both builders do once they know which refusal is due.
-fn build(no: u8, settings: Settings, table: &mut [f32]) -> Built
+// What the builders do once they know which refusal is due.
+fn build(no: u8, settings: Settings, mode: Mode, table: &mut [f32]) -> Built
     requires { ⌜ (no ≡ 0 → verdict settings (length (now table)) ≡ 0) ⌝ }
-    ensures { λ r. ⌜ r ≡ builtBy no settings ⌝ }
-    ensures { λ r. ⌜ now (table .exit) ≡ tableAfter no (tableF32Of settings) (now (table .entry)) ⌝ }
+    ensures { λ r. ⌜ r ≡ builtIn mode no settings ⌝ }
+    ensures { λ r. ⌜ now (table .exit) ≡ tableAfter no (tableF32In mode settings) (now (table .entry)) ⌝ }
 {
     if no != 0 {
         return Built::Refused(no);
     }
-    write_table(&mut table[..], settings);
+    write_table(&mut table[..], settings, mode);
     Built::Kernel(WindowedSincF32 {
         taps: settings.taps,
         phases: settings.phases,
+        mode: mode,
     })
 }
 
@@ -94,8 +98,19 @@ pub fn new(settings: Settings, table: &mut [f32]) -> Built
     ensures { λ r. ⌜ r ≡ builtBy (verdict settings (length (now (table .entry)))) settings ⌝ }
     ensures { λ r. ⌜ now (table .exit) ≡ tableAfter (verdict settings (length (now (table .entry)))) (tableF32Of settings) (now (table .entry)) ⌝ }
 {
+    new_in(settings, Mode::Ported, &mut table[..])
+}
+
+// W5. The same with the window in a mode, which the kernel names.
+pub fn new_in(settings: Settings, mode: Mode, table: &mut [f32]) -> Built
+    ensures { λ r. ⌜ r ≡ builtIn mode (verdict settings (length (now (table .entry)))) settings ⌝ }
+    ensures { λ r. ⌜
+        now (table .exit)
+        ≡ tableAfter (verdict settings (length (now (table .entry)))) (tableF32In mode settings) (now (table .entry))
+        ⌝ }
+{
     let no = sinc_settings::refusal(settings, table.len());
-    build(no, settings, &mut table[..])
+    build(no, settings, mode, &mut table[..])
 }
 
 // 000's WindowedSincF32::for_max_rate: the cutoff is passband / max_rate, and both have their range.
@@ -110,7 +125,41 @@ pub fn for_max_rate(
     ensures { λ r. ⌜ r ≡ builtBy (rateVerdict (forRate taps phases «max_rate» passband beta) «max_rate» passband (length (now (table .entry)))) (forRate taps phases «max_rate» passband beta) ⌝ }
     ensures { λ r. ⌜ now (table .exit) ≡ tableAfter (rateVerdict (forRate taps phases «max_rate» passband beta) «max_rate» passband (length (now (table .entry)))) (tableF32Of (forRate taps phases «max_rate» passband beta)) (now (table .entry)) ⌝ }
 {
+    for_max_rate_in(
+        taps,
+        phases,
+        max_rate,
+        passband,
+        beta,
+        Mode::Ported,
+        &mut table[..],
+    )
+}
+
+// W5. The same with the window in a mode, which the kernel names.
+pub fn for_max_rate_in(
+    taps: usize,
+    phases: usize,
+    max_rate: f64,
+    passband: f64,
+    beta: f64,
+    mode: Mode,
+    table: &mut [f32],
+) -> Built
+    ensures { λ r. ⌜
+        r
+        ≡ builtIn mode
+        (rateVerdict (forRate taps phases «max_rate» passband beta) «max_rate» passband (length (now (table .entry))))
+        (forRate taps phases «max_rate» passband beta)
+        ⌝ }
+    ensures { λ r. ⌜
+        now (table .exit)
+        ≡ tableAfter
+        (rateVerdict (forRate taps phases «max_rate» passband beta) «max_rate» passband (length (now (table .entry))))
+        (tableF32In mode (forRate taps phases «max_rate» passband beta)) (now (table .entry))
+        ⌝ }
+{
     let settings = sinc_settings::for_rate(taps, phases, max_rate, passband, beta);
     let no = sinc_settings::rate_refusal(settings, max_rate, passband, table.len());
-    build(no, settings, &mut table[..])
+    build(no, settings, mode, &mut table[..])
 }

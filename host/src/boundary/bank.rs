@@ -21,6 +21,8 @@ extern "C" {
     fn fugnadri_bank_choose(max_rate: f64, rate: f64, safe: &mut usize, tighter: &mut usize, which: &mut u8, blend: &mut f32) -> u8;
     fn fugnadri_bank_build_set(rate: f64, set: *mut f32, set_len: usize) -> u8;
     fn fugnadri_bank_build(max_rate: f64, sets: *mut f32, sets_len: usize) -> u8;
+    fn fugnadri_bank_build_set_in(rate: f64, mode: u8, set: *mut f32, set_len: usize) -> u8;
+    fn fugnadri_bank_build_in(max_rate: f64, mode: u8, sets: *mut f32, sets_len: usize) -> u8;
     fn fugnadri_quality_open(
         maximum: usize, margin: usize, quality: u8, crossfade_samples: u32, accepted: &mut u64, current: &mut u8, target: &mut u8, crossfade_position: &mut u32,
         ring: *mut f32, ring_len: usize,
@@ -81,6 +83,15 @@ pub fn bank_build_set(rate: f64, set: &mut [f32]) -> u8 {
 
 pub fn bank_build(max_rate: f64, sets: &mut [f32]) -> u8 {
     unsafe { fugnadri_bank_build(max_rate, sets.as_mut_ptr(), sets.len()) }
+}
+
+/// The same with every window in a mode of the sum called I0: 0 ported, 1 full, else refused by 1.
+pub fn bank_build_set_in(rate: f64, mode: u8, set: &mut [f32]) -> u8 {
+    unsafe { fugnadri_bank_build_set_in(rate, mode, set.as_mut_ptr(), set.len()) }
+}
+
+pub fn bank_build_in(max_rate: f64, mode: u8, sets: &mut [f32]) -> u8 {
+    unsafe { fugnadri_bank_build_in(max_rate, mode, sets.as_mut_ptr(), sets.len()) }
 }
 
 impl QualityReader {

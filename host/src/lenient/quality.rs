@@ -1,7 +1,7 @@
 //! The bank of tables, and the reader whose quality may change, as the original has them.
 
 use super::{or_panic, or_silence};
-use crate::{quality_mode::QualityMode, strict};
+use crate::{quality_mode::QualityMode, strict, Mode};
 use std::sync::Arc;
 
 /// Prebuilt interpolation tables for allocation-free quality switching.
@@ -11,6 +11,16 @@ impl SincBankF32 {
     #[track_caller]
     pub fn for_max_rate(max_rate: f64) -> Self {
         Self(or_panic(strict::SincBankF32::for_max_rate(max_rate)))
+    }
+
+    /// With every window by the sum called I0 in a mode, which the original does not have.
+    #[track_caller]
+    pub fn for_max_rate_in(max_rate: f64, mode: Mode) -> Self {
+        Self(or_panic(strict::SincBankF32::for_max_rate_in(max_rate, mode)))
+    }
+
+    pub fn mode(&self) -> Mode {
+        self.0.mode()
     }
 }
 

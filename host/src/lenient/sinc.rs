@@ -1,10 +1,10 @@
-//! The kernels that read a table, as the original has them.
+//! The kernels that read a table, as the original has them, and beside its constructors those that take a mode.
 
 use super::or_panic;
 use crate::{
     boundary::Reader,
     doors::{Door, DoorF32, ReaderF32},
-    strict,
+    strict, Mode,
 };
 
 /// Dense phase-table, Kaiser-windowed sinc interpolator.
@@ -21,6 +21,18 @@ impl WindowedSinc {
         Self(or_panic(strict::WindowedSinc::for_max_rate(taps, phases, max_rate, passband, beta)))
     }
 
+    /// With its window by the sum called I0 in a mode, which the original does not have.
+    #[track_caller]
+    pub fn new_in(taps: usize, phases: usize, cutoff: f64, beta: f64, mode: Mode) -> Self {
+        Self(or_panic(strict::WindowedSinc::new_in(taps, phases, cutoff, beta, mode)))
+    }
+
+    #[rustfmt::skip]
+    #[track_caller]
+    pub fn for_max_rate_in(taps: usize, phases: usize, max_rate: f64, passband: f64, beta: f64, mode: Mode) -> Self {
+        Self(or_panic(strict::WindowedSinc::for_max_rate_in(taps, phases, max_rate, passband, beta, mode)))
+    }
+
     pub fn taps(&self) -> usize {
         self.0.taps()
     }
@@ -29,6 +41,9 @@ impl WindowedSinc {
     }
     pub fn cutoff(&self) -> f64 {
         self.0.cutoff()
+    }
+    pub fn mode(&self) -> Mode {
+        self.0.mode()
     }
 }
 
@@ -60,6 +75,22 @@ impl WindowedSincF32 {
     #[track_caller]
     pub fn for_max_rate(taps: usize, phases: usize, max_rate: f64, passband: f64, beta: f64) -> Self {
         Self(or_panic(strict::WindowedSincF32::for_max_rate(taps, phases, max_rate, passband, beta)))
+    }
+
+    /// With its window by the sum called I0 in a mode, which the original does not have.
+    #[track_caller]
+    pub fn new_in(taps: usize, phases: usize, cutoff: f64, beta: f64, mode: Mode) -> Self {
+        Self(or_panic(strict::WindowedSincF32::new_in(taps, phases, cutoff, beta, mode)))
+    }
+
+    #[rustfmt::skip]
+    #[track_caller]
+    pub fn for_max_rate_in(taps: usize, phases: usize, max_rate: f64, passband: f64, beta: f64, mode: Mode) -> Self {
+        Self(or_panic(strict::WindowedSincF32::for_max_rate_in(taps, phases, max_rate, passband, beta, mode)))
+    }
+
+    pub fn mode(&self) -> Mode {
+        self.0.mode()
     }
 }
 

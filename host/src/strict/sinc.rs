@@ -4,7 +4,7 @@ use super::table::Table;
 use crate::{
     boundary::{Reader, Width},
     doors::{Door, DoorF32, ReaderF32},
-    Refusal,
+    Mode, Refusal,
 };
 
 /// Dense phase-table, Kaiser-windowed sinc interpolator.
@@ -16,12 +16,26 @@ pub struct WindowedSinc {
 impl WindowedSinc {
     /// Taps even, 4 to 128; phases 2 to 4096; cutoff 1/1024 to 1; beta 0 to 20: else refused by 1.
     pub fn new(taps: usize, phases: usize, cutoff: f64, beta: f64) -> Result<Self, Refusal> {
-        Ok(Self { table: Table::new(taps, phases, cutoff, beta)?, cutoff })
+        Self::new_in(taps, phases, cutoff, beta, Mode::Ported)
+    }
+
+    /// The same, its window by the sum called I0 in a mode.
+    pub fn new_in(taps: usize, phases: usize, cutoff: f64, beta: f64, mode: Mode) -> Result<Self, Refusal> {
+        Ok(Self { table: Table::new(taps, phases, cutoff, beta, mode)?, cutoff })
     }
 
     /// Rate 1 to 2, passband above 0 to 1, and their quotient, the cutoff, in its range: else refused by 1.
     pub fn for_max_rate(taps: usize, phases: usize, max_rate: f64, passband: f64, beta: f64) -> Result<Self, Refusal> {
-        Ok(Self { table: Table::for_max_rate(taps, phases, max_rate, passband, beta)?, cutoff: passband / max_rate })
+        Self::for_max_rate_in(taps, phases, max_rate, passband, beta, Mode::Ported)
+    }
+
+    /// The same, its window by the sum called I0 in a mode.
+    #[rustfmt::skip]
+    pub fn for_max_rate_in(
+        taps: usize, phases: usize, max_rate: f64, passband: f64, beta: f64, mode: Mode,
+    ) -> Result<Self, Refusal> {
+        let table = Table::for_max_rate(taps, phases, max_rate, passband, beta, mode)?;
+        Ok(Self { table, cutoff: passband / max_rate })
     }
 
     pub fn taps(&self) -> usize {
@@ -32,6 +46,9 @@ impl WindowedSinc {
     }
     pub fn cutoff(&self) -> f64 {
         self.cutoff
+    }
+    pub fn mode(&self) -> Mode {
+        self.table.mode
     }
 }
 
@@ -44,7 +61,7 @@ impl Door for WindowedSinc {
     }
     #[inline]
     fn process(&self, r: &mut Reader, input: f64, delay: f64, sample: &mut f64) -> u8 {
-        let Table { taps, phases, values } = &self.table;
+        let Table { taps, phases, values, .. } = &self.table;
         f64::sinc_process(
             r.maximum,
             r.margin,
@@ -59,7 +76,7 @@ impl Door for WindowedSinc {
         )
     }
     fn read(&self, source: &[f64], count: u64, position: f64, sample: &mut f64) -> u8 {
-        let Table { taps, phases, values } = &self.table;
+        let Table { taps, phases, values, .. } = &self.table;
         f64::sinc_sample(values, *taps, *phases, source, count, position, sample)
     }
 }
@@ -72,12 +89,29 @@ pub struct WindowedSincF32 {
 impl WindowedSincF32 {
     /// As `WindowedSinc::new`.
     pub fn new(taps: usize, phases: usize, cutoff: f64, beta: f64) -> Result<Self, Refusal> {
-        Ok(Self { table: Table::new(taps, phases, cutoff, beta)? })
+        Self::new_in(taps, phases, cutoff, beta, Mode::Ported)
+    }
+
+    /// As `WindowedSinc::new_in`.
+    pub fn new_in(taps: usize, phases: usize, cutoff: f64, beta: f64, mode: Mode) -> Result<Self, Refusal> {
+        Ok(Self { table: Table::new(taps, phases, cutoff, beta, mode)? })
     }
 
     /// As `WindowedSinc::for_max_rate`.
     pub fn for_max_rate(taps: usize, phases: usize, max_rate: f64, passband: f64, beta: f64) -> Result<Self, Refusal> {
-        Ok(Self { table: Table::for_max_rate(taps, phases, max_rate, passband, beta)? })
+        Self::for_max_rate_in(taps, phases, max_rate, passband, beta, Mode::Ported)
+    }
+
+    /// As `WindowedSinc::for_max_rate_in`.
+    #[rustfmt::skip]
+    pub fn for_max_rate_in(
+        taps: usize, phases: usize, max_rate: f64, passband: f64, beta: f64, mode: Mode,
+    ) -> Result<Self, Refusal> {
+        Ok(Self { table: Table::for_max_rate(taps, phases, max_rate, passband, beta, mode)? })
+    }
+
+    pub fn mode(&self) -> Mode {
+        self.table.mode
     }
 }
 
@@ -87,7 +121,7 @@ impl DoorF32 for WindowedSincF32 {
     }
     #[inline]
     fn process(&self, r: &mut ReaderF32, input: f32, delay: f64, sample: &mut f32) -> u8 {
-        let Table { taps, phases, values } = &self.table;
+        let Table { taps, phases, values, .. } = &self.table;
         f32::sinc_process(
             r.maximum,
             r.margin,
@@ -102,7 +136,7 @@ impl DoorF32 for WindowedSincF32 {
         )
     }
     fn read(&self, source: &[f32], count: u64, position: f64, sample: &mut f32) -> u8 {
-        let Table { taps, phases, values } = &self.table;
+        let Table { taps, phases, values, .. } = &self.table;
         f32::sinc_sample(values, *taps, *phases, source, count, position, sample)
     }
 }

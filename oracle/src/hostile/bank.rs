@@ -5,7 +5,7 @@ use super::{
     pool::{SET, SETS},
     readers::left,
     shapes::Shape,
-    tables::built,
+    tables::{built, mode},
     turn::Turn,
     value::Value,
 };
@@ -18,6 +18,8 @@ pub const EXPORTS: &[Export] = &[
     ("fugnadri_bank_build_set", |t| build(t, 2.0, b::bank_build_set)),
     // up to 1.02 a bank has one set
     ("fugnadri_bank_build", |t| build(t, 1.02, b::bank_build)),
+    ("fugnadri_bank_build_set_in", |t| build_in(t, 2.0, b::bank_build_set_in)),
+    ("fugnadri_bank_build_in", |t| build_in(t, 1.02, b::bank_build_in)),
     ("fugnadri_quality_open", |t| {
         let quality = t.random.count(0, 3) as u8;
         opened(t, |reader| reader.open(quality))
@@ -48,13 +50,23 @@ fn choose(t: &mut Turn) -> u8 {
 }
 
 /// A whole set takes long to build: the first call in 100,000 is lent one.
-fn build(t: &mut Turn, most: f64, call: fn(f64, &mut [f32]) -> u8) -> u8 {
-    let whole = t.index % 100_000 == 0;
-    let length = if whole { SET } else { t.random.pick(&[0, 1, 7, SET / 1000, 100]) };
-    let rate = if whole { 1.0 + t.random.unit() * (most - 1.0) } else { t.random.ranged(1.0, most) };
+fn whole(t: &Turn) -> bool {
+    t.index % 100_000 == 0
+}
+
+fn build(t: &mut Turn, most: f64, call: impl FnOnce(f64, &mut [f32]) -> u8) -> u8 {
+    let length = if whole(t) { SET } else { t.random.pick(&[0, 1, 7, SET / 1000, 100]) };
+    let rate = if whole(t) { 1.0 + t.random.unit() * (most - 1.0) } else { t.random.ranged(1.0, most) };
     let set = t.memory.ring.lend(&mut t.random, t.memory.floats, length);
     let number = call(rate, set.slice());
     built(t, number, &set)
+}
+
+fn build_in(t: &mut Turn, most: f64, call: fn(f64, u8, &mut [f32]) -> u8) -> u8 {
+    let mode = if whole(t) { t.random.one_in(2) as u8 } else { mode(t) };
+    let number = build(t, most, |rate, set| call(rate, mode, set));
+    t.hold(mode <= 1 || number == 1, "a number that names no mode is taken");
+    number
 }
 
 /// A state that is mostly an open reader's, over a ring that is lent.

@@ -15,6 +15,10 @@ pub const EXPORTS: &[Export] = &[
     ("fugnadri_windowed_sinc_for_max_rate", |t| build_for_max_rate(t, t.memory.doubles)),
     ("fugnadri_windowed_sinc_f32_new", |t| build(t, t.memory.floats)),
     ("fugnadri_windowed_sinc_f32_for_max_rate", |t| build_for_max_rate(t, t.memory.floats)),
+    ("fugnadri_windowed_sinc_new_in", |t| build_in(t, t.memory.doubles)),
+    ("fugnadri_windowed_sinc_for_max_rate_in", |t| build_for_max_rate_in(t, t.memory.doubles)),
+    ("fugnadri_windowed_sinc_f32_new_in", |t| build_in(t, t.memory.floats)),
+    ("fugnadri_windowed_sinc_f32_for_max_rate_in", |t| build_for_max_rate_in(t, t.memory.floats)),
     ("fugnadri_windowed_sinc_sample", |t| sample(t, t.memory.doubles, f64::sinc_sample)),
     ("fugnadri_windowed_sinc_sample_bits", |t| sample(t, t.memory.doubles, f64::sinc_sample_bits)),
     ("fugnadri_windowed_sinc_f32_sample", |t| sample(t, t.memory.floats, f32::sinc_sample)),
@@ -76,6 +80,38 @@ fn build_for_max_rate<T: Width + Value>(t: &mut Turn, pool: &'static [T]) -> u8 
     let (rate, passband, beta) = (t.random.ranged(1.0, 2.0), t.random.ranged(0.0, 1.0), t.random.ranged(0.0, 20.0));
     let number = T::build_for_max_rate(taps, phases, rate, passband, beta, table.slice());
     built(t, number, &table)
+}
+
+/// A mode's number: seldom one that names none, for which 1 is due.
+pub fn mode(t: &mut Turn) -> u8 {
+    if t.random.one_in(8) {
+        t.random.word() as u8
+    } else {
+        t.random.one_in(2) as u8
+    }
+}
+
+/// What a build in a mode gives: 1 where the number names none.
+fn built_in<T: Value>(t: &mut Turn, mode: u8, number: u8, table: &Lent<T>) -> u8 {
+    t.hold(mode <= 1 || number == 1, "a number that names no mode is taken");
+    built(t, number, table)
+}
+
+fn build_in<T: Width + Value>(t: &mut Turn, pool: &'static [T]) -> u8 {
+    let Settings { taps, phases, length } = t.random.settings(true);
+    let table = t.memory.table.lend(&mut t.random, pool, length);
+    let (cutoff, beta, mode) = (t.random.ranged(0.0009765625, 1.0), t.random.ranged(0.0, 20.0), mode(t));
+    let number = T::build_in(taps, phases, cutoff, beta, mode, table.slice());
+    built_in(t, mode, number, &table)
+}
+
+fn build_for_max_rate_in<T: Width + Value>(t: &mut Turn, pool: &'static [T]) -> u8 {
+    let Settings { taps, phases, length } = t.random.settings(true);
+    let table = t.memory.table.lend(&mut t.random, pool, length);
+    let (rate, passband, beta) = (t.random.ranged(1.0, 2.0), t.random.ranged(0.0, 1.0), t.random.ranged(0.0, 20.0));
+    let mode = mode(t);
+    let number = T::build_for_max_rate_in(taps, phases, rate, passband, beta, mode, table.slice());
+    built_in(t, mode, number, &table)
 }
 
 type Sample<T, V> = fn(&[T], usize, usize, &[T], u64, f64, &mut V) -> u8;

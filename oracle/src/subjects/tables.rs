@@ -6,15 +6,15 @@ use crate::random::Random;
 use crate::sinc::{Sinc, Way};
 
 #[derive(Clone, Copy, Debug)]
-struct Settings {
-    taps: usize,
-    phases: usize,
-    cutoff: f64,
-    beta: f64,
+pub struct Settings {
+    pub taps: usize,
+    pub phases: usize,
+    pub cutoff: f64,
+    pub beta: f64,
 }
 
 /// Settings in range, their ends among them; mostly of few phases, so that many can be compared.
-fn settings(random: &mut Random, large: bool) -> Settings {
+pub fn settings(random: &mut Random, large: bool) -> Settings {
     let taps = match random.within(0, 9) {
         0 => random.pick(&[4, 6, 126, 128]),
         1 => random.pick(&[32, 80, 96]),
@@ -40,7 +40,7 @@ fn settings(random: &mut Random, large: bool) -> Settings {
     Settings { taps, phases, cutoff, beta }
 }
 
-fn same<T: Sinc>(what: &str, settings: impl std::fmt::Debug, right: &[T], table: &[T]) {
+pub fn same<T: Sinc>(what: &str, settings: impl std::fmt::Debug, right: &[T], table: &[T]) {
     number::<T>(what, (&settings, right.len(), table.len()), 0, (right.len() != table.len()) as u8);
     if let Some(k) = (0..right.len()).find(|&k| right[k].pattern() != table[k].pattern()) {
         println!("DIFFERENCE in the table of {} by {what}, at element {k}: {settings:?}", T::NAME);
@@ -49,7 +49,7 @@ fn same<T: Sinc>(what: &str, settings: impl std::fmt::Debug, right: &[T], table:
     }
 }
 
-fn number<T: Sinc>(what: &str, settings: impl std::fmt::Debug, due: u8, given: u8) {
+pub fn number<T: Sinc>(what: &str, settings: impl std::fmt::Debug, due: u8, given: u8) {
     if due != given {
         println!("DIFFERENCE in {} by {what}: {settings:?}: refusal {due} is due, {given} was given", T::NAME);
         std::process::exit(1)

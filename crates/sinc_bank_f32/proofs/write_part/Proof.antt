@@ -10,7 +10,7 @@ use denote.Ref.{now}
 use Rattle.loops.proofs.Rows.{length-part}
 use Rattle.sinc_settings.specs.Refusals.{forRate, rateVerdict}
 use Rattle.windowed_sinc.specs.Table.{tableAfter}
-use Rattle.windowed_sinc_f32.specs.Table.{tableF32Of}
+use Rattle.windowed_sinc_f32.specs.Table.{tableF32In}
 use Rattle.sinc_bank_f32.specs.Sets.{passband, withPart}
 use Rattle.sinc_bank_f32.proofs.write_part.Statement.{statement}
 use Rattle.sinc_bank_f32.proofs.write_part.Tie as tie
@@ -26,7 +26,7 @@ returns c =
     let lent = take (a .end - a .start) (drop (a .start) xs) in
     let long : length lent ≡ a .end - a .start = length-part xs (a .start) (a .end - a .start) (a .end - a .start) refl (omega (arith, b .pre .0, b .pre .1)) in
     let none : rateVerdict s (a .rate) passband (length lent) ≡ 0 = ap (λ (n : ℕ). rateVerdict s (a .rate) passband n) long ∙ b .pre .2 in
-    ap (λ (ys : List Float). take (a .start) xs ++ (ys ++ drop (a .end - a .start) (drop (a .start) xs))) (w .for-max-rate .ensures .1 ∙ ap (λ (v : ℕ). tableAfter v (tableF32Of s) lent) none)
+    ap (λ (ys : List Float). take (a .start) xs ++ (ys ++ drop (a .end - a .start) (drop (a .start) xs))) (w .for-max-rate-in .ensures .1 ∙ ap (λ (v : ℕ). tableAfter v (tableF32In (a .mode) s) lent) none)
 
 pub write-part-spec : {M : Type 1} → statement M
 write-part-spec = tie.close (tie.spec (λ c. search needs) (λ c. search needs) (λ c. search needs) (λ c. search needs) (λ c κs. search needs) (λ c. search needs) returns)

@@ -9,8 +9,8 @@ use lib.ListN.{length}
 use lib.IntN.{pos}
 use lib.Ieee.{fin, ofBits, le}
 use denote.Ref.{now}
-use Rattle.windowed_sinc_f32.specs.Table.{tableF32Of}
-use Rattle.sinc_bank_f32.specs.Sets.{setLength, normalAt, hqAt, ultraAt, setOf}
+use Rattle.windowed_sinc_f32.specs.Table.{tableF32In}
+use Rattle.sinc_bank_f32.specs.Sets.{setLength, normalAt, hqAt, ultraAt, setIn}
 use Rattle.sinc_bank_f32.proofs.Unrefused.{unrefused}
 use Rattle.sinc_bank_f32.proofs.Sections as sections
 use Rattle.sinc_bank_f32.proofs.Lengths.{normal-long, hq-long, ultra-long}
@@ -29,7 +29,8 @@ unfolding ofBits
 first-long c =
     let b = c .before .before .before in
     let r = b .args .rate in
-    ap length (c .write-part .ensures) ∙ sections.same-length 0 163920 (tableF32Of (normalAt r)) (now (b .args .set)) (omega arith) (omega (arith, b .pre .1)) (normal-long r) ∙ b .pre .1
+    let m = b .args .mode in
+    ap length (c .write-part .ensures) ∙ sections.same-length 0 163920 (tableF32In m (normalAt r)) (now (b .args .set)) (omega arith) (omega (arith, b .pre .1)) (normal-long m r) ∙ b .pre .1
 
 write-part-requires-2 : tie.Need-write-part-requires-2
 unfolding ofBits le
@@ -43,7 +44,8 @@ unfolding ofBits
 second-long c =
     let u = c .before .before .before .before in
     let r = u .before .before .before .args .rate in
-    ap length (c .write-part2 .ensures) ∙ sections.same-length 163920 557232 (tableF32Of (hqAt r)) (u .write-part .last .1 .1 .1 .1 .0) (omega arith) (omega (arith, first-long u)) (hq-long r) ∙ first-long u
+    let m = u .before .before .before .args .mode in
+    ap length (c .write-part2 .ensures) ∙ sections.same-length 163920 557232 (tableF32In m (hqAt r)) (u .write-part .last .1 .1 .1 .1 .0) (omega arith) (omega (arith, first-long u)) (hq-long m r) ∙ first-long u
 
 write-part-requires-3 : tie.Need-write-part-requires-3
 unfolding ofBits le
@@ -53,15 +55,16 @@ write-part-requires-3 c κs =
     (omega arith, omega (arith, second-long v), unrefused 128 4096 (b .args .rate) (fin false 1 (pos 4)) 524416 (b .pre .0) refl refl refl refl)
 
 returns : tie.Need-returns
-unfolding setOf ofBits
+unfolding setIn ofBits
 returns c =
     let w = c .before .before in
     let v = w .before .before .before .before in
     let u = v .before .before .before .before in
     let b = u .before .before .before in
     let r = b .args .rate in
-    sections.three 163920 557232 1081648 (tableF32Of (normalAt r)) (tableF32Of (hqAt r)) (tableF32Of (ultraAt r)) (now (b .args .set)) (u .write-part .last .1 .1 .1 .1 .0) (v .write-part2 .last .1 .1 .1 .1 .0) (w .write-part3 .last .1 .1 .1 .1 .0)
-    (lit≤ tt) (lit≤ tt) (b .pre .1) (normal-long r) (hq-long r) (ultra-long r) (u .write-part .ensures) (v .write-part2 .ensures) (w .write-part3 .ensures)
+    let m = b .args .mode in
+    sections.three 163920 557232 1081648 (tableF32In m (normalAt r)) (tableF32In m (hqAt r)) (tableF32In m (ultraAt r)) (now (b .args .set)) (u .write-part .last .1 .1 .1 .1 .0) (v .write-part2 .last .1 .1 .1 .1 .0) (w .write-part3 .last .1 .1 .1 .1 .0)
+    (lit≤ tt) (lit≤ tt) (b .pre .1) (normal-long m r) (hq-long m r) (ultra-long m r) (u .write-part .ensures) (v .write-part2 .ensures) (w .write-part3 .ensures)
 
 pub write-set-spec : {M : Type 1} → statement M
 write-set-spec = tie.close (tie.spec write-part-requires write-part-requires-2 write-part-requires-3 (λ c. search needs) returns)

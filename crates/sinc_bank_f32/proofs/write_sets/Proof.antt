@@ -11,16 +11,17 @@ use lib.Ieee.{Float}
 use denote.Ref.{now}
 use Rattle.loops.specs.Loops.{rows}
 use Rattle.loops.proofs.Filling.{Filled, unfilled, row-end, length-lent, filled-more, filled}
+use Rattle.bessel.specs.declared.Mode.{Mode}
 use Rattle.bank_choice.specs.Rates.{bankOk, stepsOf, rateOf, setRateOf}
 use Rattle.bank_choice.proofs.Spans.{most}
 use Rattle.bank_choice.proofs.Growing.{set-in-range}
-use Rattle.sinc_bank_f32.specs.Sets.{setOf, bankOf}
+use Rattle.sinc_bank_f32.specs.Sets.{setIn, bankIn}
 use Rattle.sinc_bank_f32.proofs.Lengths.{set-long}
 use Rattle.sinc_bank_f32.proofs.write_sets.Statement.{statement}
 use Rattle.sinc_bank_f32.proofs.write_sets.Tie as tie
 
-abbrev set : Float → ℕ → List Float
-set top i = setOf (rateOf top (stepsOf top) (i + 1))
+abbrev set : Mode → Float → ℕ → List Float
+set mode top i = setIn mode (rateOf top (stepsOf top) (i + 1))
 
 -- a set of the bank has its own rate, which is in range
 own-rate : (top : Float) (n i : ℕ) (r : Float) → bankOk top ≡ true → n ≡ stepsOf top → i < n → r ≡ setRateOf top i → (r ≡ rateOf top (stepsOf top) (i + 1)) × (bankOk r ≡ true)
@@ -29,10 +30,10 @@ own-rate top n i r ok e h q =
     (own, ap bankOk own ∙ set-in-range top ok (i + 1) (omega arith))
 
 abbrev Inv-loop : tie.InvT-loop
-Inv-loop max-rate n width sets₀ i₀ sets i = Filled (set max-rate) width n sets i
+Inv-loop max-rate n width sets₀ mode i₀ sets i = Filled (set mode max-rate) width n sets i
 
 abbrev μ-loop : tie.MeasureT-loop
-μ-loop max-rate n width sets₀ i₀ sets i = n - i
+μ-loop max-rate n width sets₀ mode i₀ sets i = n - i
 
 abbrev begun : tie.In-loop Inv-loop μ-loop → tie.Start Inv-loop μ-loop
 begun c = c .before .before .before
@@ -41,7 +42,7 @@ below : (c : tie.In-loop Inv-loop μ-loop) → c .before .loop .i < begun c .arg
 below c = c .loop-test .taken
 
 inside : (c : tie.In-loop Inv-loop μ-loop) → let a = begun c .args in c .before .loop .i * a .width + a .width ≤ length (now (a .sets))
-inside c = let a = begun c .args in omega (arith, row-end (set (a .max-rate)) (a .width) (a .n) (c .before .loop .i) (below c), begun c .pre .3)
+inside c = let a = begun c .args in omega (arith, row-end (set (a .mode) (a .max-rate)) (a .width) (a .n) (c .before .loop .i) (below c), begun c .pre .3)
 
 -- the rate that the code holds
 rate : (c : tie.After-set-rate Inv-loop μ-loop) → let a = begun (c .before) .args in (c .set-rate .result ≡ rateOf (a .max-rate) (stepsOf (a .max-rate)) (c .before .before .loop .i + 1)) × (bankOk (c .set-rate .result) ≡ true)
@@ -55,7 +56,7 @@ write-set-requires c κs =
     let l = r .before .before in
     let b = begun (r .before) in
     let a = b .args in
-    (rate r .1, length-lent (set (a .max-rate)) (a .width) (a .n) (l .loop .sets) (l .loop .i) (l .loop .inv) (below (r .before)) ∙ b .pre .2)
+    (rate r .1, length-lent (set (a .mode) (a .max-rate)) (a .width) (a .n) (l .loop .sets) (l .loop .i) (l .loop .inv) (below (r .before)) ∙ b .pre .2)
 
 -- from the end of the loop's body back to its test
 abbrev turn : tie.After-slice-known2 Inv-loop μ-loop → tie.In-loop Inv-loop μ-loop
@@ -69,15 +70,15 @@ loop-again c =
     let l = i .before in
     let b = begun i in
     let a = b .args in
-    filled-more (set (a .max-rate)) (a .width) (a .n) (l .loop .sets) (l .loop .i) (l .loop .inv) (below i) (w .write-set .last .1 .0) (w .write-set .ensures ∙ ap setOf (rate r .0)) (set-long _ ∙ sym (b .pre .2))
+    filled-more (set (a .mode) (a .max-rate)) (a .width) (a .n) (l .loop .sets) (l .loop .i) (l .loop .inv) (below i) (w .write-set .last .1 .0) (w .write-set .ensures ∙ ap (setIn (a .mode)) (rate r .0)) (set-long _ _ ∙ sym (b .pre .2))
 
 returns : tie.Need-returns Inv-loop μ-loop
-unfolding bankOf
+unfolding bankIn
 returns c =
     let l = c .before in
     let b = l .before .before in
     let a = b .args in
-    filled (set (a .max-rate)) (a .width) (a .n) (l .loop .sets) (l .loop .i) (l .loop .inv) (omega (arith, c .loop-test .left, l .loop .inv .most)) ∙ ap (rows (set (a .max-rate))) (b .pre .1)
+    filled (set (a .mode) (a .max-rate)) (a .width) (a .n) (l .loop .sets) (l .loop .i) (l .loop .inv) (omega (arith, c .loop-test .left, l .loop .inv .most)) ∙ ap (rows (set (a .mode) (a .max-rate))) (b .pre .1)
 
 pub write-sets-spec : {M : Type 1} → statement M
 write-sets-spec =

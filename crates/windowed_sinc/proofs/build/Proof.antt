@@ -10,7 +10,7 @@ some : (c : tie.Then1) → c .before .before .args .no ≡ 0 → ⊥
 some c zero = omega (arith, c .if1 .taken)
 
 returns : tie.Need-returns
-returns c = (not-built _ (some c) _, not-written _ (some c) _ _)
+returns c = (not-built _ _ (some c) _, not-written _ (some c) _ _)
 
 none : (c : tie.Else1) → c .before .before .args .no ≡ 0
 none c = omega (arith, c .if1 .left)

@@ -1,10 +1,10 @@
--- `windowed_sinc::new` meets its contract, by the refusal that is due. Assumes nothing.
+-- `windowed_sinc::new` meets its contract: it is `new_in` in the ported mode. Assumes nothing.
 use borrow.Author.Needs.{needs}
 use Rattle.windowed_sinc.proofs.new.Statement.{statement}
 use Rattle.windowed_sinc.proofs.new.Tie as tie
 
 returns : tie.Need-returns
-returns c = let b = c .before .before in rw (b .before .before .refusal .ensures) at (b .build .ensures)
+returns c = c .before .before .new-in .ensures
 
 pub new-spec : {M : Type 1} → statement M
-new-spec = tie.close (tie.spec (λ c κs. search needs) (λ c κs. search needs) (λ c. search needs) returns)
+new-spec = tie.close (tie.spec (λ c κs. search needs) (λ c. search needs) returns)

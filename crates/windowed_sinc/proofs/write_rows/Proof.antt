@@ -10,20 +10,19 @@ use denote.Ref.{now}
 use Rattle.loops.proofs.Filling.{Filled, lentRow, unfilled, length-lent, filled-more, filled}
 use Rattle.sinc_settings.specs.declared.Settings.{Settings}
 use Rattle.sinc_settings.proofs.Fitting.{Fitting, fitting}
-use Rattle.sinc_row.specs.Coefficient.{windowOf}
-use Rattle.sinc_row.specs.Row.{rowOf}
+use Rattle.sinc_row.specs.Row.{at, rowOf}
 use Rattle.sinc_row.proofs.Rows.{length-row}
 use Rattle.sinc_row.proofs.Lent.{row-lent}
-use Rattle.windowed_sinc.specs.Table.{tableOf}
+use Rattle.windowed_sinc.specs.Table.{tableUnder}
 use Rattle.windowed_sinc.proofs.Building.{most, row-inside}
 use Rattle.windowed_sinc.proofs.write_rows.Statement.{statement}
 use Rattle.windowed_sinc.proofs.write_rows.Tie as tie
 
-abbrev row : Settings → ℕ → List Float
-row s = rowOf s (windowOf s)
+abbrev row : List Float → Settings → ℕ → List Float
+row window s = rowOf s (at window)
 
 abbrev Inv-loop : tie.InvT-loop
-Inv-loop table₀ settings window taps phases phase₀ table phase = Filled (row settings) taps (phases + 1) table phase
+Inv-loop table₀ settings window taps phases phase₀ table phase = Filled (row window settings) taps (phases + 1) table phase
 
 abbrev μ-loop : tie.MeasureT-loop
 μ-loop table₀ settings window taps phases phase₀ table phase = phases + 1 - phase
@@ -45,14 +44,15 @@ loop-again c =
     let l = i .before in
     let b = begun i in
     let s = b .args .settings in
+    let v = now (b .args .window) in
     let p = l .loop .phase in
-    let w = length-lent (row s) (s .taps) (s .phases + 1) (l .loop .table) p (l .loop .inv) (omega (arith, i .loop-test .taken)) in
-    filled-more (row s) (s .taps) (s .phases + 1) (l .loop .table) p (l .loop .inv) (omega (arith, i .loop-test .taken)) _
-    (c .before .before .write-row .ensures ∙ row-lent s (now (b .args .window)) (lentRow (s .taps) (l .loop .table) p) p (lent b .settings) (b .pre .1) (omega (arith, i .loop-test .taken)) w)
-    (length-row s (windowOf s) p)
+    let w = length-lent (row v s) (s .taps) (s .phases + 1) (l .loop .table) p (l .loop .inv) (omega (arith, i .loop-test .taken)) in
+    filled-more (row v s) (s .taps) (s .phases + 1) (l .loop .table) p (l .loop .inv) (omega (arith, i .loop-test .taken)) _
+    (c .before .before .write-row .ensures ∙ row-lent s v (lentRow (s .taps) (l .loop .table) p) p (lent b .settings) (b .pre .1) (omega (arith, i .loop-test .taken)) w)
+    (length-row s (at v) p)
 
 returns : tie.Need-returns Inv-loop μ-loop
-unfolding tableOf
+unfolding tableUnder
 returns c = let l = c .before in filled _ _ _ (l .loop .table) (l .loop .phase) (l .loop .inv) (omega (arith, c .loop-test .left, l .loop .inv .most))
 
 pub write-rows-spec : {M : Type 1} → statement M

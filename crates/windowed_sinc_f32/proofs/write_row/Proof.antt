@@ -9,8 +9,7 @@ use denote.Ref.{now}
 use Rattle.rounding.specs.Operations.{narrowed}
 use Rattle.loops.proofs.Scratch.{front-fits, front-again}
 use Rattle.sinc_settings.proofs.Accepted.{counts, accepted}
-use Rattle.sinc_row.specs.Coefficient.{windowOf}
-use Rattle.sinc_row.specs.Row.{rowOf}
+use Rattle.sinc_row.specs.Row.{at, rowOf}
 use Rattle.sinc_row.proofs.Rows.{length-row}
 use Rattle.sinc_row.proofs.Lent.{scratch, scratch-long, row-lent}
 use Rattle.windowed_sinc_f32.proofs.write_row.Statement.{statement}
@@ -23,14 +22,14 @@ part-scratch-end c = let b = c .before .before in let s = b .args .settings in o
 abbrev begun : tie.After-write-row → tie.Start
 begun c = c .before .before .before .before
 
-made : (c : tie.After-write-row) → let a = begun c .args in c .write-row .last .0 ≡ rowOf (a .settings) (windowOf (a .settings)) (a .phase)
+made : (c : tie.After-write-row) → let a = begun c .args in c .write-row .last .0 ≡ rowOf (a .settings) (at (now (a .window))) (a .phase)
 made c =
     let b = begun c in
     let s = b .args .settings in
     c .write-row .ensures ∙ row-lent s (now (b .args .window)) (take (s .taps - 0) scratch) (b .args .phase) (b .pre .0) (b .pre .1) (b .pre .2) (scratch-long s (b .pre .0))
 
 long : (c : tie.After-write-row) → length (c .write-row .last .0) ≡ begun c .args .settings .taps
-long c = let a = begun c .args in ap length (made c) ∙ length-row (a .settings) (windowOf (a .settings)) (a .phase)
+long c = let a = begun c .args in ap length (made c) ∙ length-row (a .settings) (at (now (a .window))) (a .phase)
 
 part-narrow-row-end : tie.Need-part-narrow-row-end
 part-narrow-row-end c = let w = c .before .before .before in front-fits (w .write-row .last .0) _ _ (long w)

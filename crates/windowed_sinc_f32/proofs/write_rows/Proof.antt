@@ -12,19 +12,18 @@ use Rattle.loops.proofs.Mapped.{map-rows}
 use Rattle.loops.proofs.Filling.{Filled, unfilled, length-lent, filled-more, filled}
 use Rattle.sinc_settings.specs.declared.Settings.{Settings}
 use Rattle.sinc_settings.proofs.Fitting.{Fitting, fitting}
-use Rattle.sinc_row.specs.Coefficient.{windowOf}
-use Rattle.sinc_row.specs.Row.{rowOf}
+use Rattle.sinc_row.specs.Row.{at, rowOf}
 use Rattle.sinc_row.proofs.Rows.{length-row}
-use Rattle.windowed_sinc.specs.Table.{tableOf}
+use Rattle.windowed_sinc.specs.Table.{tableUnder}
 use Rattle.windowed_sinc.proofs.Building.{most, row-inside}
 use Rattle.windowed_sinc_f32.proofs.write_rows.Statement.{statement}
 use Rattle.windowed_sinc_f32.proofs.write_rows.Tie as tie
 
-abbrev row : Settings → ℕ → List Float
-row s phase = map narrowed (rowOf s (windowOf s) phase)
+abbrev row : List Float → Settings → ℕ → List Float
+row window s phase = map narrowed (rowOf s (at window) phase)
 
 abbrev Inv-loop : tie.InvT-loop
-Inv-loop table₀ settings window taps phases phase₀ table phase = Filled (row settings) taps (phases + 1) table phase
+Inv-loop table₀ settings window taps phases phase₀ table phase = Filled (row window settings) taps (phases + 1) table phase
 
 abbrev μ-loop : tie.MeasureT-loop
 μ-loop table₀ settings window taps phases phase₀ table phase = phases + 1 - phase
@@ -52,14 +51,16 @@ loop-again c =
     let i = c .before .before .before .before in
     let l = i .before .loop in
     let s = begun i .args .settings in
-    filled-more _ _ _ (l .table) (l .phase) (l .inv) (omega (arith, i .loop-test .taken)) _ (c .before .before .write-row .ensures) (length-map (rowOf s (windowOf s) (l .phase)) narrowed ∙ length-row s (windowOf s) (l .phase))
+    let v = now (begun i .args .window) in
+    filled-more _ _ _ (l .table) (l .phase) (l .inv) (omega (arith, i .loop-test .taken)) _ (c .before .before .write-row .ensures) (length-map (rowOf s (at v) (l .phase)) narrowed ∙ length-row s (at v) (l .phase))
 
 returns : tie.Need-returns Inv-loop μ-loop
-unfolding tableOf
+unfolding tableUnder
 returns c =
     let l = c .before in
     let s = l .before .before .before .args .settings in
-    filled _ _ _ (l .loop .table) (l .loop .phase) (l .loop .inv) (omega (arith, c .loop-test .left, l .loop .inv .most)) ∙ sym (map-rows narrowed (rowOf s (windowOf s)) (s .phases + 1))
+    let v = now (l .before .before .before .args .window) in
+    filled _ _ _ (l .loop .table) (l .loop .phase) (l .loop .inv) (omega (arith, c .loop-test .left, l .loop .inv .most)) ∙ sym (map-rows narrowed (rowOf s (at v)) (s .phases + 1))
 
 pub write-rows-spec : {M : Type 1} → statement M
 write-rows-spec =

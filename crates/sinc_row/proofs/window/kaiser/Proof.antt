@@ -4,7 +4,7 @@ use Prim.Native.Nat.{_-_}
 use native.Mathlib.Omega.{arith}
 use lib.Ieee.{ofBits}
 use Rattle.sinc_settings.proofs.Accepted.{Counts, counts, accepted}
-use Rattle.sinc_row.specs.Coefficient.{windowOf}
+use Rattle.sinc_row.specs.Coefficient.{windowIn}
 use Rattle.sinc_row.proofs.Distance.{exact}
 use Rattle.sinc_row.proofs.window.kaiser.Statement.{statement}
 use Rattle.sinc_row.proofs.window.kaiser.Tie as tie
@@ -22,11 +22,11 @@ int-to-float-normalized-2 : tie.Need-int-to-float-normalized-2
 int-to-float-normalized-2 c = let s = c .before .before .before in exact (s .args .settings .taps - 1) (omega (arith, inside s .most-taps))
 
 returns : tie.Need-returns
-unfolding windowOf ofBits
+unfolding windowIn ofBits
 returns c =
     let r = c .before .before in
     let s = r .before .before .before .before .before in
-    rw (c .bessel-i0 .ensures, r .square-root .ensures, r .before .max .ensures, s .pre .2)
+    rw (c .sum .ensures, r .square-root .ensures, r .before .max .ensures, s .pre .2)
 
 pub kaiser-spec : {M : Type 1} → statement M
 kaiser-spec = tie.close (tie.spec int-to-float-normalized sub-normalized int-to-float-normalized-2 (λ c κs. search needs) (λ c κs. search needs) (λ c κs. search needs) returns)

@@ -1,4 +1,4 @@
--- `sinc_row::window::write_window` meets its contract, by its test. Assumes nothing.
+-- `sinc_row::window::write_window_in` meets its contract, by its test. Assumes nothing.
 use borrow.Author.Needs.{needs}
 use borrow.Author.Tests.{not-true, not-false}
 use mathlib.Core.Path.{_≡_, sym, _∙_}
@@ -7,8 +7,8 @@ use lib.ListN.{length}
 use denote.Ref.{now}
 use Rattle.sinc_row.specs.Row.{windowReady}
 use Rattle.sinc_row.proofs.Ready.{window-ready}
-use Rattle.sinc_row.proofs.window.write_window.Statement.{statement}
-use Rattle.sinc_row.proofs.window.write_window.Tie as tie
+use Rattle.sinc_row.proofs.window.write_window_in.Statement.{statement}
+use Rattle.sinc_row.proofs.window.write_window_in.Tie as tie
 
 returns : tie.Need-returns
 returns c = rw (← c .before .window-ready .ensures, not-true (c .before .window-ready .result) (c .if1 .taken))
@@ -26,5 +26,5 @@ fill-window-requires c κs =
 returns-2 : tie.Need-returns-2
 returns-2 c = let f = c .before .before in rw (passed (f .before .before)) (f .fill-window .ensures)
 
-pub write-window-spec : {M : Type 1} → statement M
-write-window-spec = tie.close (tie.spec (λ c κs. search needs) returns fill-window-requires (λ c. search needs) returns-2)
+pub write-window-in-spec : {M : Type 1} → statement M
+write-window-in-spec = tie.close (tie.spec (λ c κs. search needs) returns fill-window-requires (λ c. search needs) returns-2)
