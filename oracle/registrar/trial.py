@@ -1,0 +1,45 @@
+"""Running ./run on files of a folder that is removed afterwards, and comparing what it did with what was reckoned."""
+import os
+import subprocess
+import sys
+
+ROOT = os.path.dirname(os.path.dirname(os.path.dirname(os.path.abspath(__file__))))
+counted = {}
+
+
+def short(thing):
+    words = repr(thing)
+    return words if len(words) < 1000 else f"{words[:500]} ... {words[-500:]} ({len(words)} characters)"
+
+
+def check(what, got, wanted):
+    """Counts a comparison under the first word of `what`; ends the whole run where the two differ."""
+    subject = what.split()[0].rstrip(",:")
+    counted[subject] = counted.get(subject, 0) + 1
+    if got != wanted:
+        sys.exit(f"morning: {what}: got\n{short(got)}\nand not\n{short(wanted)}")
+
+
+def run(*words, data=b"", out=subprocess.PIPE, before=None):
+    """./run with these words: its exit status, standard output and standard error. `before` is called in the child."""
+    done = subprocess.run(
+        [os.path.join(ROOT, "run"), *words], input=data, stdout=out, stderr=subprocess.PIPE, preexec_fn=before
+    )
+    return done.returncode, done.stdout, done.stderr.decode("latin-1")
+
+
+def save(name, content):
+    with open(name, "wb") as file:
+        file.write(content)
+    return name
+
+
+def load(name):
+    with open(name, "rb") as file:
+        return file.read()
+
+
+def held(folder="."):
+    """Every file of a folder with its bytes, and every folder in it."""
+    names = sorted(os.listdir(folder))
+    return {name: load(os.path.join(folder, name)) if os.path.isfile(os.path.join(folder, name)) else None for name in names}
