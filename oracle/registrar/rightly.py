@@ -2,6 +2,7 @@
 import os
 import struct
 
+import pictured
 from reckoned import Side, clock, described, report
 from trial import check, load, run, save
 from wave_files import WIDTH, WORDS, drawn, nearest, single, stored, wav
@@ -72,6 +73,24 @@ def residuals(dice):
             check("residual", run("residual", "first.wav", "second.wav", *words), (0, told, ""))
         for c in range(channels):
             told = report(*sides, channels=[c]).encode()
-            check("residual, one channel", run("residual", "first.wav", "second.wav", f"channel={c + 1}"), (0, told, ""))
+            one = run("residual", "first.wav", "second.wav", f"channel={c + 1}")
+            check("residual, one channel", one, (0, told, ""))
         told = report(sides[0], sides[0]).encode()
         check("residual, no difference", run("residual", "first.wav", "first.wav"), (0, told, ""))
+        pictures(sides)
+
+
+def pictures(sides):
+    """The picture beside the report: of all frames, of fewer than its bars, of none, and of one channel."""
+    for words, given in (
+        ([], {}),
+        (["first-skip=512", "second-skip=3", "frames=4097"], {"skips": (512, 3), "frames": 4097}),
+        (["frames=301"], {"frames": 301}),
+        (["frames=1"], {"frames": 1}),
+        (["first-skip=20000"], {"skips": (20000, 0)}),
+        (["channel=1"], {"channels": [0]}),
+    ):
+        told = run("residual", "first.wav", "second.wav", "picture=picture.svg", *words)
+        check("residual, with a picture", told, (0, report(*sides, **given).encode(), ""))
+        check("picture", pictured.shown(load("picture.svg")), pictured.due(*sides, **given))
+        os.remove("picture.svg")

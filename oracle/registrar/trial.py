@@ -40,6 +40,6 @@ def load(name):
 
 
 def held(folder="."):
-    """Every file of a folder with its bytes, and every folder in it."""
-    names = sorted(os.listdir(folder))
-    return {name: load(os.path.join(folder, name)) if os.path.isfile(os.path.join(folder, name)) else None for name in names}
+    """Every file of a folder with its bytes, and the name of every other thing in it."""
+    paths = {name: os.path.join(folder, name) for name in os.listdir(folder)}
+    return {name: load(path) if os.path.isfile(path) else None for name, path in paths.items()}

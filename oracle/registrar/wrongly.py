@@ -85,6 +85,11 @@ def other_refusals():
     one_line(1, ("residual", "good.wav", "good.wav", "channel=2"), r"good\.wav has one channel only")
     one_line(1, ("residual", "good.wav", "quick.wav"), r"good\.wav has 48000 and quick\.wav has 44100 Hz: .*")
     one_line(1, ("residual", "good.wav", "wide.wav"), r"good\.wav has 1 and wide\.wav has 2 channels: .*")
+    picture = ("residual", "good.wav", "good.wav")
+    one_line(1, (*picture, "picture=taken.wav"), rf"taken\.wav {taken}")
+    one_line(1, (*picture, "picture=good.wav"), rf"good\.wav {taken}")
+    one_line(1, (*picture, "picture=half.wav"), r"half\.wav\.part exists already: .*remove it.*")
+    one_line(1, (*picture, "picture=nowhere/a.svg"), r"nowhere/a\.svg: No such file or directory")
 
 
 def wrong_words():
@@ -99,6 +104,8 @@ def wrong_words():
     one_line(2, ("residual", "good.wav", "good.wav", "seed=7"), r"seed=7 is a setting of another .*")
     one_line(2, ("residual", "good.wav", "good.wav", "channel=0"), r"channel=0 will not do: .* 1, 2 or all")
     one_line(2, ("residual", "good.wav", "good.wav", "frames=-1"), r"frames=-1 will not do: .*")
+    one_line(2, ("residual", "good.wav", "good.wav", "picture="), r"picture= will not do: .*")
+    one_line(2, ("imitate", "good.wav", "out.wav", "picture=a.svg"), r"picture=a\.svg is a setting of another .*")
     for words in (("look",), ("plain",), ("plain", "good.wav"), ("plain", "good.wav", "out.wav", "more.wav")):
         told = run(*words)
         check(f"refused: {words}", (told[0], told[1], told[2][:7]), (2, b"", "usage: "))
@@ -120,6 +127,8 @@ def full_disks():
     for command in ("plain", "imitate"):
         told = run(command, "long.wav", "out.wav", before=small_disk)
         check(f"refused: {command} onto a full disk", told, (1, b"", f"{command}: out.wav: File too large\n"))
+    got, _, said = run("residual", "long.wav", "long.wav", "picture=a.svg", before=small_disk)
+    check("refused: a picture onto a full disk", (got, said), (1, "residual: a.svg: File too large\n"))
     with open("/dev/full", "wb") as full:
         each = ("look good.wav", "plain good.wav -", "imitate good.wav -", "residual good.wav good.wav")
         for words in map(str.split, each):
