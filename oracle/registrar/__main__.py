@@ -17,6 +17,7 @@ def main():
     with tempfile.TemporaryDirectory() as folder:
         os.chdir(folder)
         rightly.looks(dice)
+        rightly.others(dice)
         rightly.imitations(dice)
         rightly.residuals(dice)
         wrongly.refusals(dice, rightly.rendered)

@@ -1,4 +1,4 @@
-"""The pages show what examples/morning does: its words, its pictures, and the figures worked out again in Python."""
+"""The pages show what examples/morning does: its words, its pictures, and the figures worked out again."""
 import contextlib
 import io
 import os
@@ -8,16 +8,31 @@ import tempfile
 from trial import ROOT, check, load
 
 
-def blocks(page):
+def page(name):
+    return load(os.path.join(ROOT, name)).decode()
+
+
+def blocks(name):
     """The indented blocks of a page, without their four blanks."""
     found, lines = [], []
-    for line in load(os.path.join(ROOT, page)).decode().splitlines() + ["end"]:
-        if line.startswith("    ") or (line == "" and lines):
-            lines.append(line[4:])
+    for line in page(name).splitlines() + ["end"]:
+        if line.startswith("    "):
+            lines.append(line[4:] + "\n")
         elif lines:
-            found.append("\n".join(lines).rstrip("\n") + "\n")
+            found.append("".join(lines))
             lines = []
     return found
+
+
+def said_by(command, folder):
+    done = subprocess.run(command, shell=True, cwd=folder, stdout=subprocess.PIPE, check=True)
+    return done.stdout.decode()
+
+
+def again(block, folder):
+    """A block of commands, each behind a dollar, and what they write now."""
+    commands = [line for line in block.splitlines(True) if line.startswith("$ ")]
+    return "".join(command + said_by(command[2:], folder) for command in commands)
 
 
 def printed(program):
@@ -32,25 +47,30 @@ def figures(lines):
     """Number, largest, place, sum and level of a report's first channel."""
     line = next(line for line in lines.splitlines() if line.startswith("channel 1: "))
     parts = dict(part.split(" ", 1) for part in line.split(": ", 1)[1].split(", "))
-    return f"{parts['number']} {parts['largest']} {parts['place']} {parts['sum']} {parts['level']}\n"
+    return [parts[name] for name in ("number", "largest", "place", "sum", "level")]
 
 
-def morning(folder):
-    done = subprocess.run([os.path.join(ROOT, "examples", "morning"), folder], stdout=subprocess.PIPE, check=True)
-    return done.stdout.decode()
+def shown(folder):
+    said = said_by(f"'{ROOT}/examples/morning' .", folder)
+    first, second = said.split("end\n")[:2]
+    check("pages: README.md has what examples/morning says", first + "end\n" in blocks("README.md"), True)
+    report = first[first.index("first: ") :] + "end\n"
+    listed = blocks("docs/RESIDUAL.md")
+    check("pages: docs/RESIDUAL.md has the report of B", report in listed, True)
+    for name in ("README.md", "docs/RESIDUAL.md"):
+        for level in (figures(first)[-1], figures(second)[-1]):
+            check(f"pages: {name} has {level}", level in page(name), True)
+    for name in ("B", "C"):
+        check(f"pages: docs/residual-{name}.svg", page(f"docs/residual-{name}.svg"), load(f"{name}.svg").decode())
+    for block in listed:
+        if block.startswith("$ od"):
+            check("pages: bytes looked up by hand", again(block, folder), block)
+        if block.startswith("import wave"):
+            check("pages: figures worked out again", printed(block), " ".join(figures(report)) + "\n")
 
 
 def pages():
     with tempfile.TemporaryDirectory() as folder:
-        said = morning(folder)
-        check("pages: README.md has what examples/morning says", said in blocks("README.md"), True)
-        for name in ("B", "C"):
-            picture = load(os.path.join(ROOT, "docs", f"residual-{name}.svg"))
-            check(f"pages: docs/residual-{name}.svg", load(os.path.join(folder, f"{name}.svg")), picture)
-        report = said[said.index("first: ") : said.index("end\n") + 4]
-        shown = blocks("docs/RESIDUAL.md")
-        check("pages: docs/RESIDUAL.md has the report of B", report in shown, True)
         os.chdir(folder)
-        program = next(block for block in shown if block.startswith("import wave"))
-        check("pages: the figures worked out again", printed(program), figures(report))
+        shown(folder)
         os.chdir(ROOT)

@@ -3,9 +3,9 @@ import os
 import struct
 
 import pictured
-from reckoned import Side, clock, described, report
+from reckoned import Side, clock, described, report, unwrapped
 from trial import check, load, run, save
-from wave_files import WIDTH, WORDS, drawn, nearest, single, stored, wav
+from wave_files import FFMPEG, SOX, WIDTH, WORDS, drawn, nearest, single, stored, wav
 
 
 def looks(dice):
@@ -21,9 +21,28 @@ def looks(dice):
                 name = save("look.wav", wav(kind, channels, rate, body, wrapped, junk))
                 told = f"look.wav: {described(kind, channels, rate, frames)}, {clock(frames, rate)}"
                 check("look", run("look", name), (0, (told + ", wrapped" * wrapped + "\n").encode(), ""))
-                check("plain", run("plain", name, "plain.wav"), (0, b"", ""))
+                said = unwrapped("plain", name, kind) if wrapped else ""
+                check("plain", run("plain", name, "plain.wav"), (0, b"", said))
                 check("plain's file", load("plain.wav"), wav(kind, channels, rate, body))
                 os.remove("plain.wav")
+
+
+def others(dice):
+    """Files of 24 bits as sox and ffmpeg write them: each command reads what stands inside."""
+    samples, numbers = drawn(dice.randint, "pcm24", 44)
+    body = stored("pcm24", samples)
+    for head in (SOX, FFMPEG):
+        name = save("other.wav", head + body)
+        told = f"other.wav: {described('pcm24', 1, 44100, 44)}, {clock(44, 44100)}, wrapped\n".encode()
+        check("look at another program's file", run("look", name), (0, told, ""))
+        check("plain", run("plain", name, "plain.wav"), (0, b"", unwrapped("plain", name, "pcm24")))
+        check("plain's file", load("plain.wav"), wav("pcm24", 1, 44100, body))
+        check("imitate", run("imitate", name, "like.wav"), (0, b"", unwrapped("imitate", name, "pcm24")))
+        sides = Side(name, "pcm24", 1, 44100, numbers), Side("plain.wav", "pcm24", 1, 44100, numbers)
+        said = unwrapped("residual", name, "pcm24")
+        check("residual", run("residual", name, "plain.wav"), (0, report(*sides).encode(), said))
+        os.remove("plain.wav")
+        os.remove("like.wav")
 
 
 def rendered(samples):

@@ -7,6 +7,17 @@ WIDTH = {"pcm16": 2, "pcm24": 3, "float32": 4}
 # What stands behind the tag in the name of a kind inside WAVE_FORMAT_EXTENSIBLE.
 TAIL = bytes.fromhex("000000001000800000aa00389b71")
 
+# The first bytes of a file of 44 frames, PCM of 24 bits, one channel, 44100 Hz, as sox 14.4.2 and as ffmpeg 5.1 write it.
+SOX = bytes.fromhex(
+    "52494646cc00000057415645666d742028000000feff010044ac0000cc04020003001800160018000400000001000000000010008000"
+    "00aa00389b7166616374040000002c0000006461746184000000"
+)
+FFMPEG = bytes.fromhex(
+    "52494646e200000057415645666d742028000000feff010044ac0000cc04020003001800160018000400000001000000000010008000"
+    "00aa00389b714c4953541a000000494e464f495346540e0000004c61766635392e32372e31303000646174618400"
+    "0000"
+)
+
 
 def chunk(name, body):
     return name + struct.pack("<I", len(body)) + body + b"\0" * (len(body) % 2)
