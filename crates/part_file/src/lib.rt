@@ -73,12 +73,17 @@ pub fn write(command: &[u8], name: &[u8], fd: i32, bytes: &[u8]) -> bool {
     if io::write_all(fd, bytes) {
         return true;
     }
+    say_unwritten(command, name, fd);
+    false
+}
+
+// That a block was not written, right after the call that failed.
+pub fn say_unwritten(command: &[u8], name: &[u8], fd: i32) {
     if fd == STDOUT_FILENO {
         say_failed(command, b"standard output");
-        return false;
+        return;
     }
     say_failed(command, name);
-    false
 }
 
 // Ends a file: where all went well it gets its name, else it is removed. Whether it stands there whole.

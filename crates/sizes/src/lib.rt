@@ -53,3 +53,22 @@ pub fn begun(bytes: &[u8], n: usize) -> &[u8]
     }
     bytes
 }
+
+// The same of samples, and of whole numbers.
+pub fn begun_f32(samples: &[f32], n: usize) -> &[f32]
+    ensures { λ r. ⌜ now r ≡ take n (now (samples .entry)) ⌝ }
+{
+    if n < samples.len() {
+        return &samples[..n];
+    }
+    samples
+}
+
+pub fn begun_i32(numbers: &[i32], n: usize) -> &[i32]
+    ensures { λ r. ⌜ now r ≡ take n (now (numbers .entry)) ⌝ }
+{
+    if n < numbers.len() {
+        return &numbers[..n];
+    }
+    numbers
+}
