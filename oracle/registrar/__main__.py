@@ -10,12 +10,21 @@ import pages
 import rightly
 import trial
 import wrongly
+from wave_files import wav
+
+
+def build_all():
+    trial.save("any.wav", wav("pcm24", 1, 48000, b"\0" * 30))
+    each = ("look any.wav", "plain any.wav -", "imitate any.wav -", "residual any.wav any.wav", "trace", "render")
+    for command in each:
+        trial.build(*command.split())
 
 
 def main():
     dice = random.Random(2)
     with tempfile.TemporaryDirectory() as folder:
         os.chdir(folder)
+        build_all()
         rightly.looks(dice)
         rightly.others(dice)
         rightly.imitations(dice)

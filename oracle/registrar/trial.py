@@ -28,6 +28,13 @@ def run(*words, data=b"", out=subprocess.PIPE, before=None):
     return done.returncode, done.stdout, done.stderr.decode("latin-1")
 
 
+def build(*words):
+    """./run once with these words, so that a program that is not built yet is proved, which is said as it comes."""
+    done = subprocess.run([os.path.join(ROOT, "run"), *words], stdin=subprocess.DEVNULL, stdout=subprocess.DEVNULL)
+    if done.returncode != 0:
+        sys.exit(f"morning: ./run {' '.join(words)} failed")
+
+
 def save(name, content):
     with open(name, "wb") as file:
         file.write(content)
