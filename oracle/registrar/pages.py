@@ -5,6 +5,7 @@ import os
 import subprocess
 import tempfile
 
+import pictured
 from trial import ROOT, check, load
 
 
@@ -35,12 +36,12 @@ def again(block, folder):
     return "".join(command + said_by(command[2:], folder) for command in commands)
 
 
-def printed(program):
-    """What a few lines of Python print."""
+def printed(program, names):
+    """What a few lines of Python print, behind others that left these names."""
     said = io.StringIO()
     with contextlib.redirect_stdout(said):
-        exec(compile(program, "docs/RESIDUAL.md", "exec"), {})
-    return said.getvalue()
+        exec(compile(program, "docs/RESIDUAL.md", "exec"), names)
+    return said.getvalue().rstrip("\n")
 
 
 def figures(lines):
@@ -61,12 +62,18 @@ def shown(folder):
         for level in (figures(first)[-1], figures(second)[-1]):
             check(f"pages: {name} has {level}", level in page(name), True)
     for name in ("B", "C"):
+        # the two in docs/ are copies of what examples/morning leaves in target/morning
         check(f"pages: docs/residual-{name}.svg", page(f"docs/residual-{name}.svg"), load(f"{name}.svg").decode())
+    names = {}
     for block in listed:
         if block.startswith("$ od"):
             check("pages: bytes looked up by hand", again(block, folder), block)
         if block.startswith("import wave"):
-            check("pages: figures worked out again", printed(block), " ".join(figures(report)) + "\n")
+            check("pages: figures worked out again", printed(block, names), " ".join(figures(report)))
+        if block.startswith("k, m = 628,"):
+            light, dark = pictured.shown(load("B.svg"))[1][0][2][2 * 628 : 2 * 628 + 2]
+            check("pages: bars worked out again", printed(block, names), f"{light[2]:.0f} {dark[2]:.0f}")
+            check("pages: bars told", f"`{light[2]:.0f} {dark[2]:.0f}`" in page("docs/RESIDUAL.md"), True)
 
 
 def pages():
