@@ -23,7 +23,7 @@ def looks(dice):
                 check("look", run("look", name), (0, (told + ", wrapped" * wrapped + "\n").encode(), ""))
                 said = unwrapped("plain", name, kind) if wrapped else ""
                 check("plain", run("plain", name, "plain.wav"), (0, b"", said))
-                check("plain's file", load("plain.wav"), wav(kind, channels, rate, body))
+                check("plain, its file", load("plain.wav"), wav(kind, channels, rate, body))
                 os.remove("plain.wav")
 
 
@@ -36,7 +36,7 @@ def others(dice):
         told = f"other.wav: {described('pcm24', 1, 44100, 44)}, {clock(44, 44100)}, wrapped\n".encode()
         check("look at another program's file", run("look", name), (0, told, ""))
         check("plain", run("plain", name, "plain.wav"), (0, b"", unwrapped("plain", name, "pcm24")))
-        check("plain's file", load("plain.wav"), wav("pcm24", 1, 44100, body))
+        check("plain, its file", load("plain.wav"), wav("pcm24", 1, 44100, body))
         check("imitate", run("imitate", name, "like.wav"), (0, b"", unwrapped("imitate", name, "pcm24")))
         sides = Side(name, "pcm24", 1, 44100, numbers), Side("plain.wav", "pcm24", 1, 44100, numbers)
         said = unwrapped("residual", name, "pcm24")
@@ -48,7 +48,7 @@ def others(dice):
 def rendered(samples):
     """What ./run render makes of 32-bit float samples: oracle/render holds it beside the original."""
     status, out, said = run("render", data=struct.pack(f"<{len(samples)}f", *samples))
-    check("render's status", (status, said), (0, ""))
+    check("render", (status, said), (0, ""))
     return list(struct.unpack(f"<{len(samples)}f", out))
 
 
