@@ -35,17 +35,46 @@ pub(crate) fn compare_channels(
     let second = job.second;
     let one = begun(left, times(n, first.frame));
     let two = begun(right, times(n, second.frame));
+    compare_parts(job, reports, peaks, k, done, n, one, two)
+}
+
+fn compare_parts(
+    job: Job,
+    reports: Reports,
+    peaks: &mut [u32],
+    k: usize,
+    done: usize,
+    n: usize,
+    one: &[u8],
+    two: &[u8],
+) -> Reports {
     let half = compare_first(job, reports, peaks, k, done, n, one, two);
+    compare_rest(job, half, peaks, plus(k, 2000), done, n, one, two)
+}
+
+// The second channel, where there is one, it is asked for and the first one ended well.
+fn compare_rest(
+    job: Job,
+    half: Reports,
+    peaks: &mut [u32],
+    k: usize,
+    done: usize,
+    n: usize,
+    one: &[u8],
+    two: &[u8],
+) -> Reports {
     let outcome = half.outcome;
+    let first = job.first;
     if !is_well(outcome) {
         return half;
     }
-    if first.channels == 2 {
-        if job.channel != 1 {
-            return compare_second(job, half, peaks, plus(k, 2000), done, n, one, two);
-        }
+    if first.channels != 2 {
+        return half;
     }
-    half
+    if job.channel == 1 {
+        return half;
+    }
+    compare_second(job, half, peaks, k, done, n, one, two)
 }
 
 fn compare_first(
@@ -144,13 +173,13 @@ fn carry(
     let a = begun_i32(one, n);
     let b = begun_i32(two, n);
     if drawn {
-        note(peaks, k, a, b);
+        return note(report, peaks, k, a, b);
     }
     let compared = residual::compare(report, a, b);
-    carried(report, compared)
+    told(report, compared)
 }
 
-fn carried(before: Report, compared: Compared) -> Carried {
+fn told(before: Report, compared: Compared) -> Carried {
     match compared {
         Compared::Carried(report) => {
             let outcome = well();
@@ -171,11 +200,13 @@ fn carried(before: Report, compared: Compared) -> Carried {
     }
 }
 
-// The largest sample, which is the largest difference from silence, and the largest difference.
-fn note(peaks: &mut [u32], k: usize, a: &[i32], b: &[i32]) {
+// The same, and the largest sample, which is the largest difference from silence, and the largest difference.
+fn note(report: Report, peaks: &mut [u32], k: usize, a: &[i32], b: &[i32]) -> Carried {
     let silence = [0i32; 4096];
     let none = begun_i32(&silence, a.len());
     raise(peaks, k, largest(a, none));
     raise(peaks, k, largest(b, none));
     raise(peaks, plus(k, 1000), largest(a, b));
+    let compared = residual::compare(report, a, b);
+    told(report, compared)
 }

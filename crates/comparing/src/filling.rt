@@ -8,13 +8,7 @@ use wav_samples::filling::fill_whole;
 use wave_file::WaveFile;
 
 // Fills the first n numbers; gives the place of the first sample that does not fit (15), or n.
-pub(crate) fn fill(
-    file: WaveFile,
-    channel: u8,
-    part: &[u8],
-    out: &mut [i32],
-    n: usize,
-) -> usize {
+pub(crate) fn fill(file: WaveFile, channel: u8, part: &[u8], out: &mut [i32], n: usize) -> usize {
     let kind = file.kind;
     if n <= out.len() {
         return fill_all(kind, file.channels, channel, part, &mut out[..n]);
@@ -46,7 +40,13 @@ fn fill_floats(channels: u8, channel: u8, part: &[u8], out: &mut [i32]) -> usize
 
 fn fill_begun(channels: u8, channel: u8, part: &[u8], floats: &mut [f32], n: usize) {
     if n <= floats.len() {
-        fill_f32(SampleKind::Float32, channels, channel, part, &mut floats[..n]);
+        fill_f32(
+            SampleKind::Float32,
+            channels,
+            channel,
+            part,
+            &mut floats[..n],
+        );
     }
 }
 

@@ -14,7 +14,11 @@ pub fn say_unopened(command: &[u8], name: &[u8], opened: Opened) {
     match opened {
         Opened::File(_) => {}
         Opened::Unread => say_failed(command, name),
-        Opened::Empty => say_of(command, name, b" is empty: copy it again from where it came\n"),
+        Opened::Empty => say_of(
+            command,
+            name,
+            b" is empty: copy it again from where it came\n",
+        ),
         Opened::Shorter => say_unread(command, name, 2),
         Opened::Refused(refused) => say_refused(command, name, refused),
     }
@@ -100,7 +104,11 @@ pub fn say_wrapped(command: &[u8], name: &[u8], file: WaveFile) {
     if file.wrapped {
         let mut line = [0u8; 128];
         let kind = file.kind;
-        let at = put(&mut line, 0, b" is wrapped (WAVE_FORMAT_EXTENSIBLE) and read as ");
+        let at = put(
+            &mut line,
+            0,
+            b" is wrapped (WAVE_FORMAT_EXTENSIBLE) and read as ",
+        );
         let at = put_kind(&mut line, at, kind);
         let at = put(&mut line, at, b"\n");
         say_of(command, name, begun(&line, at));

@@ -1,5 +1,5 @@
 // The program `imitate FROM TO [NAME=VALUE …]`: FROM read back at a wandering delay.
-mod words; // what is said of settings and samples
+mod sayings; // what is said of settings and samples
 
 use arguments::Kind;
 use asked::Imitation;
@@ -11,14 +11,14 @@ use imitating::Job;
 use outcomes::is_well;
 use part_file::Made;
 use sample_kind::SampleKind;
+use sayings::say_outcome;
+use sayings::suits;
 use sizes::times;
 use wave_file::Opened;
 use wave_file::WaveFile;
 use wave_output::can_be_written;
 use wave_output::write_header;
 use wave_output::write_pad;
-use words::say_outcome;
-use words::suits;
 
 fn main() {
     let asked = words_asked::to_imitate();
@@ -92,13 +92,26 @@ fn kind_of(asked: Kind, same: SampleKind) -> SampleKind {
 fn write_all(from: &[u8], to: &[u8], job: Job, count: usize) -> bool {
     let file = job.file;
     let kind = job.kind;
-    if !write_header(b"imitate", to, job.fd, kind, file.channels, file.rate, count) {
+    if !write_header(
+        b"imitate",
+        to,
+        job.fd,
+        kind,
+        file.channels,
+        file.rate,
+        count,
+    ) {
         return false;
     }
     let outcome = imitating::imitate(job);
     if is_well(outcome) {
         progress::clear();
-        return write_pad(b"imitate", to, job.fd, times(count, sample_kind::width(kind)));
+        return write_pad(
+            b"imitate",
+            to,
+            job.fd,
+            times(count, sample_kind::width(kind)),
+        );
     }
     say_outcome(from, to, job.fd, outcome);
     false

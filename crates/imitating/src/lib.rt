@@ -187,7 +187,18 @@ fn read_block<'a>(
             outcome: broken(io),
         };
     }
-    let heard = hear(file, sides, ring, second, table, &bytes, n, left, right, &mut both);
+    let heard = hear(
+        file,
+        sides,
+        ring,
+        second,
+        table,
+        &bytes,
+        n,
+        left,
+        right,
+        &mut both,
+    );
     let after = heard.sides;
     if heard.number != 0 {
         return Turn {

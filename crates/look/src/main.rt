@@ -40,7 +40,11 @@ fn look_at(i: usize) -> bool {
     let mut name = io::buffer();
     let n = os::arg(i, &mut name);
     if os::errno() != 0 {
-        say_of(b"look", b"", b"an argument is longer than any file's name can be\n");
+        say_of(
+            b"look",
+            b"",
+            b"an argument is longer than any file's name can be\n",
+        );
         return false;
     }
     look_into(&name[..n])

@@ -1,4 +1,7 @@
 // How a run over a file's frames ended.
+ghost use mathlib.Core.Path.{_≡_};
+ghost use Rattle.outcomes.specs.Outcomes.{outcomeOf, isWell};
+use refusal_order::both;
 
 // `io` is 0, or 1 where the file could not be read, as errno tells, 2 where it became shorter, 3 where nothing more
 // could be written, as errno tells. `number` is 0, or the refusal of a sample: its frame, counted from 0, and its
@@ -10,11 +13,15 @@ pub struct Outcome {
     pub channel: u8,
 }
 
-pub fn well() -> Outcome {
+pub fn well() -> Outcome
+    ensures { λ r. ⌜ r ≡ outcomeOf 0 0 0 0 ⌝ }
+{
     broken(0)
 }
 
-pub fn broken(io: u8) -> Outcome {
+pub fn broken(io: u8) -> Outcome
+    ensures { λ r. ⌜ r ≡ outcomeOf io 0 0 0 ⌝ }
+{
     Outcome {
         io: io,
         number: 0,
@@ -23,7 +30,9 @@ pub fn broken(io: u8) -> Outcome {
     }
 }
 
-pub fn refused_at(number: u8, frame: usize, channel: u8) -> Outcome {
+pub fn refused_at(number: u8, frame: usize, channel: u8) -> Outcome
+    ensures { λ r. ⌜ r ≡ outcomeOf 0 number frame channel ⌝ }
+{
     Outcome {
         io: 0,
         number: number,
@@ -32,9 +41,8 @@ pub fn refused_at(number: u8, frame: usize, channel: u8) -> Outcome {
     }
 }
 
-pub fn is_well(outcome: Outcome) -> bool {
-    if outcome.io == 0 {
-        return outcome.number == 0;
-    }
-    false
+pub fn is_well(outcome: Outcome) -> bool
+    ensures { λ r. ⌜ r ≡ isWell outcome ⌝ }
+{
+    both(outcome.io == 0, outcome.number == 0)
 }

@@ -1,13 +1,13 @@
 // The program `residual FIRST SECOND [NAME=VALUE …]`: what is left when one file is taken from the other, as a report
 // and, where it is asked for, a picture.
 mod reporting; // the report's lines
-mod words; // what is said of files that cannot be compared
+mod sayings; // what is said of files that cannot be compared
 
 use arguments::Channel;
 use asked::Comparison;
+use compared_frames::span;
 use comparing::Job;
 use comparing::Reports;
-use compared_frames::span;
 use error_lines::misused;
 use error_lines::say_of;
 use error_lines::succeed;
@@ -16,11 +16,11 @@ use file_words::say_wrapped;
 use outcomes::is_well;
 use part_file::Made;
 use residual_picture::Drawing;
+use sayings::comparable;
+use sayings::say_outcome;
 use sizes::fewer;
 use wave_file::Opened;
 use wave_file::WaveFile;
-use words::comparable;
-use words::say_outcome;
 
 fn main() {
     let asked = words_asked::to_compare();
@@ -47,7 +47,11 @@ fn run(settings: Comparison, argument: &[u8], first: &[u8], second: &[u8]) {
 
 fn run_named(settings: Comparison, picture: &[u8], first: &[u8], second: &[u8]) {
     if spelling::same(picture, b"-") {
-        say_of(b"residual", b"picture=-", b" will not do: a picture is a file's name\n");
+        say_of(
+            b"residual",
+            b"picture=-",
+            b" will not do: a picture is a file's name\n",
+        );
         misused();
         return;
     }
