@@ -10,6 +10,9 @@
 //! error what is among them. They come in stretches: noise as a recording has it, quiet noise,
 //! silence, one value held, values whose sums pass the largest one, any pattern; and about one in 100 is a
 //! NaN, an infinity, a zero of either sign or a subnormal number.
+//!
+//! `render finite SEED SAMPLES` writes samples of at most half of full scale, and no trailing
+//! part. `render wav` reads samples and writes them as a WAV file of one channel at 48000 Hz.
 // The emulator that runs this on Arm cannot open what Rust's own `main` opens.
 #![no_main]
 
@@ -80,17 +83,36 @@ fn noise(seed: u64, samples: u64) -> Vec<u8> {
     out
 }
 
+fn finite(seed: u64, samples: u64) -> Vec<u8> {
+    let mut random = Random::new(seed);
+    (0..samples).flat_map(|_| (fine(&mut random) / 2.0).to_le_bytes()).collect()
+}
+
+/// The published layout of float samples: a `fmt ` of 18 bytes, a `fact` that counts the frames, and `data`.
+fn wav(samples: &[u8]) -> Vec<u8> {
+    let size = samples.len() as u32;
+    let long = |n: u32| n.to_le_bytes();
+    let (riff, count, rate, second) = (long(50 + size), long(size / 4), long(48_000), long(192_000));
+    let fmt = [&b"fmt "[..], &long(18), &[3, 0, 1, 0], &rate, &second, &[4, 0, 32, 0, 0, 0]].concat();
+    let fact = [&b"fact"[..], &long(4), &count].concat();
+    [&b"RIFF"[..], &riff, b"WAVE", &fmt, &fact, b"data", &long(size), samples].concat()
+}
+
+fn input() -> Vec<u8> {
+    let mut bytes = Vec::new();
+    std::io::stdin().read_to_end(&mut bytes).expect("standard input");
+    bytes
+}
+
 #[no_mangle]
 pub extern "C" fn main(_: i32, _: *const *const u8) -> i32 {
     let words: Vec<String> = std::env::args().skip(1).collect();
     let number = |n: usize| -> u64 { words[n].parse().expect("a number") };
     let out = match words[0].as_str() {
         "noise" => noise(number(1), number(2)),
-        _ => {
-            let mut bytes = Vec::new();
-            std::io::stdin().read_to_end(&mut bytes).expect("standard input");
-            play(&bytes)
-        }
+        "finite" => finite(number(1), number(2)),
+        "wav" => wav(&input()),
+        _ => play(&input()),
     };
     // no Rust `main`, so nothing flushes what is left
     let mut to = std::io::stdout().lock();

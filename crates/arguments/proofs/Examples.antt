@@ -91,11 +91,11 @@ so-many : meaningOf (ascii "frames=48000") ≡ Frames (Number 48000)
 unfolding ascii indexOf sameBytes allInName allDigits digitsAfter round ofBits
 so-many = refl
 
-channel : meaningOf (ascii "channel=1") ≡ Channel (Only 1)
+channel : meaningOf (ascii "channel=2") ≡ Channel (Only 2)
 unfolding ascii indexOf sameBytes allInName allDigits digitsAfter round ofBits
 channel = refl
 
-no-channel : meaningOf (ascii "channel=2") ≡ Bad name.Channel
+no-channel : meaningOf (ascii "channel=0") ≡ Bad name.Channel
 unfolding ascii indexOf sameBytes allInName allDigits digitsAfter round ofBits
 no-channel = refl
 

@@ -64,10 +64,11 @@ asKind word =
     (either word "pcm24" (Kind (As Pcm24))
     (either word "float32" (Kind (As Float32)) (Bad name.Kind))))
 
+-- Channels count from 1.
 abbrev pub asChannel : List ℕ → Argument
 asChannel word =
-    either word "0" (Channel (Only 0))
-    (either word "1" (Channel (Only 1))
+    either word "1" (Channel (Only 1))
+    (either word "2" (Channel (Only 2))
     (either word "all" (Channel All·channels) (Bad name.Channel)))
 
 -- A file's name has a byte at least.

@@ -96,6 +96,7 @@ pub(crate) fn as_kind(word: &[u8]) -> Argument
     pick(word, b"same", Argument::Kind(Kind::Same), k)
 }
 
+// Channels count from 1 wherever a person reads or writes them.
 pub(crate) fn as_channel(word: &[u8]) -> Argument
     ensures { λ r. ⌜ r ≡ asChannel (now (word .entry)) ⌝ }
 {
@@ -105,8 +106,8 @@ pub(crate) fn as_channel(word: &[u8]) -> Argument
         Argument::Channel(Channel::All),
         Argument::Bad(Name::Channel),
     );
-    let c = pick(word, b"1", Argument::Channel(Channel::Only(1)), c);
-    pick(word, b"0", Argument::Channel(Channel::Only(0)), c)
+    let c = pick(word, b"2", Argument::Channel(Channel::Only(2)), c);
+    pick(word, b"1", Argument::Channel(Channel::Only(1)), c)
 }
 
 // A file's name is not empty.

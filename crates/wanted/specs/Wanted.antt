@@ -14,6 +14,6 @@ wantedOf (Setting s) = ascii "a setting is a number, as 12 or -0.5, of at most 1
 wantedOf FirstSkip = ascii "first-skip is a whole number of frames"
 wantedOf SecondSkip = ascii "second-skip is a whole number of frames"
 wantedOf Frames = ascii "frames is a whole number, or all"
-wantedOf Channel = ascii "a channel is 0, 1 or all"
+wantedOf Channel = ascii "a channel is 1, 2 or all"
 wantedOf Picture = ascii "a picture is a file's name"
 wantedOf Unknown = ascii "there is no such setting"

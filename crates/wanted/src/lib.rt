@@ -31,7 +31,7 @@ pub fn put_wanted(out: &mut [u8], at: usize, name: Name) -> usize
         Name::FirstSkip => put(out, at, b"first-skip is a whole number of frames"),
         Name::SecondSkip => put(out, at, b"second-skip is a whole number of frames"),
         Name::Frames => put(out, at, b"frames is a whole number, or all"),
-        Name::Channel => put(out, at, b"a channel is 0, 1 or all"),
+        Name::Channel => put(out, at, b"a channel is 1, 2 or all"),
         Name::Picture => put(out, at, b"a picture is a file's name"),
         Name::Unknown => put(out, at, b"there is no such setting"),
     }

@@ -1,0 +1,13 @@
+-- `compared_frames::span` meets its contract: what the calls ensure, put together. Assumes nothing.
+use borrow.Author.Needs.{needs}
+use Rattle.compared_frames.proofs.span.Statement.{statement}
+use Rattle.compared_frames.proofs.span.Tie as tie
+
+returns : tie.Need-returns
+returns c = cc
+
+pub span-spec : {M : Type 1} → statement M
+span-spec =
+    tie.close
+    (tie.spec (λ c κs. search needs) (λ c κs. search needs) (λ c κs. search needs) (λ c κs. search needs)
+    (λ c κs. search needs) (λ c κs. search needs) returns)

@@ -1,0 +1,33 @@
+-- Which frames of two files are compared. Definitions only.
+use Prim.Native.Nat.{ℕ, _-_, _*_, _/_, min}
+use mathlib.Core.Bool.{cond, _&&_}
+use lib.Dec.{ltb, leb}
+use Rattle.arguments.specs.declared.Frames.{Frames}
+use Rattle.arguments.specs.declared.Frames.the-variants.{All, Number}
+use Rattle.compared_frames.specs.declared.Extent.{Extent}
+
+-- As many frames as were asked for, of those that both have.
+abbrev pub askedOf : Frames → ℕ → ℕ
+askedOf All both = both
+askedOf (Number n) both = min n both
+
+abbrev pub countOf : ℕ → ℕ → Frames → ℕ
+countOf one two frames = askedOf frames (min one two)
+
+abbrev pub spanBy : ℕ → ℕ → ℕ → ℕ → ℕ → Extent
+spanBy first second one two n = record {
+  first = first;
+  second = second;
+  frames = n;
+  «first_left» = one - n;
+  «second_left» = two - n;
+}
+
+-- Files of a and b frames, behind what is skipped of each.
+abbrev pub spanOf : ℕ → ℕ → ℕ → ℕ → Frames → Extent
+spanOf a b first second frames =
+    spanBy first second (a - first) (b - second) (countOf (a - first) (b - second) frames)
+
+-- Where stretch k of n equal ones ends, counted from 1; the end of all for the last one and where n is not 1 to 1000.
+unfoldable pub endOf : ℕ → ℕ → ℕ → ℕ
+endOf frames n k = cond (ltb k n && leb n 1000) (k * frames / n) frames

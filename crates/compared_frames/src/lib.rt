@@ -1,0 +1,57 @@
+// Which frames of two files are compared, how many are left over, and the stretches that a picture shows them in.
+ghost use mathlib.Core.Path.{_≡_};
+ghost use Prim.Native.Nat.{_*_, _/_, min};
+ghost use Rattle.compared_frames.specs.Compared.{spanOf, askedOf, endOf};
+use arguments::Frames;
+use sizes::fewer;
+use sizes::less;
+
+// From frame `first` and frame `second` on so many frames are compared; what each file has behind them.
+pub struct Extent {
+    pub first: usize,
+    pub second: usize,
+    pub frames: usize,
+    pub first_left: usize,
+    pub second_left: usize,
+}
+
+// Of files of a and b frames, behind what is skipped of each.
+pub fn span(a: usize, b: usize, first: usize, second: usize, frames: Frames) -> Extent
+    ensures { λ r. ⌜ r ≡ spanOf a b first second frames ⌝ }
+{
+    let one = less(a, first);
+    let two = less(b, second);
+    let n = asked(frames, fewer(one, two));
+    Extent {
+        first: first,
+        second: second,
+        frames: n,
+        first_left: less(one, n),
+        second_left: less(two, n),
+    }
+}
+
+fn asked(frames: Frames, both: usize) -> usize
+    ensures { λ r. ⌜ r ≡ askedOf frames both ⌝ }
+{
+    match frames {
+        Frames::All => both,
+        Frames::Number(n) => fewer(n as usize, both),
+    }
+}
+
+// Where stretch k of n ends, counted from 1, n at most 1000: so many frames of all lie before it.
+pub fn stretch_end(frames: usize, n: usize, k: usize) -> usize
+    ensures { λ r. ⌜ r ≡ endOf frames n k ⌝ }
+{
+    if n == 0 {
+        return frames;
+    }
+    if k >= n {
+        return frames;
+    }
+    if n > 1000 {
+        return frames;
+    }
+    k * (frames / n) + k * (frames % n) / n
+}

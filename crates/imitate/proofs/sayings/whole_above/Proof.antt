@@ -1,0 +1,33 @@
+-- `imitate::sayings::whole_above` stays inside its slices and ends. Assumes nothing.
+use Prim.Native.Nat.{_-_}
+use borrow.Author.Needs.{needs}
+use Rattle.imitate.proofs.sayings.whole_above.Statement.{statement}
+use Rattle.imitate.proofs.sayings.whole_above.Tie as tie
+
+abbrev Inv-loop : tie.InvT-loop
+Inv-loop x rest₀ n₀ rest n = Unit {0}
+
+abbrev μ-loop : tie.MeasureT-loop
+μ-loop x rest₀ n₀ rest n = 65536 - n
+
+loop-holds : tie.Need-loop-holds Inv-loop μ-loop
+loop-holds c = search needs
+
+returns : tie.Need-returns Inv-loop μ-loop
+returns c = search needs
+
+add-n : tie.Need-add-n Inv-loop μ-loop
+add-n c = search needs
+
+loop-less : tie.Need-loop-less Inv-loop μ-loop
+loop-less c = search needs
+
+loop-again : tie.Need-loop-again Inv-loop μ-loop
+loop-again c = search needs
+
+returns-2 : tie.Need-returns-2 Inv-loop μ-loop
+returns-2 c = search needs
+
+pub whole-above-spec : {M : Type 1} → statement M
+whole-above-spec =
+    tie.close (tie.spec Inv-loop μ-loop loop-holds returns add-n loop-less loop-again returns-2)

@@ -1,0 +1,118 @@
+// The program `imitate FROM TO [NAME=VALUE …]`: FROM read back at a wandering delay.
+mod sayings; // what is said of settings and samples
+
+use arguments::Kind;
+use asked::Imitation;
+use error_lines::misused;
+use error_lines::succeed;
+use file_words::say_unopened;
+use file_words::say_wrapped;
+use imitating::Job;
+use outcomes::is_well;
+use part_file::Made;
+use sample_kind::SampleKind;
+use sayings::say_outcome;
+use sayings::suits;
+use sizes::times;
+use wave_file::Opened;
+use wave_file::WaveFile;
+use wave_output::can_be_written;
+use wave_output::write_header;
+use wave_output::write_pad;
+
+fn main() {
+    let asked = words_asked::to_imitate();
+    let names = asked.names;
+    let settings = asked.settings;
+    if !names.good {
+        misused();
+        return;
+    }
+    let mut from = io::buffer();
+    let n = os::arg(names.first, &mut from);
+    let mut to = io::buffer();
+    let m = os::arg(names.second, &mut to);
+    if imitate(settings, &from[..n], &to[..m]) {
+        succeed();
+    }
+}
+
+fn imitate(settings: Imitation, from: &[u8], to: &[u8]) -> bool {
+    let opened = wave_file::open(from);
+    match opened {
+        Opened::File(file) => imitate_of(settings, from, to, file),
+        _ => {
+            say_unopened(b"imitate", from, opened);
+            false
+        }
+    }
+}
+
+// All that can be told beforehand is told before anything is written.
+fn imitate_of(settings: Imitation, from: &[u8], to: &[u8], file: WaveFile) -> bool {
+    let asked = settings.kind;
+    let same = file.kind;
+    let kind = kind_of(asked, same);
+    let params = settings.params;
+    let count = times(file.frames, file.channels as usize);
+    if !can_be_written(b"imitate", from, kind, file.channels, file.rate, count) {
+        return false;
+    }
+    if !suits(params, settings.delay, file.rate) {
+        return false;
+    }
+    let made = part_file::make(b"imitate", to);
+    match made {
+        Made::Open(fd) => {
+            say_wrapped(b"imitate", from, file);
+            let well = write_all(
+                from,
+                to,
+                Job {
+                    file: file,
+                    kind: kind,
+                    fd: fd,
+                    settings: settings,
+                },
+                count,
+            );
+            part_file::finish(b"imitate", to, fd, well)
+        }
+        Made::Failed => false,
+    }
+}
+
+fn kind_of(asked: Kind, same: SampleKind) -> SampleKind {
+    match asked {
+        Kind::Same => same,
+        Kind::As(kind) => kind,
+    }
+}
+
+fn write_all(from: &[u8], to: &[u8], job: Job, count: usize) -> bool {
+    let file = job.file;
+    let kind = job.kind;
+    if !write_header(
+        b"imitate",
+        to,
+        job.fd,
+        kind,
+        file.channels,
+        file.rate,
+        count,
+    ) {
+        return false;
+    }
+    let outcome = imitating::imitate(job);
+    if is_well(outcome) {
+        progress::clear();
+        return write_pad(
+            b"imitate",
+            to,
+            job.fd,
+            times(count, sample_kind::width(kind)),
+        );
+    }
+    say_outcome(from, to, job.fd, outcome);
+    false
+}

@@ -1,0 +1,86 @@
+// The program `look FILE …`: what each WAV file holds, or why it is refused and what to do. A file that is refused does
+// not keep the others from being looked at.
+use error_lines::misused;
+use error_lines::say;
+use error_lines::say_failed;
+use error_lines::say_of;
+use error_lines::succeed;
+use libc::STDOUT_FILENO;
+use sizes::begun;
+use text::put;
+use wave_file::Opened;
+use wave_file::WaveFile;
+
+fn main() {
+    let count = os::arg_count();
+    if count < 2 {
+        say(b"usage: ./run look FILE ...\n./run --help tells more\n");
+        misused();
+        return;
+    }
+    if look(count) {
+        succeed();
+    }
+}
+
+// A line for each file, in order. Whether all are read.
+fn look(count: usize) -> bool {
+    let mut well = true;
+    let mut i: usize = 1;
+    while i < count {
+        if !look_at(i) {
+            well = false;
+        }
+        i += 1;
+    }
+    well
+}
+
+fn look_at(i: usize) -> bool {
+    let mut name = io::buffer();
+    let n = os::arg(i, &mut name);
+    if os::errno() != 0 {
+        say_of(
+            b"look",
+            b"",
+            b"an argument is longer than any file's name can be\n",
+        );
+        return false;
+    }
+    look_into(&name[..n])
+}
+
+fn look_into(name: &[u8]) -> bool {
+    let opened = wave_file::open(name);
+    match opened {
+        Opened::File(file) => {
+            libc::close(file.fd);
+            tell(name, file)
+        }
+        _ => {
+            file_words::say_unopened(b"look", name, opened);
+            false
+        }
+    }
+}
+
+fn tell(name: &[u8], file: WaveFile) -> bool {
+    let mut line = [0u8; 4400];
+    let kind = file.kind;
+    let at = put(&mut line, 0, name);
+    let at = put(&mut line, at, b": ");
+    let at = report_lines::put_looked(
+        &mut line,
+        at,
+        kind,
+        file.channels,
+        file.rate,
+        file.frames as u64,
+        file.wrapped,
+    );
+    if io::write_all(STDOUT_FILENO, begun(&line, at)) {
+        return true;
+    }
+    say_failed(b"look", b"standard output");
+    false
+}

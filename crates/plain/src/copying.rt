@@ -1,0 +1,97 @@
+// The stored samples of a file, block after block. Of a float kind each is looked at: what is not finite is refused.
+use outcomes::Outcome;
+use outcomes::broken;
+use outcomes::is_well;
+use outcomes::refused_at;
+use outcomes::well;
+use sample_kind::SampleKind;
+use sizes::begun;
+use sizes::begun_f32;
+use sizes::fewer;
+use sizes::less;
+use sizes::plus;
+use sizes::times;
+use wave_file::WaveFile;
+
+// Frames of a block.
+const FRAMES: usize = 4096;
+
+pub(crate) fn copy(file: WaveFile, fd: i32) -> Outcome {
+    let frames = file.frames;
+    let mut done: usize = 0;
+    let mut second: i64 = 0;
+    let mut turns = u64::MAX;
+    while turns > 0 && done < frames {
+        let n = fewer(less(frames, done), FRAMES);
+        let outcome = copy_block(file, fd, done, n);
+        if !is_well(outcome) {
+            return outcome;
+        }
+        done = plus(done, n);
+        second = progress::progress(b"plain", done, frames, second);
+        turns -= 1;
+    }
+    well()
+}
+
+fn copy_block(file: WaveFile, fd: i32, done: usize, n: usize) -> Outcome {
+    let mut bytes = [0u8; 32768];
+    let at = plus(file.start, times(done, file.frame));
+    let size = times(n, file.frame);
+    let io = wave_file::read_begun(file.fd, at, &mut bytes, size);
+    if io != 0 {
+        return broken(io);
+    }
+    copy_part(file, fd, done, &bytes, size)
+}
+
+fn copy_part(file: WaveFile, fd: i32, done: usize, bytes: &[u8; 32768], size: usize) -> Outcome {
+    let part = begun(bytes, size);
+    let looked = look_at(file, done, part);
+    if !is_well(looked) {
+        return looked;
+    }
+    if io::write_all(fd, part) {
+        return well();
+    }
+    broken(3)
+}
+
+fn look_at(file: WaveFile, done: usize, part: &[u8]) -> Outcome {
+    let kind = file.kind;
+    match kind {
+        SampleKind::Pcm16 => well(),
+        SampleKind::Pcm24 => well(),
+        SampleKind::Float32 => look_at_floats(file.channels, done, part),
+    }
+}
+
+// Both channels' samples as one channel's: only their places count.
+fn look_at_floats(channels: u8, done: usize, part: &[u8]) -> Outcome {
+    let mut floats = [0.0f32; 8192];
+    let count = part.len() / 4;
+    fill(part, &mut floats, count);
+    look_at_samples(channels, done, &floats, count)
+}
+
+fn fill(part: &[u8], floats: &mut [f32], count: usize) {
+    if count <= floats.len() {
+        wav_samples::filling::fill_f32(SampleKind::Float32, 1, 0, part, &mut floats[..count]);
+    }
+}
+
+fn look_at_samples(channels: u8, done: usize, floats: &[f32; 8192], count: usize) -> Outcome {
+    let at = rounded_samples::first_misfit(SampleKind::Float32, begun_f32(floats, count));
+    if at < count {
+        return misfit(channels, done, at);
+    }
+    well()
+}
+
+// The sample at a place of both channels' samples.
+fn misfit(channels: u8, done: usize, at: usize) -> Outcome {
+    if channels == 2 {
+        return refused_at(15, plus(done, at / 2), if at % 2 == 0 { 1 } else { 2 });
+    }
+    refused_at(15, plus(done, at), 1)
+}

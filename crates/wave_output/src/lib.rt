@@ -1,0 +1,85 @@
+// A WAV file's header and its last byte, written to an open file. What goes wrong is said on standard error.
+use error_lines::say_of;
+use part_file::write;
+use sample_kind::SampleKind;
+use sizes::begun;
+use text::put;
+
+// Whether so many samples can be written as a file, or why not (1).
+pub fn can_be_written(
+    command: &[u8],
+    name: &[u8],
+    kind: SampleKind,
+    channels: u8,
+    rate: u32,
+    count: usize,
+) -> bool {
+    if wav_header::refusal(kind, channels, rate, count) == 0 {
+        return true;
+    }
+    if wav_header::file_length(kind, channels, count) == 0 {
+        say_of(
+            command,
+            name,
+            b" is refused by 1: what is to be written is longer than a RIFF file of 32 bits can be\n",
+        );
+        return false;
+    }
+    say_rate(command, name, rate);
+    false
+}
+
+fn say_rate(command: &[u8], name: &[u8], rate: u32) {
+    let mut line = [0u8; 256];
+    let at = put(&mut line, 0, b" is refused by 1: its rate is ");
+    let at = text::put_decimal(&mut line, at, rate as u64);
+    let at = put(
+        &mut line,
+        at,
+        b" Hz, and 8000 to 768000 are written: write it at one of these, as by: sox FILE -r 48000 OUT.wav\n",
+    );
+    say_of(command, name, begun(&line, at));
+}
+
+pub fn write_header(
+    command: &[u8],
+    name: &[u8],
+    fd: i32,
+    kind: SampleKind,
+    channels: u8,
+    rate: u32,
+    count: usize,
+) -> bool {
+    let mut head = [0u8; 58];
+    let n = wav_header::header_length(kind);
+    if put_header(kind, channels, rate, count, &mut head, n) != 0 {
+        return false;
+    }
+    write_head(command, name, fd, &head, n)
+}
+
+fn write_head(command: &[u8], name: &[u8], fd: i32, head: &[u8; 58], n: usize) -> bool {
+    write(command, name, fd, begun(head, n))
+}
+
+fn put_header(
+    kind: SampleKind,
+    channels: u8,
+    rate: u32,
+    count: usize,
+    head: &mut [u8],
+    n: usize,
+) -> u8 {
+    if n <= head.len() {
+        return wav_header::write_header(kind, channels, rate, count, &mut head[..n]);
+    }
+    2
+}
+
+// The pad byte behind an odd number of bytes.
+pub fn write_pad(command: &[u8], name: &[u8], fd: i32, size: usize) -> bool {
+    if size % 2 == 1 {
+        return write(command, name, fd, b"\0");
+    }
+    true
+}

@@ -1,0 +1,39 @@
+"""What oracle/morning runs: the registrar's programs beside a plain reckoning of their own, standard library only."""
+import sys
+
+sys.dont_write_bytecode = True
+import os
+import random
+import tempfile
+
+import pages
+import rightly
+import trial
+import wrongly
+from wave_files import wav
+
+
+def build_all():
+    trial.save("any.wav", wav("pcm24", 1, 48000, b"\0" * 30))
+    each = ("look any.wav", "plain any.wav -", "imitate any.wav -", "residual any.wav any.wav", "trace", "render")
+    for command in each:
+        trial.build(*command.split())
+
+
+def main():
+    dice = random.Random(2)
+    with tempfile.TemporaryDirectory() as folder:
+        os.chdir(folder)
+        build_all()
+        rightly.looks(dice)
+        rightly.others(dice)
+        rightly.imitations(dice)
+        rightly.residuals(dice)
+        wrongly.refusals(dice, rightly.rendered)
+        os.chdir(trial.ROOT)
+    pages.pages()
+    each = ", ".join(f"{subject} {count}" for subject, count in trial.counted.items())
+    print(f"morning: no difference in {sum(trial.counted.values())} comparisons: {each}")
+
+
+main()
