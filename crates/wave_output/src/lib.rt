@@ -30,7 +30,7 @@ pub fn can_be_written(
 }
 
 fn say_rate(command: &[u8], name: &[u8], rate: u32) {
-    let mut line = [0u8; 128];
+    let mut line = [0u8; 256];
     let at = put(&mut line, 0, b" is refused by 1: its rate is ");
     let at = text::put_decimal(&mut line, at, rate as u64);
     let at = put(
