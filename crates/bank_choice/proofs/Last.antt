@@ -14,7 +14,7 @@ use lib.Ieee.{Float, nan, inf, fin, binary64, lt, le, fits}
 use lib.Ieee.Bits.{is-true, is-false}
 use lib.Ieee.Scale.{finite}
 use Rattle.magnitude.proofs.Comparisons.{lt→le}
-use Rattle.order.specs.Choice.{clamped}
+use Rattle.min_max.specs.Choice.{clamped}
 use Rattle.interval.proofs.Signed.{lt→nle, le-le}
 use Rattle.interval.proofs.Between.{between, point}
 use Rattle.sinc_settings.specs.Ranges.{one-f}

@@ -14,7 +14,7 @@ use lib.Ieee.Bits.{is-true, is-false}
 use lib.Ieee.Fits.{and-i}
 use lib.Ieee.Scale.{finite}
 use Rattle.rounding.specs.Operations.{narrowed}
-use Rattle.order.specs.Choice.{clamped}
+use Rattle.min_max.specs.Choice.{clamped}
 use Rattle.magnitude.proofs.Comparisons.{lt→le}
 use Rattle.interval.proofs.Signed.{nle→lt, lt→nle, le-le, le-lt}
 use Rattle.interval.proofs.Between.{Between, between, point, difference-between}

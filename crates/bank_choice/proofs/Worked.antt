@@ -3,7 +3,7 @@ use mathlib.Core.Path.{_≡_, refl}
 use mathlib.Core.Bool.{true}
 use lib.Ieee.{Float, binary64, add, sub, mul, div, lt, le, ofInt, ofBits}
 use Rattle.rounding.specs.Operations.{narrowed}
-use Rattle.order.specs.Choice.{clamped}
+use Rattle.min_max.specs.Choice.{clamped}
 use Rattle.sinc_settings.specs.Ranges.{one-f}
 use Rattle.bank_choice.specs.Rates.{ceilingOf, stepsOf, rateOf}
 use Rattle.bank_choice.specs.Choosing.{firstFrom, blendOf, chosenOf}

@@ -7,7 +7,7 @@ use lib.Ieee.{Float, fin, binary64, sub, div, lt, le, isNan}
 use mathlib.Core.List.{[], _∷_}
 use Rattle.refusal_order.specs.Order.{_unless_, firstOf}
 use Rattle.rounding.specs.Operations.{narrowed}
-use Rattle.order.specs.Choice.{clamped}
+use Rattle.min_max.specs.Choice.{clamped}
 use Rattle.sinc_settings.specs.Ranges.{zero-f, one-f}
 use Rattle.bank_choice.specs.declared.Choice.{Choice}
 use Rattle.bank_choice.specs.declared.Selected.{Selected}

@@ -65,7 +65,7 @@ fn chosen(max_rate: f64, rate: f64) -> Choice
     ensures { λ r. ⌜ r ≡ chosenOf «max_rate» rate ⌝ }
 {
     let n = steps(max_rate);
-    let r = order::clamp(rate, 1.0, max_rate);
+    let r = min_max::clamp(rate, 1.0, max_rate);
     let safe = at_most(search::among(max_rate, n, r), n - 1);
     let tighter = at_most(safe + 1, n - 1);
     let own = rates::rate(max_rate, n, safe + 1);
@@ -76,7 +76,7 @@ fn chosen(max_rate: f64, rate: f64) -> Choice
         safe: safe,
         tighter: tighter,
         which: which(close, blend <= 1.1920929e-7, blend >= 0.9999999),
-        blend: order::clamp_f32(blend, 0.0, 1.0),
+        blend: min_max::clamp_f32(blend, 0.0, 1.0),
     }
 }
 

@@ -8,7 +8,7 @@ use borrow.Author.Tests.{eq-eqb}
 use lib.Dec.{eqb}
 use lib.ListN.{length, take, drop, length-take, length-drop}
 use lib.Ieee.{Float}
-use Rattle.loops.specs.Loops.{fold}
+use Rattle.loop_laws.specs.Loops.{fold}
 use Rattle.ring.specs.Places.{positionOk}
 use Rattle.sinc_settings.specs.Refusals.{tableVerdict}
 use Rattle.sinc_read_f32.specs.Reading.{sincF32At, readOf}

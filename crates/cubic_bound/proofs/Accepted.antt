@@ -10,8 +10,8 @@ use lib.Ieee.{Float, fin, le}
 use lib.Ieee.Bits.{is-true}
 use lib.Ieee.Fits.{and-i, eq→eqb}
 use lib.Ieee.Scale.{finite}
-use Rattle.fraction.specs.Value.{val}
-use Rattle.fraction.proofs.Compare.{side, le-is}
+use Rattle.rounding_error.specs.Value.{val}
+use Rattle.rounding_error.proofs.Compare.{side, le-is}
 use Rattle.answer.specs.Refusals.{lowestOf}
 use Rattle.ring.specs.Length.{need, settingsOk, lengthFor}
 use Rattle.variable_delay.specs.Reader.{verdict}

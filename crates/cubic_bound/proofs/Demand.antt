@@ -8,8 +8,8 @@ use native.Mathlib.Nat.{le-of-lt}
 use lib.IntN.{ℤ, pos, _+ℤ_, _-ℤ_}
 use lib.ListN.{length}
 use lib.Ieee.{Float}
-use Rattle.fraction.specs.Value.{Rounds}
-use Rattle.fraction.proofs.Integers.{Steps}
+use Rattle.rounding_error.specs.Value.{Rounds}
+use Rattle.rounding_error.proofs.Integers.{Steps}
 use Rattle.answer.specs.declared.Answer.the-variants.{Sample}
 use Rattle.ring.specs.Length.{lengthFor}
 use Rattle.ring.proofs.Positions.{position-at-most}

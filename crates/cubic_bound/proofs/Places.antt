@@ -9,12 +9,12 @@ use lib.Dec.{lit≤, lit<}
 use lib.IntN.{ℤ, pos, negsuc, natAbs, _*ℤ_}
 use lib.Ieee.{Float, nan, inf, fin, binary64, up, down, ofInt}
 use lib.Ieee.Fits.{down-pos}
-use Rattle.fraction.specs.Fraction.{frac, whole, zp, zn, Same}
-use Rattle.fraction.specs.Value.{Is}
-use Rattle.fraction.proofs.Same.{same-trans}
-use Rattle.fraction.proofs.Value.{value-is}
-use Rattle.fraction.proofs.Whole.{rep-own, rep-pos, rep-neg, rep-minus, rep-same, rep-unique, rep-to}
-use Rattle.fraction.proofs.Integers.{Steps, rep-size, steps-sub}
+use Rattle.rounding_error.specs.Fraction.{frac, whole, zp, zn, Same}
+use Rattle.rounding_error.specs.Value.{Is}
+use Rattle.rounding_error.proofs.Same.{same-trans}
+use Rattle.rounding_error.proofs.Value.{value-is}
+use Rattle.rounding_error.proofs.Whole.{rep-own, rep-pos, rep-neg, rep-minus, rep-same, rep-unique, rep-to}
+use Rattle.rounding_error.proofs.Integers.{Steps, rep-size, steps-sub}
 use Rattle.magnitude.specs.Bounds.{AtMost}
 use Rattle.magnitude.proofs.Whole.{whole-value}
 use Rattle.integer_part.specs.Parts.{floorOf, fractionOf}

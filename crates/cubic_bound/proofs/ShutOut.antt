@@ -10,8 +10,8 @@ use lib.IntN.{ℤ, pos, negsuc}
 use lib.Ieee.{Float, fin, add, sub, mul, div, neg, ofInt, le, size}
 use Rattle.answer.specs.declared.Answer.{Answer}
 use Rattle.answer.specs.declared.Answer.the-variants.{Sample}
-use Rattle.fraction.specs.Value.{Rounds}
-use Rattle.fraction.proofs.Within.{chain, flip}
+use Rattle.rounding_error.specs.Value.{Rounds}
+use Rattle.rounding_error.proofs.Within.{chain, flip}
 use Rattle.ring.specs.Length.{lengthFor, zeros}
 use Rattle.integer_part.specs.Parts.{floorOf, fractionOf}
 use Rattle.cubic_farrow.specs.Cubic.{cubicAt}

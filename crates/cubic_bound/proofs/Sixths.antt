@@ -6,14 +6,14 @@ use native.Mathlib.Omega.{arith}
 use lib.Dec.{lit≤, lit<}
 use lib.IntN.{ℤ, pos, natAbs, _*ℤ_}
 use lib.Ieee.{Float, binary64, mul, div}
-use Rattle.fraction.specs.Fraction.{over, zp, zn, whole, Same}
-use Rattle.fraction.specs.Value.{Rounds}
-use Rattle.fraction.proofs.Same.{same-trans}
-use Rattle.fraction.proofs.Value.{is-near}
-use Rattle.fraction.proofs.Exact.{div-is}
-use Rattle.fraction.proofs.Near.{div-approx}
-use Rattle.fraction.proofs.Whole.{Rep, rep-same}
-use Rattle.fraction.proofs.Integers.{Steps, rep-size, size-parts, size-times, whole-mag, steps-mul}
+use Rattle.rounding_error.specs.Fraction.{over, zp, zn, whole, Same}
+use Rattle.rounding_error.specs.Value.{Rounds}
+use Rattle.rounding_error.proofs.Same.{same-trans}
+use Rattle.rounding_error.proofs.Value.{is-near}
+use Rattle.rounding_error.proofs.Exact.{div-is}
+use Rattle.rounding_error.proofs.Near.{div-approx}
+use Rattle.rounding_error.proofs.Whole.{Rep, rep-same}
+use Rattle.rounding_error.proofs.Integers.{Steps, rep-size, size-parts, size-times, whole-mag, steps-mul}
 use Rattle.cubic_farrow.specs.Cubic.{two, six}
 
 -- ---- x is z / 2 ^ t, and |z| ≤ b

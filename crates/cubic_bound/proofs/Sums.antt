@@ -6,11 +6,11 @@ use native.Mathlib.Omega.{arith}
 use lib.Dec.{T, lit≤, lit<}
 use lib.IntN.{ℤ, pos, natAbs, _+ℤ_, _*ℤ_}
 use lib.Ieee.{Float, binary64, add, mul}
-use Rattle.fraction.specs.Fraction.{whole}
-use Rattle.fraction.specs.Value.{Rounds}
-use Rattle.fraction.proofs.Within.{rescale}
-use Rattle.fraction.proofs.Near.{step, add-approx, mul-approx}
-use Rattle.fraction.proofs.Integers.{Steps, size-plus, size-times, whole-plus, whole-times, whole-mag}
+use Rattle.rounding_error.specs.Fraction.{whole}
+use Rattle.rounding_error.specs.Value.{Rounds}
+use Rattle.rounding_error.proofs.Within.{rescale}
+use Rattle.rounding_error.proofs.Near.{step, add-approx, mul-approx}
+use Rattle.rounding_error.proofs.Integers.{Steps, size-plus, size-times, whole-plus, whole-times, whole-mag}
 use Rattle.cubic_farrow.specs.Cubic.{weighed}
 use Rattle.cubic_bound.specs.Exact.{exactCubic}
 use Rattle.cubic_bound.proofs.Sixths.{Part, Weight}

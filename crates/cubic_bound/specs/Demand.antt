@@ -7,8 +7,8 @@ use lib.ListN.{length}
 use lib.Ieee.{Float}
 use Rattle.answer.specs.declared.Answer.{Answer}
 use Rattle.answer.specs.declared.Answer.the-variants.{Sample}
-use Rattle.fraction.specs.Fraction.{Frac}
-use Rattle.fraction.specs.Value.{Rounds}
+use Rattle.rounding_error.specs.Fraction.{Frac}
+use Rattle.rounding_error.specs.Value.{Rounds}
 use Rattle.ring.specs.Length.{need, lengthFor}
 use Rattle.variable_delay.specs.Reader.{Reading, processed}
 use Rattle.runs.specs.Runs.{Call, Reader, opened, run, accepted, samples}

@@ -6,8 +6,8 @@ use lib.Dec.{leb, ltb}
 use lib.IntN.{ℤ, pos, negsuc, natAbs, _+ℤ_, _-ℤ_, _*ℤ_}
 use lib.ListN.{length, getD}
 use lib.Ieee.{Float}
-use Rattle.fraction.specs.Fraction.{Frac, frac, whole}
-use Rattle.fraction.specs.Value.{Is}
+use Rattle.rounding_error.specs.Fraction.{Frac, frac, whole}
+use Rattle.rounding_error.specs.Value.{Is}
 use Rattle.cubic_bound.specs.Exact.{M, exactCubic}
 
 -- A whole sample: x is s / 2^23, from -1 to 1.

@@ -1,7 +1,7 @@
 -- D3. The exact value (01, 'Reading a ring'): with M = 65536, the fraction m / M and samples s / 2^23, four weights over 6M^3. Whole numbers alone. Definitions only.
 use Prim.Native.Nat.{_*_, _^_}
 use lib.IntN.{ℤ, pos, negℤ, _+ℤ_, _-ℤ_, _*ℤ_}
-use Rattle.fraction.specs.Fraction.{Frac, whole}
+use Rattle.rounding_error.specs.Fraction.{Frac, whole}
 
 abbrev pub M : ℤ
 M = pos 65536

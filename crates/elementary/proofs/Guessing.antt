@@ -13,13 +13,13 @@ use lib.Ieee.Fits.{down-pos, add-fits}
 use lib.Ieee.Exact.{HasValue}
 use Rattle.rounding.proofs.Values.{fits-parts}
 use Rattle.rounding.proofs.Units.{bits-units}
-use Rattle.fraction.specs.Fraction.{Frac, frac, nil, plus, times, Same, Within}
-use Rattle.fraction.specs.Value.{val, Rounds}
-use Rattle.fraction.proofs.Same.{same-refl, plus-comm}
-use Rattle.fraction.proofs.Within.{chain, from, to, rescale, same-within, within-plus, beside}
-use Rattle.fraction.proofs.Product.{mag-times}
-use Rattle.fraction.proofs.Value.{is-val, is-near}
-use Rattle.fraction.proofs.Near.{add-approx, mul-approx}
+use Rattle.rounding_error.specs.Fraction.{Frac, frac, nil, plus, times, Same, Within}
+use Rattle.rounding_error.specs.Value.{val, Rounds}
+use Rattle.rounding_error.proofs.Same.{same-refl, plus-comm}
+use Rattle.rounding_error.proofs.Within.{chain, from, to, rescale, same-within, within-plus, beside}
+use Rattle.rounding_error.proofs.Product.{mag-times}
+use Rattle.rounding_error.proofs.Value.{is-val, is-near}
+use Rattle.rounding_error.proofs.Near.{add-approx, mul-approx}
 use Rattle.polynomials.specs.Range.{atMost}
 use Rattle.elementary.specs.Steps.{Guess}
 use Rattle.polynomials.proofs.Squares.{at-most-finite, at-most-mag}

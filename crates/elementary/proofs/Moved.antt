@@ -7,9 +7,9 @@ use native.Mathlib.Nat.{le-of-mul-le-mul-right, lt-of-mul-lt-mul-right, mul-le-m
 use native.Mathlib.Omega.{arith}
 use lib.Dec.{T, lit<}
 use lib.Ieee.{Float, lt}
-use Rattle.fraction.specs.Value.{val}
-use Rattle.fraction.proofs.Value.{val-pos}
-use Rattle.fraction.proofs.Compare.{is-below, not-below}
+use Rattle.rounding_error.specs.Value.{val}
+use Rattle.rounding_error.proofs.Value.{val-pos}
+use Rattle.rounding_error.proofs.Compare.{is-below, not-below}
 use Rattle.elementary.specs.Reduction.{H}
 use Rattle.polynomials.specs.Range.{atMost}
 use Rattle.elementary.specs.Steps.{eighth, eighthBack, Guess, left, Rest}

@@ -9,12 +9,12 @@ use lib.Dec.{T, leb→le, lit≤, lit<}
 use lib.Ieee.{Float, fin, binary64, up, down, add, sub, fits}
 use lib.Ieee.Fits.{down-pos}
 use Rattle.rounding.proofs.Values.{fits-parts}
-use Rattle.fraction.specs.Fraction.{frac, plus, Same}
-use Rattle.fraction.specs.Value.{val, signed, Is}
-use Rattle.fraction.proofs.Same.{same-refl, same-sym, same-trans, plus-same}
-use Rattle.fraction.proofs.Value.{is-val}
-use Rattle.fraction.proofs.Exact.{add-is, sub-is}
-use Rattle.fraction.proofs.Grid.{grid-of}
+use Rattle.rounding_error.specs.Fraction.{frac, plus, Same}
+use Rattle.rounding_error.specs.Value.{val, signed, Is}
+use Rattle.rounding_error.proofs.Same.{same-refl, same-sym, same-trans, plus-same}
+use Rattle.rounding_error.proofs.Value.{is-val}
+use Rattle.rounding_error.proofs.Exact.{add-is, sub-is}
+use Rattle.rounding_error.proofs.Grid.{grid-of}
 use Rattle.polynomials.specs.Range.{atMost}
 use Rattle.elementary.specs.Answers.{one}
 

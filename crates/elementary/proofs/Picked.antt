@@ -9,11 +9,11 @@ use lib.Dec.{T, ltb, lit<}
 use lib.Ieee.{Float, binary64, round, fits}
 use lib.Ieee.Bits.{is-true, is-false}
 use lib.Ieee.Fits.{round-fits, cond-fits}
-use Rattle.fraction.specs.Fraction.{Frac, Same}
-use Rattle.fraction.specs.Value.{val, Rounds, nearestTo}
-use Rattle.fraction.proofs.Same.{opp-same}
-use Rattle.fraction.proofs.Within.{to, rescale}
-use Rattle.fraction.proofs.Value.{val-pos, neg-near}
+use Rattle.rounding_error.specs.Fraction.{Frac, Same}
+use Rattle.rounding_error.specs.Value.{val, Rounds, nearestTo}
+use Rattle.rounding_error.proofs.Same.{opp-same}
+use Rattle.rounding_error.proofs.Within.{to, rescale}
+use Rattle.rounding_error.proofs.Value.{val-pos, neg-near}
 use Rattle.polynomials.specs.Taylor.{sineFraction}
 use Rattle.polynomials.specs.Horner.{sineNear, cosineNear}
 use Rattle.elementary.specs.Reduction.{pick, fourth, turns, remainder, reduced}

@@ -6,13 +6,13 @@ use native.Mathlib.Nat.{mul-pos}
 use native.Mathlib.Omega.{arith}
 use lib.Dec.{lit≤, lit<}
 use lib.Ieee.{Float, binary64, mul}
-use Rattle.fraction.specs.Fraction.{Frac, frac, nil, times, Same, Within, Mag}
-use Rattle.fraction.specs.Value.{val, Is, Rounds}
-use Rattle.fraction.proofs.Same.{same-refl, same-trans}
-use Rattle.fraction.proofs.Within.{from, to, rescale, beside}
-use Rattle.fraction.proofs.Product.{mag-times}
-use Rattle.fraction.proofs.Value.{is-near}
-use Rattle.fraction.proofs.Near.{mul-approx}
+use Rattle.rounding_error.specs.Fraction.{Frac, frac, nil, times, Same, Within, Mag}
+use Rattle.rounding_error.specs.Value.{val, Is, Rounds}
+use Rattle.rounding_error.proofs.Same.{same-refl, same-trans}
+use Rattle.rounding_error.proofs.Within.{from, to, rescale, beside}
+use Rattle.rounding_error.proofs.Product.{mag-times}
+use Rattle.rounding_error.proofs.Value.{is-near}
+use Rattle.rounding_error.proofs.Near.{mul-approx}
 use Rattle.polynomials.specs.Taylor.{factorial, power}
 use Rattle.polynomials.specs.Horner.{ln2, powerSteps, powerNear}
 use Rattle.elementary.specs.Answers.{two, half}

@@ -8,12 +8,12 @@ use lib.Dec.{T, leb, leb→le, lit≤, lit<}
 use lib.Ieee.{Float}
 use lib.Ieee.Fits.{and-l, and-r}
 use lib.Ieee.Scale.{finite}
-use Rattle.fraction.specs.Fraction.{Frac, frac, nil, times, Same, Within, Mag}
-use Rattle.fraction.specs.Value.{val}
-use Rattle.fraction.proofs.Same.{sums, same-sym, times-comm, times-one}
-use Rattle.fraction.proofs.Within.{flip, chain, from, to, rescale}
-use Rattle.fraction.proofs.Product.{within-times, within-times-at}
-use Rattle.fraction.proofs.Value.{val-pos}
+use Rattle.rounding_error.specs.Fraction.{Frac, frac, nil, times, Same, Within, Mag}
+use Rattle.rounding_error.specs.Value.{val}
+use Rattle.rounding_error.proofs.Same.{sums, same-sym, times-comm, times-one}
+use Rattle.rounding_error.proofs.Within.{flip, chain, from, to, rescale}
+use Rattle.rounding_error.proofs.Product.{within-times, within-times-at}
+use Rattle.rounding_error.proofs.Value.{val-pos}
 use Rattle.polynomials.specs.Range.{atMost}
 use Rattle.polynomials.proofs.Squares.{at-most-mag}
 use Rattle.elementary.specs.Reduction.{H}

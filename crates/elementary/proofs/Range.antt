@@ -8,9 +8,9 @@ use lib.Dec.{leb, leb→le, le→leb}
 use lib.Ieee.{Float, nan, inf, fin, binary64, up, down, neg, le, ofBits}
 use lib.Ieee.Fits.{and-l, and-r, and-i}
 use Rattle.rounding.proofs.Orders.{same-test}
-use Rattle.fraction.specs.Fraction.{Frac, frac}
-use Rattle.fraction.specs.Value.{signed}
-use Rattle.fraction.proofs.Compare.{side, le-is}
+use Rattle.rounding_error.specs.Fraction.{Frac, frac}
+use Rattle.rounding_error.specs.Value.{signed}
+use Rattle.rounding_error.proofs.Compare.{side, le-is}
 use Rattle.elementary.specs.declared.Answer.the-variants.{Value, Refused}
 use Rattle.polynomials.specs.Range.{atMost}
 use Rattle.elementary.specs.Answers.{refusalOf, orZero, sineAt, cosineAt, powerAt, sineOf, cosineOf, exp2Of}

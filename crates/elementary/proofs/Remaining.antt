@@ -11,14 +11,14 @@ use lib.Dec.{T, nleb→lt, lit≤, lit<}
 use lib.Ieee.{Float, nan, inf, fin, binary64, up, down, round, neg, sub, mul, fits, ofInt}
 use lib.Ieee.Back.{round-whole}
 use Rattle.rounding.proofs.Values.{fits-parts}
-use Rattle.fraction.specs.Fraction.{Frac, frac, plus, times, opp, Same, Within}
-use Rattle.fraction.specs.Value.{signed, val, Is, nearestTo}
-use Rattle.fraction.proofs.Same.{sums, same-refl, same-sym, same-trans, plus-same, opp-same}
-use Rattle.fraction.proofs.Within.{from}
-use Rattle.fraction.proofs.Value.{val-pos, is-val, value-is, neg-val, neg-finite}
-use Rattle.fraction.proofs.Exact.{sub-is, mul-is}
-use Rattle.fraction.proofs.Nearest.{nearest-same, add-nearest}
-use Rattle.fraction.proofs.Grid.{grid-of}
+use Rattle.rounding_error.specs.Fraction.{Frac, frac, plus, times, opp, Same, Within}
+use Rattle.rounding_error.specs.Value.{signed, val, Is, nearestTo}
+use Rattle.rounding_error.proofs.Same.{sums, same-refl, same-sym, same-trans, plus-same, opp-same}
+use Rattle.rounding_error.proofs.Within.{from}
+use Rattle.rounding_error.proofs.Value.{val-pos, is-val, value-is, neg-val, neg-finite}
+use Rattle.rounding_error.proofs.Exact.{sub-is, mul-is}
+use Rattle.rounding_error.proofs.Nearest.{nearest-same, add-nearest}
+use Rattle.rounding_error.proofs.Grid.{grid-of}
 use Rattle.elementary.specs.Reduction.{H}
 use Rattle.polynomials.specs.Range.{atMost}
 use Rattle.elementary.specs.Steps.{highPart, lowPart, Guess, left, Rest}

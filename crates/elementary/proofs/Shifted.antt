@@ -8,10 +8,10 @@ use lib.IntN.{negsuc}
 use lib.Dec.{T, leb→le, lit<}
 use lib.Ieee.{Float, nan, inf, fin, binary64, up, down, neg, add, sub, mul, lt, fits}
 use lib.Ieee.Fits.{down-pos}
-use Rattle.fraction.specs.Fraction.{frac, nil, plus, times, Within}
-use Rattle.fraction.specs.Value.{val}
-use Rattle.fraction.proofs.Value.{val-pos, is-val}
-use Rattle.fraction.proofs.Compare.{is-below, not-below}
+use Rattle.rounding_error.specs.Fraction.{frac, nil, plus, times, Within}
+use Rattle.rounding_error.specs.Value.{val}
+use Rattle.rounding_error.proofs.Value.{val-pos, is-val}
+use Rattle.rounding_error.proofs.Compare.{is-below, not-below}
 use Rattle.polynomials.specs.Horner.{powerNear}
 use Rattle.polynomials.specs.Range.{atMost}
 use Rattle.elementary.specs.Answers.{one, two, half, powerAt}

@@ -8,13 +8,13 @@ use native.Mathlib.Omega.{arith}
 use lib.IntN.{ℤ, pos, negsuc, negℤ, subℕ}
 use lib.Dec.{T, leb, ltb, leb→le, le→leb, nleb→lt, ltb→lt, nltb→le, lit<}
 use lib.Ieee.{Float, nan, inf, fin, binary64, up, down}
-use Rattle.fraction.specs.Fraction.{Frac, frac, plus, times, opp, over, whole, zp, zn, Same}
-use Rattle.fraction.specs.Value.{val, Is, nearestTo}
-use Rattle.fraction.proofs.Same.{same-sym, same-trans}
-use Rattle.fraction.proofs.Value.{val-pos}
+use Rattle.rounding_error.specs.Fraction.{Frac, frac, plus, times, opp, over, whole, zp, zn, Same}
+use Rattle.rounding_error.specs.Value.{val, Is, nearestTo}
+use Rattle.rounding_error.proofs.Same.{same-sym, same-trans}
+use Rattle.rounding_error.proofs.Value.{val-pos}
 use Rattle.rounding.proofs.Orders.{less}
-use Rattle.fraction.proofs.Nearest.{nearest-same}
-use Rattle.fraction.proofs.Whole.{rep-less}
+use Rattle.rounding_error.proofs.Nearest.{nearest-same}
+use Rattle.rounding_error.proofs.Whole.{rep-less}
 use Rattle.elementary.specs.Reduction.{H, floorOf, turns, remainder, reduced, fourth}
 use Rattle.polynomials.specs.Range.{atMost}
 use Rattle.elementary.specs.Steps.{left, Rest, Settled}

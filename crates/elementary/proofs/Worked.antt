@@ -4,7 +4,7 @@ use mathlib.Core.List.{[], _∷_, map}
 use mathlib.Core.Bool.{true, false}
 use lib.IntN.{pos, negsuc}
 use lib.Ieee.{fin, nan, inf, binary64, round, ofBits, lt, neg, add, sub, mul}
-use Rattle.fraction.specs.Value.{val}
+use Rattle.rounding_error.specs.Value.{val}
 use Rattle.elementary.specs.declared.Answer.the-variants.{Value}
 use Rattle.polynomials.specs.Horner.{reciprocal, ln2}
 use Rattle.elementary.specs.Reduction.{H}

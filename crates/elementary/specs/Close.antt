@@ -5,8 +5,8 @@ use Prim.Native.Nat.{ℕ, zero, suc, _+_, _-_, _*_, _%_, _^_}
 use lib.Dec.{T}
 use lib.Ieee.{Float, neg, lt}
 use lib.Ieee.Scale.{finite}
-use Rattle.fraction.specs.Fraction.{Frac, frac, plus, times, opp, Within}
-use Rattle.fraction.specs.Value.{val, Is, Rounds}
+use Rattle.rounding_error.specs.Fraction.{Frac, frac, plus, times, opp, Within}
+use Rattle.rounding_error.specs.Value.{val, Is, Rounds}
 use Rattle.elementary.specs.declared.Answer.{Answer}
 use Rattle.elementary.specs.declared.Answer.the-variants.{Value}
 use Rattle.polynomials.specs.Taylor.{sineFraction, cosineFraction, expFraction}

@@ -4,8 +4,8 @@ use Prim.Native.Nat.{ℕ, zero, suc, _-_, _+_, _/_, _%_, _^_}
 use lib.IntN.{ℤ, pos, negsuc, negℤ}
 use lib.Dec.{leb}
 use lib.Ieee.{Float, binary64, neg}
-use Rattle.fraction.specs.Fraction.{Frac, frac, plus, times, opp, over, whole}
-use Rattle.fraction.specs.Value.{val, nearestTo}
+use Rattle.rounding_error.specs.Fraction.{Frac, frac, plus, times, opp, over, whole}
+use Rattle.rounding_error.specs.Value.{val, nearestTo}
 use Rattle.polynomials.specs.Horner.{sineNear, cosineNear}
 
 -- the value of 3FF921FB54442D18

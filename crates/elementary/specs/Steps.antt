@@ -5,8 +5,8 @@ use Prim.Native.Nat.{ℕ, _≤_}
 use lib.IntN.{negsuc}
 use lib.Dec.{T}
 use lib.Ieee.{Float, fin, binary64}
-use Rattle.fraction.specs.Fraction.{Frac, frac, plus, times, opp, Within}
-use Rattle.fraction.specs.Value.{val, Is, nearestTo}
+use Rattle.rounding_error.specs.Fraction.{Frac, frac, plus, times, opp, Within}
+use Rattle.rounding_error.specs.Value.{val, Is, nearestTo}
 use Rattle.elementary.specs.Reduction.{H, turns, remainder, reduced, fourth}
 use Rattle.polynomials.specs.Range.{atMost}
 

@@ -7,7 +7,7 @@ use lib.ListN.{length}
 use lib.Ieee.{Float}
 use Rattle.variable_delay.specs.declared.VariableDelay.{VariableDelay}
 use Rattle.variable_delay.specs.Reader.{Reading, processedBy, verdict, ringAfter}
-use Rattle.doors.specs.Left.{Left, leftBy}
+use Rattle.answer_parts.specs.Left.{Left, leftBy}
 
 abbrev pub leftWith : Bool → Reading → VariableDelay → List Float → Float → Float → Left Float ℕ
 leftWith ok read d ring input delay =

@@ -8,9 +8,9 @@ ghost use Rattle.cubic_farrow.specs.Cubic as cubic;
 ghost use Rattle.lagrange.specs.Kernel as lagranges;
 ghost use Rattle.lagrange.specs.Kernel.{tapsOk};
 ghost use Rattle.farrow8.specs.Kernel as farrow;
-ghost use Rattle.doors.specs.Left.{tells, toldBy};
-use doors::number;
-use doors::value;
+ghost use Rattle.answer_parts.specs.Left.{tells, toldBy};
+use answer_parts::number;
+use answer_parts::value;
 
 #[no_mangle]
 pub extern "C" fn fugnadri_cubic_sample(

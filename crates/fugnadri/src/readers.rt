@@ -4,10 +4,10 @@ ghost use mathlib.Core.Path.{_≡_};
 ghost use Rattle.cubic_farrow.specs.Cubic.{cubicAt};
 ghost use Rattle.lagrange.specs.Kernel.{tapsOk, lagrangeAt};
 ghost use Rattle.farrow8.specs.Kernel.{farrowAt};
-ghost use Rattle.doors.specs.Doors.{stateOf};
-ghost use Rattle.doors.specs.Left.{leaves};
+ghost use Rattle.answer_parts.specs.States.{stateOf};
+ghost use Rattle.answer_parts.specs.Left.{leaves};
 ghost use Rattle.fugnadri.specs.Doors.{leftWith, leftOf};
-use doors::handing::handed;
+use answer_parts::handing::handed;
 use variable_delay::VariableDelay;
 
 #[no_mangle]

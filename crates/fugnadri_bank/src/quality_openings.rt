@@ -1,6 +1,6 @@
 // Q3. The reader whose quality may change, opened and reset: the refusal's number, 0 for none; the state's numbers through pointers, as they were where it is refused.
 ghost use mathlib.Core.Path.{_≡_};
-ghost use Rattle.doors.specs.Left.{renews};
+ghost use Rattle.answer_parts.specs.Left.{renews};
 ghost use Rattle.quality_codes.specs.Codes.{stateOf};
 ghost use Rattle.quality_codes.specs.Left.{changed, openedLeft, resetLeft};
 use quality_codes::Coded;

@@ -17,7 +17,7 @@ use Rattle.variable_delay_f32.specs.declared.ProcessedF32.{ProcessedF32}
 use Rattle.variable_delay_f32.specs.Call.{processedF32By}
 use Rattle.sinc_read.specs.Reading.{sincAt}
 use Rattle.sinc_read_f32.specs.Reading.{sincF32At}
-use Rattle.doors.specs.Left.{Left, leaves, leftBy}
+use Rattle.answer_parts.specs.Left.{Left, leaves, leftBy}
 
 abbrev pub settingsOf : ℕ → ℕ → Float → Float → Settings
 settingsOf taps phases cutoff beta = record { taps = taps; phases = phases; cutoff = cutoff; beta = beta }

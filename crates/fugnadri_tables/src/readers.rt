@@ -3,9 +3,9 @@
 ghost use mathlib.Core.Path.{_≡_};
 ghost use lib.Ieee.{binary64};
 ghost use Rattle.fugnadri_tables.specs.Doors.{leftOf};
-ghost use Rattle.doors.specs.Doors.{stateOf};
-ghost use Rattle.doors.specs.Left.{leaves, inBits};
-use doors::handing::handed;
+ghost use Rattle.answer_parts.specs.States.{stateOf};
+ghost use Rattle.answer_parts.specs.Left.{leaves, inBits};
+use answer_parts::handing::handed;
 use variable_delay::VariableDelay;
 
 #[no_mangle]
@@ -66,6 +66,6 @@ pub extern "C" fn fugnadri_windowed_sinc_process_bits<'a>(
         phases,
         &mut y,
     );
-    *sample = patterns::bits_of(y);
+    *sample = bit_patterns::bits_of(y);
     no
 }

@@ -2,8 +2,8 @@
 ghost use mathlib.Core.Path.{_≡_};
 ghost use Rattle.elementary.specs.Answers.{refusalOf};
 ghost use Rattle.oscillators.specs.Answers.{speedDeltaOf, advancePhaseOf, shapePrimitiveOf, oscillatorDelayOf, excursionOf, rateDeltaOf};
-ghost use Rattle.doors.specs.Values.{valueOf};
-use doors::values::handed;
+ghost use Rattle.answer_parts.specs.Values.{valueOf};
+use answer_parts::values::handed;
 
 #[no_mangle]
 pub extern "C" fn fugnadri_speed_delta(depth_cents: f64, result: &mut f64) -> u8

@@ -8,8 +8,8 @@ use lib.Ieee.{Float, nan, inf, fin, binary64, up, odd, ofFields, ofBits, isNan, 
 use lib.Ieee.Fits.{up-pos}
 use Rattle.rounding.specs.Operations.{fused}
 use Rattle.rounding.proofs.Fusing.{no-product, no-addend}
-use Rattle.digits.specs.Pattern.{plain}
-use Rattle.digits.proofs.Plain.{eq-zero}
+use Rattle.float_digits.specs.Pattern.{plain}
+use Rattle.float_digits.proofs.Plain.{eq-zero}
 
 pub factor-not-plain : (x y z : Float) → (plain x && plain y) ≡ false → add binary64 (mul binary64 x y) z ≡ fused binary64 x y z
 unfolding fused add mul

@@ -7,8 +7,8 @@ use lib.Dec.{eqb, lit<}
 use lib.Pow.{pow-add, pow-pos}
 use lib.Bits.{shifted-even}
 use lib.Ieee.{binary64, sum, ofBits}
-use Rattle.digits.specs.Jam.{Jam}
-use Rattle.digits.proofs.Jams.{jam-scale}
+use Rattle.float_digits.specs.Jam.{Jam}
+use Rattle.float_digits.proofs.Jams.{jam-scale}
 use Rattle.fused64.specs.Wide.{val}
 use Rattle.fused64.specs.Word.{Heads, Cutoff, Beside, Joined, Normal, Quick, digits53, fieldOf}
 

@@ -8,7 +8,7 @@ use lib.Dec.{eqb}
 use lib.Ieee.{binary64, round, sum, ofBits}
 use lib.Pow.{pow-pos}
 use Rattle.rounding.proofs.Sums.{sum-like, sum-less, sum-over}
-use Rattle.digits.specs.Jam.{Jam}
+use Rattle.float_digits.specs.Jam.{Jam}
 use Rattle.fused64.specs.Word.{Headed, Placed, Beside, Joined}
 use Rattle.fused64.proofs.Words.{unlike-bits}
 use Rattle.fused64.proofs.Beside.{jam-plus, jam-less, jam-more, less-kept, more-kept}

@@ -15,9 +15,9 @@ use Rattle.rounding.proofs.Orders.{pow-lt-back}
 use Rattle.rounding.proofs.Closest.{closest-by-add, closest-ge, closest-le}
 use Rattle.rounding.proofs.Pack.{pack}
 use Rattle.rounding.proofs.Jammed.{jammed}
-use Rattle.digits.specs.Jam.{Jam}
-use Rattle.digits.proofs.Jams.{jam-scale}
-use Rattle.digits.proofs.Lengths.{zeros-and-size, filled-below}
+use Rattle.float_digits.specs.Jam.{Jam}
+use Rattle.float_digits.proofs.Jams.{jam-scale}
+use Rattle.float_digits.proofs.Lengths.{zeros-and-size, filled-below}
 use Rattle.fused64.specs.Word.{Headed, Placed}
 
 sign-weight : (b : ℕ) → b < 2 → cond (eqb b 1) (2 ^ 63) 0 ≡ b * 2 ^ 63

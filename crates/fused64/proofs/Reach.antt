@@ -8,9 +8,9 @@ use borrow.Author.Tests.{eq-eqb, ne-eqb}
 use lib.Arith.{digits-lt}
 use lib.Pow.{pow-add, pow-pos, shr-le}
 use lib.Bits.{bitAnd, bitOr, and-le-l, and-le-r, and-mask, or-add-and, or-mod}
-use Rattle.digits.specs.Pattern.{withSticky}
-use Rattle.digits.specs.Jam.{Jam}
-use Rattle.digits.proofs.Jams.{jam-cut}
+use Rattle.float_digits.specs.Pattern.{withSticky}
+use Rattle.float_digits.specs.Jam.{Jam}
+use Rattle.float_digits.proofs.Jams.{jam-cut}
 use Rattle.fused64.specs.Wide.{val, lower}
 use Rattle.fused64.specs.Word.{Heads, Tells, Cutoff}
 

@@ -3,7 +3,7 @@ use mathlib.Core.Path.{_≡_}
 use Prim.Native.Nat.{ℕ, _+_, _*_, _/_, _%_, _^_, _≤_, _<_}
 use lib.Dec.{eqb}
 use lib.Ieee.{binary64, round, sum, ofBits}
-use Rattle.digits.specs.Jam.{Jam}
+use Rattle.float_digits.specs.Jam.{Jam}
 use Rattle.fused64.specs.Wide.{val}
 
 -- three fields that lie less than 512 above 768

@@ -31,7 +31,7 @@ fn without(hi: u64, rest: u64, d: u64) -> u64
     ensures { λ r. ⌜ ((lo : ℕ) → Tells rest lo → Cutoff hi lo d r) ⌝ }
 {
     let t: u64 = hi >> d;
-    digits::sticky(t, (hi - (t << d)) | rest)
+    float_digits::sticky(t, (hi - (t << d)) | rest)
 }
 
 // The number n at g's place, rounded once, with g's sign. It has 56 digits or more, for the last one may stand for what was cut off.

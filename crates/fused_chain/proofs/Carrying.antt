@@ -6,7 +6,7 @@ use Prim.Native.Nat.{ℕ, _+_, _-_, _≤_, _<_}
 use native.Mathlib.Omega.{arith}
 use lib.Dec.{T}
 use lib.Ieee.{Float, binary32, fits}
-use Rattle.loops.proofs.Folds.{turn}
+use Rattle.loop_laws.proofs.Folds.{turn}
 use Rattle.rounding.proofs.Orders.{lt-or-ge}
 use Rattle.rounding.proofs.Fusing.{fused-fits}
 use Rattle.fused_chain.specs.Chain.{turnOf, chainOf}

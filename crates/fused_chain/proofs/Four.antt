@@ -6,9 +6,9 @@ use Prim.Native.Nat.{ℕ, _+_, _≤_}
 use native.Mathlib.Omega.{arith}
 use lib.ListN.{getD}
 use lib.Ieee.{Float, nan, binary64, add, sub, lt}
-use Rattle.biased.specs.Biased.{Biased}
-use Rattle.biased.specs.Sums.{Between, Advanced}
-use Rattle.biased.proofs.Steps.{step, back}
+use Rattle.biased_sum.specs.Biased.{Biased}
+use Rattle.biased_sum.specs.Sums.{Between, Advanced}
+use Rattle.biased_sum.proofs.Steps.{step, back}
 use Rattle.fused_chain.specs.Chain.{coefficientOf, turnOf}
 use Rattle.fused_chain.specs.Blocks.{Carries, Runs, Product, TapProduct, Multiplied}
 use Rattle.fused_chain.proofs.Carrying.{on, once}

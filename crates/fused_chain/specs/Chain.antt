@@ -3,7 +3,7 @@ use Prim.Native.Nat.{ℕ, min}
 use mathlib.Core.List.{List}
 use lib.ListN.{getD}
 use lib.Ieee.{Float, nan, binary32, add, sub, mul}
-use Rattle.loops.specs.Loops.{fold}
+use Rattle.loop_laws.specs.Loops.{fold}
 use Rattle.rounding.specs.Operations.{fused}
 
 -- `row0[k] + blend * (row1[k] - row0[k])`

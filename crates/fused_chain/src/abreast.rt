@@ -2,8 +2,8 @@
 ghost use Rattle.fused_chain.specs.Blocks.{Ready, Runs};
 use crate::before::four_rounded;
 use crate::taps::multiplied;
-use biased::advance;
-use biased::with_bias;
+use biased_sum::advance;
+use biased_sum::with_bias;
 use refusal_order::both;
 
 // How far both runs came, and their sums there.

@@ -2,8 +2,8 @@
 ghost use Rattle.fused_chain.specs.Blocks.{Ready, Runs};
 use crate::Run;
 use crate::taps::multiplied;
-use biased::advance;
-use biased::with_bias;
+use biased_sum::advance;
+use biased_sum::with_bias;
 use refusal_order::both;
 
 // The turns from `from` on, four at a time, up to `to` at most, as far as the sum keeps its size and its sign.

@@ -8,8 +8,8 @@ use native.Mathlib.Omega.{arith}
 use lib.IntN.{pos}
 use lib.ListN.{length}
 use lib.Ieee.{Float, fin}
-use Rattle.loops.specs.Loops.{listOf}
-use Rattle.loops.proofs.Lists.{same-list}
+use Rattle.loop_laws.specs.Loops.{listOf}
+use Rattle.loop_laws.proofs.Lists.{same-list}
 use Rattle.answer.specs.Answers.{numberF32Of, valueF32Of, answerF32Of}
 use Rattle.modulation.specs.Step.{nextOf}
 use Rattle.modulation_params.specs.Settings.{defaultParams}

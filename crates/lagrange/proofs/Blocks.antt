@@ -5,8 +5,8 @@ use Prim.Native.Nat.{ℕ, _+_, _<_, _≤_}
 use native.Mathlib.Omega.{arith}
 use lib.IntN.{ℤ, pos, _+ℤ_}
 use lib.Ieee.{Float}
-use Rattle.loops.specs.Loops.{fold}
-use Rattle.loops.proofs.Folds.{same, split}
+use Rattle.loop_laws.specs.Loops.{fold}
+use Rattle.loop_laws.proofs.Folds.{same, split}
 use Rattle.ring.specs.Taps.{tapOf}
 use Rattle.lagrange.specs.Kernel.{turnOf, zero-f}
 use Rattle.lagrange.specs.Eights.{Weights, tapTurn}

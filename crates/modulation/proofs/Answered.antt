@@ -12,8 +12,8 @@ use Rattle.magnitude.specs.Bounds.{AtMost}
 use Rattle.magnitude.proofs.Comparisons.{lt→le, finite-number}
 use Rattle.magnitude.proofs.Between.{between-at-most}
 use Rattle.interval.proofs.Between.{Between, between}
-use Rattle.order.specs.Choice.{larger, clamped}
-use Rattle.order.proofs.Clamps.{clamped-ge, clamped-le}
+use Rattle.min_max.specs.Choice.{larger, clamped}
+use Rattle.min_max.proofs.Clamps.{clamped-ge, clamped-le}
 use Rattle.elementary.specs.Answers.{powerAt}
 use Rattle.smooth_random.specs.Ranges as ranges
 use Rattle.smooth_random.specs.Ranges.{within, argumentsOf, validOf}
@@ -22,8 +22,8 @@ use Rattle.smooth_random.specs.declared.SmoothRandom.{SmoothRandom}
 use Rattle.oscillator_ranges.specs.Constants as numbers
 use Rattle.oscillator_ranges.specs.Constants.{tau, one, octave}
 use Rattle.oscillator_ranges.specs.Ranges.{cycleOk, sampleRateOk, fastest}
-use Rattle.waves.specs.Waves.{speedDelta}
-use Rattle.waves.proofs.Inside.{Cosines, cosines-answer, power-answers, larger-at-most, delta-answers}
+use Rattle.oscillator_arithmetic.specs.Arithmetic.{speedDelta}
+use Rattle.oscillator_arithmetic.proofs.Inside.{Cosines, cosines-answer, power-answers, larger-at-most, delta-answers}
 use Rattle.modulation_params.specs.Settings.{paramsOk}
 use Rattle.modulation_sample.specs.Sample.{half, multiplierOf, sidePhase}
 use Rattle.modulation.specs.Step.{wowPace, flutterPace, wowDrift, flutterDrift}

@@ -6,7 +6,7 @@ use lib.Ieee.Bits.{is-true}
 use lib.Ieee.Scale.{finite}
 use Rattle.magnitude.specs.Bounds.{AtMost}
 use Rattle.oscillator_ranges.specs.Ranges.{rateOk, depthOk}
-use Rattle.waves.proofs.Inside.{rate-at-most, depth-at-most}
+use Rattle.oscillator_arithmetic.proofs.Inside.{rate-at-most, depth-at-most}
 use Rattle.modulation_params.specs.Settings.{paramsOk}
 use Rattle.modulation_params.specs.declared.ModulationParams.{ModulationParams}
 

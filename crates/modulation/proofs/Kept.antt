@@ -13,8 +13,8 @@ use Rattle.magnitude.proofs.Operations.{mul-at-most}
 use Rattle.xorshift.specs.Seeds.{flutterSeedOf}
 use Rattle.smooth_random.specs.Ranges.{validOf}
 use Rattle.oscillator_ranges.specs.Ranges.{cycleOk, sampleRateOk}
-use Rattle.waves.proofs.Powers.{pow2-at-most}
-use Rattle.waves.proofs.Cycle.{huge, advance-cycle}
+use Rattle.oscillator_arithmetic.proofs.Powers.{pow2-at-most}
+use Rattle.oscillator_arithmetic.proofs.Cycle.{huge, advance-cycle}
 use Rattle.modulation_params.specs.Settings.{paramsOk}
 use Rattle.modulation_engine.specs.Engine.{phasesOk, validEngine, fresh, rated, seeded, restarted}
 use Rattle.modulation_sample.specs.Sample.{multiplierOf}

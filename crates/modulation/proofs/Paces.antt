@@ -13,8 +13,8 @@ use Rattle.magnitude.proofs.Between.{at-most-finite}
 use Rattle.magnitude.proofs.Operations.{mul-at-most}
 use Rattle.interval.proofs.Signed.{nle→lt, le-lt}
 use Rattle.interval.proofs.Between.{Between, between}
-use Rattle.order.specs.Choice.{clamped}
-use Rattle.order.proofs.Clamps.{clamped-ge, clamped-le}
+use Rattle.min_max.specs.Choice.{clamped}
+use Rattle.min_max.proofs.Clamps.{clamped-ge, clamped-le}
 use Rattle.smooth_random.specs.Ranges.{within, argumentsOf, validOf, verdict}
 use Rattle.smooth_random.specs.Drift.{answer, nextOf}
 use Rattle.smooth_random.specs.declared.SmoothRandom.{SmoothRandom}

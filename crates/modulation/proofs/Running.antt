@@ -9,7 +9,7 @@ use denote.Floats.{passes}
 use lib.Dec.{T, eqb}
 use lib.Ieee.{Float}
 use lib.Ieee.Bits.{is-true}
-use Rattle.words.specs.Xor.{xor}
+use Rattle.wrapping_u64.specs.Xor.{xor}
 use Rattle.xorshift.specs.Seeds.{seedOf, flutterSeedOf}
 use Rattle.smooth_random.specs.Drift as drift
 use Rattle.smooth_random.specs.declared.SmoothRandom.{SmoothRandom}

@@ -9,8 +9,8 @@ use Rattle.magnitude.specs.Bounds.{AtMost}
 use Rattle.magnitude.proofs.Comparisons.{finite-number}
 use Rattle.magnitude.proofs.Between.{between-at-most}
 use Rattle.interval.proofs.Between.{Between, between}
-use Rattle.order.specs.Choice.{clamped}
-use Rattle.order.proofs.Clamps.{clamped-ge, clamped-le}
+use Rattle.min_max.specs.Choice.{clamped}
+use Rattle.min_max.proofs.Clamps.{clamped-ge, clamped-le}
 use Rattle.xorshift.specs.Draws.{two}
 use Rattle.smooth_random.specs.Ranges.{validOf}
 use Rattle.smooth_random.specs.Drift.{valueAt}

@@ -1,7 +1,7 @@
 -- M5. One step of 001's engine, operation by operation in its order. Definitions only.
 use Prim.Native.Nat.{ℕ, zero, suc}
 use lib.Ieee.{Float, binary64, ofBits, mul}
-use Rattle.order.specs.Choice.{clamped}
+use Rattle.min_max.specs.Choice.{clamped}
 use Rattle.smooth_random.specs.Drift as drift
 use Rattle.smooth_random.specs.declared.Next as random
 use Rattle.modulation_params.specs.Settings.{paramsOk}

@@ -22,11 +22,11 @@ pub fn next(engine: ModulationEngine, params: ModulationParams) -> Next
         let wow = engine.wow_drift;
         let flutter = engine.flutter_drift;
         let wow = wow.next(
-            order::clamp(params.wow_rate_hz * 0.5, 0.025, 2.0),
+            min_max::clamp(params.wow_rate_hz * 0.5, 0.025, 2.0),
             engine.sample_rate,
         );
         let flutter = flutter.next(
-            order::clamp(params.flutter_rate_hz * 0.1, 0.5, 3.0),
+            min_max::clamp(params.flutter_rate_hz * 0.1, 0.5, 3.0),
             engine.sample_rate,
         );
         let drifts = both(wow.refusal == 0, flutter.refusal == 0);

@@ -4,8 +4,8 @@ use mathlib.Core.Bool.{Bool, _&&_}
 use lib.Dec.{T, eqb, eqb→eq}
 use lib.Ieee.{Float, binary64, fits, eq, neg, add, mul, ofBits, toBits}
 use lib.Ieee.Fits.{and-l, and-r, add-fits}
-use Rattle.order.specs.Choice.{clamped}
-use Rattle.patterns.proofs.Quiet.{float-back}
+use Rattle.min_max.specs.Choice.{clamped}
+use Rattle.bit_patterns.proofs.Quiet.{float-back}
 use Rattle.oscillator_ranges.specs.Constants.{zero, one}
 use Rattle.modulation_params.specs.declared.ModulationParams.{ModulationParams}
 use Rattle.modulation_engine.specs.declared.ModulationEngine.{ModulationEngine}

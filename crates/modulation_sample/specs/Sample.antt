@@ -1,9 +1,9 @@
 -- M5. What a sample of 001's engine is made of, operation by operation in its order: the offsets of both sides, and the engine with its phases advanced. Definitions only.
 use lib.Ieee.{Float, binary64, ofBits, neg, add, mul}
-use Rattle.order.specs.Choice.{clamped}
+use Rattle.min_max.specs.Choice.{clamped}
 use Rattle.smooth_random.specs.declared.Next as random
 use Rattle.oscillator_ranges.specs.Constants as numbers
-use Rattle.waves.specs.Waves.{pow2, advancePhase, oscillatorDelay}
+use Rattle.oscillator_arithmetic.specs.Arithmetic.{pow2, advancePhase, oscillatorDelay}
 use Rattle.modulation_params.specs.declared.ModulationParams.{ModulationParams}
 use Rattle.modulation_engine.specs.declared.ModulationEngine.{ModulationEngine}
 use Rattle.modulation_sample.specs.declared.StereoDelayOffset.{StereoDelayOffset}

@@ -5,9 +5,9 @@ ghost use lib.Dec.{eqb};
 ghost use lib.Ieee as Ieee;
 ghost use lib.Ieee.{binary64};
 ghost use Rattle.modulation_sample.specs.Sample.{defaultOffset, multiplierOf, offsetOf, steppedBy};
+use bit_patterns::bits_of;
 use modulation_engine::ModulationEngine;
 use modulation_params::ModulationParams;
-use patterns::bits_of;
 use smooth_random::Next as Drift;
 
 pub struct StereoDelayOffset {
@@ -41,8 +41,8 @@ pub fn default_offset() -> StereoDelayOffset
 fn multiplier(drift_amount: f64, value: f64) -> f64
     ensures { λ r. ⌜ r ≡ multiplierOf «drift_amount» value ⌝ }
 {
-    let drift = order::clamp(drift_amount, 0.0, 1.0);
-    waves::power_of_two(0.5 * drift * value)
+    let drift = min_max::clamp(drift_amount, 0.0, 1.0);
+    oscillator_arithmetic::power_of_two(0.5 * drift * value)
 }
 
 // Whether two floats are one, by their patterns; most that are not differ as numbers.
@@ -67,13 +67,13 @@ fn pairs(a: f64, b: f64, c: f64, d: f64) -> bool
 pub fn render(engine: ModulationEngine, params: ModulationParams) -> StereoDelayOffset
     ensures { λ r. ⌜ r ≡ offsetOf engine params ⌝ }
 {
-    let side = order::clamp(params.stereo_amount, 0.0, 1.0) * 1.5707963267948966;
-    let wow = waves::amplitude(
+    let side = min_max::clamp(params.stereo_amount, 0.0, 1.0) * 1.5707963267948966;
+    let wow = oscillator_arithmetic::amplitude(
         params.wow_rate_hz,
         params.wow_depth_cents,
         engine.sample_rate,
     );
-    let flutter = waves::amplitude(
+    let flutter = oscillator_arithmetic::amplitude(
         params.flutter_rate_hz,
         params.flutter_depth_cents,
         engine.sample_rate,
@@ -82,13 +82,13 @@ pub fn render(engine: ModulationEngine, params: ModulationParams) -> StereoDelay
     let wow_right = engine.wow_phase + side;
     let flutter_left = engine.flutter_phase + (-side);
     let flutter_right = engine.flutter_phase + side;
-    let left = wow * waves::shape_primitive(wow_left, params.wow_shape)
-        + flutter * waves::shape_primitive(flutter_left, params.flutter_shape);
+    let left = wow * oscillator_arithmetic::shape_primitive(wow_left, params.wow_shape)
+        + flutter * oscillator_arithmetic::shape_primitive(flutter_left, params.flutter_shape);
     if pairs(wow_left, wow_right, flutter_left, flutter_right) {
         return StereoDelayOffset { left, right: left };
     }
-    let right = wow * waves::shape_primitive(wow_right, params.wow_shape)
-        + flutter * waves::shape_primitive(flutter_right, params.flutter_shape);
+    let right = wow * oscillator_arithmetic::shape_primitive(wow_right, params.wow_shape)
+        + flutter * oscillator_arithmetic::shape_primitive(flutter_right, params.flutter_shape);
     StereoDelayOffset { left, right }
 }
 
@@ -105,8 +105,12 @@ pub fn stepped(
     let flutter_rate = params.flutter_rate_hz * multiplier(params.drift_amount, flutter.value);
     let wow_random = wow.random;
     let flutter_random = flutter.random;
-    engine.wow_phase = waves::advance_phase(engine.wow_phase, wow_rate, engine.sample_rate);
-    engine.flutter_phase = waves::advance_phase(
+    engine.wow_phase = oscillator_arithmetic::advance_phase(
+        engine.wow_phase,
+        wow_rate,
+        engine.sample_rate,
+    );
+    engine.flutter_phase = oscillator_arithmetic::advance_phase(
         engine.flutter_phase,
         flutter_rate,
         engine.sample_rate,

@@ -13,10 +13,10 @@ use lib.Ieee.Positive.{num, den, den-pos, positive, above, own-value, le→cross
 use lib.Ieee.Scale.{finite, round-same}
 use Rattle.rounding.proofs.Mirror.{neg-neg}
 use Rattle.rounding.proofs.Own.{round-own}
-use Rattle.fraction.specs.Fraction.{Frac, opp}
-use Rattle.fraction.specs.Value.{signed, val}
-use Rattle.fraction.proofs.Operations.{Rounded}
-use Rattle.fraction.proofs.Compare.{side, le-is}
+use Rattle.rounding_error.specs.Fraction.{Frac, opp}
+use Rattle.rounding_error.specs.Value.{signed, val}
+use Rattle.rounding_error.proofs.Operations.{Rounded}
+use Rattle.rounding_error.proofs.Compare.{side, le-is}
 use Rattle.near_fused.proofs.Mono.{AtMost, at-most-trans, mono-above, neg-rounded}
 
 -- ---- the test, above zero

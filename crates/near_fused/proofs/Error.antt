@@ -4,12 +4,12 @@ use native.Mathlib.Nat.{mul-pos}
 use lib.Dec.{T, lit≤, lit<}
 use lib.Ieee.{Float, binary64, add, sub, fits}
 use lib.Ieee.Scale.{finite}
-use Rattle.fraction.specs.Fraction.{nil, plus, opp, Same}
-use Rattle.fraction.specs.Value.{val, Is}
-use Rattle.fraction.proofs.Same.{same-refl, same-sym, same-trans, plus-same, opp-same}
-use Rattle.fraction.proofs.Within.{flip, to, from}
-use Rattle.fraction.proofs.Value.{val-pos}
-use Rattle.fraction.proofs.Operations.{add-rounded}
+use Rattle.rounding_error.specs.Fraction.{nil, plus, opp, Same}
+use Rattle.rounding_error.specs.Value.{val, Is}
+use Rattle.rounding_error.proofs.Same.{same-refl, same-sym, same-trans, plus-same, opp-same}
+use Rattle.rounding_error.proofs.Within.{flip, to, from}
+use Rattle.rounding_error.proofs.Value.{val-pos}
+use Rattle.rounding_error.proofs.Operations.{add-rounded}
 use Rattle.near_fused.specs.Step.{total, left}
 use Rattle.near_fused.proofs.Short.{units-of, short-exact}
 use Rattle.near_fused.proofs.TwoSum.{sub-rounded, two-sum}

@@ -15,10 +15,10 @@ use Rattle.rounding.proofs.Orders.{lt-or-ge, and-true}
 use Rattle.rounding.proofs.Sums.{sum-is, sum-sign, sum-size}
 use Rattle.rounding.proofs.Units.{units-over}
 use Rattle.rounding.proofs.Whole.{near, places, round-units, rounded-value}
-use Rattle.fraction.specs.Fraction.{plus, opp, Same}
-use Rattle.fraction.specs.Value.{signed, val}
-use Rattle.fraction.proofs.Same.{ring, same-sym, plus-same, opp-same}
-use Rattle.fraction.proofs.Value.{value-is}
+use Rattle.rounding_error.specs.Fraction.{plus, opp, Same}
+use Rattle.rounding_error.specs.Value.{signed, val}
+use Rattle.rounding_error.proofs.Same.{ring, same-sym, plus-same, opp-same}
+use Rattle.rounding_error.proofs.Value.{value-is}
 use Rattle.near_fused.proofs.Few.{Few, rounded, few-rounded, few-stays}
 use Rattle.near_fused.proofs.Left.{left-of-sum, left-of-difference}
 use Rattle.near_fused.proofs.Short.{L, Units, Short, units-same, short-same}

@@ -6,13 +6,13 @@ use lib.Dec.{T, lit≤, lit<}
 use lib.Ieee.{Float, binary64, add, le}
 use lib.Ieee.Scale.{finite}
 use Rattle.rounding.specs.Operations.{fused}
-use Rattle.fraction.specs.Fraction.{Frac, nil, plus, times, opp}
-use Rattle.fraction.specs.Value.{val}
-use Rattle.fraction.proofs.Same.{same-refl}
-use Rattle.fraction.proofs.Within.{flip, to, within-opp}
-use Rattle.fraction.proofs.Value.{val-pos}
-use Rattle.fraction.proofs.Operations.{add-rounded}
-use Rattle.fraction.proofs.Fused.{fused-rounded}
+use Rattle.rounding_error.specs.Fraction.{Frac, nil, plus, times, opp}
+use Rattle.rounding_error.specs.Value.{val}
+use Rattle.rounding_error.proofs.Same.{same-refl}
+use Rattle.rounding_error.proofs.Within.{flip, to, within-opp}
+use Rattle.rounding_error.proofs.Value.{val-pos}
+use Rattle.rounding_error.proofs.Operations.{add-rounded}
+use Rattle.rounding_error.proofs.Fused.{fused-rounded}
 use Rattle.near_fused.proofs.TwoSum.{sub-rounded}
 use Rattle.near_fused.proofs.Near.{Unit, Near, near-same, near-chain, near-rounds}
 use Rattle.near_fused.proofs.Ends.{ziv}

@@ -10,10 +10,10 @@ use lib.Ieee.{Float, nan, inf, fin, binary64, up, add, neg, lt, eq, le}
 use lib.Ieee.Fits.{up-pos}
 use lib.Ieee.Positive.{above, above-of-le}
 use lib.Ieee.Scale.{finite}
-use Rattle.fraction.specs.Fraction.{Frac, nil, Same}
-use Rattle.fraction.specs.Value.{val}
-use Rattle.fraction.proofs.Value.{val-pos}
-use Rattle.fraction.proofs.Operations.{Rounded}
+use Rattle.rounding_error.specs.Fraction.{Frac, nil, Same}
+use Rattle.rounding_error.specs.Value.{val}
+use Rattle.rounding_error.proofs.Value.{val-pos}
+use Rattle.rounding_error.proofs.Operations.{Rounded}
 use Rattle.near_fused.proofs.Ends.{neg-mono, no-nan, no-inf}
 use Rattle.near_fused.proofs.Mono.{AtMost, mono-above}
 

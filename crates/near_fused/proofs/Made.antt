@@ -9,12 +9,12 @@ use lib.Pow.{pow-pos}
 use lib.Ieee.{Float, binary64, mul, fits}
 use lib.Ieee.Exact.{HasValue}
 use lib.Ieee.Scale.{finite}
-use Rattle.fraction.specs.Fraction.{Frac, frac, nil, Same, Within}
-use Rattle.fraction.specs.Value.{signed, val}
-use Rattle.fraction.proofs.Same.{ring, same-sym, same-trans}
-use Rattle.fraction.proofs.Within.{from, rescale}
-use Rattle.fraction.proofs.Value.{value-is}
-use Rattle.fraction.proofs.Product.{mag-signed}
+use Rattle.rounding_error.specs.Fraction.{Frac, frac, nil, Same, Within}
+use Rattle.rounding_error.specs.Value.{signed, val}
+use Rattle.rounding_error.proofs.Same.{ring, same-sym, same-trans}
+use Rattle.rounding_error.proofs.Within.{from, rescale}
+use Rattle.rounding_error.proofs.Value.{value-is}
+use Rattle.rounding_error.proofs.Product.{mag-signed}
 use Rattle.near_fused.specs.Parts.{high}
 use Rattle.near_fused.proofs.Near.{Unit, Near}
 use Rattle.near_fused.proofs.Split.{Split}

@@ -13,8 +13,8 @@ use lib.Ieee.Scale.{finite, grid, round-val, round-under}
 use Rattle.rounding.proofs.Adding.{plus}
 use Rattle.rounding.proofs.Products.{mul-value}
 use Rattle.rounding.proofs.Whole.{places, v-ge, rounded-value}
-use Rattle.fraction.proofs.Same.{ring}
-use Rattle.fraction.proofs.Units.{Part, Near, near-part}
+use Rattle.rounding_error.proofs.Same.{ring}
+use Rattle.rounding_error.proofs.Units.{Part, Near, near-part}
 use Rattle.near_fused.specs.Step.{least}
 use Rattle.near_fused.proofs.Enough.{enough, Share, share}
 use Rattle.near_fused.proofs.Few.{rounded, near-hi, few-below}

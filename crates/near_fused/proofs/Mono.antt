@@ -12,10 +12,10 @@ use lib.Ieee.Order.{drop, kept, round-mono}
 use lib.Ieee.Positive.{above}
 use Rattle.rounding.proofs.Mirror.{round-neg}
 use Rattle.rounding.proofs.Sums.{round-zero}
-use Rattle.fraction.specs.Fraction.{Frac, opp, Same}
-use Rattle.fraction.specs.Value.{signed}
-use Rattle.fraction.proofs.Same.{ring, same-sym, opp-same}
-use Rattle.fraction.proofs.Operations.{Rounded, bottom}
+use Rattle.rounding_error.specs.Fraction.{Frac, opp, Same}
+use Rattle.rounding_error.specs.Value.{signed}
+use Rattle.rounding_error.proofs.Same.{ring, same-sym, opp-same}
+use Rattle.rounding_error.proofs.Operations.{Rounded, bottom}
 
 -- x ≤ y
 pub record AtMost (x y : Frac) : Type 0 where

@@ -13,12 +13,12 @@ use lib.Ieee.Order.{drop, kept}
 use lib.Ieee.Scale.{finite, grid, overflow}
 use Rattle.rounding.proofs.Orders.{lt-or-ge}
 use Rattle.rounding.proofs.Units.{units-over}
-use Rattle.fraction.specs.Fraction.{Frac, nil, plus, opp, Same, Within}
-use Rattle.fraction.specs.Value.{val, Rounds}
-use Rattle.fraction.proofs.Same.{ring, same-refl, plus-nil}
-use Rattle.fraction.proofs.Within.{rescale, chain, to, same-within, within-plus}
-use Rattle.fraction.proofs.Operations.{Rounded, bottom, bounded}
-use Rattle.fraction.proofs.Round.{round-part}
+use Rattle.rounding_error.specs.Fraction.{Frac, nil, plus, opp, Same, Within}
+use Rattle.rounding_error.specs.Value.{val, Rounds}
+use Rattle.rounding_error.proofs.Same.{ring, same-refl, plus-nil}
+use Rattle.rounding_error.proofs.Within.{rescale, chain, to, same-within, within-plus}
+use Rattle.rounding_error.proofs.Operations.{Rounded, bottom, bounded}
+use Rattle.rounding_error.proofs.Round.{round-part}
 use Rattle.near_fused.proofs.Ring.{none}
 
 -- ---- one rounding, where the result is finite

@@ -4,13 +4,13 @@ use native.Mathlib.Nat.{one-mul, mul-pos}
 use lib.Dec.{T, lit≤, lit<}
 use lib.Ieee.{Float, binary64, add, sub, mul}
 use lib.Ieee.Scale.{finite}
-use Rattle.fraction.specs.Fraction.{Frac, nil, plus, times, opp, Within}
-use Rattle.fraction.specs.Value.{val}
-use Rattle.fraction.proofs.Same.{times-comm}
-use Rattle.fraction.proofs.Within.{rescale, chain, to, from}
-use Rattle.fraction.proofs.Product.{mag-times, within-times, within-times-at}
-use Rattle.fraction.proofs.Value.{val-pos}
-use Rattle.fraction.proofs.Operations.{add-rounded, mul-rounded}
+use Rattle.rounding_error.specs.Fraction.{Frac, nil, plus, times, opp, Within}
+use Rattle.rounding_error.specs.Value.{val}
+use Rattle.rounding_error.proofs.Same.{times-comm}
+use Rattle.rounding_error.proofs.Within.{rescale, chain, to, from}
+use Rattle.rounding_error.proofs.Product.{mag-times, within-times, within-times-at}
+use Rattle.rounding_error.proofs.Value.{val-pos}
+use Rattle.rounding_error.proofs.Operations.{add-rounded, mul-rounded}
 use Rattle.near_fused.proofs.TwoSum.{sub-rounded}
 use Rattle.near_fused.proofs.Near.{Unit, Near, near-chain, near-plus, near-two, near-of, near-rounds, rounded-part}
 use Rattle.near_fused.proofs.Finite.{add-finite, sub-finite, mul-finite}

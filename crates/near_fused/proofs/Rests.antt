@@ -5,10 +5,10 @@ use native.Mathlib.Nat.{mul-le-mul-right, add-mul, div-add-mod'}
 use native.Mathlib.Omega.{arith}
 use lib.Pow.{pow-pos}
 use lib.Ieee.{Float}
-use Rattle.fraction.specs.Fraction.{plus, opp, Same}
-use Rattle.fraction.specs.Value.{signed}
-use Rattle.fraction.proofs.Same.{same-sym, same-trans, plus-same, opp-same}
-use Rattle.fraction.proofs.Value.{value-is}
+use Rattle.rounding_error.specs.Fraction.{plus, opp, Same}
+use Rattle.rounding_error.specs.Value.{signed}
+use Rattle.rounding_error.proofs.Same.{same-sym, same-trans, plus-same, opp-same}
+use Rattle.rounding_error.proofs.Value.{value-is}
 use Rattle.near_fused.specs.Parts.{lower, high}
 use Rattle.near_fused.proofs.Larger.{up}
 use Rattle.near_fused.proofs.Split.{Split}

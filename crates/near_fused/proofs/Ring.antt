@@ -2,8 +2,8 @@
 use Prim.Native.Nat.{_+_, _*_, _<_}
 use native.Mathlib.Nat.{mul-pos}
 use native.Mathlib.Omega.{arith}
-use Rattle.fraction.specs.Fraction.{Frac, nil, plus, times, opp, Same}
-use Rattle.fraction.proofs.Same.{ring, same-refl, same-sym, same-trans, plus-same, plus-comm, times-same}
+use Rattle.rounding_error.specs.Fraction.{Frac, nil, plus, times, opp, Same}
+use Rattle.rounding_error.proofs.Same.{ring, same-refl, same-sym, same-trans, plus-same, plus-comm, times-same}
 
 assoc : (x y z : Frac) → 0 < x .d → 0 < y .d → 0 < z .d → Same (plus (plus x y) z) (plus x (plus y z))
 assoc x y z X Y Z = record { left = mul-pos (mul-pos X Y) Z; right = mul-pos X (mul-pos Y Z); cross = simp ring (omega arith) }

@@ -10,11 +10,11 @@ use lib.Ieee.{Float, nan, inf, fin, binary64, round, fits}
 use lib.Ieee.Exact.{HasValue, round-exact}
 use lib.Ieee.Scale.{finite, overflow}
 use Rattle.rounding.proofs.Values.{fits-units}
-use Rattle.fraction.specs.Fraction.{Frac, opp, Same}
-use Rattle.fraction.specs.Value.{signed, val, Is}
-use Rattle.fraction.proofs.Same.{same-sym, same-trans, opp-same}
-use Rattle.fraction.proofs.Value.{value-is}
-use Rattle.fraction.proofs.Operations.{Rounded, bottom}
+use Rattle.rounding_error.specs.Fraction.{Frac, opp, Same}
+use Rattle.rounding_error.specs.Value.{signed, val, Is}
+use Rattle.rounding_error.proofs.Same.{same-sym, same-trans, opp-same}
+use Rattle.rounding_error.proofs.Value.{value-is}
+use Rattle.rounding_error.proofs.Operations.{Rounded, bottom}
 use Rattle.near_fused.proofs.Few.{Few}
 
 abbrev pub L : ℕ

@@ -3,9 +3,9 @@ use mathlib.Core.Path.{_≡_}
 use Prim.Native.Nat.{ℕ, _+_, _*_, _≤_, _<_}
 use native.Mathlib.Nat.{mul-pos, mul-le-mul-right, le-of-mul-le-mul-right}
 use native.Mathlib.Omega.{arith}
-use Rattle.fraction.specs.Fraction.{Frac, frac, plus, opp, Same}
-use Rattle.fraction.proofs.Same.{ring, same-refl, plus-same, opp-same}
-use Rattle.fraction.proofs.Within.{to}
+use Rattle.rounding_error.specs.Fraction.{Frac, frac, plus, opp, Same}
+use Rattle.rounding_error.proofs.Same.{ring, same-refl, plus-same, opp-same}
+use Rattle.rounding_error.proofs.Within.{to}
 use Rattle.near_fused.proofs.Mono.{AtMost}
 use Rattle.near_fused.proofs.Near.{Unit, Near}
 

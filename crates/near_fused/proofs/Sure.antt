@@ -6,13 +6,13 @@ use lib.Dec.{T, lit≤, lit<}
 use lib.Ieee.{Float, binary64, add, sub, mul, fits}
 use lib.Ieee.Fits.{mul-fits}
 use lib.Ieee.Scale.{finite}
-use Rattle.fraction.specs.Fraction.{Frac, frac, nil, plus, times, opp, Same}
-use Rattle.fraction.specs.Value.{val}
-use Rattle.fraction.proofs.Same.{same-refl, same-sym, same-trans, plus-same, plus-comm}
-use Rattle.fraction.proofs.Within.{to, from, weaken, within-opp}
-use Rattle.fraction.proofs.Product.{mag-times, mag-signed}
-use Rattle.fraction.proofs.Value.{val-pos}
-use Rattle.fraction.proofs.Operations.{add-rounded}
+use Rattle.rounding_error.specs.Fraction.{Frac, frac, nil, plus, times, opp, Same}
+use Rattle.rounding_error.specs.Value.{val}
+use Rattle.rounding_error.proofs.Same.{same-refl, same-sym, same-trans, plus-same, plus-comm}
+use Rattle.rounding_error.proofs.Within.{to, from, weaken, within-opp}
+use Rattle.rounding_error.proofs.Product.{mag-times, mag-signed}
+use Rattle.rounding_error.proofs.Value.{val-pos}
+use Rattle.rounding_error.proofs.Operations.{add-rounded}
 use Rattle.near_fused.specs.Step.{total, left}
 use Rattle.near_fused.proofs.TwoSum.{sub-rounded}
 use Rattle.near_fused.proofs.Ring.{restored, plus-assoc, split-product}

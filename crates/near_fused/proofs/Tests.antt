@@ -9,10 +9,10 @@ use lib.Ieee.{Float, nan, inf, fin, binary64, fits, ofBits, toBits, nanBits, isN
 use lib.Ieee.Bits.{toBits-lt}
 use lib.Ieee.Scale.{finite}
 use Rattle.rounding.proofs.Patterns.{rest-is, sign-rest, no-nan-rest, rest-no-nan, value-bits}
-use Rattle.fraction.specs.Fraction.{Within, nil}
-use Rattle.fraction.specs.Value.{val}
-use Rattle.fraction.proofs.Compare.{side, le-is}
-use Rattle.fraction.proofs.Value.{val-pos}
+use Rattle.rounding_error.specs.Fraction.{Within, nil}
+use Rattle.rounding_error.specs.Value.{val}
+use Rattle.rounding_error.proofs.Compare.{side, le-is}
+use Rattle.rounding_error.proofs.Value.{val-pos}
 use Rattle.near_fused.specs.Parts.{lower, top}
 use Rattle.near_fused.specs.Step.{insideOf, orderedOf}
 

@@ -13,11 +13,11 @@ use lib.Ieee.Scale.{finite, overflow}
 use Rattle.rounding.proofs.Orders.{lt-or-ge, clash}
 use Rattle.rounding.proofs.Sums.{sum-size}
 use Rattle.rounding.proofs.Values.{neg-value, value-finite}
-use Rattle.fraction.specs.Fraction.{Frac, plus, opp, Same}
-use Rattle.fraction.specs.Value.{signed, val}
-use Rattle.fraction.proofs.Same.{ring, same-refl, same-sym, same-trans, plus-same, opp-same}
-use Rattle.fraction.proofs.Value.{val-pos, neg-val, neg-finite}
-use Rattle.fraction.proofs.Operations.{Rounded, add-rounded}
+use Rattle.rounding_error.specs.Fraction.{Frac, plus, opp, Same}
+use Rattle.rounding_error.specs.Value.{signed, val}
+use Rattle.rounding_error.proofs.Same.{ring, same-refl, same-sym, same-trans, plus-same, opp-same}
+use Rattle.rounding_error.proofs.Value.{val-pos, neg-val, neg-finite}
+use Rattle.rounding_error.proofs.Operations.{Rounded, add-rounded}
 use Rattle.near_fused.proofs.Few.{rounded, few-below, few-difference}
 use Rattle.near_fused.proofs.Short.{L, Units, Short, units-same, short-of, short-same, short-opp, short-exact}
 use Rattle.near_fused.proofs.Larger.{sum-units, less-first}

@@ -13,14 +13,14 @@ use lib.Ieee.Scale.{finite}
 use Rattle.rounding.proofs.Orders.{lt-or-ge}
 use Rattle.rounding.proofs.Products.{mul-value}
 use Rattle.rounding.proofs.Values.{value-finite}
-use Rattle.fraction.specs.Fraction.{times, Same, Within}
-use Rattle.fraction.specs.Value.{signed, val}
-use Rattle.fraction.proofs.Same.{same-sym, same-trans, times-same}
-use Rattle.fraction.proofs.Within.{from, rescale, same-within}
-use Rattle.fraction.proofs.Value.{value-is}
-use Rattle.fraction.proofs.Product.{mag-signed}
-use Rattle.fraction.proofs.Operations.{product-same, mul-rounded}
-use Rattle.fraction.proofs.Near.{rounded-absolute}
+use Rattle.rounding_error.specs.Fraction.{times, Same, Within}
+use Rattle.rounding_error.specs.Value.{signed, val}
+use Rattle.rounding_error.proofs.Same.{same-sym, same-trans, times-same}
+use Rattle.rounding_error.proofs.Within.{from, rescale, same-within}
+use Rattle.rounding_error.proofs.Value.{value-is}
+use Rattle.rounding_error.proofs.Product.{mag-signed}
+use Rattle.rounding_error.proofs.Operations.{product-same, mul-rounded}
+use Rattle.rounding_error.proofs.Near.{rounded-absolute}
 use Rattle.near_fused.specs.Parts.{lower, high}
 use Rattle.near_fused.proofs.Split.{Split}
 use Rattle.near_fused.proofs.Rests.{cut, cut-le}

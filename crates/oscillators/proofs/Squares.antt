@@ -8,7 +8,7 @@ use lib.ListN.{length, drop, getD}
 use lib.Seq.{drop-cons}
 use lib.Ieee.{Float, nan, binary64, add, mul}
 use Rattle.oscillator_ranges.specs.Ranges.{depthOk}
-use Rattle.waves.specs.Waves.{speedDelta, squaresFrom}
+use Rattle.oscillator_arithmetic.specs.Arithmetic.{speedDelta, squaresFrom}
 use Rattle.oscillators.specs.Answers.{depthsOk}
 
 module _ (xs : List Float) (i : ℕ) (h : i < length xs) where

@@ -6,7 +6,7 @@ use lib.Ieee.{size, span, climb, odd, units, round, neg, mul, ofFields, ofBits}
 use Rattle.rounding.specs.Operations.{root}
 use Rattle.elementary.specs.declared.Answer.the-variants.{Value}
 use Rattle.oscillator_ranges.specs.Constants.{zero}
-use Rattle.waves.specs.Waves.{squaresFrom, rateDelta}
+use Rattle.oscillator_arithmetic.specs.Arithmetic.{squaresFrom, rateDelta}
 use Rattle.oscillators.specs.Answers.{answeredBy, depthsOk, rateDeltaOf}
 
 pub M4 : rateDeltaOf [] ≡ Value (neg zero)

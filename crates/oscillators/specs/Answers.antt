@@ -6,7 +6,7 @@ use lib.Ieee.Scale.{finite}
 use Rattle.elementary.specs.declared.Answer.{Answer}
 use Rattle.elementary.specs.declared.Answer.the-variants.{Value, Refused}
 use Rattle.oscillator_ranges.specs.Ranges.{rateOk, depthOk, phaseOk, cycleOk, sampleRateOk, minimumRateOk}
-use Rattle.waves.specs.Waves.{speedDelta, advancePhase, shapePrimitive, oscillatorDelay, excursion, rateDelta}
+use Rattle.oscillator_arithmetic.specs.Arithmetic.{speedDelta, advancePhase, shapePrimitive, oscillatorDelay, excursion, rateDelta}
 
 -- The value, or refusal 1 where what was asked is out of range.
 unfoldable pub answeredBy : Bool → Float → Answer

@@ -4,11 +4,11 @@ use Prim.Native.Nat.{_<_, _^_}
 use native.Mathlib.Omega.{arith}
 use lib.Dec.{T, lit≤, lit<}
 use lib.Ieee.{Float}
-use Rattle.fraction.specs.Fraction.{Frac, frac, times, Same}
-use Rattle.fraction.specs.Value.{val, Rounds}
-use Rattle.fraction.proofs.Same.{same-trans}
-use Rattle.fraction.proofs.Within.{to, rescale}
-use Rattle.fraction.proofs.Value.{val-pos}
+use Rattle.rounding_error.specs.Fraction.{Frac, frac, times, Same}
+use Rattle.rounding_error.specs.Value.{val, Rounds}
+use Rattle.rounding_error.proofs.Same.{same-trans}
+use Rattle.rounding_error.proofs.Within.{to, rescale}
+use Rattle.rounding_error.proofs.Value.{val-pos}
 use Rattle.polynomials.specs.Taylor.{factorial, power, cosineFraction}
 use Rattle.polynomials.specs.Horner.{cosineSteps, cosineNear}
 use Rattle.polynomials.specs.Range.{atMost}

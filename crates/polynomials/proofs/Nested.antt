@@ -5,8 +5,8 @@ use Prim.Native.Nat.{ℕ, zero, suc, _+_, _*_, _<_}
 use native.Mathlib.Nat.{mul-pos}
 use native.Mathlib.Omega.{arith}
 use lib.Dec.{lit<}
-use Rattle.fraction.specs.Fraction.{Frac, frac, plus, times, opp, Same}
-use Rattle.fraction.proofs.Same.{sums, same-refl, same-sym, same-trans, plus-same, times-same, opp-same}
+use Rattle.rounding_error.specs.Fraction.{Frac, frac, plus, times, opp, Same}
+use Rattle.rounding_error.proofs.Same.{sums, same-refl, same-sym, same-trans, plus-same, times-same, opp-same}
 use Rattle.polynomials.specs.Taylor.{factorial, power, term, alternating, rising}
 
 pub factorial-pos : (n : ℕ) → 0 < factorial n

@@ -6,13 +6,13 @@ use native.Mathlib.Omega.{arith}
 use lib.Dec.{T, leb→le, lit≤, lit<}
 use lib.Ieee.{Float, nan, inf, fin, binary64, up, down, neg, mul}
 use lib.Ieee.Scale.{finite}
-use Rattle.fraction.specs.Fraction.{Frac, nil, times, opp, Within, Mag}
-use Rattle.fraction.specs.Value.{val, Rounds}
-use Rattle.fraction.proofs.Same.{same-refl}
-use Rattle.fraction.proofs.Within.{rescale, within-opp}
-use Rattle.fraction.proofs.Product.{mag-times}
-use Rattle.fraction.proofs.Value.{val-pos, is-val, is-near, neg-near}
-use Rattle.fraction.proofs.Near.{mul-approx}
+use Rattle.rounding_error.specs.Fraction.{Frac, nil, times, opp, Within, Mag}
+use Rattle.rounding_error.specs.Value.{val, Rounds}
+use Rattle.rounding_error.proofs.Same.{same-refl}
+use Rattle.rounding_error.proofs.Within.{rescale, within-opp}
+use Rattle.rounding_error.proofs.Product.{mag-times}
+use Rattle.rounding_error.proofs.Value.{val-pos, is-val, is-near, neg-near}
+use Rattle.rounding_error.proofs.Near.{mul-approx}
 use Rattle.polynomials.specs.Taylor.{factorial}
 use Rattle.polynomials.specs.Horner.{horner}
 use Rattle.polynomials.specs.Range.{atMost}

@@ -1,6 +1,6 @@
 -- E1, E4. Taylor's fractions with their factorials, over exact whole numbers. Definitions only.
 use Prim.Native.Nat.{ℕ, zero, suc, _*_}
-use Rattle.fraction.specs.Fraction.{Frac, frac, plus, times, opp}
+use Rattle.rounding_error.specs.Fraction.{Frac, frac, plus, times, opp}
 
 unfoldable pub factorial : ℕ → ℕ
 factorial zero = 1

@@ -6,7 +6,7 @@ use Prim.Native.Nat.{ℕ, zero, suc}
 use native.Mathlib.Omega.{arith}
 use borrow.Author.Tests.{leb-true}
 use lib.Ieee.{Float}
-use Rattle.doors.specs.Left.{renews}
+use Rattle.answer_parts.specs.Left.{renews}
 use Rattle.quality_mode.specs.Quality.{codeOf}
 use Rattle.quality_codes.specs.Codes.{modeOf, codeOk}
 use Rattle.quality_codes.specs.declared.Called.{Called}

@@ -5,7 +5,7 @@ use mathlib.Core.Bool.{true}
 use mathlib.Core.List.{List}
 use lib.ListN.{length}
 use lib.Ieee.{Float}
-use Rattle.doors.specs.Left.{Left, leaves, Renewed, renews}
+use Rattle.answer_parts.specs.Left.{Left, leaves, Renewed, renews}
 use Rattle.quality_codes.specs.declared.Coded.{Coded}
 use Rattle.quality_codes.specs.Codes.{codeOk}
 use Rattle.quality_codes.specs.Calls.{calledOf, ringCalled, renewedOf, ringRenewed, freshOf}

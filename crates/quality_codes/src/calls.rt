@@ -18,8 +18,8 @@ fn apart(p: ProcessedQ) -> Called
     let a = p.answer;
     Called {
         state: encode(d),
-        number: doors::number_f32(a),
-        sample: doors::value_f32(a),
+        number: answer_parts::number_f32(a),
+        sample: answer_parts::value_f32(a),
     }
 }
 

@@ -7,12 +7,12 @@ ghost use lib.ListN.{length};
 ghost use Rattle.ring.specs.Places.{positionOk};
 ghost use Rattle.cubic_farrow_f32.specs.Draft.{draftAt};
 ghost use Rattle.variable_delay.specs.Reader.{stored, positionOf};
-ghost use Rattle.doors.specs.Left.{leaves};
+ghost use Rattle.answer_parts.specs.Left.{leaves};
 ghost use Rattle.quality_codes.specs.Codes.{stateOf};
 ghost use Rattle.quality_codes.specs.Left.{changed, leftBy};
 use super::plainly;
 use super::through::call_through;
-use doors::handing::put_f32;
+use answer_parts::handing::put_f32;
 
 // K1. Stores sample i, at the place that a mask of the ring's length gives, and reads behind it.
 fn read(i: u64, ring: &mut [f32], input: f32, delay: f64) -> f32

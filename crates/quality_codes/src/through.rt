@@ -1,6 +1,6 @@
 // A call whose state comes and goes through pointers: what it leaves of the state is written, the sample, 0.0 where there is none, too, and the refusal's number handed back.
 ghost use mathlib.Core.Path.{_≡_};
-ghost use Rattle.doors.specs.Left.{leaves};
+ghost use Rattle.answer_parts.specs.Left.{leaves};
 ghost use Rattle.quality_codes.specs.Codes.{stateOf};
 ghost use Rattle.quality_codes.specs.Left.{changed, leftBy};
 use super::Coded;

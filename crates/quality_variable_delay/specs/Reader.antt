@@ -10,7 +10,7 @@ use lib.Ieee.Scale.{finite}
 use Rattle.constants.specs.Numbers.{zero-f, limit, limit-f}
 use Rattle.refusal_order.specs.Order.{_unless_, firstOf}
 use Rattle.answer.specs.Answers.{answerF32Of}
-use Rattle.order.specs.Choice.{smaller}
+use Rattle.min_max.specs.Choice.{smaller}
 use Rattle.ring.specs.Length.{settingsOk, lengthFor}
 use Rattle.variable_delay.specs.Reader.{Reading, stored, positionOf}
 use Rattle.variable_delay.specs.Reader as plain

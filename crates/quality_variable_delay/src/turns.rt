@@ -16,7 +16,7 @@ fn mix(from: f32, to: f32, weight: u32, crossfade: u32) -> f32
     ensures { λ r. ⌜ r ≡ mixedOf from to (weightOf weight crossfade) ⌝ }
 {
     let share = std::num::nearest_u32_to_f32(weight) / std::num::nearest_u32_to_f32(crossfade);
-    from + (to - from) * order::min_f32(share, 1.0)
+    from + (to - from) * min_max::min_f32(share, 1.0)
 }
 
 // What a turn reads. A mixed call's two readings share the choice of sets; a plain one in Draft makes none, since

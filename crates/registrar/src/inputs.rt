@@ -7,9 +7,9 @@ use crate::signs::say;
 use crate::signs::say_failed;
 use crate::signs::say_of;
 use libc::SEEK_END;
+use little_endian::two;
 use riff_chunks::Walked;
 use riff_chunks::Walking;
-use short_words::two;
 use wav::Found;
 use wav::Wave;
 

@@ -24,8 +24,8 @@ pub(crate) fn suits(params: ModulationParams, delay: f64, rate: u32) -> bool {
 // below 0.001 as 0.001.
 fn excursion(depth: f64, frequency: f64, rate: u32) -> f64 {
     let most = maximum_delay_excursion_samples(
-        order::max(depth, 0.0),
-        order::max(frequency, 0.001),
+        min_max::max(depth, 0.0),
+        min_max::max(frequency, 0.001),
         rate as f64,
     );
     match most {

@@ -2,7 +2,7 @@
 use crate::signs::say;
 use crate::signs::say_number;
 use crate::signs::say_of;
-use short_words::two;
+use little_endian::two;
 
 // A line about a refused file. `bytes` is what is at hand of it: its beginning for 9 and 10, else its `fmt `.
 pub(crate) fn say_refused(command: &[u8], name: &[u8], number: u8, bytes: &[u8]) {

@@ -37,7 +37,7 @@ pub fn step<'a>(state: Rendering, ring: &mut [f32], table: &'a [f32], bits: u32)
     let engine = state.engine;
     let n = modulation::next(engine, modulation_params::default_params());
     let offset = n.offset;
-    let x = patterns::float_of_f32(bits);
+    let x = bit_patterns::float_of_f32(bits);
     let reader = state.reader;
     let p = sinc_delay_f32::process_sample(reader, ring, x, delay_of(offset), table, 32, 64);
     let answer = p.answer;
@@ -48,6 +48,6 @@ pub fn step<'a>(state: Rendering, ring: &mut [f32], table: &'a [f32], bits: u32)
             reader: read,
             engine: turned,
         },
-        bits: patterns::bits_of_f32(doors::value_f32(answer)),
+        bits: bit_patterns::bits_of_f32(answer_parts::value_f32(answer)),
     }
 }

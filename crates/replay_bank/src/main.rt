@@ -5,9 +5,9 @@ mod quality; // a change of quality, and its two words
 mod sets; // a bank's sets, and the choice's two words
 mod slice; // a slice of samples, and Draft's reading of it
 
+use bit_patterns::float_of;
 use libc::STDIN_FILENO;
 use libc::STDOUT_FILENO;
-use patterns::float_of;
 use quality_fade::Fade;
 use quality_mode::QualityMode;
 use replay_lines::Heard;

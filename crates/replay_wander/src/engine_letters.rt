@@ -5,9 +5,9 @@ use crate::calls::steps;
 use crate::calls::turn_of;
 use crate::letters::Found;
 use crate::letters::Player;
+use bit_patterns::float_of;
 use modulation_engine::ModulationEngine;
 use modulation_params::ModulationParams;
-use patterns::float_of;
 
 fn called(params: ModulationParams, turn: Turn, agrees: bool) -> Found {
     let engine = turn.engine;

@@ -6,10 +6,10 @@
 mod heard; // a call from standard input
 mod said; // what is written to standard output
 
+use bit_patterns::float_of;
+use bit_patterns::float_of_f32;
 use heard::Heard;
 use heard::hear;
-use patterns::float_of;
-use patterns::float_of_f32;
 use replay_lines::within;
 use said::tell;
 use sample_kind::of_code;

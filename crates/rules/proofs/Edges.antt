@@ -11,7 +11,7 @@ use lib.Ieee.Scale.{finite}
 use Rattle.answer.specs.Refusals.{lowestOf}
 use Rattle.answer.proofs.Passed.{passed}
 use Rattle.ring.specs.Length.{settingsOk, lengthFor}
-use Rattle.order.specs.Choice.{clamped}
+use Rattle.min_max.specs.Choice.{clamped}
 use Rattle.sinc_settings.specs.Ranges.{one-f}
 use Rattle.bank_choice.specs.Rates.{bankOk}
 use Rattle.variable_delay.specs.Reader.{verdict}

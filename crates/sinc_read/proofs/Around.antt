@@ -7,8 +7,8 @@ use native.Mathlib.Omega.{arith}
 use lib.ListN.{length, getD}
 use lib.Ieee.{Float, nan}
 use Rattle.answer.specs.Answers.{zero-f}
-use Rattle.loops.specs.Loops.{fold}
-use Rattle.loops.proofs.Folds.{same, split}
+use Rattle.loop_laws.specs.Loops.{fold}
+use Rattle.loop_laws.proofs.Folds.{same, split}
 use Rattle.ring.proofs.Run.{on, round}
 use Rattle.sinc_read.specs.Sums.{tapTurn, runTurn}
 use Rattle.sinc_phases.proofs.Between.{next-row}

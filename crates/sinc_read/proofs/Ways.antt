@@ -17,8 +17,8 @@ use Rattle.answer.specs.Answers.{zero-f}
 use Rattle.integer_part.specs.Parts.{floorOf}
 use Rattle.integer_part.proofs.Floors.{floor-mag}
 use Rattle.integer_part.proofs.Shifted.{minus-mag}
-use Rattle.loops.specs.Loops.{fold}
-use Rattle.loops.proofs.Folds.{same}
+use Rattle.loop_laws.specs.Loops.{fold}
+use Rattle.loop_laws.proofs.Folds.{same}
 use Rattle.ring.specs.Taps.{tapOf}
 use Rattle.ring.specs.Places.{positionOk, startOf}
 use Rattle.ring.specs.declared.Start.{Start}

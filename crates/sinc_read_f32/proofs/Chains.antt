@@ -8,10 +8,10 @@ use lib.ListN.{length, getD, take, drop, length-take, length-drop}
 use lib.Seq.{getD-drop, getD-take, take-all, length-take-le}
 use lib.Ieee.{Float, nan, binary32, ofBits}
 use Rattle.answer.specs.Answers.{zero-f}
-use Rattle.loops.specs.Loops.{fold, listOf}
-use Rattle.loops.proofs.Folds.{same, split}
-use Rattle.loops.proofs.Lists.{length-list, element}
-use Rattle.loops.proofs.Scratch.{front-again}
+use Rattle.loop_laws.specs.Loops.{fold, listOf}
+use Rattle.loop_laws.proofs.Folds.{same, split}
+use Rattle.loop_laws.proofs.Lists.{length-list, element}
+use Rattle.loop_laws.proofs.Scratch.{front-again}
 use Rattle.rounding.proofs.Sums.{zero-bits}
 use Rattle.ring.proofs.Run.{on, round}
 use Rattle.fused_chain.specs.Chain.{turnOf, chainOf, runLength}

@@ -9,8 +9,8 @@ use lib.ListN.{length, getD}
 use lib.Ieee.{Float, nan}
 use Rattle.answer.specs.Answers.{zero-f}
 use Rattle.rounding.specs.Operations.{narrowed}
-use Rattle.loops.specs.Loops.{fold}
-use Rattle.loops.proofs.Folds.{same}
+use Rattle.loop_laws.specs.Loops.{fold}
+use Rattle.loop_laws.proofs.Folds.{same}
 use Rattle.ring.specs.Taps.{tapOf}
 use Rattle.ring.specs.Places.{startOf}
 use Rattle.ring.specs.declared.Start.{Start}

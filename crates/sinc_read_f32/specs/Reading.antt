@@ -7,7 +7,7 @@ use lib.IntN.{pos, _+ℤ_}
 use lib.ListN.{length}
 use lib.Ieee.{Float}
 use Rattle.answer.specs.Answers.{zero-f}
-use Rattle.loops.specs.Loops.{fold}
+use Rattle.loop_laws.specs.Loops.{fold}
 use Rattle.rounding.specs.Operations.{narrowed}
 use Rattle.ring.specs.Taps.{tapOf}
 use Rattle.ring.specs.Places.{positionOk}

@@ -4,7 +4,7 @@ ghost use Prim.Native.Nat.{_+_, _*_, _%_, _≤_, _<_};
 ghost use lib.ListN.{length, getD};
 ghost use lib.Ieee.{nan};
 ghost use Rattle.answer.specs.Answers.{zero-f};
-ghost use Rattle.loops.specs.Loops.{fold};
+ghost use Rattle.loop_laws.specs.Loops.{fold};
 ghost use Rattle.sinc_read_f32.specs.Sums.{tapTurn, runTurn};
 use fused_chain::Pair;
 use fused_chain::chains;

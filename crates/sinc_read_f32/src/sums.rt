@@ -6,7 +6,7 @@ ghost use lib.ListN.{length, getD};
 ghost use lib.Signed.{mag};
 ghost use lib.Ieee.{nan};
 ghost use Rattle.answer.specs.Answers.{zero-f};
-ghost use Rattle.loops.specs.Loops.{fold, listOf};
+ghost use Rattle.loop_laws.specs.Loops.{fold, listOf};
 ghost use Rattle.ring.specs.Taps.{tapOf};
 ghost use Rattle.sinc_read_f32.specs.Sums.{tapTurn, runTurn};
 use fused_chain::chain;

@@ -5,9 +5,9 @@ use mathlib.Core.Bool.{true}
 use mathlib.Core.List.{List}
 use Prim.Native.Nat.{ℕ, _-_, _≤_}
 use lib.ListN.{length, take, replicate}
-use Rattle.loops.specs.Loops.{listOf}
-use Rattle.loops.proofs.Lists.{length-list}
-use Rattle.loops.proofs.Scratch.{length-front}
+use Rattle.loop_laws.specs.Loops.{listOf}
+use Rattle.loop_laws.proofs.Lists.{length-list}
+use Rattle.loop_laws.proofs.Scratch.{length-front}
 use lib.Ieee.{Float, binary64, ofBits}
 use Rattle.sinc_settings.specs.declared.Settings.{Settings}
 use Rattle.sinc_settings.specs.Ranges.{settingsOk}

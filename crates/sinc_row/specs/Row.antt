@@ -5,7 +5,7 @@ use mathlib.Core.List.{List}
 use lib.Dec.{leb, eqb}
 use lib.ListN.{length, getD}
 use lib.Ieee.{Float, nan, binary64, add, div}
-use Rattle.loops.specs.Loops.{fold, listOf}
+use Rattle.loop_laws.specs.Loops.{fold, listOf}
 use Rattle.sinc_settings.specs.declared.Settings.{Settings}
 use Rattle.sinc_settings.specs.Ranges.{zero-f, settingsOk}
 use Rattle.sinc_row.specs.Coefficient.{windowOf, distanceOf, coefficientOf}

@@ -8,7 +8,7 @@ ghost use mathlib.Core.List.{map};
 ghost use Prim.Native.Nat.{_≤_};
 ghost use lib.ListN.{length};
 ghost use lib.Ieee.{Float, binary64, mul, div};
-ghost use Rattle.loops.specs.Loops.{listOf};
+ghost use Rattle.loop_laws.specs.Loops.{listOf};
 ghost use Rattle.magnitude.specs.Bounds.{AtMost};
 ghost use Rattle.sinc_settings.specs.Ranges.{settingsOk};
 ghost use Rattle.sinc_row.specs.Coefficient.{smallOf, sincOf, coefficientOf};
@@ -79,7 +79,7 @@ fn quotient(x: f64, gain: f64, plain: bool) -> f64
     ensures { λ r. ⌜ r ≡ div binary64 x gain ⌝ }
 {
     let y = x / gain;
-    if plain { y } else { patterns::one_nan(y) }
+    if plain { y } else { bit_patterns::one_nan(y) }
 }
 
 fn divide(row: &mut [f64], gain: f64)

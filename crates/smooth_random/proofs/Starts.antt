@@ -8,7 +8,7 @@ use lib.Dec.{T, eqb, lit<}
 use lib.Count.{trailingZeros}
 use lib.Ieee.{odd, lt, eq, le, ofFields, ofBits}
 use borrow.Author.Tests.{eq-eqb, ne-eqb, eqb-false}
-use Rattle.words.specs.Xor.{xorTo}
+use Rattle.wrapping_u64.specs.Xor.{xorTo}
 use Rattle.xorshift.specs.Xorshift.{stepOf}
 use Rattle.xorshift.specs.Seeds.{seedOf, flutterSeedOf}
 use Rattle.smooth_random.specs.Drawing.{at}

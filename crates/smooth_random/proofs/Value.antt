@@ -8,8 +8,8 @@ use lib.Dec.{T}
 use lib.Ieee.{Float, binary64, size, span, climb, odd, units, round, neg, sum, add, sub, mul, lt, eq, le, ofFields, ofBits}
 use lib.Ieee.Scale.{finite}
 use Rattle.magnitude.proofs.Comparisons.{finite-number}
-use Rattle.order.specs.Choice.{clamped}
-use Rattle.order.proofs.Clamps.{clamped-ge, clamped-le}
+use Rattle.min_max.specs.Choice.{clamped}
+use Rattle.min_max.proofs.Clamps.{clamped-ge, clamped-le}
 use Rattle.interval.proofs.Between.{Between, between, widen, sum-between, difference-between}
 use Rattle.interval.proofs.Products.{least, most, product-between}
 use Rattle.interval.proofs.Pieces.{all, all-of, passed, pieces}

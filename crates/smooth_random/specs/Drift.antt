@@ -3,7 +3,7 @@ use Prim.Native.Nat.{ℕ, zero, suc}
 use mathlib.Core.Bool.{cond}
 use lib.Dec.{eqb}
 use lib.Ieee.{Float, binary64, ofBits, add, sub, mul, div, le}
-use Rattle.order.specs.Choice.{clamped}
+use Rattle.min_max.specs.Choice.{clamped}
 use Rattle.xorshift.specs.Xorshift.{stepOf}
 use Rattle.xorshift.specs.Seeds.{seedOf}
 use Rattle.xorshift.specs.Draws as draws

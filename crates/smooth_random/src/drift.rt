@@ -52,7 +52,7 @@ impl SmoothRandom {
     fn value(self) -> f64
         ensures { λ r. ⌜ r ≡ valueAt self ⌝ }
     {
-        let t = order::clamp(self.position, 0.0, 1.0);
+        let t = min_max::clamp(self.position, 0.0, 1.0);
         let quintic = t * t * t * (t * (t * 6.0 - 15.0) + 10.0);
         self.current + quintic * (self.next - self.current)
     }

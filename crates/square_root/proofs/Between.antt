@@ -8,7 +8,7 @@ use native.Mathlib.Decide.{ℕ-discrete}
 use native.Mathlib.Omega.{arith}
 use borrow.Author.Tests.{eq-eqb, ne-eqb}
 use Rattle.rounding.specs.Operations.{more}
-use Rattle.digits.specs.Jam.{Jam}
+use Rattle.float_digits.specs.Jam.{Jam}
 use Rattle.square_root.specs.Digits.{NearRoot}
 use Rattle.square_root.proofs.Squares.{ring, sq-lt-back}
 

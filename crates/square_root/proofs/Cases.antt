@@ -9,7 +9,7 @@ use lib.Ieee.{Float, nan, inf, fin, binary64, up, down, odd, ofFields, ofBits, i
 use lib.Ieee.Fits.{up-pos}
 use lib.Ieee.Positive.{positive, first-pos}
 use Rattle.rounding.specs.Operations.{root}
-use Rattle.digits.proofs.Plain.{eq-zero}
+use Rattle.float_digits.proofs.Plain.{eq-zero}
 
 abbrev zero-f : Float
 zero-f = ofBits binary64 0

@@ -11,7 +11,7 @@ use lib.Dec.{leb}
 use lib.Bits.{and-mask}
 use lib.Ieee.Nearest.{closest}
 use Rattle.rounding.proofs.Orders.{Cmp, cmp}
-use Rattle.digits.proofs.Putting.{quarter}
+use Rattle.float_digits.proofs.Putting.{quarter}
 use Rattle.square_root.specs.Digits.{NearRoot, Nearest}
 use Rattle.square_root.proofs.Squares.{ring, sq-lt-back}
 

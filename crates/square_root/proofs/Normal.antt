@@ -15,10 +15,10 @@ use lib.Ieee.Bits.{toBits-lt}
 use lib.Ieee.Exact.{HasValue}
 use lib.Ieee.Positive.{positive}
 use Rattle.rounding.specs.Operations.{root}
-use Rattle.digits.specs.Pattern.{unpacked, magnitudeOf, packed}
-use Rattle.digits.proofs.Normal.{normal-place, normal-digits}
-use Rattle.digits.proofs.Plain.{positive-plain}
-use Rattle.digits.proofs.Taking.{Scaling, scaling}
+use Rattle.float_digits.specs.Pattern.{unpacked, magnitudeOf, packed}
+use Rattle.float_digits.proofs.Normal.{normal-place, normal-digits}
+use Rattle.float_digits.proofs.Plain.{positive-plain}
+use Rattle.float_digits.proofs.Taking.{Scaling, scaling}
 use Rattle.square_root.specs.Digits.{RootDigits, NearRoot, Nearest, Quick, evened}
 use Rattle.square_root.proofs.Halves.{Marked, marked}
 use Rattle.square_root.proofs.Rooting.{root-code}

@@ -11,7 +11,7 @@ use borrow.Author.Tests.{le-leb, lt-leb, eq-eqb, ne-eqb}
 use lib.Dec.{leb}
 use lib.Arith.{digits-div}
 use lib.Pow.{pow-pos, pow-mono, pow-add}
-use Rattle.digits.specs.Pattern.{withSticky}
+use Rattle.float_digits.specs.Pattern.{withSticky}
 use Rattle.square_root.specs.Digits.{NearRoot, RootDigits}
 use Rattle.square_root.proofs.Squares.{ring, sq-mono, sq-lt-back}
 

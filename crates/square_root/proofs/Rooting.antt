@@ -13,11 +13,11 @@ use lib.Ieee.Exact.{HasValue}
 use lib.Ieee.Nearest.{div-same}
 use lib.Ieee.Positive.{positive}
 use Rattle.rounding.specs.Operations.{wholeRoot, more, roundedRoot, root}
-use Rattle.digits.specs.declared.Scaled.{Scaled}
-use Rattle.digits.specs.Pattern.{packed}
-use Rattle.digits.proofs.Jams.{jam-scale}
-use Rattle.digits.proofs.Putting.{packed-rounds}
-use Rattle.digits.proofs.Taking.{Scaling}
+use Rattle.float_digits.specs.declared.Scaled.{Scaled}
+use Rattle.float_digits.specs.Pattern.{packed}
+use Rattle.float_digits.proofs.Jams.{jam-scale}
+use Rattle.float_digits.proofs.Putting.{packed-rounds}
+use Rattle.float_digits.proofs.Taking.{Scaling}
 use Rattle.square_root.specs.Digits.{NearRoot, RootDigits}
 use Rattle.square_root.proofs.Squares.{whole-root}
 use Rattle.square_root.proofs.Between.{near-jam}

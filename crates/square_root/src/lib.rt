@@ -35,7 +35,7 @@ fn root_digits(z: u64) -> u64
         y = y << 2;
         i += 1;
     }
-    digits::sticky(s, r)
+    float_digits::sticky(s, r)
 }
 
 // An even power of two is taken out: x is z * 2^46 * 4^(k - 1076), where z is m or 2 m and k what is packed.
@@ -43,9 +43,9 @@ fn restored(x: f64) -> f64
     requires { ⌜ positive x ≡ true ⌝ }
     ensures { λ r. ⌜ r ≡ root binary64 x ⌝ }
 {
-    let p = digits::unpack(f64::to_bits(x));
+    let p = float_digits::unpack(f64::to_bits(x));
     let w = root_digits(p.m << ((p.e + 1) & 1));
-    digits::pack(0, w, (p.e + 969) >> 1)
+    float_digits::pack(0, w, (p.e + 969) >> 1)
 }
 
 fn positive_root(x: f64) -> f64

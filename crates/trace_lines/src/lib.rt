@@ -4,8 +4,8 @@ ghost use lib.ListN.{length};
 ghost use Rattle.text.specs.Text.{putAt, placeAfter};
 ghost use Rattle.trace_lines.specs.Lines.{answerText, lineOf, afterBlock, textOf};
 use answer::Answer;
-use patterns::bits_of;
-use patterns::float_of;
+use bit_patterns::bits_of;
+use bit_patterns::float_of;
 use variable_delay::VariableDelay;
 
 // The reader's state after the samples, and where their lines end.

@@ -12,7 +12,7 @@ use lib.IntN.{ℤ, pos, negsuc}
 use lib.Signed.{mag}
 use lib.ListN.{length}
 use lib.Ieee.{Float, Format}
-use Rattle.loops.specs.Loops.{listOf}
+use Rattle.loop_laws.specs.Loops.{listOf}
 use Rattle.cubic_bound.specs.Desk.{WholeSample, WholeSamples, none, also}
 use Rattle.report_tests.specs.Tests.{in24, all24}
 use Rattle.sample_kind.specs.declared.SampleKind.{SampleKind}

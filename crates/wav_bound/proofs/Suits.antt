@@ -11,12 +11,12 @@ use lib.Pow.{pow-add, pow-pos}
 use lib.Ieee.{Format}
 use lib.Ieee.Exact.{HasValue}
 use Rattle.rounding.proofs.Values.{rescale}
-use Rattle.fraction.specs.Fraction.{whole, Same}
-use Rattle.fraction.specs.Value.{Is}
-use Rattle.fraction.specs.Value as value
-use Rattle.fraction.proofs.Same.{same-trans}
-use Rattle.fraction.proofs.Value.{value-is}
-use Rattle.fraction.proofs.Whole.{Rep, rep-pos, rep-to, rep-neg, rep-mul, rep-same}
+use Rattle.rounding_error.specs.Fraction.{whole, Same}
+use Rattle.rounding_error.specs.Value.{Is}
+use Rattle.rounding_error.specs.Value as value
+use Rattle.rounding_error.proofs.Same.{same-trans}
+use Rattle.rounding_error.proofs.Value.{value-is}
+use Rattle.rounding_error.proofs.Whole.{Rep, rep-pos, rep-to, rep-neg, rep-mul, rep-same}
 use Rattle.cubic_bound.specs.Desk.{WholeSample}
 use Rattle.whole_samples.specs.Whole.{negative, size, wholeOf, unitsOf}
 use Rattle.whole_samples.proofs.Exact.{small, exact}

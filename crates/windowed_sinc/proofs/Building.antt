@@ -6,8 +6,8 @@ use native.Mathlib.Nat.{add-mul, one-mul, mul-le-mul-right}
 use native.Mathlib.Omega.{arith}
 use lib.ListN.{length, take}
 use lib.Ieee.{Float}
-use Rattle.loops.specs.Loops.{listOf}
-use Rattle.loops.proofs.Scratch.{front-fits, front-again}
+use Rattle.loop_laws.specs.Loops.{listOf}
+use Rattle.loop_laws.proofs.Scratch.{front-fits, front-again}
 use Rattle.sinc_settings.specs.declared.Settings.{Settings}
 use Rattle.sinc_settings.proofs.Accepted.{counts, accepted}
 use Rattle.sinc_settings.proofs.Fitting.{Fitting}

@@ -1,7 +1,7 @@
 // 000's WindowedSinc over a lent table: new and for_max_rate. The reader of such a table is in sinc_read.
 ghost use mathlib.Core.Path.{_≡_};
 ghost use lib.ListN.{length};
-ghost use Rattle.loops.specs.Loops.{listOf};
+ghost use Rattle.loop_laws.specs.Loops.{listOf};
 ghost use Rattle.sinc_settings.specs.Refusals.{verdict, forRate, rateVerdict};
 ghost use Rattle.sinc_row.specs.Coefficient.{windowOf};
 ghost use Rattle.windowed_sinc.specs.Table.{tableOf, builtBy, tableAfter};

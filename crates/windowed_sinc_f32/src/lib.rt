@@ -4,7 +4,7 @@ ghost use mathlib.Core.Bool.{true};
 ghost use mathlib.Core.List.{map};
 ghost use Prim.Native.Nat.{_≤_};
 ghost use lib.ListN.{length};
-ghost use Rattle.loops.specs.Loops.{listOf};
+ghost use Rattle.loop_laws.specs.Loops.{listOf};
 ghost use Rattle.rounding.specs.Operations.{narrowed};
 ghost use Rattle.sinc_settings.specs.Ranges.{settingsOk};
 ghost use Rattle.sinc_settings.specs.Refusals.{verdict, forRate, rateVerdict};

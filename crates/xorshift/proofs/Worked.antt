@@ -2,7 +2,7 @@
 use mathlib.Core.Path.{_≡_, refl}
 use mathlib.Core.List.{[], _∷_}
 use Prim.Native.Nat.{_/_, _^_}
-use Rattle.words.specs.Xor.{xorTo}
+use Rattle.wrapping_u64.specs.Xor.{xorTo}
 use Rattle.xorshift.specs.Xorshift.{stepOf, valueOf}
 use Rattle.xorshift.specs.Seeds.{flutterSeedOf}
 

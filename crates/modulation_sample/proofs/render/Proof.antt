@@ -1,7 +1,7 @@
 -- `modulation_sample::render` meets its contract: the amplitudes do not depend on the side, and where the phases of both sides are one, nothing does. Assumes nothing.
 use mathlib.Core.Path.{sym, _∙_}
 use denote.Floats.{passes}
-use Rattle.waves.specs.Waves.{oscillatorDelay}
+use Rattle.oscillator_arithmetic.specs.Arithmetic.{oscillatorDelay}
 use Rattle.modulation_sample.specs.Sample.{renderOf}
 use Rattle.modulation_sample.proofs.Sides.{one-side}
 use Rattle.modulation_sample.proofs.render.Statement.{statement}

@@ -3,7 +3,7 @@ use mathlib.Core.Path.{_≡_, refl}
 use lib.Count.{trailingZeros}
 use lib.Ieee.{binary64, size, span, climb, odd, units, round, div, ofFields, ofBits}
 use Rattle.oscillator_ranges.specs.Constants.{maxShapePrimitive}
-use Rattle.waves.specs.Waves.{excursion}
+use Rattle.oscillator_arithmetic.specs.Arithmetic.{excursion}
 use Rattle.oscillators.proofs.maximum_delay_excursion_samples.Statement.{statement}
 use Rattle.oscillators.proofs.maximum_delay_excursion_samples.Tie as tie
 

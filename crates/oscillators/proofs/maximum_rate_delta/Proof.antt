@@ -8,7 +8,7 @@ use native.Mathlib.Omega.{arith}
 use lib.ListN.{length, drop, drop-of-length-le}
 use lib.Ieee.{neg}
 use Rattle.oscillator_ranges.specs.Constants.{zero}
-use Rattle.waves.specs.Waves.{squaresFrom, rateDelta}
+use Rattle.oscillator_arithmetic.specs.Arithmetic.{squaresFrom, rateDelta}
 use Rattle.oscillators.specs.Answers.{answeredBy, depthsOk}
 use Rattle.oscillators.proofs.Squares.{one-more, passes, fails}
 use Rattle.oscillators.proofs.maximum_rate_delta.Statement.{statement}

@@ -1,5 +1,5 @@
 -- `oscillators::oscillator_delay` meets its contract: test by test it is the definition. Assumes nothing.
-use Rattle.waves.specs.Waves.{oscillatorDelay}
+use Rattle.oscillator_arithmetic.specs.Arithmetic.{oscillatorDelay}
 use Rattle.oscillators.proofs.oscillator_delay.Statement.{statement}
 use Rattle.oscillators.proofs.oscillator_delay.Tie as tie
 

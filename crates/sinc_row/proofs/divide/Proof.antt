@@ -6,7 +6,7 @@ use native.Mathlib.Omega.{arith}
 use lib.ListN.{length, getD, set}
 use lib.Ieee.{Float, nan, binary64, div}
 use denote.Ref.{now}
-use Rattle.loops.proofs.Mapped.{halfway, at-first, not-yet, one-more, length-halfway, at-last}
+use Rattle.loop_laws.proofs.Mapped.{halfway, at-first, not-yet, one-more, length-halfway, at-last}
 use Rattle.sinc_row.proofs.divide.Statement.{statement}
 use Rattle.sinc_row.proofs.divide.Tie as tie
 

@@ -6,9 +6,9 @@ use native.Mathlib.Omega.{arith}
 use lib.ListN.{length, take, length-set}
 use lib.Ieee.{Float, binary64, add, ofBits}
 use denote.Ref.{now}
-use Rattle.loops.specs.Loops.{listOf}
-use Rattle.loops.proofs.Folds.{none, turn}
-use Rattle.loops.proofs.Lists.{nothing, written, whole}
+use Rattle.loop_laws.specs.Loops.{listOf}
+use Rattle.loop_laws.proofs.Folds.{none, turn}
+use Rattle.loop_laws.proofs.Lists.{nothing, written, whole}
 use Rattle.sinc_settings.specs.Ranges.{zero-f}
 use Rattle.sinc_settings.proofs.Accepted.{Counts, counts, accepted}
 use Rattle.sinc_row.specs.Row.{at, rawOf, gainOf}

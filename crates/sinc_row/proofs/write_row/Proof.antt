@@ -7,8 +7,8 @@ use mathlib.Core.List.{map}
 use lib.ListN.{length}
 use lib.Ieee.{Float, binary64, div}
 use denote.Ref.{now}
-use Rattle.loops.specs.Loops.{listOf}
-use Rattle.loops.proofs.Mapped.{map-list}
+use Rattle.loop_laws.specs.Loops.{listOf}
+use Rattle.loop_laws.proofs.Mapped.{map-list}
 use Rattle.sinc_row.specs.Row.{at, rawOf, gainOf, rowReady}
 use Rattle.sinc_row.proofs.Ready.{row-ready}
 use Rattle.sinc_row.proofs.write_row.Statement.{statement}

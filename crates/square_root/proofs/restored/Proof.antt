@@ -4,8 +4,8 @@ use native.Mathlib.Omega.{arith}
 use mathlib.Core.Path.{sym, subst, _∙_}
 use lib.Dec.{T}
 use lib.Ieee.Positive.{positive}
-use Rattle.digits.proofs.Plain.{positive-plain, plain-no-nan}
-use Rattle.digits.proofs.Taking.{Scaling, scaling}
+use Rattle.float_digits.proofs.Plain.{positive-plain, plain-no-nan}
+use Rattle.float_digits.proofs.Taking.{Scaling, scaling}
 use Rattle.square_root.proofs.Rooting.{parity-lt, shifted-ge, root-code}
 use Rattle.square_root.proofs.restored.Statement.{statement}
 use Rattle.square_root.proofs.restored.Tie as tie

@@ -7,7 +7,7 @@ use native.Mathlib.Omega.{arith}
 use lib.ListN.{length}
 use lib.Ieee.{Float}
 use denote.Ref.{now}
-use Rattle.loops.proofs.Filling.{Filled, lentRow, unfilled, length-lent, filled-more, filled}
+use Rattle.loop_laws.proofs.Filling.{Filled, lentRow, unfilled, length-lent, filled-more, filled}
 use Rattle.sinc_settings.specs.declared.Settings.{Settings}
 use Rattle.sinc_settings.proofs.Fitting.{Fitting, fitting}
 use Rattle.sinc_row.specs.Coefficient.{windowOf}

@@ -8,10 +8,10 @@ use lib.ListN.{length, getD, length-set}
 use lib.Ieee.{Float, nan}
 use denote.Ref.{now}
 use Rattle.rounding.specs.Operations.{narrowed}
-use Rattle.loops.specs.Loops.{listOf}
-use Rattle.loops.proofs.Lists.{elements}
-use Rattle.loops.proofs.Writing.{Written, unwritten, written-more, all-written}
-use Rattle.loops.proofs.Mapped.{map-list}
+use Rattle.loop_laws.specs.Loops.{listOf}
+use Rattle.loop_laws.proofs.Lists.{elements}
+use Rattle.loop_laws.proofs.Writing.{Written, unwritten, written-more, all-written}
+use Rattle.loop_laws.proofs.Mapped.{map-list}
 use Rattle.windowed_sinc_f32.proofs.narrow_row.Statement.{statement}
 use Rattle.windowed_sinc_f32.proofs.narrow_row.Tie as tie
 

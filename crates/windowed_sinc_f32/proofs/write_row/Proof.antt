@@ -7,7 +7,7 @@ use native.Mathlib.Omega.{arith}
 use lib.ListN.{length, take}
 use denote.Ref.{now}
 use Rattle.rounding.specs.Operations.{narrowed}
-use Rattle.loops.proofs.Scratch.{front-fits, front-again}
+use Rattle.loop_laws.proofs.Scratch.{front-fits, front-again}
 use Rattle.sinc_settings.proofs.Accepted.{counts, accepted}
 use Rattle.sinc_row.specs.Coefficient.{windowOf}
 use Rattle.sinc_row.specs.Row.{rowOf}

@@ -5,8 +5,8 @@ use native.Mathlib.Nat.{lt-of-le-of-lt, mod-lt}
 use lib.Bits.{bitXor}
 use lib.Pow.{shr-le, pow-pos}
 use borrow.Author.Needs.{needs}
-use Rattle.words.specs.Xor.{xor}
-use Rattle.words.proofs.Digitwise.{xor-is, xor-below}
+use Rattle.wrapping_u64.specs.Xor.{xor}
+use Rattle.wrapping_u64.proofs.Digitwise.{xor-is, xor-below}
 use Rattle.xorshift.specs.Xorshift.{stepOf}
 use Rattle.xorshift.proofs.step.Statement.{statement}
 use Rattle.xorshift.proofs.step.Tie as tie

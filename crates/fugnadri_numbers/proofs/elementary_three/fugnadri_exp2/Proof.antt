@@ -1,7 +1,7 @@
 -- `fugnadri_numbers::elementary_three::fugnadri_exp2` meets its contract: what the two calls ensure, one put into the other; neither asks anything. Assumes nothing.
 use mathlib.Core.Path.{_∙_, ap}
 use Rattle.elementary.specs.Answers.{refusalOf}
-use Rattle.doors.specs.Values.{valueOf}
+use Rattle.answer_parts.specs.Values.{valueOf}
 use Rattle.fugnadri_numbers.proofs.elementary_three.fugnadri_exp2.Statement.{statement}
 use Rattle.fugnadri_numbers.proofs.elementary_three.fugnadri_exp2.Tie as tie
 

@@ -8,8 +8,8 @@ use native.Mathlib.Nat.{le-refl}
 use native.Mathlib.Omega.{arith}
 use lib.Ieee.{binary64, sub}
 use denote.Ref.{now}
-use Rattle.biased.proofs.Begun.{begins}
-use Rattle.biased.proofs.Tested.{first-of, second-of}
+use Rattle.biased_sum.proofs.Begun.{begins}
+use Rattle.biased_sum.proofs.Tested.{first-of, second-of}
 use Rattle.fused_chain.specs.Blocks.{Runs}
 use Rattle.fused_chain.proofs.Carrying.{stay}
 use Rattle.fused_chain.proofs.Four as biased

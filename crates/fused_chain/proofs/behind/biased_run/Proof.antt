@@ -5,8 +5,8 @@ use Prim.Native.Nat.{_-_, _≤_}
 use native.Mathlib.Nat.{le-refl}
 use native.Mathlib.Omega.{arith}
 use denote.Ref.{now}
-use Rattle.biased.proofs.Begun.{begins}
-use Rattle.biased.proofs.Tested.{first-of, second-of}
+use Rattle.biased_sum.proofs.Begun.{begins}
+use Rattle.biased_sum.proofs.Tested.{first-of, second-of}
 use Rattle.fused_chain.proofs.Carrying.{stay}
 use Rattle.fused_chain.proofs.Four.{Stands, four, ended}
 use Rattle.fused_chain.proofs.behind.biased_run.Statement.{statement}

@@ -9,7 +9,7 @@ use lib.Ieee.{nan}
 use denote.Ref.{now}
 use mir.Syntax.{w64}
 use mir.ValLaws.{toZ-ofZ}
-use Rattle.loops.specs.Loops.{fold}
+use Rattle.loop_laws.specs.Loops.{fold}
 use Rattle.ring.specs.Taps.{tapOf}
 use Rattle.lagrange.specs.Kernel.{turnOf, zero-f}
 use Rattle.lagrange.specs.Eights.{SideBySide}

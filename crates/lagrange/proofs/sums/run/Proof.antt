@@ -5,8 +5,8 @@ use native.Mathlib.Omega.{arith}
 use lib.ListN.{getD}
 use lib.Ieee.{nan}
 use denote.Ref.{now}
-use Rattle.loops.specs.Loops.{fold}
-use Rattle.loops.proofs.Folds.{none, turn}
+use Rattle.loop_laws.specs.Loops.{fold}
+use Rattle.loop_laws.proofs.Folds.{none, turn}
 use Rattle.lagrange.specs.Eights.{tapTurn}
 use Rattle.lagrange.proofs.sums.run.Statement.{statement}
 use Rattle.lagrange.proofs.sums.run.Tie as tie

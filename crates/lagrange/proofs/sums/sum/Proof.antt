@@ -8,8 +8,8 @@ use denote.Ref.{now}
 use mir.Syntax.{w64}
 use mir.Val.{toZ, ofZ}
 use mir.ValLaws.{toZ-ofZ}
-use Rattle.loops.specs.Loops.{fold}
-use Rattle.loops.proofs.Folds.{none}
+use Rattle.loop_laws.specs.Loops.{fold}
+use Rattle.loop_laws.proofs.Folds.{none}
 use Rattle.lagrange.specs.Kernel.{turnOf, zero-f}
 use Rattle.lagrange.proofs.sums.sum.Statement.{statement}
 use Rattle.lagrange.proofs.sums.sum.Tie as tie

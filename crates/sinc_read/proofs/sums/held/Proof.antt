@@ -6,7 +6,7 @@ use native.Mathlib.Omega.{arith}
 use lib.Ieee.{Float, ofBits}
 use lib.ListN.{length}
 use denote.Ref.{now}
-use Rattle.loops.specs.Loops.{fold}
+use Rattle.loop_laws.specs.Loops.{fold}
 use Rattle.sinc_read.specs.Sums.{runTurn}
 use Rattle.sinc_read.proofs.Around as around
 use Rattle.sinc_read.proofs.sums.held.Statement.{statement}

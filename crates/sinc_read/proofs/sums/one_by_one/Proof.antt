@@ -10,8 +10,8 @@ use mir.Syntax.{w64}
 use mir.Val.{toZ, ofZ}
 use mir.ValLaws.{toZ-ofZ}
 use Rattle.answer.specs.Answers.{zero-f}
-use Rattle.loops.specs.Loops.{fold}
-use Rattle.loops.proofs.Folds.{none, turn}
+use Rattle.loop_laws.specs.Loops.{fold}
+use Rattle.loop_laws.proofs.Folds.{none, turn}
 use Rattle.ring.specs.Taps.{tapOf}
 use Rattle.sinc_read.specs.Sums.{tapTurn}
 use Rattle.sinc_phases.proofs.Between.{next-row}

@@ -3,8 +3,8 @@ use mathlib.Core.Path.{_≡_, refl, _∙_, ap}
 use Prim.Native.Nat.{_-_, _≤_}
 use native.Mathlib.Omega.{arith}
 use denote.Ref.{now}
-use Rattle.loops.specs.Loops.{fold}
-use Rattle.loops.proofs.Folds.{none, turn}
+use Rattle.loop_laws.specs.Loops.{fold}
+use Rattle.loop_laws.proofs.Folds.{none, turn}
 use Rattle.sinc_read.specs.Sums.{runTurn}
 use Rattle.sinc_read.proofs.sums.run.Statement.{statement}
 use Rattle.sinc_read.proofs.sums.run.Tie as tie

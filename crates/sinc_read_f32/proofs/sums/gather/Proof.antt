@@ -12,8 +12,8 @@ use mathlib.Core.List.{List}
 use mir.Syntax.{w64}
 use mir.Val.{toZ}
 use mir.ValLaws.{toZ-ofZ}
-use Rattle.loops.specs.Loops.{listOf}
-use Rattle.loops.proofs.Writing.{Written, unwritten, written-more, all-written}
+use Rattle.loop_laws.specs.Loops.{listOf}
+use Rattle.loop_laws.proofs.Writing.{Written, unwritten, written-more, all-written}
 use Rattle.ring.specs.Taps.{tapOf}
 use Rattle.sinc_read_f32.proofs.sums.gather.Statement.{statement}
 use Rattle.sinc_read_f32.proofs.sums.gather.Tie as tie

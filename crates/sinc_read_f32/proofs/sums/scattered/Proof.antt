@@ -9,9 +9,9 @@ use denote.Ref.{now}
 use mir.Syntax.{w64}
 use mir.Val.{toZ, ofZ}
 use mir.ValLaws.{toZ-ofZ}
-use Rattle.loops.specs.Loops.{listOf}
-use Rattle.loops.proofs.Lists.{length-list}
-use Rattle.loops.proofs.Scratch.{length-front, front-fits}
+use Rattle.loop_laws.specs.Loops.{listOf}
+use Rattle.loop_laws.proofs.Lists.{length-list}
+use Rattle.loop_laws.proofs.Scratch.{length-front, front-fits}
 use Rattle.ring.specs.Taps.{tapOf}
 use Rattle.sinc_read_f32.proofs.Chains.{laid-out}
 use Rattle.sinc_read_f32.proofs.sums.scattered.Statement.{statement}
