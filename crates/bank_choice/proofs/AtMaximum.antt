@@ -18,11 +18,11 @@ use Rattle.integer_part.proofs.Floors.{quotient-around}
 use Rattle.sinc_settings.specs.Ranges.{zero-f, one-f}
 use Rattle.bank_choice.specs.Rates.{bankOk, stepsOf, rateOf}
 use Rattle.bank_choice.specs.Choosing.{blendOf}
-use Rattle.bank_choice.proofs.Spans.{in-range, most}
-use Rattle.bank_choice.proofs.Growing.{rate-finite}
-use Rattle.bank_choice.proofs.Coarse.{unit, coarse, exactly, difference-over, difference-within, counted, counted-below}
-use Rattle.bank_choice.proofs.Room.{from-below, from-above, far, near, ordered}
-use Rattle.bank_choice.proofs.Counted.{reachOf, plain-top, finite-top, below, k-small, k-close, last-under}
+use Rattle.bank_choice.proofs.SetCounts.{in-range, most}
+use Rattle.bank_choice.proofs.RatesGrow.{rate-finite}
+use Rattle.bank_choice.proofs.CoarseSteps.{unit, coarse, exactly, difference-over, difference-within, counted, counted-below}
+use Rattle.bank_choice.proofs.StepArithmetic.{from-below, from-above, far, near, ordered}
+use Rattle.bank_choice.proofs.RatesInSteps.{reachOf, plain-top, finite-top, below, k-small, k-close, last-under}
 use Rattle.bank_choice.proofs.NotLast.{shareOf, j-small, j-close, set-under}
 use Rattle.bank_choice.proofs.NearOne.{high, narrow-high, quotient-high}
 

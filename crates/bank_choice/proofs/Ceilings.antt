@@ -12,7 +12,7 @@ use lib.Ieee.{Float, nan, inf, fin, binary64, up, down, lt, toUnsigned}
 use lib.Ieee.Fits.{down-pos}
 use lib.Ieee.Exact.{HasValue}
 use Rattle.magnitude.specs.Bounds.{AtMost}
-use Rattle.magnitude.proofs.Whole.{whole-value}
+use Rattle.magnitude.proofs.WholeFloats.{whole-value}
 use Rattle.integer_part.specs.Parts.{floorOf}
 use Rattle.integer_part.proofs.Floors.{quotient-at-most, ceiling-at-most, quotient-around}
 use Rattle.sinc_settings.specs.Ranges.{one-f}

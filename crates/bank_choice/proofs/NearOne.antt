@@ -15,7 +15,7 @@ use lib.Ieee.Scale.{finite}
 use Rattle.rounding.specs.Operations.{narrowed}
 use Rattle.interval.proofs.Signed.{ring, gain, loss, under}
 use Rattle.interval.proofs.Operations.{Rounds, in-order, divided}
-use Rattle.bank_choice.proofs.Coarse.{unit}
+use Rattle.bank_choice.proofs.CoarseSteps.{unit}
 
 -- 1 less f32's epsilon, from which on the blend counts as 1
 abbrev pub high : Float

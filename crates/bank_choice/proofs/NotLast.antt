@@ -9,16 +9,16 @@ use native.Mathlib.Omega.{arith}
 use lib.Dec.{T, lit≤}
 use lib.Ieee.{Float, binary64, round, sub, div, le, lt}
 use lib.Ieee.Positive.{den, den-pos}
-use Rattle.magnitude.proofs.Between.{between-at-most}
+use Rattle.magnitude.proofs.OrderAndBounds.{between-at-most}
 use Rattle.interval.proofs.Signed.{gain, Ordered, le-le, le-lt}
 use Rattle.interval.proofs.Between.{Between, between, point}
 use Rattle.interval.proofs.Products.{quotient-between}
 use Rattle.sinc_settings.specs.Ranges.{zero-f, one-f}
 use Rattle.bank_choice.specs.Rates.{bankOk, rateStep, stepsOf, rateOf}
-use Rattle.bank_choice.proofs.Spans.{span, least, most, ceiling-most}
-use Rattle.bank_choice.proofs.Coarse.{unit, coarse, exactly, difference-under, below-top}
-use Rattle.bank_choice.proofs.Counted.{spanOf, reachOf, plain-top, finite-top, above, below, by-k, rate-under}
-use Rattle.bank_choice.proofs.Room.{shareAbove, next, room}
+use Rattle.bank_choice.proofs.SetCounts.{span, least, most, ceiling-most}
+use Rattle.bank_choice.proofs.CoarseSteps.{unit, coarse, exactly, difference-under, below-top}
+use Rattle.bank_choice.proofs.RatesInSteps.{spanOf, reachOf, plain-top, finite-top, above, below, by-k, rate-under}
+use Rattle.bank_choice.proofs.StepArithmetic.{shareAbove, next, room}
 
 -- where max - 1 is at most a sixty-fourth there is one set
 narrow : (top : Float) → bankOk top ≡ true → 64 * (gain top - den top) ≤ den top → stepsOf top ≤ 1

@@ -16,11 +16,11 @@ use lib.Ieee.Exact.{HasValue, round-exact}
 use lib.Ieee.Fits.{down-pos, sub-fits}
 use lib.Ieee.Scale.{round-same}
 use Rattle.rounding.proofs.Values.{fits-units}
-use Rattle.rounding.proofs.Own.{round-own}
+use Rattle.rounding.proofs.RoundsToItself.{round-own}
 use Rattle.sinc_settings.specs.Ranges.{one-f}
 use Rattle.bank_choice.specs.Rates.{bankOk, rateOf}
-use Rattle.bank_choice.proofs.Spans.{in-range}
-use Rattle.bank_choice.proofs.Counted.{above, below}
+use Rattle.bank_choice.proofs.SetCounts.{in-range}
+use Rattle.bank_choice.proofs.RatesInSteps.{above, below}
 
 -- ---- x * 1 and x / 1
 times-one : (f : Format) (x : Float) → T (fits f x) → mul f x one-f ≡ x

@@ -1,5 +1,5 @@
 -- T4. Both sets are sets of the bank. A rate equal to a set's own rate reads the next tighter set, not that one, unless
--- it is the last set (`Last`) or its rate is within f64 epsilon of the rate below it: apart from the rate below, the
+-- it is the last set (`LastSet`) or its rate is within f64 epsilon of the rate below it: apart from the rate below, the
 -- sets before it are slower, and the blend is x / x, which is 1. Assumes nothing.
 use mathlib.Core.Path.{_≡_, refl, sym, _∙_}
 use mathlib.Core.Bool.{Bool, true, false, cond, true≢false}
@@ -21,11 +21,11 @@ use Rattle.interval.proofs.Between.{Between, between, point, difference-between
 use Rattle.sinc_settings.specs.Ranges.{zero-f, one-f}
 use Rattle.bank_choice.specs.Rates.{bankOk, stepsOf, rateOf}
 use Rattle.bank_choice.specs.Choosing.{slowerOf, partitionOf, lowerOf, closeOf, blendOf, chosenOf}
-use Rattle.bank_choice.proofs.Spans.{in-range, least, most}
-use Rattle.bank_choice.proofs.Growing.{rate-finite, rate-grows, slower-before}
+use Rattle.bank_choice.proofs.SetCounts.{in-range, least, most}
+use Rattle.bank_choice.proofs.RatesGrow.{rate-finite, rate-grows, slower-before}
 use Rattle.bank_choice.proofs.Partition.{found}
 use Rattle.bank_choice.proofs.NotLast.{not-last}
-use Rattle.bank_choice.proofs.Gaps.{over-itself, difference-ge, difference-le}
+use Rattle.bank_choice.proofs.GapFloats.{over-itself, difference-ge, difference-le}
 
 -- ---- both are sets of the bank
 pub safe-inside : (top rate : Float) → chosenOf top rate .safe < stepsOf top
@@ -112,7 +112,7 @@ module _ (top : Float) (ok : bankOk top ≡ true) (i : ℕ) (among : i < stepsOf
     whole-blend = rw (over-itself gap finite-gap gap-above)
 
     -- Set i's own rate, where it is at most the bank's, as it always is unless set i is the last. Where rounding took the
-    -- last set's rate above the bank's, no rate is that one once it is clamped: `Last` says what is read there.
+    -- last set's rate above the bank's, no rate is that one once it is clamped: `LastSet` says what is read there.
     pub reads-own : T (le own top)
         → (chosenOf top own .safe ≡ i) × (chosenOf top own .tighter ≡ min (i + 1) (stepsOf top - 1)) × (chosenOf top own .which ≡ 1)
     unfolding chosenOf le

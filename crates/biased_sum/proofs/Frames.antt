@@ -10,7 +10,7 @@ use lib.Ieee.{Float, binary64, round, ofBits, nanBits}
 use lib.Ieee.Bits.{ofBits-fits}
 use lib.Ieee.Exact.{HasValue}
 use borrow.Author.Tests.{lt-leb, le-leb}
-use Rattle.rounding.proofs.Own.{round-own}
+use Rattle.rounding.proofs.RoundsToItself.{round-own}
 use Rattle.rounding.proofs.Patterns.{rest-no-nan}
 use Rattle.narrowing.proofs.Patterns.{count, exponent, value}
 use Rattle.biased_sum.specs.declared.Ends.{Ends}

@@ -10,11 +10,11 @@ use lib.Pow.{pow-add, pow-pos, pow-mono}
 use lib.Ieee.{Float, binary32, binary64, round}
 use lib.Ieee.Exact.{HasValue, units-val}
 use lib.Ieee.Nearest.{closest}
-use Rattle.rounding.proofs.Closest.{closest-ge, closest-le, closest-shift}
-use Rattle.rounding.proofs.Dropped.{round-finer, size-at}
-use Rattle.rounding.proofs.Orders.{lt-or-ge}
+use Rattle.rounding.proofs.NearestWhole.{closest-ge, closest-le, closest-shift}
+use Rattle.rounding.proofs.DroppedDigits.{round-finer, size-at}
+use Rattle.rounding.proofs.NumberOrders.{lt-or-ge}
 use Rattle.rounding.proofs.Values.{rescale}
-use Rattle.rounding.proofs.Whole.{near-le, places, rounded-value}
+use Rattle.rounding.proofs.WholeUnits.{near-le, places, rounded-value}
 use Rattle.biased_sum.specs.Biased.{digit, bias-of, near-of, far-of}
 
 abbrev pub L : ℕ

@@ -1,9 +1,9 @@
 pub mod Grid
-pub mod Framed
+pub mod ExactFrames
 pub mod Signs
-pub mod Inside
-pub mod Taking
+pub mod InsideFrame
+pub mod BiasedAddition
 pub mod Steps
 pub mod Frames
-pub mod Tested
-pub mod Begun
+pub mod CombinedTests
+pub mod BiasTests

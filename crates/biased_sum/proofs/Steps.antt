@@ -14,16 +14,16 @@ use borrow.Author.Tests.{le-ltb, ltb-false}
 use Rattle.rounding.specs.Operations.{fused}
 use Rattle.rounding.proofs.Adding.{add-units}
 use Rattle.rounding.proofs.Fusing.{fused-fits}
-use Rattle.rounding.proofs.Own.{round-own}
+use Rattle.rounding.proofs.RoundsToItself.{round-own}
 use Rattle.rounding.proofs.Sums.{sum-is, sum-less, sum-sign, sum-size}
 use Rattle.rounding.proofs.Values.{neg-value, value-finite}
 use Rattle.fused32.specs.Parts.{amount}
-use Rattle.fused32.proofs.Joined.{both}
+use Rattle.fused32.proofs.SumCases.{both}
 use Rattle.fused32.proofs.Parts.{short, fused-is}
 use Rattle.biased_sum.specs.Biased.{bias-of, Frame, Biased}
 use Rattle.biased_sum.proofs.Grid.{L}
-use Rattle.biased_sum.proofs.Inside.{between-finite}
-use Rattle.biased_sum.proofs.Taking.{taken}
+use Rattle.biased_sum.proofs.InsideFrame.{between-finite}
+use Rattle.biased_sum.proofs.BiasedAddition.{taken}
 
 module _ (m low high b q : Float) (B : Biased m low high b q) where
   -- ---- one step of a chain

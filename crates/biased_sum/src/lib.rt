@@ -60,7 +60,7 @@ fn no_bias() -> Start
 }
 
 // The sum, biased for the power of two near it: from about 1.414 times a power on that is the next one.
-// An f32 that is taken stands in it exactly (`begins` in proofs/Begun.antt).
+// An f32 that is taken stands in it exactly (`begins` in proofs/BiasTests.antt).
 pub fn with_bias(sum: f64) -> Start
     ensures { λ r. ⌜ r ≡ withBias sum ⌝ }
 {

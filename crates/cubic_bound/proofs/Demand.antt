@@ -17,7 +17,7 @@ use Rattle.magnitude.specs.Bounds.{AtMost}
 use Rattle.cubic_farrow.specs.Cubic.{cubicAt}
 use Rattle.variable_delay.specs.Reader.{Reading, verdict, stored, positionOf, processed}
 use Rattle.variable_delay.specs.Opening.{fresh}
-use Rattle.variable_delay.proofs.Taken.{taken, position-in-range}
+use Rattle.variable_delay.proofs.AcceptedCall.{taken, position-in-range}
 use Rattle.runs.specs.Runs.{Call, Reader, withCount}
 use Rattle.runs.specs.Filled.{filled}
 use Rattle.runs.proofs.Filled.{filled-holds}
@@ -25,8 +25,8 @@ use Rattle.runs.proofs.Opened.{since, left, state-is, ring-is}
 use Rattle.cubic_bound.specs.Desk.{place, integer, exactAt}
 use Rattle.cubic_bound.specs.Demand.{Desk, Meets}
 use Rattle.cubic_bound.specs.Readers.{reading}
-use Rattle.cubic_bound.proofs.Sums.{cubic-error}
-use Rattle.cubic_bound.proofs.Places.{split, position-is, integer-is, fraction-is}
+use Rattle.cubic_bound.proofs.ErrorBudget.{cubic-error}
+use Rattle.cubic_bound.proofs.ExactPosition.{split, position-is, integer-is, fraction-is}
 use Rattle.cubic_bound.proofs.Neighbours.{as-many, neighbour-is}
 use Rattle.cubic_bound.proofs.Accepted.{accepted}
 

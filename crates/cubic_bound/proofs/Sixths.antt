@@ -11,8 +11,8 @@ use Rattle.rounding_error.specs.Value.{Rounds}
 use Rattle.rounding_error.proofs.Same.{same-trans}
 use Rattle.rounding_error.proofs.Value.{is-near}
 use Rattle.rounding_error.proofs.Exact.{div-is}
-use Rattle.rounding_error.proofs.Near.{div-approx}
-use Rattle.rounding_error.proofs.Whole.{Rep, rep-same}
+use Rattle.rounding_error.proofs.OperandErrors.{div-approx}
+use Rattle.rounding_error.proofs.WholeDifferences.{Rep, rep-same}
 use Rattle.rounding_error.proofs.Integers.{Steps, rep-size, size-parts, size-times, whole-mag, steps-mul}
 use Rattle.cubic_farrow.specs.Cubic.{two, six}
 

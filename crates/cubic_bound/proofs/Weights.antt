@@ -8,7 +8,7 @@ use lib.IntN.{ℤ, pos, negℤ, _+ℤ_, _-ℤ_, _*ℤ_}
 use lib.Ieee.{Float, binary64, add, sub, neg}
 use Rattle.rounding_error.specs.Fraction.{zp, zn}
 use Rattle.rounding_error.proofs.Same.{ring}
-use Rattle.rounding_error.proofs.Whole.{Rep, rep-own, rep-pos, rep-neg, rep-minus, rep-mul, rep-to}
+use Rattle.rounding_error.proofs.WholeDifferences.{Rep, rep-own, rep-pos, rep-neg, rep-minus, rep-mul, rep-to}
 use Rattle.rounding_error.proofs.Integers.{Steps, rep-size, steps-neg, steps-add, steps-sub}
 use Rattle.cubic_farrow.specs.Cubic.{one, two, c0, c1, c2, c3}
 use Rattle.cubic_bound.specs.Exact.{M, weight0, weight1, weight2, weight3}

@@ -5,7 +5,7 @@ use Prim.Native.Nat.{ℕ, _*_}
 use lib.Dec.{eqb}
 use lib.IntN.{pos}
 use lib.Ieee.{Float, nan, inf, fin, Format, up, down, unlike, round, neg, add, sub, mul, div}
-use Rattle.rounding.proofs.Mirror.{round-neg}
+use Rattle.rounding.proofs.SumSymmetry.{round-neg}
 use Rattle.cubic_farrow.specs.Cubic.{one, two, six, c0, c1, c2, c3, weighed}
 
 unlike-left : (s t : Bool) → unlike (not s) t ≡ not (unlike s t)

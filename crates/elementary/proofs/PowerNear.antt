@@ -10,9 +10,9 @@ use Rattle.rounding_error.specs.Fraction.{Frac, frac, nil, times, Same, Within,
 use Rattle.rounding_error.specs.Value.{val, Is, Rounds}
 use Rattle.rounding_error.proofs.Same.{same-refl, same-trans}
 use Rattle.rounding_error.proofs.Within.{from, to, rescale, beside}
-use Rattle.rounding_error.proofs.Product.{mag-times}
+use Rattle.rounding_error.proofs.ProductErrors.{mag-times}
 use Rattle.rounding_error.proofs.Value.{is-near}
-use Rattle.rounding_error.proofs.Near.{mul-approx}
+use Rattle.rounding_error.proofs.OperandErrors.{mul-approx}
 use Rattle.polynomials.specs.Taylor.{factorial, power}
 use Rattle.polynomials.specs.Horner.{ln2, powerSteps, powerNear}
 use Rattle.elementary.specs.Answers.{two, half}

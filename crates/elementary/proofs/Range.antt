@@ -7,7 +7,7 @@ use lib.IntN.{ℤ, pos}
 use lib.Dec.{leb, leb→le, le→leb}
 use lib.Ieee.{Float, nan, inf, fin, binary64, up, down, neg, le, ofBits}
 use lib.Ieee.Fits.{and-l, and-r, and-i}
-use Rattle.rounding.proofs.Orders.{same-test}
+use Rattle.rounding.proofs.NumberOrders.{same-test}
 use Rattle.rounding_error.specs.Fraction.{Frac, frac}
 use Rattle.rounding_error.specs.Value.{signed}
 use Rattle.rounding_error.proofs.Compare.{side, le-is}

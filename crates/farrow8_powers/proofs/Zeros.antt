@@ -13,10 +13,10 @@ use lib.Ieee.Fits.{round-fits}
 use lib.Ieee.Exact.{HasValue}
 use lib.Ieee.Scale.{finite}
 use Rattle.rounding.proofs.Values.{fits-units}
-use Rattle.rounding.proofs.Own.{round-own}
+use Rattle.rounding.proofs.RoundsToItself.{round-own}
 use Rattle.rounding.proofs.Sums.{sum-sign, sum-size, sum-is}
 use Rattle.rounding.proofs.Adding.{add-units}
-use Rattle.rounding.proofs.Mirror.{add-swap}
+use Rattle.rounding.proofs.SumSymmetry.{add-swap}
 use Rattle.rounding.proofs.Products.{mul-value}
 use Rattle.rounding.proofs.Comparing.{eq-units}
 

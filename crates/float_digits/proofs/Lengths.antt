@@ -8,7 +8,7 @@ use lib.Pow.{pow-add, shl-lt}
 use lib.Count.{leadingZeros, leading-unique}
 use lib.Ieee.{size}
 use lib.Ieee.Digits.{back, size-lt, size-reaches, size-le}
-use Rattle.rounding.proofs.Orders.{pow-lt-back}
+use Rattle.rounding.proofs.NumberOrders.{pow-lt-back}
 
 size-reach : (a z : ℕ) → size a ≡ z → 2 ^ z ≤ 2 * a + 1
 size-reach a zero e = omega arith

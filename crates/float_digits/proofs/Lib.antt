@@ -1,6 +1,6 @@
 pub mod Lengths
 pub mod Jams
-pub mod Plain
-pub mod Taking
-pub mod Putting
-pub mod Normal
+pub mod PlainValues
+pub mod UnpackMeaning
+pub mod PackMeaning
+pub mod UnpackNormal

@@ -13,7 +13,7 @@ use borrow.Author.Tests.{le-ltb}
 use Rattle.fused32.proofs.Remainder.{Few}
 use Rattle.rounding.proofs.Adding.{minus, add-units}
 use Rattle.rounding.proofs.Comparing.{eq-units, lt-units}
-use Rattle.rounding.proofs.Orders.{and-true, eqb-iff, ltb-iff}
+use Rattle.rounding.proofs.NumberOrders.{and-true, eqb-iff, ltb-iff}
 use Rattle.rounding.proofs.Sums.{sum-level, sum-over}
 use Rattle.rounding.proofs.Values.{neg-value}
 

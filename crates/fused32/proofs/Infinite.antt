@@ -11,11 +11,11 @@ use lib.Ieee.{Float, binary32, binary64, round}
 use lib.Ieee.Nearest.{closest}
 use lib.Ieee.Scale.{finite}
 use Rattle.rounding.specs.Operations.{narrowed}
-use Rattle.rounding.proofs.Closest.{closest-ge}
-use Rattle.rounding.proofs.Dropped.{round-finer}
-use Rattle.rounding.proofs.Orders.{lt-or-ge, pow-le-back}
+use Rattle.rounding.proofs.NearestWhole.{closest-ge}
+use Rattle.rounding.proofs.DroppedDigits.{round-finer}
+use Rattle.rounding.proofs.NumberOrders.{lt-or-ge, pow-le-back}
 use Rattle.rounding.proofs.Units.{units-over}
-use Rattle.rounding.proofs.Whole.{near, near-le, places, round-units, v-ge, v-lt}
+use Rattle.rounding.proofs.WholeUnits.{near, near-le, places, round-units, v-ge, v-lt}
 
 pub under-top : (v : ℕ) (s : Bool) → T (finite (round binary64 s v (2 ^ 1074))) → near binary64 v * 2 ^ places binary64 v < 2 ^ (1074 + 1024)
 under-top v s h = elim (lt-or-ge (near binary64 v * 2 ^ places binary64 v) (2 ^ (1074 + 1024))) [

@@ -11,13 +11,13 @@ use lib.Pow.{pow-add, pow-pos, pow-mono}
 use lib.Ieee.{binary32, binary64, units, round, toBits, ofBits}
 use lib.Ieee.Exact.{HasValue, units-val}
 use Rattle.rounding.specs.Operations.{narrowed}
-use Rattle.fused32.proofs.Again.{again-normal, again-odd}
+use Rattle.fused32.proofs.SecondRounding.{again-normal, again-odd}
 use Rattle.narrowing.proofs.Narrowed.{narrowed-value}
-use Rattle.rounding.proofs.Orders.{pow-lt-back}
+use Rattle.rounding.proofs.NumberOrders.{pow-lt-back}
 use Rattle.rounding.proofs.Pack.{pack}
 use Rattle.rounding.proofs.Units.{up-hid}
-use Rattle.rounding.proofs.Whole.{exact-short, near, near-ge, near-le, places, rounded-bits, rounded-value, v-ge, v-lt}
-use Rattle.rounding.proofs.Within.{closest-near}
+use Rattle.rounding.proofs.WholeUnits.{exact-short, near, near-ge, near-le, places, rounded-bits, rounded-value, v-ge, v-lt}
+use Rattle.rounding.proofs.WithinHalfDivisor.{closest-near}
 
 -- what a pattern j * 2 ^ 52 + Q says of j and of Q
 normal : (j Q : ℕ) → Q < 2 ^ 53 → 0x3810_0000_0000_0000 ≤ j * 2 ^ 52 + Q → 896 ≤ j

@@ -18,11 +18,11 @@ use Rattle.rounding.specs.Operations.{narrowed}
 use Rattle.fused32.proofs.Compared.{Tests}
 use Rattle.fused32.proofs.Infinite.{under-top}
 use Rattle.fused32.proofs.Neighbours.{as-down, as-exact, as-odd, as-up, bits, j-le, rounds}
-use Rattle.fused32.proofs.Totals.{sum-total, tests, total}
+use Rattle.fused32.proofs.ExactSums.{sum-total, tests, total}
 use Rattle.rounding.proofs.Adding.{add-units}
-use Rattle.rounding.proofs.Orders.{bit, clash, pow-lt-back}
+use Rattle.rounding.proofs.NumberOrders.{bit, clash, pow-lt-back}
 use Rattle.rounding.proofs.Values.{value-no-nan}
-use Rattle.rounding.proofs.Whole.{near, near-le, places}
+use Rattle.rounding.proofs.WholeUnits.{near, near-le, places}
 
 module _ (x y s : Float) (O : Ordered x y) (E : SumOf x y s) where
   abbrev p : Short x

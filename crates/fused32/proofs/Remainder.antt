@@ -9,12 +9,12 @@ use lib.Dec.{lit<}
 use lib.Pow.{pow-pos, pow-mono}
 use lib.Ieee.{Float, binary64}
 use Rattle.fused32.specs.Parts.{Short, amount}
-use Rattle.fused32.proofs.Unit.{Divides, room, twice, which}
-use Rattle.rounding.proofs.Closest.{closest-ge}
-use Rattle.rounding.proofs.Orders.{sub-mul}
+use Rattle.fused32.proofs.SumUnit.{Divides, room, twice, which}
+use Rattle.rounding.proofs.NearestWhole.{closest-ge}
+use Rattle.rounding.proofs.NumberOrders.{sub-mul}
 use Rattle.rounding.proofs.Units.{up-hid}
-use Rattle.rounding.proofs.Whole.{near, places}
-use Rattle.rounding.proofs.Within.{closest-most, closest-near}
+use Rattle.rounding.proofs.WholeUnits.{near, places}
+use Rattle.rounding.proofs.WithinHalfDivisor.{closest-most, closest-near}
 
 -- D has no more digits than an f64
 abbrev pub Few : ℕ → Type 0

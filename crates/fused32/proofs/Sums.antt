@@ -18,11 +18,11 @@ use Rattle.fused32.proofs.Infinite.{as-infinite, under-top}
 use Rattle.fused32.proofs.Neighbours.{as-clear, as-exact, bits, j-le, rounds}
 use Rattle.rounding.proofs.Adding.{add-units}
 use Rattle.rounding.proofs.Comparing.{lt-units}
-use Rattle.rounding.proofs.Orders.{clash, lt-or-ge}
+use Rattle.rounding.proofs.NumberOrders.{clash, lt-or-ge}
 use Rattle.rounding.proofs.Patterns.{rest-is}
 use Rattle.rounding.proofs.Sums.{sum-is, sum-sign, sum-size}
 use Rattle.rounding.proofs.Values.{value-finite}
-use Rattle.rounding.proofs.Whole.{exact-short, near, near-ge, near-le, places}
+use Rattle.rounding.proofs.WholeUnits.{exact-short, near, near-ge, near-le, places}
 
 module _ (p c : Float) (P : Short p) (C : Short c) where
   abbrev pub S : Bool

@@ -10,8 +10,8 @@ use lib.Pow.{pow-pos}
 use Rattle.rounding.proofs.Sums.{sum-like, sum-less, sum-over}
 use Rattle.float_digits.specs.Jam.{Jam}
 use Rattle.fused64.specs.Word.{Headed, Placed, Beside, Joined}
-use Rattle.fused64.proofs.Words.{unlike-bits}
-use Rattle.fused64.proofs.Beside.{jam-plus, jam-less, jam-more, less-kept, more-kept}
+use Rattle.fused64.proofs.TwoWords.{unlike-bits}
+use Rattle.fused64.proofs.JammedSums.{jam-plus, jam-less, jam-more, less-kept, more-kept}
 
 -- a head is its sign and its place
 head-place : (s e : ℕ) → s % 2 ^ 11 ≡ 0 → e < 1600 → (e + s) % 2 ^ 11 ≡ e

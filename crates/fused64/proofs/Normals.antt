@@ -13,8 +13,8 @@ use Rattle.rounding.specs.Operations.{fused}
 use Rattle.rounding.proofs.Patterns.{bits-finite}
 use Rattle.rounding.proofs.Units.{toBits-value}
 use Rattle.float_digits.specs.Pattern.{plain, unpacked}
-use Rattle.float_digits.proofs.Normal.{normal-digits, normal-place}
-use Rattle.float_digits.proofs.Taking.{Scaling, scaling}
+use Rattle.float_digits.proofs.UnpackNormal.{normal-digits, normal-place}
+use Rattle.float_digits.proofs.UnpackMeaning.{Scaling, scaling}
 use Rattle.fused64.specs.Wide.{val}
 use Rattle.fused64.specs.Word.{Normal, Quick, digits53, fieldOf}
 use Rattle.fused64.proofs.Terms.{widened, terms-sum}

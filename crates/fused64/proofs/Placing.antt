@@ -11,8 +11,8 @@ use lib.Count.{leadingZeros}
 use lib.Ieee.{binary64, round, size, ofBits}
 use lib.Ieee.Digits.{size-lt, size-le, size-reaches}
 use lib.Ieee.Nearest.{closest, closest-same}
-use Rattle.rounding.proofs.Orders.{pow-lt-back}
-use Rattle.rounding.proofs.Closest.{closest-by-add, closest-ge, closest-le}
+use Rattle.rounding.proofs.NumberOrders.{pow-lt-back}
+use Rattle.rounding.proofs.NearestWhole.{closest-by-add, closest-ge, closest-le}
 use Rattle.rounding.proofs.Pack.{pack}
 use Rattle.rounding.proofs.Jammed.{jammed}
 use Rattle.float_digits.specs.Jam.{Jam}

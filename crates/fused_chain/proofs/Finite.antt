@@ -7,7 +7,7 @@ use lib.Ieee.{Float, nan, inf, fin, Format, binary64, prec, emax, low, up, down,
 use lib.Ieee.Fits.{round-is}
 use lib.Ieee.Scale.{finite}
 use Rattle.rounding.proofs.Sums.{sum-is}
-use Rattle.fused32.proofs.Joined.{both}
+use Rattle.fused32.proofs.SumCases.{both}
 use Rattle.fused_chain.specs.Blocks.{FiniteFour}
 
 units-number : (f : Format) (s : Bool) (q k : ℕ) → T (not (isNan (units f s q k)))

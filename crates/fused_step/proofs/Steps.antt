@@ -13,16 +13,16 @@ use lib.Ieee.Scale.{finite}
 use borrow.Author.Tests.{eqb-true}
 use Rattle.rounding.specs.Operations.{narrowed, fused}
 use Rattle.rounding.proofs.Comparing.{eq-units}
-use Rattle.rounding.proofs.Orders.{clash}
+use Rattle.rounding.proofs.NumberOrders.{clash}
 use Rattle.rounding.proofs.Sums.{round-zero}
-use Rattle.rounding.proofs.Whole.{exact-short, near-ge, places}
+use Rattle.rounding.proofs.WholeUnits.{exact-short, near-ge, places}
 use Rattle.fused32.specs.Parts.{Short, Clear}
 use Rattle.fused32.proofs.Compared.{zero-value}
-use Rattle.fused32.proofs.Joined.{both, clear-code}
+use Rattle.fused32.proofs.SumCases.{both, clear-code}
 use Rattle.fused32.proofs.Parts.{short, fused-is}
 use Rattle.fused32.proofs.Sums.{S, v, G, s-value, sum-rounds, sum-under}
 use Rattle.fused_step.specs.Steps.{Plain}
-use Rattle.fused_step.proofs.Cut.{normal, no-midpoint, plain-cut}
+use Rattle.fused_step.proofs.QuickPattern.{normal, no-midpoint, plain-cut}
 
 -- ---- a zero sum is exact: it is a zero in every format, of one sign
 module _ (p c : Float) (P : Short p) (C : Short c) (bounded : T (finite (add binary64 p c))) (z : eq (add binary64 p c) (ofBits binary64 0) ≡ true) where

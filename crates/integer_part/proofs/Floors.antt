@@ -12,7 +12,7 @@ use lib.Ieee.Fits.{down-pos}
 use lib.Ieee.Positive.{den}
 use Rattle.interval.proofs.Signed.{gain, loss}
 use Rattle.magnitude.specs.Bounds.{AtMost}
-use Rattle.integer_part.proofs.Signed.{natAbs-neg, mag-le}
+use Rattle.integer_part.proofs.IntegerSizes.{natAbs-neg, mag-le}
 use Rattle.integer_part.specs.Parts.{floorOf}
 
 -- ---- a / d, and a / d rounded up

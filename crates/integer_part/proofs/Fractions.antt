@@ -13,8 +13,8 @@ use lib.Ieee.Exact.{HasValue}
 use lib.Ieee.Positive.{den, den-pos}
 use lib.Ieee.Scale.{finite}
 use Rattle.magnitude.specs.Bounds.{AtMost}
-use Rattle.magnitude.proofs.Between.{at-most-finite, between-at-most}
-use Rattle.magnitude.proofs.Whole.{whole-value}
+use Rattle.magnitude.proofs.OrderAndBounds.{at-most-finite, between-at-most}
+use Rattle.magnitude.proofs.WholeFloats.{whole-value}
 use Rattle.interval.proofs.Signed.{ring, gain, loss}
 use Rattle.interval.proofs.Operations.{Rounds, in-order, added}
 use Rattle.integer_part.specs.Parts.{floorOf, fractionOf}

@@ -11,7 +11,7 @@ use lib.Ieee.Order.{round-mono}
 use lib.Ieee.Scale.{finite}
 use Rattle.interval.proofs.Signed.{of-under, le-le, Ordered}
 use Rattle.interval.proofs.Rounded.{le-neg}
-use Rattle.interval.proofs.Grows.{sum-grows}
+use Rattle.interval.proofs.MonotoneOperations.{sum-grows}
 
 pub record Between (low high x : Float) : Type 0 where
   pub above : Ordered low x

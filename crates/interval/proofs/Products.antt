@@ -13,7 +13,7 @@ use lib.Ieee.Scale.{finite}
 use Rattle.magnitude.proofs.Comparisons.{lt→le}
 use Rattle.interval.proofs.Signed.{gain, loss, under, strictly, nle→lt, Ordered, bound}
 use Rattle.interval.proofs.Rounded.{none}
-use Rattle.interval.proofs.Grows.{product-grows, product-shrinks, quotient-grows}
+use Rattle.interval.proofs.MonotoneOperations.{product-grows, product-shrinks, quotient-grows}
 use Rattle.interval.proofs.Between.{Between, between}
 
 abbrev pub zero : Float

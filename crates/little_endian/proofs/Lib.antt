@@ -1,2 +1,2 @@
-pub mod Front
-pub mod Places
+pub mod FirstBytes
+pub mod BytesAtPlace

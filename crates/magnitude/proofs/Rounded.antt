@@ -11,7 +11,7 @@ use lib.Ieee.Fits.{round-is}
 use lib.Ieee.Back.{round-whole}
 use lib.Ieee.Order.{round-mono}
 use Rattle.magnitude.specs.Bounds.{AtMost}
-use Rattle.magnitude.proofs.Between.{value-at-most, between-at-most}
+use Rattle.magnitude.proofs.OrderAndBounds.{value-at-most, between-at-most}
 
 -- ---- the sign does not matter
 odd-sign : (b d : ℕ) (s : Bool) (q k l : ℕ) → AtMost b (odd d false q k l) → AtMost b (odd d s q k l)

@@ -6,7 +6,7 @@ use lib.Dec.{T}
 use lib.Ieee.{Float, nan, inf, fin, lt, le, isNan}
 use Rattle.magnitude.specs.Bounds.{AtMost}
 use Rattle.magnitude.proofs.Comparisons.{nlt→le, le-itself, le-numbers}
-use Rattle.magnitude.proofs.Between.{between-at-most}
+use Rattle.magnitude.proofs.OrderAndBounds.{between-at-most}
 use Rattle.min_max.specs.Choice.{clamped}
 
 pub clamped-nan : (low high : Float) → clamped nan low high ≡ nan

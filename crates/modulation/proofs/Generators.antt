@@ -10,8 +10,8 @@ use Rattle.smooth_random.specs.Ranges.{validOf}
 use Rattle.smooth_random.specs.Drift as drift
 use Rattle.smooth_random.specs.declared.SmoothRandom.{SmoothRandom}
 use Rattle.xorshift.proofs.Generator.{step-word}
-use Rattle.smooth_random.proofs.Starts.{seed-word, new-valid, reset-valid}
-use Rattle.smooth_random.proofs.Settles.{next-valid, next-kept}
+use Rattle.smooth_random.proofs.ValidSeeds.{seed-word, new-valid, reset-valid}
+use Rattle.smooth_random.proofs.LoopEnds.{next-valid, next-kept}
 
 pub record Steady (r : SmoothRandom) : Type 0 where
   pub valid : T (validOf r)

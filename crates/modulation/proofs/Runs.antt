@@ -10,14 +10,14 @@ use lib.Ieee.{Float}
 use Rattle.xorshift.specs.Seeds.{flutterSeedOf}
 use Rattle.smooth_random.specs.Drift as drift
 use Rattle.smooth_random.specs.declared.SmoothRandom.{SmoothRandom}
-use Rattle.smooth_random.proofs.Starts.{set-held, set-zero, flutter-differs}
+use Rattle.smooth_random.proofs.ValidSeeds.{set-held, set-zero, flutter-differs}
 use Rattle.oscillator_ranges.specs.Ranges.{sampleRateOk}
 use Rattle.modulation_engine.specs.Engine.{openedOf, fresh, setSeedOf, resetOf}
 use Rattle.modulation.specs.Runs.{Call, run, offsets, lastRate, lastSeed, Words}
 use Rattle.modulation_engine.specs.declared.ModulationEngine.{ModulationEngine}
 use Rattle.modulation_engine.specs.declared.Opened.the-variants.{Engine}
-use Rattle.modulation.proofs.Kept.{Sound}
-use Rattle.modulation.proofs.Running.{Running, sound-verdict, flutter-twice, fresh-running, running}
+use Rattle.modulation.proofs.EngineInRange.{Sound}
+use Rattle.modulation.proofs.RunInvariant.{Running, sound-verdict, flutter-twice, fresh-running, running}
 
 module _ {sample-rate : Float} {s : ℕ} {e : ModulationEngine} (h : Running sample-rate s e) where
   sets-nothing : setSeedOf e s ≡ Engine e

@@ -11,8 +11,8 @@ use lib.Ieee.Exact.{HasValue}
 use lib.Ieee.Nearest.{closest, closest-same}
 use lib.Ieee.Scale.{round-same}
 use Rattle.rounding.specs.Operations.{narrowed}
-use Rattle.rounding.proofs.Closest.{closest-ge, closest-le}
-use Rattle.rounding.proofs.Dropped.{round-finer}
+use Rattle.rounding.proofs.NearestWhole.{closest-ge, closest-le}
+use Rattle.rounding.proofs.DroppedDigits.{round-finer}
 use Rattle.rounding.proofs.Units.{units-over}
 
 -- ---- by any fraction that the value equals

@@ -14,7 +14,7 @@ use lib.Ieee.Nearest.{closest}
 use Rattle.narrowing.specs.Nearest.{Rounds}
 use Rattle.rounding.specs.Operations.{narrowed}
 use Rattle.narrowing.proofs.Narrowed.{digits-ge, digits-le, narrowed-value, normal-over, normal-units}
-use Rattle.rounding.proofs.Closest.{closest-by-add, closest-shift}
+use Rattle.rounding.proofs.NearestWhole.{closest-by-add, closest-shift}
 use Rattle.rounding.proofs.Pack.{pack}
 use Rattle.rounding.proofs.Patterns.{unpacked}
 

@@ -13,8 +13,8 @@ use Rattle.narrowing.specs.Nearest.{Rounds}
 use Rattle.narrowing.proofs.Narrowed.{low-units}
 use Rattle.narrowing.proofs.Patterns.{under, count, exponent, narrows, value}
 use Rattle.rounding.proofs.Adding.{plus}
-use Rattle.rounding.proofs.Closest.{closest-le, closest-shift}
-use Rattle.rounding.proofs.Dropped.{round-finer}
+use Rattle.rounding.proofs.NearestWhole.{closest-le, closest-shift}
+use Rattle.rounding.proofs.DroppedDigits.{round-finer}
 use Rattle.rounding.proofs.Pack.{pack}
 use Rattle.rounding.proofs.Units.{bits-units}
 use Rattle.rounding.proofs.Values.{value-no-nan}

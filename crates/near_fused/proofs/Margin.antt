@@ -12,14 +12,14 @@ use lib.Ieee.Exact.{HasValue}
 use lib.Ieee.Scale.{finite, grid, round-val, round-under}
 use Rattle.rounding.proofs.Adding.{plus}
 use Rattle.rounding.proofs.Products.{mul-value}
-use Rattle.rounding.proofs.Whole.{places, v-ge, rounded-value}
+use Rattle.rounding.proofs.WholeUnits.{places, v-ge, rounded-value}
 use Rattle.rounding_error.proofs.Same.{ring}
-use Rattle.rounding_error.proofs.Units.{Part, Near, near-part}
+use Rattle.rounding_error.proofs.UnitErrors.{Part, Near, near-part}
 use Rattle.near_fused.specs.Step.{least}
-use Rattle.near_fused.proofs.Enough.{enough, Share, share}
-use Rattle.near_fused.proofs.Few.{rounded, near-hi, few-below}
-use Rattle.near_fused.proofs.Larger.{unders}
-use Rattle.near_fused.proofs.Finite.{add-finite, mul-finite}
+use Rattle.near_fused.proofs.MarginShare.{enough, Share, share}
+use Rattle.near_fused.proofs.RoundTo53.{rounded, near-hi, few-below}
+use Rattle.near_fused.proofs.RemainderOfFloats.{unders}
+use Rattle.near_fused.proofs.FiniteParts.{add-finite, mul-finite}
 
 least-value : HasValue least false (1 * 2 ^ 114) (2 ^ 1074)
 unfolding ofBits

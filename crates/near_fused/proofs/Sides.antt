@@ -6,8 +6,8 @@ use native.Mathlib.Omega.{arith}
 use Rattle.rounding_error.specs.Fraction.{Frac, frac, plus, opp, Same}
 use Rattle.rounding_error.proofs.Same.{ring, same-refl, plus-same, opp-same}
 use Rattle.rounding_error.proofs.Within.{to}
-use Rattle.near_fused.proofs.Mono.{AtMost}
-use Rattle.near_fused.proofs.Near.{Unit, Near}
+use Rattle.near_fused.proofs.RoundingOrder.{AtMost}
+use Rattle.near_fused.proofs.UnitDistances.{Unit, Near}
 
 over-core : (g N k j qp qn qd hp hn hd : ℕ) → 0 < g → k ≤ j → g * ((qp * g + j * N * qd) * hd + hn * (qd * g)) ≤ g * (hp * (qd * g) + (qn * g + 0 * qd) * hd) + k * N * (qd * g * hd) → qp * hd + hn * qd ≤ hp * qd + qn * hd
 over-core g N k j qp qn qd hp hn hd G l h = le-of-mul-le-mul-right {k = g * g} (simp ring (omega (arith, simp ring at h, simp ring at (mul-le-mul-right (N * (qd * (hd * g))) l)))) (mul-pos G G)

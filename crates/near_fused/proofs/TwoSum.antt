@@ -10,7 +10,7 @@ use lib.Dec.{T, ltb}
 use lib.Pow.{pow-pos}
 use lib.Ieee.{Float, binary64, add, sub, neg}
 use lib.Ieee.Scale.{finite, overflow}
-use Rattle.rounding.proofs.Orders.{lt-or-ge, clash}
+use Rattle.rounding.proofs.NumberOrders.{lt-or-ge, clash}
 use Rattle.rounding.proofs.Sums.{sum-size}
 use Rattle.rounding.proofs.Values.{neg-value, value-finite}
 use Rattle.rounding_error.specs.Fraction.{Frac, plus, opp, Same}
@@ -18,9 +18,9 @@ use Rattle.rounding_error.specs.Value.{signed, val}
 use Rattle.rounding_error.proofs.Same.{ring, same-refl, same-sym, same-trans, plus-same, opp-same}
 use Rattle.rounding_error.proofs.Value.{val-pos, neg-val, neg-finite}
 use Rattle.rounding_error.proofs.Operations.{Rounded, add-rounded}
-use Rattle.near_fused.proofs.Few.{rounded, few-below, few-difference}
-use Rattle.near_fused.proofs.Short.{L, Units, Short, units-same, short-of, short-same, short-opp, short-exact}
-use Rattle.near_fused.proofs.Larger.{sum-units, less-first}
+use Rattle.near_fused.proofs.RoundTo53.{rounded, few-below, few-difference}
+use Rattle.near_fused.proofs.FewDigits.{L, Units, Short, units-same, short-of, short-same, short-opp, short-exact}
+use Rattle.near_fused.proofs.RemainderOfFloats.{sum-units, less-first}
 
 -- ---- s - (s - p)
 abbrev neg-units : {x : Float} → Units x → Units (neg x)

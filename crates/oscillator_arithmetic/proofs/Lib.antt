@@ -1,4 +1,4 @@
-pub mod Values
-pub mod Inside
-pub mod Powers
-pub mod Cycle
+pub mod AnswerValues
+pub mod NothingRefused
+pub mod PowerBound
+pub mod PhaseCycle

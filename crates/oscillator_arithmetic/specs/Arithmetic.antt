@@ -15,7 +15,7 @@ abbrev pub valueOf : Answer → Float
 valueOf (Value v) = v
 valueOf (Refused n) = zero
 
--- 001's cos and 2.0_f64.powf are the port's own. In 01's ranges neither refuses (the laws of proofs/Inside).
+-- 001's cos and 2.0_f64.powf are the port's own. In 01's ranges neither refuses (the laws of proofs/NothingRefused).
 unfoldable pub cos : Float → Float
 cos x = valueOf (cosineOf x)
 

@@ -6,16 +6,16 @@ use native.Mathlib.Nat.{le-of-lt, mul-comm, mul-pos, mul-le-mul-left, lt-mul-div
 use native.Mathlib.Omega.{arith}
 use lib.Dec.{lit≤, lit<}
 use lib.Ieee.{Float, binary64, add, mul}
-use Rattle.rounding.proofs.Orders.{clash}
+use Rattle.rounding.proofs.NumberOrders.{clash}
 use Rattle.rounding_error.specs.Fraction.{Frac, frac, nil, plus, times, Within, Mag}
 use Rattle.rounding_error.specs.Value.{val, Rounds}
 use Rattle.rounding_error.proofs.Same.{same-refl, times-comm}
 use Rattle.rounding_error.proofs.Within.{flip, chain, from, to, weaken, rescale, within-plus, beside}
-use Rattle.rounding_error.proofs.Product.{within-times, within-times-at, mag-times, mag-signed}
+use Rattle.rounding_error.proofs.ProductErrors.{within-times, within-times-at, mag-times, mag-signed}
 use Rattle.rounding_error.proofs.Value.{val-pos}
-use Rattle.rounding_error.proofs.Round.{round-absolute}
+use Rattle.rounding_error.proofs.OneRounding.{round-absolute}
 use Rattle.rounding_error.proofs.Operations.{mul-rounded}
-use Rattle.rounding_error.proofs.Near.{approx, add-approx}
+use Rattle.rounding_error.proofs.OperandErrors.{approx, add-approx}
 use Rattle.polynomials.specs.Taylor.{factorial}
 use Rattle.polynomials.specs.Horner.{reciprocal, horner}
 use Rattle.polynomials.proofs.Nested.{nested, factorial-pos}

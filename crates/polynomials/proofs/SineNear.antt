@@ -9,17 +9,17 @@ use lib.IntN.{pos, negsuc}
 use lib.Dec.{T, leb, leb→le, nleb→lt, lit≤, lit<}
 use lib.Pow.{pow-pos}
 use lib.Ieee.{Float, nan, inf, fin, binary64, round, mul, fits}
-use Rattle.rounding.proofs.Orders.{pow-le-back}
+use Rattle.rounding.proofs.NumberOrders.{pow-le-back}
 use Rattle.rounding.proofs.Values.{fits-parts}
 use Rattle.rounding_error.specs.Fraction.{Frac, frac, nil, times, Same, Within, Mag}
 use Rattle.rounding_error.specs.Value.{signed, val, Is, Rounds}
 use Rattle.rounding_error.proofs.Same.{same-refl, same-sym, same-trans, times-same, times-one}
 use Rattle.rounding_error.proofs.Within.{flip, chain, from, to, rescale, within-opp, beside}
-use Rattle.rounding_error.proofs.Product.{within-times-at, mag-times}
+use Rattle.rounding_error.proofs.ProductErrors.{within-times-at, mag-times}
 use Rattle.rounding_error.proofs.Value.{val-pos, is-val, neg-is}
 use Rattle.rounding_error.proofs.Operations.{mul-rounded}
 use Rattle.rounding_error.proofs.Exact.{add-is, mul-is}
-use Rattle.rounding_error.proofs.Near.{rounded-relative}
+use Rattle.rounding_error.proofs.OperandErrors.{rounded-relative}
 use Rattle.rounding_error.proofs.Grid.{rounded-none}
 use Rattle.polynomials.specs.Taylor.{factorial, power, sineFraction}
 use Rattle.polynomials.specs.Horner.{reciprocal, horner, sineSteps, sineNear}

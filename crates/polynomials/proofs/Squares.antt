@@ -10,9 +10,9 @@ use Rattle.rounding_error.specs.Fraction.{Frac, nil, times, opp, Within, Mag}
 use Rattle.rounding_error.specs.Value.{val, Rounds}
 use Rattle.rounding_error.proofs.Same.{same-refl}
 use Rattle.rounding_error.proofs.Within.{rescale, within-opp}
-use Rattle.rounding_error.proofs.Product.{mag-times}
+use Rattle.rounding_error.proofs.ProductErrors.{mag-times}
 use Rattle.rounding_error.proofs.Value.{val-pos, is-val, is-near, neg-near}
-use Rattle.rounding_error.proofs.Near.{mul-approx}
+use Rattle.rounding_error.proofs.OperandErrors.{mul-approx}
 use Rattle.polynomials.specs.Taylor.{factorial}
 use Rattle.polynomials.specs.Horner.{horner}
 use Rattle.polynomials.specs.Range.{atMost}

@@ -10,7 +10,7 @@ use Rattle.variable_delay.specs.Reader.{Reading}
 use Rattle.runs.proofs.Calls as calls
 use Rattle.quality_mode.specs.declared.QualityMode.{QualityMode}
 use Rattle.quality_variable_delay.specs.Reader.{verdict, ringAfter, processedBy}
-use Rattle.quality_variable_delay.proofs.Taken.{taken}
+use Rattle.quality_variable_delay.proofs.AcceptedCall.{taken}
 use Rattle.quality_runs.specs.Runs.{Call, Reader, fit, afterBy, due, after, run, accepted}
 
 -- A reader's call leaves `after`, whatever its qualities read: the state in its answer, and the ring.

@@ -11,7 +11,7 @@ use Rattle.runs.proofs.Calls.{by-accepted}
 use Rattle.runs.proofs.Calls as plainly
 use Rattle.runs.proofs.Counted as counts
 use Rattle.quality_variable_delay.specs.State.{delayPart}
-use Rattle.quality_variable_delay.proofs.Taken.{taken}
+use Rattle.quality_variable_delay.proofs.AcceptedCall.{taken}
 use Rattle.quality_runs.specs.Runs.{Call, Reader, afterBy, due, run, accepted, delayed, plainCall}
 use Rattle.quality_runs.proofs.Calls.{stays}
 

@@ -11,8 +11,8 @@ use Rattle.quality_fade.specs.declared.Turn.{Turn}
 use Rattle.quality_fade.specs.Fade.{validOf, openOf}
 use Rattle.quality_fade.specs.Step.{stepOf}
 use Rattle.quality_fade.specs.Runs.{turnsOf, leftOf, mixesOf}
-use Rattle.quality_fade.proofs.Fading as steps
-use Rattle.quality_fade.proofs.Left as left
+use Rattle.quality_fade.proofs.FadeToEnd as steps
+use Rattle.quality_fade.proofs.AfterCalls as left
 use Rattle.quality_variable_delay.specs.State.{fadePart}
 use Rattle.runs.specs.Calls.{keep, acceptedOf}
 use Rattle.runs.proofs.Calls.{accepted-taken, accepted-refused, by-calls, by-accepted}

@@ -11,7 +11,7 @@ use Rattle.quality_mode.specs.Quality.{sameQ}
 use Rattle.quality_fade.specs.declared.Turn.{Turn}
 use Rattle.quality_fade.specs.Fade.{validOf}
 use Rattle.quality_fade.specs.Step.{stepOf}
-use Rattle.quality_fade.proofs.Calls.{back, third, never-mixed, reads-asked}
+use Rattle.quality_fade.proofs.OneCall.{back, third, never-mixed, reads-asked}
 use Rattle.quality_variable_delay.specs.State.{fadePart}
 use Rattle.quality_variable_delay.specs.Reader.{weightOf, mixedOf, outputOf}
 use Rattle.quality_variable_delay.specs.declared.QualityVariableDelayF32.{QualityVariableDelayF32}

@@ -2,11 +2,11 @@ pub mod Readers
 pub mod Tables
 pub mod Banks
 pub mod Qualities
-pub mod Unnamed
+pub mod QualityNumbers
 pub mod Wander
 pub mod Engine
 pub mod Elementary
 pub mod Files
 pub mod Formats
-pub mod Wrapped
+pub mod WrappedFormats
 pub mod Residual

@@ -22,7 +22,7 @@ use Rattle.remainder.specs.Euclid as euclid
 use Rattle.remainder.specs.Euclid.{remEuclid}
 use Rattle.remainder.proofs.Division.{scale-mod, placed}
 use Rattle.remainder.proofs.Remainders.{rem-units}
-use Rattle.remainder.proofs.Below.{apart}
+use Rattle.remainder.proofs.AlreadyBelow.{apart}
 
 -- w is a whole number of few digits at some place
 record Few (p w : ℕ) : Type 0 where

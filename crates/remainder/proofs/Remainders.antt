@@ -9,7 +9,7 @@ use lib.Ieee.{Float, nan, inf, fin, Format, up, down, round, neg, rem}
 use lib.Ieee.Fits.{up-pos, down-pos}
 use lib.Ieee.Exact.{HasValue}
 use lib.Ieee.Scale.{round-same}
-use Rattle.rounding.proofs.Mirror.{round-neg}
+use Rattle.rounding.proofs.SumSymmetry.{round-neg}
 use Rattle.remainder.specs.Euclid.{absoluteOf}
 use Rattle.remainder.proofs.Division.{scale-mod}
 

@@ -31,7 +31,7 @@ heldOf s ring = record { state = s; ring = ring }
 abbrev pub turned : Held → Next
 turned h = nextOf (h .state .engine) defaultParams
 
--- 512 plus the left offset. A state that the engine refuses has no offset; a NaN is refused by the reader. (None is, from opening on: crates/render_start/proofs/Turning.antt.)
+-- 512 plus the left offset. A state that the engine refuses has no offset; a NaN is refused by the reader. (None is, from opening on: crates/render_start/proofs/EngineNeverRefuses.antt.)
 abbrev pub delayOf : Offset → Float
 delayOf (Delay d) = add binary64 (fin false 1 (pos 9)) (d .left)
 delayOf (Refused k) = nan

@@ -9,7 +9,7 @@ use lib.Ieee.Bits.{is-true}
 use lib.Ieee.Fits.{and-l, and-r, and-i}
 use denote.Floats.{passes}
 use Rattle.magnitude.specs.Bounds.{AtMost}
-use Rattle.magnitude.proofs.Between.{between-at-most, at-most-le, at-most-ge}
+use Rattle.magnitude.proofs.OrderAndBounds.{between-at-most, at-most-le, at-most-ge}
 use Rattle.ring.specs.Places.{positionOk}
 
 abbrev low : Float

@@ -8,7 +8,7 @@ use lib.Ieee.{Float, nan, inf, fin, binary64, up, down, ofBits, neg, lt, eq, isN
 use lib.Ieee.Fits.{down-pos}
 use lib.Ieee.Exact.{HasValue}
 use lib.Ieee.Scale.{finite}
-use Rattle.rounding.proofs.Orders.{cross-eqb, cross-ltb}
+use Rattle.rounding.proofs.NumberOrders.{cross-eqb, cross-ltb}
 
 side : (v dd L A de : ℕ) → v * L ≡ A * de → v * dd * L ≡ A * (de * dd)
 side v dd L A de h = mul-right-comm v dd L ∙ ap (λ (z : ℕ). z * dd) h ∙ mul-assoc A de dd

@@ -11,7 +11,7 @@ use lib.Ieee.Scale.{finite, round-same}
 use Rattle.rounding.specs.Operations.{fused}
 use Rattle.rounding.specs.Nearest.{RoundedOnce, ExactFused}
 use Rattle.rounding.proofs.Sums.{sum-is, sum-sign, sum-size}
-use Rattle.rounding.proofs.Once.{round-once}
+use Rattle.rounding.proofs.NearestTiesToEven.{round-once}
 use Rattle.rounding.proofs.SignedSums.{sum-adds, sum-one}
 
 pub fused-once : (f : Format) (x y z : Float) (s : Bool) (num den : ℕ) → 0 < den → ExactFused x y z s num den → fused f x y z ≡ round f s num den

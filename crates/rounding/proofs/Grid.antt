@@ -12,7 +12,7 @@ use lib.Ieee.Fits.{down-pos, round-is}
 use lib.Ieee.Exact.{HasValue, units-val}
 use lib.Ieee.Order.{drop, kept}
 use lib.Ieee.Scale.{grid, overflow}
-use Rattle.rounding.proofs.Orders.{lt-or-ge}
+use Rattle.rounding.proofs.NumberOrders.{lt-or-ge}
 use Rattle.rounding.proofs.Units.{units-over}
 use Rattle.rounding.proofs.Values.{fits-units}
 

@@ -9,7 +9,7 @@ use native.Mathlib.Omega.{arith}
 use lib.Pow.{pow-pos}
 use lib.Ieee.{Format, units, round, prec, low, hid}
 use lib.Ieee.Nearest.{closest, closest-same}
-use Rattle.rounding.proofs.Dropped.{round-at}
+use Rattle.rounding.proofs.DroppedDigits.{round-at}
 use Rattle.rounding.proofs.Sticky.{odd-mid, sticky}
 
 pub jammed : (f : Format) (s : Bool) (num den W k h : ℕ) → 0 < den → 2 ≤ h → h % 2 ≡ 0 → (0 < k → hid f * (h + h) ≤ W) → W < 2 ^ prec f * (h + h)

@@ -14,9 +14,9 @@ use lib.Ieee.Digits.{back, size-reaches}
 use lib.Ieee.Exact.{HasValue}
 use lib.Ieee.Order.{drop, kept}
 use lib.Ieee.Scale.{grid}
-use Rattle.rounding.proofs.Dropped.{prec-pos, kept-ge}
+use Rattle.rounding.proofs.DroppedDigits.{prec-pos, kept-ge}
 use Rattle.rounding.proofs.Grid.{few-digits, rounded-grid}
-use Rattle.rounding.proofs.Within.{closest-near}
+use Rattle.rounding.proofs.WithinHalfDivisor.{closest-near}
 
 -- q of the unit u is as near to n as a whole number of them can be: v of them lie on the far side of the middle
 beside : (n u q v : ℕ) → (q * u * 2 ≤ n * 2 + u) × (n * 2 ≤ q * u * 2 + u) → (q < v → n * 2 ≤ (q + v) * u) × (v < q → (q + v) * u ≤ n * 2)

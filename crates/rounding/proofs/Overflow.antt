@@ -13,8 +13,8 @@ use lib.Ieee.Exact.{HasValue}
 use lib.Ieee.Order.{drop, kept}
 use lib.Ieee.Scale.{grid, overflow}
 use Rattle.rounding.specs.Nearest.{largest, limit}
-use Rattle.rounding.proofs.Orders.{clash, lt-or-ge}
-use Rattle.rounding.proofs.Dropped.{prec-pos, kept-le}
+use Rattle.rounding.proofs.NumberOrders.{clash, lt-or-ge}
+use Rattle.rounding.proofs.DroppedDigits.{prec-pos, kept-le}
 use Rattle.rounding.proofs.Units.{twice-hid}
 use Rattle.rounding.proofs.Grid.{overflow-units, round-over, round-value}
 use Rattle.rounding.proofs.Nearest.{grid-nearest}

@@ -14,8 +14,8 @@ use lib.Ieee.Fits.{two, odd-fits, inf-fits}
 use lib.Ieee.Exact.{units-val}
 use lib.Ieee.Bits.{is-true, is-false, ofBits-toBits}
 use lib.Ieee.Scale.{overflow}
-use Rattle.rounding.proofs.Dropped.{prec-pos}
-use Rattle.rounding.proofs.Orders.{lt-or-ge, pow-le-back, pow-lt-back}
+use Rattle.rounding.proofs.DroppedDigits.{prec-pos}
+use Rattle.rounding.proofs.NumberOrders.{lt-or-ge, pow-le-back, pow-lt-back}
 use Rattle.rounding.proofs.Units.{bits-units, carried, hid-le, toBits-inf, twice-hid, units-finite, units-over, up-hid}
 
 -- ---- sign + (k * hid + q)

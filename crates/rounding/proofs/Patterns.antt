@@ -11,7 +11,7 @@ use lib.Pow.{pow-pos}
 use lib.Ieee.{Float, nan, inf, fin, Format, binary32, binary64, units, fits, toBits, prec, emax, ofBits, isNan, nanBits, ofFields, hid, top, ones}
 use lib.Ieee.Bits.{nanBits-above, ofBits-toBits, nanBits-is}
 use lib.Ieee.Scale.{finite}
-use Rattle.rounding.proofs.Dropped.{prec-pos}
+use Rattle.rounding.proofs.DroppedDigits.{prec-pos}
 use Rattle.rounding.proofs.Pack.{ofBits-is, pack}
 use Rattle.rounding.proofs.Units.{toBits-inf, twice-hid}
 

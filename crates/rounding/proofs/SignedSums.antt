@@ -7,7 +7,7 @@ use native.Mathlib.Omega.{arith}
 use lib.Dec.{T, ltb, ltb→lt, nltb→le}
 use Rattle.rounding.specs.Nearest.{SumOf}
 use Rattle.rounding.proofs.Sums.{sum-sign, sum-size}
-use Rattle.rounding.proofs.Orders.{less}
+use Rattle.rounding.proofs.NumberOrders.{less}
 
 -- k times each of them
 pub sum-adds : (s : Bool) (a : ℕ) (t : Bool) (b k : ℕ) → 0 < k → SumOf (sum-sign s a t b) (sum-size s a t b * k) s (a * k) t (b * k)

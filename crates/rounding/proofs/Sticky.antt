@@ -10,10 +10,10 @@ use lib.Arith.{digits-mod}
 use lib.Pow.{pow-add, pow-pos, pow-mono}
 use lib.Ieee.{Format, units, round, prec, low, hid}
 use lib.Ieee.Nearest.{closest, closest-same}
-use Rattle.rounding.proofs.Closest.{closest-ge, closest-le}
-use Rattle.rounding.proofs.Dropped.{round-finer}
-use Rattle.rounding.proofs.Near.{round-near}
-use Rattle.rounding.proofs.Within.{closest-near}
+use Rattle.rounding.proofs.NearestWhole.{closest-ge, closest-le}
+use Rattle.rounding.proofs.DroppedDigits.{round-finer}
+use Rattle.rounding.proofs.WithinHalfUnit.{round-near}
+use Rattle.rounding.proofs.WithinHalfDivisor.{closest-near}
 
 -- what is nearest to Q is strictly within half a unit
 strict-lo : (Q q h : ℕ) → q * (h + h) * 2 ≤ Q * 2 + (h + h) → (Q % (h + h) ≡ h → ⊥) → 0 < h → q * (h + h) < Q + h

@@ -10,10 +10,10 @@ use lib.Pow.{pow-pos}
 use lib.Ieee.{fin, Format, binary32, binary64, units, round, sum, prec, emax, low, ofBits, odd}
 use lib.Ieee.Scale.{round-same}
 use borrow.Author.Tests.{lt-ltb, le-ltb}
-use Rattle.rounding.proofs.Dropped.{round-low}
-use Rattle.rounding.proofs.Orders.{and-false, and-true, cross-ltb, sub-mul}
+use Rattle.rounding.proofs.DroppedDigits.{round-low}
+use Rattle.rounding.proofs.NumberOrders.{and-false, and-true, cross-ltb, sub-mul}
 use Rattle.rounding.proofs.Units.{units-finite}
-use Rattle.rounding.proofs.Within.{closest-none}
+use Rattle.rounding.proofs.WithinHalfDivisor.{closest-none}
 
 -- ---- by its cases: parts of one sign, and of two
 pub sum-like : (f : Format) (S W : Bool) (a b c : ℕ) → S ≡ W → sum f S a W b c ≡ round f S (a + b) c

@@ -15,8 +15,8 @@ use lib.Ieee.Nearest.{closest}
 use lib.Ieee.Order.{drop, kept}
 use lib.Ieee.Scale.{grid}
 use Rattle.rounding.specs.Nearest.{LastEven}
-use Rattle.rounding.proofs.Orders.{Cmp, cmp, lt-or-ge}
-use Rattle.rounding.proofs.Dropped.{prec-pos, kept-ge, kept-le}
+use Rattle.rounding.proofs.NumberOrders.{Cmp, cmp, lt-or-ge}
+use Rattle.rounding.proofs.DroppedDigits.{prec-pos, kept-ge, kept-le}
 use Rattle.rounding.proofs.Grid.{few-digits, rounded-grid}
 use Rattle.rounding.proofs.Nearest.{on-grid, least, both}
 

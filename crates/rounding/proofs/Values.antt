@@ -11,7 +11,7 @@ use lib.Ieee.Digits.{back}
 use lib.Ieee.Fits.{down-pos, up-pos, and-l, and-r}
 use lib.Ieee.Exact.{HasValue}
 use lib.Ieee.Scale.{finite}
-use Rattle.rounding.proofs.Orders.{pow-le-back}
+use Rattle.rounding.proofs.NumberOrders.{pow-le-back}
 
 pub rescale : (x : Float) (s : Bool) (a c a' c' : ℕ) → 0 < c → a * c' ≡ a' * c → HasValue x s a c → HasValue x s a' c'
 rescale nan s a c a' c' p h v = v

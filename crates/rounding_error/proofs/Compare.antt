@@ -10,7 +10,7 @@ use lib.Dec.{T, leb, ltb, eqb, leb→le, le→leb, ltb→lt, nltb→le, eqb→eq
 use lib.Ieee.{Float, nan, inf, fin, up, down, below, level, lt, le}
 use lib.Ieee.Fits.{and-l, and-r, and-i, eq→eqb}
 use lib.Ieee.Scale.{finite}
-use Rattle.rounding.proofs.Orders.{same-test}
+use Rattle.rounding.proofs.NumberOrders.{same-test}
 use Rattle.rounding_error.specs.Fraction.{Frac}
 use Rattle.rounding_error.specs.Value.{signed, val, Is}
 

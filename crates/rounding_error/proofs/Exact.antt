@@ -9,7 +9,7 @@ use lib.Pow.{pow-add, pow-pos, pow-mono, shl-lt}
 use lib.Ieee.{Float, fin, Format, prec, low, up, down, round, add, sub, mul, div}
 use lib.Ieee.Fits.{reach, up-pos}
 use lib.Ieee.Exact.{round-exact}
-use Rattle.rounding.proofs.Orders.{less}
+use Rattle.rounding.proofs.NumberOrders.{less}
 use Rattle.rounding_error.specs.Fraction.{Frac, frac, plus, times, opp, over, Same}
 use Rattle.rounding_error.specs.Value.{signed, Is}
 use Rattle.rounding_error.proofs.Same.{same-trans, plus-same, times-same, over-same}

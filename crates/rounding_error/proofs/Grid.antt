@@ -10,9 +10,9 @@ use lib.Pow.{pow-add, pow-pos, pow-mono}
 use lib.Ieee.{Float, fin, Format, prec, emax, low, up, down, round}
 use lib.Ieee.Fits.{down-pos}
 use lib.Ieee.Exact.{units-val}
-use Rattle.rounding.proofs.Orders.{pow-lt-back}
-use Rattle.rounding.proofs.Within.{closest-none}
-use Rattle.rounding.proofs.Dropped.{round-low}
+use Rattle.rounding.proofs.NumberOrders.{pow-lt-back}
+use Rattle.rounding.proofs.WithinHalfDivisor.{closest-none}
+use Rattle.rounding.proofs.DroppedDigits.{round-low}
 use Rattle.rounding.proofs.Values.{place}
 use Rattle.rounding_error.specs.Fraction.{Frac, nil, Same, Within}
 use Rattle.rounding_error.specs.Value.{signed, Is}

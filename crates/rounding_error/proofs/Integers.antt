@@ -1,5 +1,5 @@
 -- z / c, for an integer z: sums, differences and products of such fractions are those of the integers, and a float operation on them loses nothing where the
--- integer that it gives has no more digits than the format keeps. An integer is a difference of naturals (`Whole`). Assumes nothing.
+-- integer that it gives has no more digits than the format keeps. An integer is a difference of naturals (`WholeDifferences`). Assumes nothing.
 use mathlib.Core.Path.{_≡_}
 use Prim.Native.Nat.{ℕ, _+_, _*_, _^_, _≤_, _<_}
 use native.Mathlib.Nat.{mul-pos}
@@ -10,10 +10,10 @@ use lib.Ieee.{Float, Format, prec, low, add, sub, mul, neg}
 use Rattle.rounding_error.specs.Fraction.{nil, plus, times, opp, zp, zn, whole, Same, Within}
 use Rattle.rounding_error.specs.Value.{Is}
 use Rattle.rounding_error.proofs.Same.{same-trans, plus-over}
-use Rattle.rounding_error.proofs.Product.{mag-of}
+use Rattle.rounding_error.proofs.ProductErrors.{mag-of}
 use Rattle.rounding_error.proofs.Value.{neg-is}
 use Rattle.rounding_error.proofs.Exact.{Fits, add-is, mul-is}
-use Rattle.rounding_error.proofs.Whole.{Rep, rep-own, rep-neg, rep-add, rep-mul, rep-same}
+use Rattle.rounding_error.proofs.WholeDifferences.{Rep, rep-own, rep-neg, rep-add, rep-mul, rep-same}
 
 -- ---- how large an integer is
 pub rep-size : {z : ℤ} {p n : ℕ} (b : ℕ) → Rep z p n → p ≤ n + b → n ≤ p + b → natAbs z ≤ b

@@ -10,7 +10,7 @@ use lib.Ieee.{Float, nan, inf, fin, Format, up, down, round, sum, add}
 use lib.Ieee.Fits.{down-pos}
 use lib.Ieee.Scale.{finite, round-same}
 use borrow.Author.Tests.{lt-ltb, le-ltb}
-use Rattle.rounding.proofs.Orders.{clash, less}
+use Rattle.rounding.proofs.NumberOrders.{clash, less}
 use Rattle.rounding.proofs.Sums.{sum-sign, sum-size, sum-is}
 use Rattle.rounding_error.specs.Fraction.{Frac, plus, Same}
 use Rattle.rounding_error.specs.Value.{signed, val, nearestTo}

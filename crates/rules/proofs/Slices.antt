@@ -12,7 +12,7 @@ use lib.IntN.{pos, negsuc}
 use lib.ListN.{length, getD}
 use lib.Ieee.{Float, nan, fin, binary64, ofInt}
 use lib.Ieee.Exact.{HasValue}
-use Rattle.magnitude.proofs.Whole.{whole-value}
+use Rattle.magnitude.proofs.WholeFloats.{whole-value}
 use Rattle.ring.specs.Taps.{tapOf}
 
 module _ (xs : List Float) (k : ℕ) where

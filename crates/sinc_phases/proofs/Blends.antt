@@ -19,10 +19,10 @@ use Rattle.interval.proofs.Signed.{under, of-under}
 use Rattle.interval.proofs.Between.{Between, between, point, difference-between}
 use Rattle.interval.proofs.Products.{product-between}
 use Rattle.magnitude.specs.Bounds.{AtMost}
-use Rattle.magnitude.proofs.Between.{at-most-mono, at-most-finite, between-at-most}
+use Rattle.magnitude.proofs.OrderAndBounds.{at-most-mono, at-most-finite, between-at-most}
 use Rattle.magnitude.proofs.Rounded.{whole-at-most}
-use Rattle.magnitude.proofs.Whole.{whole-value, whole-difference, whole-product}
-use Rattle.sinc_phases.proofs.Cuts.{held}
+use Rattle.magnitude.proofs.WholeFloats.{whole-value, whole-difference, whole-product}
+use Rattle.sinc_phases.proofs.CutToTop.{held}
 use Rattle.sinc_phases.specs.Phases.{num, cutTo, phasePosition, phaseOf, blendOf}
 
 abbrev one : Float

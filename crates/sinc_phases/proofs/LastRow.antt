@@ -10,7 +10,7 @@ use lib.Ieee.{Float, nan, inf, fin, binary64, up, sub, ofInt, ofBits}
 use lib.Ieee.Fits.{down-pos}
 use lib.Ieee.Exact.{HasValue}
 use Rattle.integer_part.specs.Parts.{floorOf, fractionOf}
-use Rattle.magnitude.proofs.Whole.{whole-value, whole-product}
+use Rattle.magnitude.proofs.WholeFloats.{whole-value, whole-product}
 use Rattle.sinc_phases.proofs.Blends.{whole-apart}
 use Rattle.sinc_phases.specs.Phases.{num, cutTo, phasePosition, phaseOf, blendOf}
 

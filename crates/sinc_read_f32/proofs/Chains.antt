@@ -13,9 +13,9 @@ use Rattle.loop_laws.proofs.Folds.{same, split}
 use Rattle.loop_laws.proofs.Lists.{length-list, element}
 use Rattle.loop_laws.proofs.Scratch.{front-again}
 use Rattle.rounding.proofs.Sums.{zero-bits}
-use Rattle.ring.proofs.Run.{on, round}
+use Rattle.ring.proofs.HeldRuns.{on, round}
 use Rattle.fused_chain.specs.Chain.{turnOf, chainOf, runLength}
-use Rattle.sinc_phases.proofs.Between.{next-row}
+use Rattle.sinc_phases.proofs.RowsInTable.{next-row}
 use Rattle.sinc_read_f32.specs.Sums.{tapTurn, runTurn}
 
 -- ---- one chain, over rows that are the table from two places on

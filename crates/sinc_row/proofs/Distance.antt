@@ -13,11 +13,11 @@ use lib.Ieee.Exact.{HasValue}
 use Rattle.magnitude.specs.Bounds.{AtMost}
 use Rattle.magnitude.proofs.Rounded.{whole-at-most}
 use Rattle.magnitude.proofs.Operations.{sub-at-most, mul-at-most, scale-at-most, div-at-most}
-use Rattle.magnitude.proofs.Whole.{whole-value, whole-difference, whole-quotient}
+use Rattle.magnitude.proofs.WholeFloats.{whole-value, whole-difference, whole-quotient}
 use Rattle.polynomials.specs.Range.{atMost}
 use Rattle.sinc_settings.specs.declared.Settings.{Settings}
 use Rattle.sinc_settings.specs.Ranges.{settingsOk, one-f, two-f}
-use Rattle.sinc_settings.proofs.Accepted.{Counts, counts, accepted}
+use Rattle.sinc_settings.proofs.SettingsInRange.{Counts, counts, accepted}
 use Rattle.sinc_row.specs.Coefficient.{num, pi, centerOf, fracOf, distanceOf}
 
 -- ---- the counts as floats

@@ -1,4 +1,4 @@
 pub mod Distance
-pub mod Ready
+pub mod WriteTests
 pub mod Rows
-pub mod Lent
+pub mod WrittenRows

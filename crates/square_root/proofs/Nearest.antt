@@ -20,8 +20,8 @@ use Rattle.rounding.proofs.Units.{units-over}
 use Rattle.rounding.proofs.Values.{fits-parts}
 use Rattle.rounding.proofs.Nearest.{round-nearest}
 use Rattle.square_root.proofs.Squares.{ring, sq-lt-back, whole-root}
-use Rattle.square_root.proofs.Between.{above, under, more-le}
-use Rattle.square_root.proofs.Rooting.{root-at}
+use Rattle.square_root.proofs.WholeRoot.{above, under, more-le}
+use Rattle.square_root.proofs.PackedRoot.{root-at}
 
 in-units : (f : Format) (x : Float) (X : ℕ) → 0 < X → HasValue x false X (2 ^ low f) → root f x ≡ roundedRoot f (X * (4 * 2 ^ low f))
 in-units f x X P h =

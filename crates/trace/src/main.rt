@@ -34,7 +34,7 @@ fn goes_on(n: usize, written: bool, spare: &mut [u8]) -> bool {
     true
 }
 
-// One block. With 50 bytes for each sample no line is cut off (trace_lines, proofs/Whole.antt).
+// One block. With 50 bytes for each sample no line is cut off (trace_lines, proofs/NothingCutOff.antt).
 fn block(state: VariableDelay, ring: &mut [f64]) -> Turn {
     let mut samples = [0u8; BLOCK];
     let mut lines = [0u8; 51200];

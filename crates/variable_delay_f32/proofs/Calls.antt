@@ -1,4 +1,4 @@
--- A call at f32: its record and its answer, for the laws of variable_delay's Widths, which each kernel's f32 reader cites. An answer's number is the
+-- A call at f32: its record and its answer, for the laws of variable_delay's AnyWidth, which each kernel's f32 reader cites. An answer's number is the
 -- verdict (C4). Assumes nothing.
 use mathlib.Core.Path.{_≡_, refl}
 use mathlib.Core.List.{List}

@@ -12,7 +12,7 @@ use lib.ListN.{length, take, drop, getD, length-take, length-drop, List·getD-eq
 use lib.Seq.{take-add, take-all, getD-take, getD-drop}
 use lib.Ieee.{Float, Format}
 use lib.Ieee.Scale.{finite}
-use Rattle.rounding.proofs.Orders.{lt-or-ge, and-true}
+use Rattle.rounding.proofs.NumberOrders.{lt-or-ge, and-true}
 use Rattle.rounding.proofs.Values.{value-finite}
 use Rattle.loop_laws.specs.Loops.{listOf}
 use Rattle.loop_laws.proofs.Lists.{element}

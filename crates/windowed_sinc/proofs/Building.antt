@@ -9,11 +9,11 @@ use lib.Ieee.{Float}
 use Rattle.loop_laws.specs.Loops.{listOf}
 use Rattle.loop_laws.proofs.Scratch.{front-fits, front-again}
 use Rattle.sinc_settings.specs.declared.Settings.{Settings}
-use Rattle.sinc_settings.proofs.Accepted.{counts, accepted}
-use Rattle.sinc_settings.proofs.Fitting.{Fitting}
+use Rattle.sinc_settings.proofs.SettingsInRange.{counts, accepted}
+use Rattle.sinc_settings.proofs.BuilderAccepted.{Fitting}
 use Rattle.sinc_row.specs.Coefficient.{windowOf}
 use Rattle.sinc_row.specs.Row.{windowAfter}
-use Rattle.sinc_row.proofs.Lent.{scratch, window-made}
+use Rattle.sinc_row.proofs.WrittenRows.{scratch, window-made}
 
 module _ {s : Settings} {len : ℕ} (lent : Fitting s len) where
   pub most : (s .taps ≤ 128) × (s .phases ≤ 4096)

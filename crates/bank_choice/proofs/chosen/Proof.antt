@@ -12,7 +12,7 @@ use Rattle.sinc_settings.specs.Ranges.{zero-f, one-f}
 use Rattle.bank_choice.specs.declared.Choice.{Choice}
 use Rattle.bank_choice.specs.Rates.{stepsOf, rateOf}
 use Rattle.bank_choice.specs.Choosing.{partitionOf, lowerOf, closeOf, blendOf, whichOf, chosenOf}
-use Rattle.bank_choice.proofs.Spans.{least}
+use Rattle.bank_choice.proofs.SetCounts.{least}
 use Rattle.bank_choice.proofs.chosen.Statement.{statement}
 use Rattle.bank_choice.proofs.chosen.Tie as tie
 

@@ -9,7 +9,7 @@ use Rattle.ring.specs.Places.{positionOk}
 use Rattle.quality_mode.specs.declared.QualityMode.the-variants.{Draft}
 use Rattle.quality_mode.specs.Quality.{sameQ}
 use Rattle.bank_read.specs.Bank.{setsOk}
-use Rattle.bank_read.proofs.Bank.{draft-read, tables-read, no-place, no-sets}
+use Rattle.bank_read.proofs.BankReading.{draft-read, tables-read, no-place, no-sets}
 use Rattle.bank_read.proofs.read.Statement.{statement}
 use Rattle.bank_read.proofs.read.Tie as tie
 

@@ -2,7 +2,7 @@
 use borrow.Author.Needs.{needs}
 use mathlib.Core.Path.{_∙_}
 use denote.Ref.{now}
-use Rattle.bank_read.proofs.Bank.{answered}
+use Rattle.bank_read.proofs.BankReading.{answered}
 use Rattle.bank_read.proofs.sample.Statement.{statement}
 use Rattle.bank_read.proofs.sample.Tie as tie
 

@@ -1,7 +1,7 @@
 -- `bank_read::sets_ok` meets its contract: a bank has a set where it holds more whole sets than come before it. Assumes nothing.
 use mathlib.Core.Path.{_≡_, sym, _∙_}
 use borrow.Author.Tests.{lt-ltb, le-ltb}
-use Rattle.bank_read.proofs.Sets.{has-set}
+use Rattle.bank_read.proofs.WholeSets.{has-set}
 use Rattle.bank_read.proofs.sets_ok.Statement.{statement}
 use Rattle.bank_read.proofs.sets_ok.Tie as tie
 

@@ -1,7 +1,7 @@
 -- `biased_sum::advance` meets its contract: every test holds where all do. Assumes nothing.
 use borrow.Author.Needs.{needs}
 use mathlib.Core.Path.{refl}
-use Rattle.biased_sum.proofs.Tested.{advanced, all-taken}
+use Rattle.biased_sum.proofs.CombinedTests.{advanced, all-taken}
 use Rattle.biased_sum.proofs.advance.Statement.{statement}
 use Rattle.biased_sum.proofs.advance.Tie as tie
 

@@ -9,7 +9,7 @@ use lib.Ieee.{binary64, isNan, toBits}
 use lib.Ieee.Bits.{toBits-lt}
 use Rattle.rounding.proofs.Comparing.{differs-no-nan}
 use Rattle.rounding.proofs.Patterns.{no-nan-rest, value-bits}
-use Rattle.biased_sum.proofs.Begun.{nan-without, low-without, high-without, nothing, something}
+use Rattle.biased_sum.proofs.BiasTests.{nan-without, low-without, high-without, nothing, something}
 use Rattle.biased_sum.proofs.with_bias.Statement.{statement}
 use Rattle.biased_sum.proofs.with_bias.Tie as tie
 

@@ -4,7 +4,7 @@ use lib.Dec.{lit≤}
 use lib.IntN.{pos, negsuc}
 use lib.Ieee.{binary64}
 use denote.Ref.{now}
-use Rattle.cubic_farrow.proofs.Around.{near, four-tested}
+use Rattle.cubic_farrow.proofs.FourTaps.{near, four-tested}
 use Rattle.cubic_farrow.proofs.one_by_one.Statement.{statement}
 use Rattle.cubic_farrow.proofs.one_by_one.Tie as tie
 

@@ -1,5 +1,5 @@
 -- `float_digits::is_plain` meets its contract. Assumes nothing.
-use Rattle.float_digits.proofs.Plain.{plain-inside, plain-below, plain-above}
+use Rattle.float_digits.proofs.PlainValues.{plain-inside, plain-below, plain-above}
 use Rattle.float_digits.proofs.is_plain.Statement.{statement}
 use Rattle.float_digits.proofs.is_plain.Tie as tie
 

@@ -4,7 +4,7 @@ use mathlib.Core.Path.{_≡_}
 use Prim.Native.Nat.{_*_, _/_, _%_, _^_}
 use borrow.Author.Tests.{lt-ltb, le-ltb}
 use lib.Bits.{bitAnd, and-mask}
-use Rattle.float_digits.proofs.Putting.{quarter}
+use Rattle.float_digits.proofs.PackMeaning.{quarter}
 use Rattle.float_digits.proofs.magnitude.Statement.{statement}
 use Rattle.float_digits.proofs.magnitude.Tie as tie
 

@@ -6,7 +6,7 @@ use Prim.Native.Nat.{_+_, _*_, _%_, _^_, _≤_}
 use native.Mathlib.Nat.{le-trans, le-of-eq}
 use lib.Ieee.{binary64}
 use Rattle.rounding.proofs.Patterns.{rest-no-nan}
-use Rattle.float_digits.proofs.Putting.{magnitude-le}
+use Rattle.float_digits.proofs.PackMeaning.{magnitude-le}
 use Rattle.float_digits.proofs.pack.Statement.{statement}
 use Rattle.float_digits.proofs.pack.Tie as tie
 

@@ -5,7 +5,7 @@ use lib.Dec.{T}
 use lib.Ieee.{Float, binary32, binary64, add, lt, ofBits}
 use lib.Ieee.Scale.{finite}
 use Rattle.fused32.specs.Parts.{Above}
-use Rattle.fused32.proofs.Larger.{first-larger, second-larger, swapped}
+use Rattle.fused32.proofs.LargerPart.{first-larger, second-larger, swapped}
 use Rattle.fused32.proofs.positive_sum.Statement.{statement}
 use Rattle.fused32.proofs.positive_sum.Tie as tie
 

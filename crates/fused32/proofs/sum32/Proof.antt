@@ -4,10 +4,10 @@ use mathlib.Core.Path.{refl, sym, ap, _∙_, subst}
 use lib.Dec.{T}
 use lib.Ieee.{binary32, binary64, fits, neg, add}
 use lib.Ieee.Scale.{finite}
-use Rattle.rounding.proofs.Mirror.{neg-neg}
+use Rattle.rounding.proofs.SumSymmetry.{neg-neg}
 use Rattle.fused32.specs.Parts.{Short}
-use Rattle.fused32.proofs.Joined.{both, clear-code}
-use Rattle.fused32.proofs.Larger.{short-neg, negatives, negative-bounded, negative-above}
+use Rattle.fused32.proofs.SumCases.{both, clear-code}
+use Rattle.fused32.proofs.LargerPart.{short-neg, negatives, negative-bounded, negative-above}
 use Rattle.fused32.proofs.Parts.{short}
 use Rattle.fused32.proofs.Sums.{sum-under, zero-sum}
 use Rattle.fused32.proofs.sum32.Statement.{statement}

@@ -6,7 +6,7 @@ use lib.Ieee.Bits.{is-true}
 use lib.Ieee.Fits.{and-l, and-r}
 use lib.Dec.{T}
 use Rattle.float_digits.specs.Pattern.{plain}
-use Rattle.fused64.proofs.Cases.{factor-not-plain, addend-not-plain}
+use Rattle.fused64.proofs.SpecialCases.{factor-not-plain, addend-not-plain}
 use Rattle.fused64.proofs.by_cases.Statement.{statement}
 use Rattle.fused64.proofs.by_cases.Tie as tie
 

@@ -1,6 +1,6 @@
 -- `fused64::differ` meets its contract. Assumes nothing.
 use native.Mathlib.Nat.{lt-suc-self, zero-lt-suc}
-use Rattle.fused64.proofs.Words.{like-bits, unlike-bits}
+use Rattle.fused64.proofs.TwoWords.{like-bits, unlike-bits}
 use Rattle.fused64.proofs.differ.Statement.{statement}
 use Rattle.fused64.proofs.differ.Tie as tie
 

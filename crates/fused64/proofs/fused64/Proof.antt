@@ -7,7 +7,7 @@ use lib.Dec.{T}
 use lib.Ieee.{binary64, fits, isNan, toBits}
 use Rattle.rounding.proofs.Patterns.{rest-no-nan}
 use Rattle.fused64.specs.Word.{Quick}
-use Rattle.fused64.proofs.Cases.{no-nan-parts}
+use Rattle.fused64.proofs.SpecialCases.{no-nan-parts}
 use Rattle.fused64.proofs.Normals.{quick-fused}
 use Rattle.fused64.proofs.fused64.Statement.{statement}
 use Rattle.fused64.proofs.fused64.Tie as tie

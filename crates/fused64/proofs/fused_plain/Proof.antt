@@ -6,8 +6,8 @@ use mathlib.Core.Bool.{true}
 use lib.Ieee.{Float, binary64, fits, toBits}
 use Rattle.float_digits.specs.declared.Scaled.{Scaled}
 use Rattle.float_digits.specs.Pattern.{plain, unpacked}
-use Rattle.float_digits.proofs.Plain.{plain-no-nan}
-use Rattle.float_digits.proofs.Taking.{Scaling, scaling}
+use Rattle.float_digits.proofs.PlainValues.{plain-no-nan}
+use Rattle.float_digits.proofs.UnpackMeaning.{Scaling, scaling}
 use Rattle.fused64.specs.Wide.{val}
 use Rattle.fused64.proofs.Terms.{product-ranged, addend-ranged, terms-sum}
 use Rattle.fused64.proofs.fused_plain.Statement.{statement}

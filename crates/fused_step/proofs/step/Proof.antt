@@ -10,7 +10,7 @@ use lib.Ieee.Fits.{add-fits}
 use Rattle.rounding.proofs.Comparing.{differs-no-nan}
 use Rattle.fused_step.specs.Steps.{Numbers}
 use Rattle.fused_step.proofs.Compared.{widens}
-use Rattle.fused_step.proofs.Cut.{half-fits, plain-no-nan}
+use Rattle.fused_step.proofs.QuickPattern.{half-fits, plain-no-nan}
 use Rattle.fused_step.proofs.Steps.{plain-step}
 use Rattle.fused_step.proofs.step.Statement.{statement}
 use Rattle.fused_step.proofs.step.Tie as tie

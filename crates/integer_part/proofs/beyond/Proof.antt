@@ -7,8 +7,8 @@ use denote.Floats.{passes}
 use lib.Ieee.{neg, ofBits, fits, binary64}
 use mir.Syntax.{w64}
 use mir.ValLaws.{toZ-ofZ}
-use Rattle.magnitude.proofs.Between.{within-at-most}
-use Rattle.integer_part.proofs.Outside.{beyond}
+use Rattle.magnitude.proofs.OrderAndBounds.{within-at-most}
+use Rattle.integer_part.proofs.FloorOfLarge.{beyond}
 use Rattle.integer_part.proofs.beyond.Statement.{statement}
 use Rattle.integer_part.proofs.beyond.Tie as tie
 

@@ -10,9 +10,9 @@ use lib.Ieee.Casts.{toSigned-in}
 use mir.Syntax.{w64}
 use mir.ValLaws.{toZ-ofZ}
 use Rattle.magnitude.specs.Bounds.{AtMost}
-use Rattle.magnitude.proofs.Between.{within-at-most}
+use Rattle.magnitude.proofs.OrderAndBounds.{within-at-most}
 use Rattle.integer_part.specs.Parts.{floorOf}
-use Rattle.integer_part.proofs.Beside.{cast-back}
+use Rattle.integer_part.proofs.WholeThroughFloat.{cast-back}
 use Rattle.integer_part.proofs.Floors.{floor-mag}
 use Rattle.integer_part.proofs.floor.Statement.{statement}
 use Rattle.integer_part.proofs.floor.Tie as tie

@@ -1,8 +1,8 @@
--- `integer_part::floored` meets its contract, by the law of `Nearby`. Assumes nothing.
+-- `integer_part::floored` meets its contract, by the law of `FloorByOneSum`. Assumes nothing.
 use mathlib.Core.Logic.{⊎-elim}
 use mathlib.Core.Bool.{true, false}
 use lib.Ieee.{ofBits}
-use Rattle.integer_part.proofs.Nearby.{nearby}
+use Rattle.integer_part.proofs.FloorByOneSum.{nearby}
 use Rattle.integer_part.proofs.floored.Statement.{statement}
 use Rattle.integer_part.proofs.floored.Tie as tie
 

@@ -6,7 +6,7 @@ use lib.Dec.{lit≤}
 use lib.Ieee.{binary64, neg, sub, ofInt, ofBits}
 use mir.Syntax.{w64}
 use mir.ValLaws.{toZ-ofZ}
-use Rattle.magnitude.proofs.Between.{within-at-most}
+use Rattle.magnitude.proofs.OrderAndBounds.{within-at-most}
 use Rattle.integer_part.specs.Parts.{fractionOf}
 use Rattle.integer_part.proofs.fraction.Statement.{statement}
 use Rattle.integer_part.proofs.fraction.Tie as tie

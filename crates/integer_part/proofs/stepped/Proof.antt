@@ -1,4 +1,4 @@
--- `integer_part::stepped` meets its contract, by the laws of `Step`. A signed local holds bits, and what is read back from them is the cut. Assumes nothing.
+-- `integer_part::stepped` meets its contract, by the laws of `FloorInside`. A signed local holds bits, and what is read back from them is the cut. Assumes nothing.
 use mathlib.Core.Path.{_≡_, ap, _∙_}
 use mathlib.Core.Bool.{true, false}
 use native.Mathlib.Omega.{arith}
@@ -7,8 +7,8 @@ use lib.Ieee.{toSigned}
 use mir.Syntax.{w64}
 use mir.Val.{toZ, ofZ}
 use mir.ValLaws.{toZ-ofZ}
-use Rattle.integer_part.proofs.Signed.{sum-fits}
-use Rattle.integer_part.proofs.Step.{in-range, cut-mag, in-float, step}
+use Rattle.integer_part.proofs.IntegerSizes.{sum-fits}
+use Rattle.integer_part.proofs.FloorInside.{in-range, cut-mag, in-float, step}
 use Rattle.integer_part.proofs.stepped.Statement.{statement}
 use Rattle.integer_part.proofs.stepped.Tie as tie
 

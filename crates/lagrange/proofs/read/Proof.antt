@@ -15,8 +15,8 @@ use Rattle.integer_part.specs.Parts.{floorOf}
 use Rattle.integer_part.proofs.Floors.{floor-mag}
 use Rattle.lagrange.specs.Kernel.{baseOf, lagrangeAt, zero-f}
 use Rattle.lagrange.proofs.Ranges.{Within, within}
-use Rattle.integer_part.proofs.Step.{in-float}
-use Rattle.integer_part.proofs.Shifted.{small, minus-mag, minus-fits}
+use Rattle.integer_part.proofs.FloorInside.{in-float}
+use Rattle.integer_part.proofs.SumsInRange.{small, minus-mag, minus-fits}
 use Rattle.lagrange.proofs.read.Statement.{statement}
 use Rattle.lagrange.proofs.read.Tie as tie
 

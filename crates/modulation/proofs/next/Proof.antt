@@ -9,7 +9,7 @@ use Rattle.oscillator_ranges.specs.Ranges.{sampleRateOk}
 use Rattle.modulation_params.specs.Settings.{paramsOk}
 use Rattle.modulation_engine.specs.Engine.{phasesOk, validEngine}
 use Rattle.modulation.specs.Step.{wowDrift, flutterDrift}
-use Rattle.modulation.proofs.Ready.{ready, found, outside}
+use Rattle.modulation.proofs.VerdictByParts.{ready, found, outside}
 use Rattle.modulation.proofs.next.Statement.{statement}
 use Rattle.modulation.proofs.next.Tie as tie
 

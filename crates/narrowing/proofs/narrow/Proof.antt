@@ -3,7 +3,7 @@ use mathlib.Core.Path.{sym, subst}
 use lib.Dec.{T}
 use lib.Ieee.{binary64, fits}
 use Rattle.rounding.proofs.Comparing.{differs-no-nan}
-use Rattle.narrowing.proofs.Signed.{of-nan, size-of, joined-lt, joined-no-nan, joined-reads}
+use Rattle.narrowing.proofs.SignBit.{of-nan, size-of, joined-lt, joined-no-nan, joined-reads}
 use borrow.Author.Needs.{needs}
 use Rattle.narrowing.proofs.narrow.Statement.{statement}
 use Rattle.narrowing.proofs.narrow.Tie as tie

@@ -7,8 +7,8 @@ use lib.Ieee.{Float, nan, binary64, fits, ofBits}
 use Rattle.near_fused.specs.Parts.{Sure}
 use Rattle.near_fused.specs.Step.{insideOf, orderedOf}
 use Rattle.near_fused.proofs.Tests.{Ordered, Inside, ordered-is, inside-is, inside-no-nan}
-use Rattle.near_fused.proofs.Answer.{fv, answer}
-use Rattle.near_fused.proofs.Equals as equals
+use Rattle.near_fused.proofs.AnyThreeFloats.{fv, answer}
+use Rattle.near_fused.proofs.StepWays as equals
 use Rattle.near_fused.proofs.near_fused.Statement.{statement}
 use Rattle.near_fused.proofs.near_fused.Tie as tie
 

@@ -2,7 +2,7 @@
 use mathlib.Core.Path.{_∙_}
 use Rattle.elementary.specs.Answers.{cosineOf}
 use Rattle.oscillator_arithmetic.specs.Arithmetic.{cos}
-use Rattle.oscillator_arithmetic.proofs.Values.{value-is}
+use Rattle.oscillator_arithmetic.proofs.AnswerValues.{value-is}
 use Rattle.oscillator_arithmetic.proofs.cosine.Statement.{statement}
 use Rattle.oscillator_arithmetic.proofs.cosine.Tie as tie
 

@@ -2,7 +2,7 @@
 use mathlib.Core.Path.{_∙_}
 use Rattle.elementary.specs.Answers.{exp2Of}
 use Rattle.oscillator_arithmetic.specs.Arithmetic.{pow2}
-use Rattle.oscillator_arithmetic.proofs.Values.{value-is}
+use Rattle.oscillator_arithmetic.proofs.AnswerValues.{value-is}
 use Rattle.oscillator_arithmetic.proofs.power_of_two.Statement.{statement}
 use Rattle.oscillator_arithmetic.proofs.power_of_two.Tie as tie
 

@@ -4,7 +4,7 @@ use mathlib.Core.Path.{_≡_, sym, _∙_, ap, subst}
 use mathlib.Core.Bool.{true}
 use Rattle.quality_fade.specs.Fade.{placeOk}
 use Rattle.quality_fade.specs.Step.{turnOf, stepOf}
-use Rattle.quality_fade.proofs.Kept.{Ready, ready, step-taken}
+use Rattle.quality_fade.proofs.StaysInRange.{Ready, ready, step-taken}
 use Rattle.quality_fade.proofs.step.Statement.{statement}
 use Rattle.quality_fade.proofs.step.Tie as tie
 

@@ -3,8 +3,8 @@ use borrow.Author.Needs.{needs}
 use denote.Floats.{passes}
 use mathlib.Core.Path.{sym}
 use lib.Ieee.{binary64}
-use Rattle.remainder.proofs.Below.{rem-below}
-use Rattle.remainder.proofs.Cases.{nothing-to-divide, endless, dividing}
+use Rattle.remainder.proofs.AlreadyBelow.{rem-below}
+use Rattle.remainder.proofs.TestCases.{nothing-to-divide, endless, dividing}
 use Rattle.remainder.proofs.above.Statement.{statement}
 use Rattle.remainder.proofs.above.Tie as tie
 

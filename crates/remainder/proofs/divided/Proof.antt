@@ -12,7 +12,7 @@ use lib.Ieee.Positive.{first-pos, value-pos, values-of-le, positive-finite}
 use Rattle.magnitude.proofs.Comparisons.{finite-number}
 use Rattle.remainder.proofs.Division.{placed}
 use Rattle.remainder.proofs.Remainders.{rem-units}
-use Rattle.remainder.proofs.Taking.{placeOf, digitsOf, Taken, taken, place-order}
+use Rattle.remainder.proofs.DigitsOfPattern.{placeOf, digitsOf, Taken, taken, place-order}
 use Rattle.remainder.proofs.divided.Statement.{statement}
 use Rattle.remainder.proofs.divided.Tie as tie
 

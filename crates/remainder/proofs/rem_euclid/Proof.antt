@@ -4,9 +4,9 @@ use denote.Floats.{passes}
 use mathlib.Core.Path.{sym}
 use lib.Ieee.{odd, ofFields, ofBits}
 use Rattle.remainder.specs.Euclid.{remEuclid}
-use Rattle.remainder.proofs.Below.{euclid-below}
-use Rattle.remainder.proofs.Once.{euclid-once}
-use Rattle.remainder.proofs.Cases.{refuted}
+use Rattle.remainder.proofs.AlreadyBelow.{euclid-below}
+use Rattle.remainder.proofs.BelowTwice.{euclid-once}
+use Rattle.remainder.proofs.TestCases.{refuted}
 use Rattle.remainder.proofs.rem_euclid.Statement.{statement}
 use Rattle.remainder.proofs.rem_euclid.Tie as tie
 

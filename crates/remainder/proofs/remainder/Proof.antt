@@ -1,10 +1,10 @@
 -- `remainder::remainder` meets its contract: the sign of the second does not matter, and that of the first is the remainder's. Assumes nothing.
 use borrow.Author.Needs.{needs}
 use lib.Ieee.{binary64, odd, ofFields, ofBits}
-use Rattle.rounding.proofs.Mirror.{neg-neg}
+use Rattle.rounding.proofs.SumSymmetry.{neg-neg}
 use Rattle.remainder.specs.Euclid as euclid
 use Rattle.remainder.proofs.Remainders.{rem-absolute, rem-neg}
-use Rattle.remainder.proofs.Cases.{negative, not-below, refuted}
+use Rattle.remainder.proofs.TestCases.{negative, not-below, refuted}
 use Rattle.remainder.proofs.remainder.Statement.{statement}
 use Rattle.remainder.proofs.remainder.Tie as tie
 

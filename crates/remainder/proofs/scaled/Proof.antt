@@ -11,7 +11,7 @@ use lib.Pow.{pow-pos, pow-mono, shl-lt}
 use lib.Ieee.{Float, binary64, mul, ofInt, odd, ofFields, ofBits}
 use lib.Ieee.Exact.{HasValue, round-exact, units-val}
 use lib.Ieee.Scale.{round-same}
-use Rattle.magnitude.proofs.Whole.{whole-value}
+use Rattle.magnitude.proofs.WholeFloats.{whole-value}
 use Rattle.rounding.proofs.Pack.{pack}
 use Rattle.rounding.proofs.Patterns.{rest-no-nan}
 use Rattle.rounding.proofs.Products.{mul-value}

@@ -1,4 +1,4 @@
--- `render_start::open` meets its contract: by 2 where a length is another one, else by what reader, table and engine answer, which Beginning shows to be no refusal.
+-- `render_start::open` meets its contract: by 2 where a length is another one, else by what reader, table and engine answer, which LengthsFit shows to be no refusal.
 -- Assumes nothing.
 use borrow.Author.Needs.{needs}
 use mathlib.Core.Path.{_≡_, _∙_}
@@ -6,7 +6,7 @@ use native.Mathlib.Omega.{arith}
 use lib.ListN.{length}
 use lib.Ieee.{ofBits}
 use denote.Ref.{now}
-use Rattle.render_start.proofs.Beginning as beginning
+use Rattle.render_start.proofs.LengthsFit as beginning
 use Rattle.render_start.proofs.open.Statement.{statement}
 use Rattle.render_start.proofs.open.Tie as tie
 

@@ -3,7 +3,7 @@ use borrow.Author.Needs.{needs}
 use native.Mathlib.Omega.{arith}
 use Rattle.bank_choice.specs.Rates.{bankOk, stepsOf}
 use Rattle.sinc_bank_f32.specs.Sets.{setLength}
-use Rattle.sinc_bank_f32.proofs.Counted.{few, times}
+use Rattle.sinc_bank_f32.proofs.SetCount.{few, times}
 use Rattle.sinc_bank_f32.proofs.bank_length.Statement.{statement}
 use Rattle.sinc_bank_f32.proofs.bank_length.Tie as tie
 

@@ -12,8 +12,8 @@ use denote.Ref.{now}
 use Rattle.loop_laws.specs.Loops.{rows}
 use Rattle.loop_laws.proofs.Filling.{Filled, unfilled, row-end, length-lent, filled-more, filled}
 use Rattle.bank_choice.specs.Rates.{bankOk, stepsOf, rateOf, setRateOf}
-use Rattle.bank_choice.proofs.Spans.{most}
-use Rattle.bank_choice.proofs.Growing.{set-in-range}
+use Rattle.bank_choice.proofs.SetCounts.{most}
+use Rattle.bank_choice.proofs.RatesGrow.{set-in-range}
 use Rattle.sinc_bank_f32.specs.Sets.{setOf, bankOf}
 use Rattle.sinc_bank_f32.proofs.Lengths.{set-long}
 use Rattle.sinc_bank_f32.proofs.write_sets.Statement.{statement}

@@ -9,9 +9,9 @@ use denote.Ref.{now}
 use Rattle.answer.specs.Answers.{answerF32Of}
 use Rattle.sinc_settings.specs.Ranges.{tapsOk, phasesOk}
 use Rattle.sinc_settings.specs.Refusals.{tableLength}
-use Rattle.sinc_settings.proofs.Told.{told-apart, both-pass}
+use Rattle.sinc_settings.proofs.RefusalParts.{told-apart, both-pass}
 use Rattle.sinc_read_f32.specs.Reading.{sincF32At}
-use Rattle.variable_delay.proofs.Widths.{refused-call, taken-call}
+use Rattle.variable_delay.proofs.AnyWidth.{refused-call, taken-call}
 use Rattle.variable_delay_f32.proofs.Calls.{made, silent}
 use Rattle.sinc_delay_f32.proofs.process_sample.Statement.{statement}
 use Rattle.sinc_delay_f32.proofs.process_sample.Tie as tie

@@ -1,4 +1,4 @@
--- `sinc_phases::cut_to` meets its contract: its three ways are the laws of `Cuts`. Assumes nothing.
+-- `sinc_phases::cut_to` meets its contract: its three ways are the laws of `CutToTop`. Assumes nothing.
 use borrow.Author.Needs.{needs}
 use mathlib.Core.Path.{_≡_, sym, _∙_, ap, subst}
 use mathlib.Core.Bool.{false}
@@ -12,9 +12,9 @@ use lib.Ieee.Exact.{HasValue}
 use mir.Syntax.{w64}
 use mir.Val.{Fits, toZ, ofZ}
 use mir.ValLaws.{toZ-ofZ}
-use Rattle.magnitude.proofs.Whole.{whole-value}
+use Rattle.magnitude.proofs.WholeFloats.{whole-value}
 use Rattle.sinc_phases.specs.Phases.{num, cutTo}
-use Rattle.sinc_phases.proofs.Cuts.{Under, under, whole, over, low, held}
+use Rattle.sinc_phases.proofs.CutToTop.{Under, under, whole, over, low, held}
 use Rattle.sinc_phases.proofs.cut_to.Statement.{statement}
 use Rattle.sinc_phases.proofs.cut_to.Tie as tie
 

@@ -10,9 +10,9 @@ use mir.Val.{toZ, ofZ, SFits}
 use mir.ValLaws.{toZ-ofZ}
 use Rattle.integer_part.specs.Parts.{floorOf}
 use Rattle.integer_part.proofs.Floors.{floor-mag}
-use Rattle.integer_part.proofs.Shifted.{small, minus-fits}
+use Rattle.integer_part.proofs.SumsInRange.{small, minus-fits}
 use Rattle.sinc_phases.specs.Phases.{firstTap}
-use Rattle.sinc_phases.proofs.Aimed.{Aimed, aimed}
+use Rattle.sinc_phases.proofs.PositionInRange.{Aimed, aimed}
 use Rattle.sinc_phases.proofs.first_tap.Statement.{statement}
 use Rattle.sinc_phases.proofs.first_tap.Tie as tie
 

@@ -10,9 +10,9 @@ use lib.Ieee.{ofBits, inFloat}
 use mir.Syntax.{w64}
 use mir.Val.{toZ}
 use mir.ValLaws.{toZ-ofZ}
-use Rattle.integer_part.proofs.Step.{in-float}
-use Rattle.sinc_phases.proofs.Cuts.{held}
-use Rattle.sinc_phases.proofs.Between.{Fine, fine}
+use Rattle.integer_part.proofs.FloorInside.{in-float}
+use Rattle.sinc_phases.proofs.CutToTop.{held}
+use Rattle.sinc_phases.proofs.RowsInTable.{Fine, fine}
 use Rattle.sinc_phases.proofs.phase_at.Statement.{statement}
 use Rattle.sinc_phases.proofs.phase_at.Tie as tie
 

@@ -10,7 +10,7 @@ use Rattle.loop_laws.specs.Loops.{listOf}
 use Rattle.loop_laws.proofs.Folds.{none, turn}
 use Rattle.loop_laws.proofs.Lists.{nothing, written, whole}
 use Rattle.sinc_settings.specs.Ranges.{zero-f}
-use Rattle.sinc_settings.proofs.Accepted.{Counts, counts, accepted}
+use Rattle.sinc_settings.proofs.SettingsInRange.{Counts, counts, accepted}
 use Rattle.sinc_row.specs.Row.{at, rawOf, gainOf}
 use Rattle.sinc_row.proofs.Distance.{exact, asked}
 use Rattle.sinc_row.proofs.fill.Statement.{statement}

@@ -10,7 +10,7 @@ use denote.Ref.{now}
 use Rattle.loop_laws.specs.Loops.{listOf}
 use Rattle.loop_laws.proofs.Mapped.{map-list}
 use Rattle.sinc_row.specs.Row.{at, rawOf, gainOf, rowReady}
-use Rattle.sinc_row.proofs.Ready.{row-ready}
+use Rattle.sinc_row.proofs.WriteTests.{row-ready}
 use Rattle.sinc_row.proofs.write_row.Statement.{statement}
 use Rattle.sinc_row.proofs.write_row.Tie as tie
 

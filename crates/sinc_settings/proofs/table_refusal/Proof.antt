@@ -5,7 +5,7 @@ use mathlib.Core.Path.{_≡_, sym, _∙_}
 use mathlib.Core.Bool.{_&&_}
 use native.Mathlib.Omega.{arith}
 use Rattle.sinc_settings.specs.Ranges.{tapsOk, phasesOk}
-use Rattle.sinc_settings.proofs.Accepted.{Counts, counts, length-fits}
+use Rattle.sinc_settings.proofs.SettingsInRange.{Counts, counts, length-fits}
 use Rattle.sinc_settings.proofs.table_refusal.Statement.{statement}
 use Rattle.sinc_settings.proofs.table_refusal.Tie as tie
 

@@ -8,9 +8,9 @@ use lib.Dec.{T}
 use lib.Ieee.{binary64, fits, toBits}
 use lib.Ieee.Positive.{positive}
 use Rattle.rounding.proofs.Patterns.{rest-no-nan}
-use Rattle.float_digits.proofs.Plain.{positive-plain, plain-no-nan}
+use Rattle.float_digits.proofs.PlainValues.{positive-plain, plain-no-nan}
 use Rattle.square_root.specs.Digits.{Quick}
-use Rattle.square_root.proofs.Normal.{pattern-lt, quick-root}
+use Rattle.square_root.proofs.QuickDigits.{pattern-lt, quick-root}
 use Rattle.square_root.proofs.positive_root.Statement.{statement}
 use Rattle.square_root.proofs.positive_root.Tie as tie
 

@@ -4,9 +4,9 @@ use native.Mathlib.Omega.{arith}
 use mathlib.Core.Path.{sym, subst, _∙_}
 use lib.Dec.{T}
 use lib.Ieee.Positive.{positive}
-use Rattle.float_digits.proofs.Plain.{positive-plain, plain-no-nan}
-use Rattle.float_digits.proofs.Taking.{Scaling, scaling}
-use Rattle.square_root.proofs.Rooting.{parity-lt, shifted-ge, root-code}
+use Rattle.float_digits.proofs.PlainValues.{positive-plain, plain-no-nan}
+use Rattle.float_digits.proofs.UnpackMeaning.{Scaling, scaling}
+use Rattle.square_root.proofs.PackedRoot.{parity-lt, shifted-ge, root-code}
 use Rattle.square_root.proofs.restored.Statement.{statement}
 use Rattle.square_root.proofs.restored.Tie as tie
 

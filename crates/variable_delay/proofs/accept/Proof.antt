@@ -17,11 +17,11 @@ use mir.Syntax.{w64}
 use mir.Val.{toZ}
 use mir.ValLaws.{toZ-ofZ}
 use denote.Ref.{now}
-use Rattle.integer_part.proofs.Step.{in-float}
+use Rattle.integer_part.proofs.FloorInside.{in-float}
 use Rattle.ring.proofs.Lengths.{masked}
 use Rattle.variable_delay.specs.Reader.{verdict}
 use Rattle.variable_delay.proofs.Settings.{due-is}
-use Rattle.variable_delay.proofs.Taken.{Taken, taken, ring-some}
+use Rattle.variable_delay.proofs.AcceptedCall.{Taken, taken, ring-some}
 use Rattle.variable_delay.proofs.Refused.{not-accepted, same-ring}
 use Rattle.variable_delay.proofs.accept.Statement.{statement}
 use Rattle.variable_delay.proofs.accept.Tie as tie

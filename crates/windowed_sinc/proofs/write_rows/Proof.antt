@@ -9,11 +9,11 @@ use lib.Ieee.{Float}
 use denote.Ref.{now}
 use Rattle.loop_laws.proofs.Filling.{Filled, lentRow, unfilled, length-lent, filled-more, filled}
 use Rattle.sinc_settings.specs.declared.Settings.{Settings}
-use Rattle.sinc_settings.proofs.Fitting.{Fitting, fitting}
+use Rattle.sinc_settings.proofs.BuilderAccepted.{Fitting, fitting}
 use Rattle.sinc_row.specs.Coefficient.{windowOf}
 use Rattle.sinc_row.specs.Row.{rowOf}
 use Rattle.sinc_row.proofs.Rows.{length-row}
-use Rattle.sinc_row.proofs.Lent.{row-lent}
+use Rattle.sinc_row.proofs.WrittenRows.{row-lent}
 use Rattle.windowed_sinc.specs.Table.{tableOf}
 use Rattle.windowed_sinc.proofs.Building.{most, row-inside}
 use Rattle.windowed_sinc.proofs.write_rows.Statement.{statement}

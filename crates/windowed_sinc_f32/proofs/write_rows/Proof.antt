@@ -11,7 +11,7 @@ use Rattle.rounding.specs.Operations.{narrowed}
 use Rattle.loop_laws.proofs.Mapped.{map-rows}
 use Rattle.loop_laws.proofs.Filling.{Filled, unfilled, length-lent, filled-more, filled}
 use Rattle.sinc_settings.specs.declared.Settings.{Settings}
-use Rattle.sinc_settings.proofs.Fitting.{Fitting, fitting}
+use Rattle.sinc_settings.proofs.BuilderAccepted.{Fitting, fitting}
 use Rattle.sinc_row.specs.Coefficient.{windowOf}
 use Rattle.sinc_row.specs.Row.{rowOf}
 use Rattle.sinc_row.proofs.Rows.{length-row}

@@ -3,7 +3,7 @@ use borrow.Author.Needs.{needs}
 use native.Mathlib.Omega.{arith}
 use lib.ListN.{length}
 use denote.Ref.{now}
-use Rattle.sinc_settings.proofs.Fitting.{Fitting, fitting}
+use Rattle.sinc_settings.proofs.BuilderAccepted.{Fitting, fitting}
 use Rattle.windowed_sinc.proofs.Building.{most, window-fits, window-again}
 use Rattle.windowed_sinc_f32.proofs.write_table.Statement.{statement}
 use Rattle.windowed_sinc_f32.proofs.write_table.Tie as tie

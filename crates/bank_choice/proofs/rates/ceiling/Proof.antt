@@ -12,7 +12,7 @@ use lib.Ieee.{lt, binary64, ofBits, ofInt, toUnsigned}
 use mir.Syntax.{w64}
 use mir.Val.{Fits, toZ, ofZ}
 use mir.ValLaws.{toZ-ofZ}
-use Rattle.integer_part.proofs.Step.{in-float}
+use Rattle.integer_part.proofs.FloorInside.{in-float}
 use Rattle.bank_choice.specs.Rates.{num}
 use Rattle.bank_choice.proofs.Ceilings as ceilings
 use Rattle.bank_choice.proofs.rates.ceiling.Statement.{statement}

@@ -4,7 +4,7 @@ use borrow.Author.Needs.{needs}
 use mathlib.Core.Path.{sym, _∙_}
 use native.Mathlib.Omega.{arith}
 use Rattle.bank_choice.specs.Choosing.{slowerOf}
-use Rattle.bank_choice.proofs.Spans.{least}
+use Rattle.bank_choice.proofs.SetCounts.{least}
 use Rattle.bank_choice.proofs.Partition.{found}
 use Rattle.bank_choice.proofs.search.among.Statement.{statement}
 use Rattle.bank_choice.proofs.search.among.Tie as tie

@@ -1,4 +1,4 @@
--- `bank_choice::search::down` meets its contract: where a set is slower, so is every set before it, by `Growing`. The measure is the place.
+-- `bank_choice::search::down` meets its contract: where a set is slower, so is every set before it, by `RatesGrow`. The measure is the place.
 -- Assumes nothing.
 use mathlib.Core.Path.{_≡_, sym, _∙_}
 use mathlib.Core.Bool.{true}
@@ -7,7 +7,7 @@ use native.Mathlib.Omega.{arith}
 use lib.Ieee.{Float}
 use Rattle.bank_choice.specs.Rates.{bankOk, stepsOf}
 use Rattle.bank_choice.specs.Choosing.{slowerOf}
-use Rattle.bank_choice.proofs.Growing.{slower-before}
+use Rattle.bank_choice.proofs.RatesGrow.{slower-before}
 use Rattle.bank_choice.proofs.search.down.Statement.{statement}
 use Rattle.bank_choice.proofs.search.down.Tie as tie
 

@@ -1,6 +1,6 @@
 -- `bank_choice::search::guess` meets its contract: whatever the floor is, what is handed back is a set. Assumes nothing.
 use borrow.Author.Needs.{needs}
-use Rattle.ring.proofs.Held.{fits}
+use Rattle.ring.proofs.RunStartWays.{fits}
 use Rattle.bank_choice.proofs.search.guess.Statement.{statement}
 use Rattle.bank_choice.proofs.search.guess.Tie as tie
 

@@ -1,6 +1,6 @@
 -- `bank_read::lent::blend_read` meets its contract, by its three cases. Assumes nothing.
 use borrow.Author.Needs.{needs}
-use Rattle.bank_read.proofs.Tables.{both-read}
+use Rattle.bank_read.proofs.QualityTables.{both-read}
 use Rattle.bank_read.proofs.lent.blend_read.Statement.{statement}
 use Rattle.bank_read.proofs.lent.blend_read.Tie as tie
 

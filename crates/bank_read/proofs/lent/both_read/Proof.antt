@@ -2,7 +2,7 @@
 use borrow.Author.Needs.{needs}
 use mathlib.Core.Path.{_≡_, _∙_}
 use denote.Ref.{now}
-use Rattle.bank_read.proofs.Tables.{table-is}
+use Rattle.bank_read.proofs.QualityTables.{table-is}
 use Rattle.bank_read.proofs.lent.both_read.Statement.{statement}
 use Rattle.bank_read.proofs.lent.both_read.Tie as tie
 

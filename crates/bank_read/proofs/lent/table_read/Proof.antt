@@ -8,7 +8,7 @@ use lib.ListN.{length}
 use lib.Ieee.{Float}
 use Rattle.sinc_bank_f32.specs.Sets.{setLength}
 use Rattle.sinc_bank_f32.specs.Parts.{pickSlice}
-use Rattle.bank_read.proofs.Tables.{table-is}
+use Rattle.bank_read.proofs.QualityTables.{table-is}
 use Rattle.bank_read.proofs.lent.table_read.Statement.{statement}
 use Rattle.bank_read.proofs.lent.table_read.Tie as tie
 

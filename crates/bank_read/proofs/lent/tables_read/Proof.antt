@@ -4,7 +4,7 @@ use mathlib.Core.Path.{_≡_, _∙_, ap}
 use lib.ListN.{length}
 use denote.Ref.{now}
 use Rattle.bank_read.specs.Bank.{tablesAt}
-use Rattle.bank_read.proofs.Sets.{set-length, both-held}
+use Rattle.bank_read.proofs.WholeSets.{set-length, both-held}
 use Rattle.bank_read.proofs.lent.tables_read.Statement.{statement}
 use Rattle.bank_read.proofs.lent.tables_read.Tie as tie
 

@@ -1,9 +1,9 @@
--- `elementary::quarters::rest` meets its contract: `Remaining` says that each of its steps is exact. Assumes nothing.
+-- `elementary::quarters::rest` meets its contract: `ExactRemainder` says that each of its steps is exact. Assumes nothing.
 use borrow.Author.Needs.{needs}
 use mathlib.Core.Path.{sym, subst}
 use lib.Dec.{T}
 use lib.Ieee.{ofBits}
-use Rattle.elementary.proofs.Remaining.{rest-law}
+use Rattle.elementary.proofs.ExactRemainder.{rest-law}
 use Rattle.elementary.proofs.quarters.rest.Statement.{statement}
 use Rattle.elementary.proofs.quarters.rest.Tie as tie
 

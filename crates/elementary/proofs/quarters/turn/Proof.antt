@@ -1,12 +1,12 @@
--- `elementary::quarters::turn` meets its contract: the guess stands, or one turn more or less does (`Moved`), and what is left then settles k (`Turns`). Assumes nothing.
+-- `elementary::quarters::turn` meets its contract: the guess stands, or one turn more or less does (`CorrectedGuess`), and what is left then settles k (`QuarterTurns`). Assumes nothing.
 use borrow.Author.Needs.{needs}
 use mathlib.Core.Path.{_≡_, subst}
 use Prim.Native.Nat.{ℕ, _+_, _-_, _≤_}
 use native.Mathlib.Omega.{arith}
 use lib.Ieee.{neg, ofBits}
 use Rattle.elementary.specs.Steps.{Guess, Rest}
-use Rattle.elementary.proofs.Turns.{settle}
-use Rattle.elementary.proofs.Moved.{Moved, one-more, one-less, stands}
+use Rattle.elementary.proofs.QuarterTurns.{settle}
+use Rattle.elementary.proofs.CorrectedGuess.{Moved, one-more, one-less, stands}
 use Rattle.elementary.proofs.quarters.turn.Statement.{statement}
 use Rattle.elementary.proofs.quarters.turn.Tie as tie
 

@@ -1,4 +1,4 @@
--- `elementary::values::cosine_at` meets its contract: within 1 the polynomial, beyond 1 what one quarter turn more picks (`Picked`). Assumes nothing.
+-- `elementary::values::cosine_at` meets its contract: within 1 the polynomial, beyond 1 what one quarter turn more picks (`PickedPolynomial`). Assumes nothing.
 use borrow.Author.Needs.{needs}
 use mathlib.Core.Path.{_≡_, sym, _∙_, subst}
 use mathlib.Core.Bool.{Bool, not}
@@ -7,9 +7,9 @@ use lib.Dec.{T}
 use lib.Ieee.{ofBits}
 use Rattle.elementary.specs.Reduction.{turns}
 use Rattle.polynomials.specs.Range.{atMost}
-use Rattle.elementary.proofs.Turns.{fourth-small}
+use Rattle.elementary.proofs.QuarterTurns.{fourth-small}
 use Rattle.elementary.proofs.Range.{inside-is}
-use Rattle.elementary.proofs.Picked.{cosine-short, cosine-long}
+use Rattle.elementary.proofs.PickedPolynomial.{cosine-short, cosine-long}
 use Rattle.elementary.proofs.values.cosine_at.Statement.{statement}
 use Rattle.elementary.proofs.values.cosine_at.Tie as tie
 

@@ -1,10 +1,10 @@
--- `elementary::values::power_at` meets its contract: each branch is a part of `Shifted`. Assumes nothing.
+-- `elementary::values::power_at` meets its contract: each branch is a part of `PowerParts`. Assumes nothing.
 use borrow.Author.Needs.{needs}
 use mathlib.Core.Path.{sym, ap, subst}
 use lib.Dec.{T}
 use lib.Ieee.{binary64, mul, neg, ofBits}
 use Rattle.elementary.specs.Answers.{two, half}
-use Rattle.elementary.proofs.Shifted.{power-above, power-below, power-middle}
+use Rattle.elementary.proofs.PowerParts.{power-above, power-below, power-middle}
 use Rattle.elementary.proofs.values.power_at.Statement.{statement}
 use Rattle.elementary.proofs.values.power_at.Tie as tie
 

@@ -1,4 +1,4 @@
--- `elementary::values::sine_at` meets its contract: within 1 the polynomial, beyond 1 what the quarter turns pick (`Picked`). Assumes nothing.
+-- `elementary::values::sine_at` meets its contract: within 1 the polynomial, beyond 1 what the quarter turns pick (`PickedPolynomial`). Assumes nothing.
 use borrow.Author.Needs.{needs}
 use mathlib.Core.Path.{_≡_, sym, _∙_, subst}
 use mathlib.Core.Bool.{Bool, not}
@@ -6,7 +6,7 @@ use lib.Dec.{T}
 use lib.Ieee.{ofBits}
 use Rattle.polynomials.specs.Range.{atMost}
 use Rattle.elementary.proofs.Range.{inside-is}
-use Rattle.elementary.proofs.Picked.{sine-short, sine-long}
+use Rattle.elementary.proofs.PickedPolynomial.{sine-short, sine-long}
 use Rattle.elementary.proofs.values.sine_at.Statement.{statement}
 use Rattle.elementary.proofs.values.sine_at.Tie as tie
 

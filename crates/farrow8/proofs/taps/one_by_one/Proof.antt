@@ -9,7 +9,7 @@ use lib.IntN.{ℤ, pos, negsuc, _+ℤ_}
 use mir.Syntax.{w64}
 use mir.Val.{toZ, ofZ, SFits}
 use mir.ValLaws.{toZ-ofZ}
-use Rattle.integer_part.proofs.Signed.{sum-fits}
+use Rattle.integer_part.proofs.IntegerSizes.{sum-fits}
 use Rattle.farrow8.proofs.taps.one_by_one.Statement.{statement}
 use Rattle.farrow8.proofs.taps.one_by_one.Tie as tie
 

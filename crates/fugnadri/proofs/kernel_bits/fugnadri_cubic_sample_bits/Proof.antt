@@ -1,7 +1,7 @@
 -- `fugnadri::kernel_bits::fugnadri_cubic_sample_bits` meets its contract: the answer that the reading gives, its sample as a pattern. Assumes nothing.
 use lib.Ieee.{binary64}
 use Rattle.answer.specs.Answers.{numberOf, valueOf}
-use Rattle.answer_parts.proofs.Leaving.{told, told-in-bits}
+use Rattle.answer_parts.proofs.LeftByExports.{told, told-in-bits}
 use Rattle.fugnadri.proofs.kernel_bits.fugnadri_cubic_sample_bits.Statement.{statement}
 use Rattle.fugnadri.proofs.kernel_bits.fugnadri_cubic_sample_bits.Tie as tie
 

@@ -2,7 +2,7 @@
 -- a pattern. Assumes nothing.
 use borrow.Author.Needs.{needs}
 use lib.Ieee.{binary32}
-use Rattle.answer_parts.proofs.Leaving.{in-bits}
+use Rattle.answer_parts.proofs.LeftByExports.{in-bits}
 use Rattle.fugnadri_bank.proofs.quality_bits.fugnadri_quality_process_rate_aware_bits.Statement.{statement}
 use Rattle.fugnadri_bank.proofs.quality_bits.fugnadri_quality_process_rate_aware_bits.Tie as tie
 

@@ -2,7 +2,7 @@
 use borrow.Author.Needs.{needs}
 use mathlib.Core.Path.{ap}
 use Rattle.quality_codes.specs.Left.{changedOf}
-use Rattle.quality_codes.proofs.Told.{kept, given}
+use Rattle.quality_codes.proofs.NamedQualities.{kept, given}
 use Rattle.fugnadri_bank.proofs.quality_openings.fugnadri_quality_open.Statement.{statement}
 use Rattle.fugnadri_bank.proofs.quality_openings.fugnadri_quality_open.Tie as tie
 

@@ -6,7 +6,7 @@ use Prim.Native.Nat.{_+_, _-_, _*_, _%_, _^_}
 use native.Mathlib.Nat.{lt-irrefl, lt-of-le-of-lt, zero-lt-suc}
 use lib.Pow.{shr-le}
 use Rattle.fused64.specs.Word.{digits53}
-use Rattle.fused64.proofs.Fields.{halved-even, beside, at-addend, at-product}
+use Rattle.fused64.proofs.QuickPlaces.{halved-even, beside, at-addend, at-product}
 use Rattle.fused64.proofs.quick.quick.Proof.Known.{fields, first, second, third, low-word, told, whole, narrow, addend, same-sign, same-place}
 use Rattle.fused64.proofs.quick.quick.Statement.{statement}
 use Rattle.fused64.proofs.quick.quick.Tie as tie

@@ -8,12 +8,12 @@ use native.Mathlib.Nat.{le-refl}
 use native.Mathlib.Omega.{arith}
 use lib.Ieee.{binary64, sub}
 use denote.Ref.{now}
-use Rattle.biased_sum.proofs.Begun.{begins}
-use Rattle.biased_sum.proofs.Tested.{first-of, second-of}
+use Rattle.biased_sum.proofs.BiasTests.{begins}
+use Rattle.biased_sum.proofs.CombinedTests.{first-of, second-of}
 use Rattle.fused_chain.specs.Blocks.{Runs}
-use Rattle.fused_chain.proofs.Carrying.{stay}
-use Rattle.fused_chain.proofs.Four as biased
-use Rattle.fused_chain.proofs.Four.{Stands, four}
+use Rattle.fused_chain.proofs.ChainParts.{stay}
+use Rattle.fused_chain.proofs.FourBiasedTurns as biased
+use Rattle.fused_chain.proofs.FourBiasedTurns.{Stands, four}
 use Rattle.fused_chain.proofs.abreast.biased_runs.Statement.{statement}
 use Rattle.fused_chain.proofs.abreast.biased_runs.Tie as tie
 

@@ -10,11 +10,11 @@ use lib.Dec.{T}
 use lib.Ieee.{Float, binary64, sub, eq, ofBits}
 use lib.Ieee.Scale.{finite}
 use denote.Ref.{now}
-use Rattle.biased_sum.proofs.Tested.{first-of, second-of}
+use Rattle.biased_sum.proofs.CombinedTests.{first-of, second-of}
 use Rattle.fused_chain.specs.Blocks.{Carries, Runs}
-use Rattle.fused_chain.proofs.Carrying.{stay, on}
+use Rattle.fused_chain.proofs.ChainParts.{stay, on}
 use Rattle.fused_chain.proofs.Finite.{self-finite}
-use Rattle.fused_chain.proofs.Nearby.{four}
+use Rattle.fused_chain.proofs.FourTurnsByPatterns.{four}
 use Rattle.fused_chain.proofs.abreast.plain_runs.Statement.{statement}
 use Rattle.fused_chain.proofs.abreast.plain_runs.Tie as tie
 

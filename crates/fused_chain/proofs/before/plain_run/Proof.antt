@@ -10,9 +10,9 @@ use lib.Ieee.{binary64, sub, eq, ne, ofBits}
 use lib.Ieee.Scale.{finite}
 use denote.Ref.{now}
 use Rattle.fused_chain.specs.Blocks.{Carries}
-use Rattle.fused_chain.proofs.Carrying.{stay, on}
+use Rattle.fused_chain.proofs.ChainParts.{stay, on}
 use Rattle.fused_chain.proofs.Finite.{self-finite}
-use Rattle.fused_chain.proofs.Nearby.{four}
+use Rattle.fused_chain.proofs.FourTurnsByPatterns.{four}
 use Rattle.fused_chain.proofs.before.plain_run.Statement.{statement}
 use Rattle.fused_chain.proofs.before.plain_run.Tie as tie
 

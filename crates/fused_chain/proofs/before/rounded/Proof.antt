@@ -6,7 +6,7 @@ use native.Mathlib.Omega.{arith}
 use lib.Dec.{T}
 use lib.Ieee.{Float, binary64, fits, isNan, add}
 use lib.Ieee.Fits.{add-fits}
-use Rattle.fused_step.proofs.Cut.{half-fits, plain-no-nan, plain-finite}
+use Rattle.fused_step.proofs.QuickPattern.{half-fits, plain-no-nan, plain-finite}
 use Rattle.fused_chain.proofs.Finite.{add-number}
 use Rattle.fused_step.proofs.Steps.{plain-step}
 use Rattle.fused_chain.proofs.before.rounded.Statement.{statement}

@@ -5,10 +5,10 @@ use Prim.Native.Nat.{_-_, _≤_}
 use native.Mathlib.Nat.{le-refl}
 use native.Mathlib.Omega.{arith}
 use denote.Ref.{now}
-use Rattle.biased_sum.proofs.Begun.{begins}
-use Rattle.biased_sum.proofs.Tested.{first-of, second-of}
-use Rattle.fused_chain.proofs.Carrying.{stay}
-use Rattle.fused_chain.proofs.Four.{Stands, four, ended}
+use Rattle.biased_sum.proofs.BiasTests.{begins}
+use Rattle.biased_sum.proofs.CombinedTests.{first-of, second-of}
+use Rattle.fused_chain.proofs.ChainParts.{stay}
+use Rattle.fused_chain.proofs.FourBiasedTurns.{Stands, four, ended}
 use Rattle.fused_chain.proofs.behind.biased_run.Statement.{statement}
 use Rattle.fused_chain.proofs.behind.biased_run.Tie as tie
 

@@ -7,10 +7,10 @@ use lib.Dec.{T}
 use lib.Ieee.{Float, binary32, fits}
 use denote.Ref.{now}
 use Rattle.loop_laws.proofs.Folds.{none}
-use Rattle.rounding.proofs.Own.{narrowed-own}
+use Rattle.rounding.proofs.RoundsToItself.{narrowed-own}
 use Rattle.fused_chain.specs.Chain.{turnOf, chainOf}
 use Rattle.fused_chain.specs.Blocks.{Carries}
-use Rattle.fused_chain.proofs.Carrying.{less, on}
+use Rattle.fused_chain.proofs.ChainParts.{less, on}
 use Rattle.fused_chain.proofs.pair.together.Statement.{statement}
 use Rattle.fused_chain.proofs.pair.together.Tie as tie
 

@@ -4,8 +4,8 @@ use borrow.Author.Tests.{not-false}
 use mathlib.Core.Path.{_≡_}
 use mathlib.Core.Bool.{true, false≢true}
 use Rattle.fused_chain.proofs.Finite.{self-finite, four-finite}
-use Rattle.biased_sum.proofs.Tested.{first-of, second-of}
-use Rattle.fused_chain.proofs.Four.{renamed}
+use Rattle.biased_sum.proofs.CombinedTests.{first-of, second-of}
+use Rattle.fused_chain.proofs.FourBiasedTurns.{renamed}
 use Rattle.fused_chain.proofs.taps.multiplied.Statement.{statement}
 use Rattle.fused_chain.proofs.taps.multiplied.Tie as tie
 

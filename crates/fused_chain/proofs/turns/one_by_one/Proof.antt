@@ -6,7 +6,7 @@ use native.Mathlib.Nat.{le-refl}
 use native.Mathlib.Omega.{arith}
 use denote.Ref.{now}
 use Rattle.fused_chain.specs.Blocks.{Carries}
-use Rattle.fused_chain.proofs.Carrying.{stay, on, once}
+use Rattle.fused_chain.proofs.ChainParts.{stay, on, once}
 use Rattle.fused_chain.proofs.turns.one_by_one.Statement.{statement}
 use Rattle.fused_chain.proofs.turns.one_by_one.Tie as tie
 

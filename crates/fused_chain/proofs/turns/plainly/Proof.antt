@@ -6,7 +6,7 @@ use native.Mathlib.Nat.{le-refl}
 use native.Mathlib.Omega.{arith}
 use denote.Ref.{now}
 use Rattle.fused_chain.specs.Blocks.{Carries}
-use Rattle.fused_chain.proofs.Carrying.{less, stay, on}
+use Rattle.fused_chain.proofs.ChainParts.{less, stay, on}
 use Rattle.fused_chain.proofs.turns.plainly.Statement.{statement}
 use Rattle.fused_chain.proofs.turns.plainly.Tie as tie
 

@@ -9,7 +9,7 @@ use denote.Ref.{now}
 use lib.ListN.{length}
 use Rattle.imitation.specs.Delays.{turnedBy, leftOf, rightOf, offsetAt}
 use Rattle.imitation.proofs.Fronts.{Front, begun, one-more, ended}
-use Rattle.imitation.proofs.Turning.{turned-none, turned-more, left-turned, right-turned}
+use Rattle.imitation.proofs.EngineTurns.{turned-none, turned-more, left-turned, right-turned}
 use Rattle.imitation.proofs.delays.wander.Statement.{statement}
 use Rattle.imitation.proofs.delays.wander.Tie as tie
 

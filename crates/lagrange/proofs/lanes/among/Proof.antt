@@ -4,7 +4,7 @@ use mathlib.Core.Path.{_≡_, refl, _∙_, subst}
 use Prim.Native.Nat.{ℕ, _+_}
 use native.Mathlib.Omega.{arith}
 use Rattle.lagrange.specs.Eights.{Weights}
-use Rattle.lagrange.proofs.Eights.{pair}
+use Rattle.lagrange.proofs.EightLanes.{pair}
 use Rattle.lagrange.proofs.lanes.among.Statement.{statement}
 use Rattle.lagrange.proofs.lanes.among.Tie as tie
 

@@ -4,7 +4,7 @@ use mathlib.Core.Path.{_∙_, ap}
 use Prim.Native.Nat.{_+_}
 use native.Mathlib.Omega.{arith}
 use Rattle.lagrange.specs.Kernel.{num}
-use Rattle.lagrange.proofs.Eights.{lanes}
+use Rattle.lagrange.proofs.EightLanes.{lanes}
 use Rattle.lagrange.proofs.lanes.nodes.Statement.{statement}
 use Rattle.lagrange.proofs.lanes.nodes.Tie as tie
 

@@ -5,7 +5,7 @@ use native.Mathlib.Omega.{arith}
 use lib.Ieee.{binary64, ofBits}
 use Rattle.lagrange_factors.specs.Weight.{floats}
 use Rattle.lagrange.specs.Eights.{Weights}
-use Rattle.lagrange.proofs.Eights.{ones, pass}
+use Rattle.lagrange.proofs.EightLanes.{ones, pass}
 use Rattle.lagrange.proofs.lanes.nodes_before.Statement.{statement}
 use Rattle.lagrange.proofs.lanes.nodes_before.Tie as tie
 

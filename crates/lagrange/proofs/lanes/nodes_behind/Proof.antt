@@ -3,7 +3,7 @@ use mathlib.Core.Path.{_≡_, subst}
 use Prim.Native.Nat.{ℕ, _+_, _-_, _*_, _≤_, min}
 use native.Mathlib.Omega.{arith}
 use Rattle.lagrange.specs.Eights.{Weights}
-use Rattle.lagrange.proofs.Eights.{pass}
+use Rattle.lagrange.proofs.EightLanes.{pass}
 use Rattle.lagrange.proofs.lanes.nodes_behind.Statement.{statement}
 use Rattle.lagrange.proofs.lanes.nodes_behind.Tie as tie
 

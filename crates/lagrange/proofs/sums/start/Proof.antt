@@ -9,7 +9,7 @@ use denote.Ref.{now}
 use mir.Syntax.{w64}
 use mir.ValLaws.{toZ-ofZ}
 use Rattle.ring.specs.Places.{startOf}
-use Rattle.ring.proofs.Run.{inside, straight}
+use Rattle.ring.proofs.HeldRuns.{inside, straight}
 use Rattle.lagrange.proofs.sums.start.Statement.{statement}
 use Rattle.lagrange.proofs.sums.start.Tie as tie
 

@@ -1,4 +1,4 @@
--- `quality_codes::draft::call_at_once` meets its contract: a call that is plain in Draft by the law of `Drafted`, any other by `call_through`. Assumes nothing.
+-- `quality_codes::draft::call_at_once` meets its contract: a call that is plain in Draft by the law of `DraftCalls`, any other by `call_through`. Assumes nothing.
 use borrow.Author.Needs.{needs}
 use mathlib.Core.Path.{_≡_}
 use mathlib.Core.Bool.{true}
@@ -11,7 +11,7 @@ use Rattle.ring.specs.Places.{positionOk}
 use Rattle.variable_delay.specs.Reader.{positionOf}
 use Rattle.quality_variable_delay.specs.Bank.{dueOf}
 use Rattle.quality_codes.specs.Codes.{decoded, stateOf}
-use Rattle.quality_codes.proofs.Drafted.{ready, called, left}
+use Rattle.quality_codes.proofs.DraftCalls.{ready, called, left}
 use Rattle.quality_codes.proofs.draft.call_at_once.Statement.{statement}
 use Rattle.quality_codes.proofs.draft.call_at_once.Tie as tie
 

@@ -11,7 +11,7 @@ use mir.Syntax.{w64}
 use mir.Val.{toZ}
 use mir.ValLaws.{toZ-ofZ}
 use denote.Ref.{now}
-use Rattle.integer_part.proofs.Step.{in-float}
+use Rattle.integer_part.proofs.FloorInside.{in-float}
 use Rattle.quality_codes.proofs.draft.read.Statement.{statement}
 use Rattle.quality_codes.proofs.draft.read.Tie as tie
 

@@ -1,4 +1,4 @@
--- `quality_codes::lent::counted` meets its contract by `Sets`: both casts are exact. Assumes nothing.
+-- `quality_codes::lent::counted` meets its contract by `SetsByTwoTests`: both casts are exact. Assumes nothing.
 use borrow.Author.Needs.{needs}
 use mathlib.Core.Path.{_∙_}
 use mathlib.Core.Bool.{false≢true}
@@ -7,10 +7,10 @@ use native.Mathlib.Omega.{arith}
 use borrow.Author.Tests.{eqb-true}
 use lib.IntN.{pos}
 use lib.Ieee.{ofBits}
-use Rattle.integer_part.proofs.Step.{in-float}
-use Rattle.integer_part.proofs.Shifted.{small}
+use Rattle.integer_part.proofs.FloorInside.{in-float}
+use Rattle.integer_part.proofs.SumsInRange.{small}
 use Rattle.bank_choice.proofs.Ceilings.{low}
-use Rattle.quality_codes.proofs.Sets as sets
+use Rattle.quality_codes.proofs.SetsByTwoTests as sets
 use Rattle.quality_codes.proofs.lent.counted.Statement.{statement}
 use Rattle.quality_codes.proofs.lent.counted.Tie as tie
 

@@ -7,7 +7,7 @@ use native.Mathlib.Omega.{arith}
 use borrow.Author.Tests.{eq-eqb}
 use lib.Ieee.{ofBits}
 use Rattle.bank_choice.specs.Rates.{bankOk, stepsOf}
-use Rattle.bank_choice.proofs.Spans.{span-at-most}
+use Rattle.bank_choice.proofs.SetCounts.{span-at-most}
 use Rattle.quality_codes.proofs.lent.fits.Statement.{statement}
 use Rattle.quality_codes.proofs.lent.fits.Tie as tie
 

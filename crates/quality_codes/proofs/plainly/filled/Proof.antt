@@ -2,7 +2,7 @@
 use borrow.Author.Needs.{needs}
 use mathlib.Core.Bool.{false≢true}
 use borrow.Author.Tests.{eq-eqb}
-use Rattle.variable_delay_f32.proofs.Passing as passing
+use Rattle.variable_delay_f32.proofs.CommonCall as passing
 use Rattle.quality_codes.proofs.plainly.filled.Statement.{statement}
 use Rattle.quality_codes.proofs.plainly.filled.Tie as tie
 

@@ -2,9 +2,9 @@
 use borrow.Author.Needs.{needs}
 use borrow.Author.Tests.{le-leb}
 use mathlib.Core.Bool.{false≢true}
-use Rattle.quality_variable_delay.proofs.Passing.{none-due}
+use Rattle.quality_variable_delay.proofs.CommonCall.{none-due}
 use Rattle.quality_codes.specs.Codes.{decoded, stateOf}
-use Rattle.quality_codes.proofs.Drafted.{placed}
+use Rattle.quality_codes.proofs.DraftCalls.{placed}
 use Rattle.quality_codes.proofs.plainly.plain.Statement.{statement}
 use Rattle.quality_codes.proofs.plainly.plain.Tie as tie
 

@@ -1,7 +1,7 @@
 -- `quality_variable_delay::calls::due` meets its contract, by `bank-due`. Assumes nothing.
 use borrow.Author.Needs.{needs}
 use mathlib.Core.Path.{_∙_}
-use Rattle.quality_variable_delay.proofs.Lent.{bank-due}
+use Rattle.quality_variable_delay.proofs.BankTests.{bank-due}
 use Rattle.quality_variable_delay.proofs.calls.due.Statement.{statement}
 use Rattle.quality_variable_delay.proofs.calls.due.Tie as tie
 

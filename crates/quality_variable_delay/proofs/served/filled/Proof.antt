@@ -1,7 +1,7 @@
 -- `quality_variable_delay::served::filled` meets its contract: a length that is not 0 is that of settings in range. Assumes nothing.
 use borrow.Author.Needs.{needs}
 use borrow.Author.Tests.{eq-eqb}
-use Rattle.variable_delay_f32.proofs.Passing as passing
+use Rattle.variable_delay_f32.proofs.CommonCall as passing
 use Rattle.quality_variable_delay.proofs.served.filled.Statement.{statement}
 use Rattle.quality_variable_delay.proofs.served.filled.Tie as tie
 

@@ -13,7 +13,7 @@ use Rattle.sinc_bank_f32.specs.Sets.{setLength}
 use Rattle.bank_read.specs.Bank.{bankAt}
 use Rattle.quality_fade.specs.declared.Fade.{Fade}
 use Rattle.quality_fade.specs.Step.{stepOf}
-use Rattle.quality_variable_delay.proofs.Taken.{Taken, taken, room, ring-some, position-in-range, taken-call}
+use Rattle.quality_variable_delay.proofs.AcceptedCall.{Taken, taken, room, ring-some, position-in-range, taken-call}
 use Rattle.quality_variable_delay.proofs.storing.accepted.Statement.{statement}
 use Rattle.quality_variable_delay.proofs.storing.accepted.Tie as tie
 

@@ -9,8 +9,8 @@ use mir.Syntax.{w64}
 use mir.Val.{toZ}
 use mir.ValLaws.{toZ-ofZ}
 use denote.Ref.{now}
-use Rattle.integer_part.proofs.Step.{in-float}
-use Rattle.ring.proofs.Held.{place-mod, place-inside}
+use Rattle.integer_part.proofs.FloorInside.{in-float}
+use Rattle.ring.proofs.RunStartWays.{place-mod, place-inside}
 use Rattle.quality_variable_delay.proofs.storing.store.Statement.{statement}
 use Rattle.quality_variable_delay.proofs.storing.store.Tie as tie
 

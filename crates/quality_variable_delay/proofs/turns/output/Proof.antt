@@ -6,7 +6,7 @@ use Rattle.quality_mode.specs.declared.QualityMode.{QualityMode}
 use Rattle.bank_choice.specs.Choosing.{choiceOf}
 use Rattle.bank_choice.specs.declared.Choice.{Choice}
 use Rattle.bank_read.specs.Bank.{bankAt, readOf}
-use Rattle.bank_read.proofs.Bank.{draft-read, bank-read}
+use Rattle.bank_read.proofs.BankReading.{draft-read, bank-read}
 use Rattle.quality_variable_delay.proofs.turns.output.Statement.{statement}
 use Rattle.quality_variable_delay.proofs.turns.output.Tie as tie
 

@@ -1,6 +1,6 @@
 -- `registrar::inputs::size_of`: an i64 that is not below 0 is a usize. Assumes nothing.
 use borrow.Author.Needs.{needs}
-use Rattle.ring.proofs.Held as held
+use Rattle.ring.proofs.RunStartWays as held
 use Rattle.registrar.proofs.inputs.size_of.Statement.{statement}
 use Rattle.registrar.proofs.inputs.size_of.Tie as tie
 

@@ -1,11 +1,11 @@
--- `ring::tap_place` meets its contract: one law of `Held` for each way out. Assumes nothing.
+-- `ring::tap_place` meets its contract: one law of `RunStartWays` for each way out. Assumes nothing.
 use borrow.Author.Needs.{needs}
 use mathlib.Core.Path.{_≡_, _∙_}
 use native.Mathlib.Omega.{arith}
 use mir.Syntax.{w64}
 use mir.Val.{toZ, ofZ}
 use mir.ValLaws.{toZ-ofZ}
-use Rattle.ring.proofs.Held as held
+use Rattle.ring.proofs.RunStartWays as held
 use Rattle.ring.proofs.taps.tap_place.Statement.{statement}
 use Rattle.ring.proofs.taps.tap_place.Tie as tie
 

@@ -1,7 +1,7 @@
 -- `sinc_read::kernel::refusal` meets its contract, by the test of the position. Assumes nothing.
 use borrow.Author.Needs.{needs}
 use mathlib.Core.Path.{sym, _∙_}
-use Rattle.sinc_read.proofs.Accepted.{beyond, within}
+use Rattle.sinc_read.proofs.AcceptedReading.{beyond, within}
 use Rattle.sinc_read.proofs.kernel.refusal.Statement.{statement}
 use Rattle.sinc_read.proofs.kernel.refusal.Tie as tie
 

@@ -1,4 +1,4 @@
--- `sinc_read::sums::held` meets its contract: one run or two, by the laws of `Around`. Assumes nothing.
+-- `sinc_read::sums::held` meets its contract: one run or two, by the laws of `RoundTheEnd`. Assumes nothing.
 use borrow.Author.Needs.{needs}
 use mathlib.Core.Path.{_∙_, ap}
 use Prim.Native.Nat.{_+_, _-_, _*_}
@@ -8,7 +8,7 @@ use lib.ListN.{length}
 use denote.Ref.{now}
 use Rattle.loop_laws.specs.Loops.{fold}
 use Rattle.sinc_read.specs.Sums.{runTurn}
-use Rattle.sinc_read.proofs.Around as around
+use Rattle.sinc_read.proofs.RoundTheEnd as around
 use Rattle.sinc_read.proofs.sums.held.Statement.{statement}
 use Rattle.sinc_read.proofs.sums.held.Tie as tie
 

@@ -14,7 +14,7 @@ use Rattle.loop_laws.specs.Loops.{fold}
 use Rattle.loop_laws.proofs.Folds.{none, turn}
 use Rattle.ring.specs.Taps.{tapOf}
 use Rattle.sinc_read.specs.Sums.{tapTurn}
-use Rattle.sinc_phases.proofs.Between.{next-row}
+use Rattle.sinc_phases.proofs.RowsInTable.{next-row}
 use Rattle.sinc_read.proofs.sums.one_by_one.Statement.{statement}
 use Rattle.sinc_read.proofs.sums.one_by_one.Tie as tie
 

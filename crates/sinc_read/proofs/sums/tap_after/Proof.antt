@@ -3,7 +3,7 @@ use borrow.Author.Needs.{needs}
 use mathlib.Core.Path.{_∙_, ap}
 use native.Mathlib.Omega.{arith}
 use denote.Ref.{now}
-use Rattle.integer_part.proofs.Shifted.{plus-fits, plus-is}
+use Rattle.integer_part.proofs.SumsInRange.{plus-fits, plus-is}
 use Rattle.ring.specs.Taps.{tapOf}
 use Rattle.sinc_read.proofs.sums.tap_after.Statement.{statement}
 use Rattle.sinc_read.proofs.sums.tap_after.Tie as tie

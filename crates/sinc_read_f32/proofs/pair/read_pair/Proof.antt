@@ -5,7 +5,7 @@ use Prim.Native.Nat.{ℕ}
 use lib.ListN.{length}
 use denote.Ref.{now}
 use Rattle.sinc_read.specs.Reading.{sampleVerdict}
-use Rattle.sinc_read.proofs.Given.{read-is}
+use Rattle.sinc_read.proofs.AnswerByRefusal.{read-is}
 use Rattle.sinc_read_f32.proofs.pair.read_pair.Statement.{statement}
 use Rattle.sinc_read_f32.proofs.pair.read_pair.Tie as tie
 

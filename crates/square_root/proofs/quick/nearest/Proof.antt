@@ -7,8 +7,8 @@ use native.Mathlib.Nat.{le-trans, le-of-eq}
 use lib.Dec.{leb}
 use lib.Bits.{bitAnd, and-mask}
 use lib.Ieee.{binary64, toBits}
-use Rattle.square_root.proofs.Cases.{below-no-nan}
-use Rattle.square_root.proofs.Halves.{digit-le, nearest-is}
+use Rattle.square_root.proofs.SpecialCases.{below-no-nan}
+use Rattle.square_root.proofs.GuessCheck.{digit-le, nearest-is}
 use Rattle.square_root.proofs.quick.nearest.Statement.{statement}
 use Rattle.square_root.proofs.quick.nearest.Tie as tie
 

@@ -4,7 +4,7 @@ use native.Mathlib.Omega.{arith}
 use mathlib.Core.Path.{_≡_, sym, ap, _∙_}
 use Prim.Native.Nat.{ℕ, _+_, _*_, _/_, _^_, _<_}
 use lib.Bits.{bitAnd, and-mask}
-use Rattle.square_root.proofs.Halves.{product-le, rest-is}
+use Rattle.square_root.proofs.GuessCheck.{product-le, rest-is}
 use Rattle.square_root.proofs.quick.rest.Statement.{statement}
 use Rattle.square_root.proofs.quick.rest.Tie as tie
 

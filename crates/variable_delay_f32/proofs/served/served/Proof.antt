@@ -1,8 +1,8 @@
--- `variable_delay_f32::served::served` meets its contract: the tests that it makes leave no refusal, by `Passing`. Assumes nothing.
+-- `variable_delay_f32::served::served` meets its contract: the tests that it makes leave no refusal, by `CommonCall`. Assumes nothing.
 use borrow.Author.Needs.{needs}
 use mathlib.Core.Path.{sym, _∙_}
 use lib.Ieee.{ofBits}
-use Rattle.variable_delay_f32.proofs.Passing.{none-due, led-away}
+use Rattle.variable_delay_f32.proofs.CommonCall.{none-due, led-away}
 use Rattle.variable_delay_f32.proofs.served.served.Statement.{statement}
 use Rattle.variable_delay_f32.proofs.served.served.Tie as tie
 

@@ -6,8 +6,8 @@ use Prim.Native.Nat.{ℕ, _+_, _*_, _/_, _%_, _^_, _<_}
 use lib.Bits.{bitAnd, bitOr, and-mask}
 use Rattle.fused64.specs.Wide.{val, lower}
 use Rattle.fused64.specs.Word.{Heads, Tells, digits53, fieldOf}
-use Rattle.fused64.proofs.Reach.{columns-tell}
-use Rattle.fused64.proofs.Fields.{reached, high-lt}
+use Rattle.fused64.proofs.FieldsInReach.{columns-tell}
+use Rattle.fused64.proofs.QuickPlaces.{reached, high-lt}
 use Rattle.fused64.proofs.quick.quick.Tie as tie
 
 -- what a head in reach says
