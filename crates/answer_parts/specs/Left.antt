@@ -14,7 +14,7 @@ use Rattle.variable_delay.specs.declared.Opened.{Opened}
 use Rattle.variable_delay.specs.Opening as opening
 use Rattle.answer_parts.specs.States.{countOf}
 
--- a kernel's reading
+-- What a kernel's reading leaves.
 pub record Told (S : Type 0) : Type 0 where
   pub number : ℕ
   pub sample : S
@@ -28,7 +28,7 @@ toldBy a = tells (numberOf a) (valueOf a)
 abbrev pub toldF32By : AnswerF32 → Told Float
 toldF32By a = tells (numberF32Of a) (valueF32Of a)
 
--- a reader's call
+-- What a reader's call leaves.
 pub record Left (S W : Type 0) : Type 0 where
   pub number : ℕ
   pub sample : S
@@ -41,14 +41,14 @@ leaves number sample state ring = record { number = number; sample = sample; sta
 abbrev pub leftBy : Processed → List Float → Left Float ℕ
 leftBy p ring = leaves (numberOf (p .answer)) (valueOf (p .answer)) (p .state .accepted) ring
 
--- the same with the sample as its pattern
+-- The same with the sample as its bit pattern.
 abbrev pub toldInBits : Format → Told Float → Told ℕ
 toldInBits f t = tells (t .number) (toBits f (t .sample))
 
 abbrev pub inBits : {W : Type 0} → Format → Left Float W → Left ℕ W
 inBits f l = leaves (l .number) (toBits f (l .sample)) (l .state) (l .ring)
 
--- an opening and a reset
+-- What an opening or a reset leaves.
 pub record Renewed (W : Type 0) : Type 0 where
   pub number : ℕ
   pub state : W

@@ -1,4 +1,5 @@
--- A reader's state as the plain numbers that another language hands in, and the count that it is handed back. Definitions only.
+-- A reader's state as the plain numbers that another language hands in, and the count that it gets back. Definitions
+-- only.
 use Prim.Native.Nat.{ℕ}
 use Rattle.variable_delay.specs.declared.VariableDelay.{VariableDelay}
 use Rattle.variable_delay.specs.declared.Opened.{Opened}

@@ -1,4 +1,4 @@
--- E2 to E4. What an answer of the three functions leaves in a number: its value, and +0.0 where it is refused. Definitions only.
+-- E2 to E4. The value of an answer of the elementary functions, +0.0 if refused. Definitions only.
 use mathlib.Core.Bool.{false}
 use lib.IntN.{pos}
 use lib.Ieee.{Float, fin}

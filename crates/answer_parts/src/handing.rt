@@ -4,8 +4,9 @@ ghost use Rattle.answer.specs.Answers.{numberOf, valueOf, numberF32Of, valueF32
 use answer::Answer;
 use answer::AnswerF32;
 
-// The sample, then the count, then a NaN's own pattern: with the count's store between them a compiler jumps over the last,
-// two instructions for a number, where it would else pick one of two floats in six.
+// Writes the sample, then the count, then the one NaN's pattern if the sample is a NaN. With the count's store in
+// between, the compiler jumps over the last store for a number (two instructions); otherwise it would select between
+// two floats in six.
 pub fn put(y: f64, count: u64, accepted: &mut u64, sample: &mut f64)
     ensures { λ r. ⌜ now (sample .exit) ≡ y ⌝ }
     ensures { λ r. ⌜ now (accepted .exit) ≡ count ⌝ }
@@ -17,7 +18,7 @@ pub fn put(y: f64, count: u64, accepted: &mut u64, sample: &mut f64)
     }
 }
 
-// The same for a reader's answer, whose refusal's number is handed back, 0 for none.
+// The same for a reader's answer; returns the refusal number, 0 for none.
 pub fn handed(a: Answer, count: u64, accepted: &mut u64, sample: &mut f64) -> u8
     ensures { λ r. ⌜ r ≡ numberOf a ⌝ }
     ensures { λ r. ⌜ now (sample .exit) ≡ valueOf a ⌝ }

@@ -1,5 +1,6 @@
-// C4, O3. What the static libraries' exports share: an answer and an opening taken apart into plain numbers, 0 where nothing
-// is refused. Here a sample leaves as a float, so here a NaN gets its pattern (`bit_patterns::one_nan`).
+// What the static libraries' exports share: an answer or an opening taken apart into plain numbers, 0 for no refusal
+// (C4).
+// Here a sample leaves as a float, so here a NaN gets its one pattern (O3, `bit_patterns::one_nan`).
 ghost use mathlib.Core.Path.{_≡_};
 ghost use Rattle.answer.specs.Answers.{numberOf, valueOf, numberF32Of, valueF32Of};
 ghost use Rattle.variable_delay.specs.Opening as opening;
@@ -57,7 +58,7 @@ pub fn opened_number(o: Opened) -> u8
     }
 }
 
-// The count of what was opened, and the one before where that was refused.
+// The count of the reader that was opened; if that was refused, the count as it was.
 pub fn opened_count(before: u64, o: Opened) -> u64
     ensures { λ r. ⌜ r ≡ countOf before o ⌝ }
 {

@@ -1,4 +1,5 @@
-// C4. An answer of the elementary functions or of the oscillators taken apart: 01's number, 0 for a value, and the value, 0.0 for a refusal.
+// Takes an answer of the elementary functions or the oscillators apart: the refusal number, 0 for none, and the value,
+// 0.0 if refused (C4).
 ghost use mathlib.Core.Path.{_≡_};
 ghost use Rattle.elementary.specs.Answers.{refusalOf};
 ghost use Rattle.answer_parts.specs.Values.{valueOf};

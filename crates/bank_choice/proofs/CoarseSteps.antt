@@ -40,29 +40,47 @@ value-of (fin false m e) a c v = record { number = tt; plain = refl; value = v .
 pub exactly : (k : ℕ) → k < 2 ^ 53 → Value (coarse k) k unit
 exactly k h =
     value-of (coarse k) k unit
-    (round-exact binary64 false k unit k 1034 (lit< tt) h (lt-of-lt-of-le (mul-lt-mul-of-pos-right h (pow-pos 1034)) (lit≤ tt)) (sym (mul-assoc k (2 ^ 1034) unit)))
+    (round-exact binary64 false k unit k 1034 (lit< tt) h
+    (lt-of-lt-of-le (mul-lt-mul-of-pos-right h (pow-pos 1034)) (lit≤ tt)) (sym (mul-assoc k (2 ^ 1034) unit)))
 
 itself : (k : ℕ) → Rounds binary64 (coarse k) k 0 unit
 itself k = record { sign = false; size = k; is = refl; same = omega arith }
 
 -- ---- the four steps
-pub difference-under : (x : Float) (k : ℕ) → T (finite x) → gain x * unit ≤ (unit + k) * den x → T (le (sub binary64 x one-f) (coarse k))
-difference-under x k p h = in-order binary64 _ _ _ k 0 unit (mul-pos (den-pos x) (lit< tt)) (lit< tt) (subtracted x one-f p tt) (itself k) (simp ring (omega (arith, simp ring at h)))
+pub difference-under : (x : Float) (k : ℕ) → T (finite x) → gain x * unit ≤ (unit + k) * den x
+    → T (le (sub binary64 x one-f) (coarse k))
+difference-under x k p h =
+    in-order binary64 _ _ _ k 0 unit (mul-pos (den-pos x) (lit< tt)) (lit< tt) (subtracted x one-f p tt) (itself k)
+    (simp ring (omega (arith, simp ring at h)))
 
 pub product-under : (k i : ℕ) (x y : Float) → Value x k unit → Value y i 1 → T (le (mul binary64 x y) (coarse (k * i)))
 product-under k i x y u v =
-    in-order binary64 _ _ _ (k * i) 0 unit (mul-pos (den-pos x) (den-pos y)) (lit< tt) (multiplied binary64 x y (u .number) (v .number)) (itself (k * i))
-    (rw (u .plain, v .plain) (simp ring (omega (arith, simp ring at (ap (λ (z : ℕ). z * gain y) (u .value)), simp ring at (ap (λ (z : ℕ). z * (k * den x)) (v .value))))))
+    in-order binary64 _ _ _ (k * i) 0 unit (mul-pos (den-pos x) (den-pos y)) (lit< tt)
+    (multiplied binary64 x y (u .number) (v .number)) (itself (k * i))
+    (rw (u .plain, v .plain)
+    (simp ring (omega (
+      arith,
+      simp ring at (ap (λ (z : ℕ). z * gain y) (u .value)),
+      simp ring at (ap (λ (z : ℕ). z * (k * den x)) (v .value)),
+    ))))
 
-pub quotient-under : (s n k : ℕ) (x y : Float) → Value x s unit → Value y n 1 → 0 < gain y → s ≤ k * n → T (le (div binary64 x y) (coarse k))
+pub quotient-under : (s n k : ℕ) (x y : Float) → Value x s unit → Value y n 1 → 0 < gain y → s ≤ k * n
+    → T (le (div binary64 x y) (coarse k))
 quotient-under s n k x y u v g h =
-    in-order binary64 _ _ _ k 0 unit (mul-pos g (den-pos x)) (lit< tt) (divided binary64 x y (u .number) (v .number) g) (itself k)
+    in-order binary64 _ _ _ k 0 unit (mul-pos g (den-pos x)) (lit< tt) (divided binary64 x y (u .number) (v .number) g)
+    (itself k)
     (rw (u .plain)
-    (simp ring (omega (arith, simp ring at (ap (λ (z : ℕ). z * den y) (u .value)), simp ring at (ap (λ (z : ℕ). z * (k * den x)) (v .value)), simp ring at (mul-le-mul-right (den x * den y) h)))))
+    (simp ring (omega (
+      arith,
+      simp ring at (ap (λ (z : ℕ). z * den y) (u .value)),
+      simp ring at (ap (λ (z : ℕ). z * (k * den x)) (v .value)),
+      simp ring at (mul-le-mul-right (den x * den y) h),
+    ))))
 
 pub sum-under : (k : ℕ) (x : Float) → Value x k unit → T (le (add binary64 one-f x) (coarse (unit + k)))
 sum-under k x u =
-    in-order binary64 _ _ _ (unit + k) 0 unit (mul-pos (lit< tt) (den-pos x)) (lit< tt) (added binary64 one-f x tt (u .number)) (itself (unit + k))
+    in-order binary64 _ _ _ (unit + k) 0 unit (mul-pos (lit< tt) (den-pos x)) (lit< tt)
+    (added binary64 one-f x tt (u .number)) (itself (unit + k))
     (rw (u .plain) (simp ring (omega (arith, simp ring at (u .value)))))
 
 -- ---- a difference of two f64, from below and from above

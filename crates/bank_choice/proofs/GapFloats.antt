@@ -1,5 +1,5 @@
--- What the rates and the gaps between them want of floats: 1 times a number, a number over itself, the order of three, and the sign of a difference. Assumes
--- nothing.
+-- What the rates and the gaps between them want of floats: 1 times a number, a number over itself, the order of three,
+-- and the sign of a difference. Assumes nothing.
 use mathlib.Core.Path.{_≡_, refl, ap}
 use mathlib.Core.Bool.{true, false, true≢false}
 use Prim.Native.Nat.{ℕ, _+_, _*_, _<_}
@@ -46,7 +46,8 @@ over-itself (fin true m e) p h = absurd h
 over-itself (fin false m e) p h =
     let a : 0 < m * up e = omega (arith, ltb→lt (0 * 1 * down e) (m * up e * 1) h) in
     rw (ne-eqb m 0 (λ z. omega (arith, ap (λ (k : ℕ). k * up e) z, zero-mul (up e))))
-    (round-same binary64 false (m * up e * down e) (m * up e * down e) 1 1 (mul-pos a (down-pos e)) (lit< tt) (mul-comm _ 1))
+    (round-same binary64 false (m * up e * down e) (m * up e * down e) 1 1 (mul-pos a (down-pos e)) (lit< tt)
+    (mul-comm _ 1))
 
 -- ---- the sign of a difference
 module _ (x y : Float) (p : T (finite x)) (q : T (finite y)) where
@@ -54,11 +55,14 @@ module _ (x y : Float) (p : T (finite x)) (q : T (finite y)) where
   unfolding round
   nothing = record { sign = false; size = 0; is = refl; same = refl }
 
-  pub subtracted : Rounds binary64 (sub binary64 x y) (gain x * den y + loss y * den x) (loss x * den y + gain y * den x) (den x * den y)
+  pub subtracted : Rounds binary64 (sub binary64 x y) (gain x * den y + loss y * den x)
+      (loss x * den y + gain y * den x) (den x * den y)
   unfolding sub neg
   subtracted = go x y p q
     where
-      go : (x y : Float) → T (finite x) → T (finite y) → Rounds binary64 (sub binary64 x y) (gain x * den y + loss y * den x) (loss x * den y + gain y * den x) (den x * den y)
+      go : (x y : Float) → T (finite x) → T (finite y)
+          → Rounds binary64 (sub binary64 x y) (gain x * den y + loss y * den x) (loss x * den y + gain y * den x)
+          (den x * den y)
       go nan y p q = absurd p
       go (inf s) y p q = absurd p
       go (fin s m e) nan p q = absurd q
@@ -67,7 +71,11 @@ module _ (x y : Float) (p : T (finite x)) (q : T (finite y)) where
       go (fin s m e) (fin false n d) p q = added binary64 (fin s m e) (fin true n d) tt tt
 
   pub difference-ge : T (le y x) → T (le zero-f (sub binary64 x y))
-  difference-ge h = in-order binary64 0 0 1 _ _ _ (lit< tt) (mul-pos (den-pos x) (den-pos y)) nothing subtracted (simp ring (omega (arith, simp ring at (under y x q p h))))
+  difference-ge h =
+      in-order binary64 0 0 1 _ _ _ (lit< tt) (mul-pos (den-pos x) (den-pos y)) nothing subtracted
+      (simp ring (omega (arith, simp ring at (under y x q p h))))
 
   pub difference-le : T (le x y) → T (le (sub binary64 x y) zero-f)
-  difference-le h = in-order binary64 _ _ _ 0 0 1 (mul-pos (den-pos x) (den-pos y)) (lit< tt) subtracted nothing (simp ring (omega (arith, simp ring at (under x y p q h))))
+  difference-le h =
+      in-order binary64 _ _ _ 0 0 1 (mul-pos (den-pos x) (den-pos y)) (lit< tt) subtracted nothing
+      (simp ring (omega (arith, simp ring at (under x y p q h))))

@@ -1,6 +1,8 @@
--- T4. A rate that is the bank's maximum, or is clamped to it, reads the last set alone, whatever f64 the bank's rate is:
+-- T4. A rate that is the bank's maximum, or is clamped to it, reads the last set alone, whatever f64 the bank's rate
+-- is:
 -- every set before the last is slower, and the blend counts as 1, or the last set's rate is within f64 epsilon of the
--- rate below it. So it does not matter whether rounding left that rate at the maximum, below or above it. Assumes nothing.
+-- rate below it. So it does not matter whether rounding left that rate at the maximum, below or above it.
+-- Assumes nothing.
 use mathlib.Core.Path.{_≡_, refl, sym, ap, _∙_}
 use mathlib.Core.Bool.{Bool, true, false, cond}
 use mathlib.Core.Logic.{_⊎_, inl, inr}
@@ -35,7 +37,8 @@ epsilon = fin false 1 (negsuc 22)
 pub at-maximum : (top : Float) → bankOk top ≡ true → clamped top one-f top ≡ top
 at-maximum top ok =
     let t = in-range top ok in
-    inside-stays top top (t .above .second) (t .above .second) (t .above .order) (point top (t .above .second) .above .order)
+    inside-stays top top (t .above .second) (t .above .second) (t .above .order)
+    (point top (t .above .second) .above .order)
 
 not-below-one : (top rate : Float) → T (finite top) → T (le one-f top) → T (lt top rate) → T (lt rate one-f) → ⊥
 unfolding lt
@@ -53,7 +56,11 @@ pub above-maximum : (top : Float) → bankOk top ≡ true → (rate : Float) →
 unfolding clamped
 above-maximum top ok rate h =
     let t = in-range top ok in
-    rw (is-false (lt rate one-f) (not-T (lt rate one-f) (not-below-one top rate (t .above .second) (t .above .order) h)), is-true (lt top rate) h)
+    rw (
+      is-false (lt rate one-f)
+          (not-T (lt rate one-f) (not-below-one top rate (t .above .second) (t .above .order) h)),
+      is-true (lt top rate) h,
+    )
 
 -- ---- a blend that counts as 1 is not near 0
 apart : T (le high epsilon) → ⊥
@@ -61,7 +68,8 @@ unfolding le
 apart t = t
 
 not-low : (b : Float) → T (le high b) → le b epsilon ≡ false
-not-low b h = is-false _ (not-T (le b epsilon) (λ t. apart (le-le high b epsilon tt (between tt tt h t .above .second) tt h t)))
+not-low b h =
+    is-false _ (not-T (le b epsilon) (λ t. apart (le-le high b epsilon tt (between tt tt h t .above .second) tt h t)))
 
 module _ (top : Float) (ok : bankOk top ≡ true) (held : T (fits binary64 top)) where
   abbrev last : ℕ
@@ -88,7 +96,8 @@ module _ (top : Float) (ok : bankOk top ≡ true) (held : T (fits binary64 top))
   blend-high wide = elim (eq-or-lt-of-le (least top)) [
     | inl e ↦
         let own-is : own ≡ top = ap (λ (n : ℕ). rateOf top n (n - 1 + 1)) (sym e) ∙ one-set top ok held in
-        let whole : blendOf top own low ≡ one-f = ap (λ (z : Float). blendOf z own low) (sym own-is) ∙ whole-blend top ok last among wide in
+        let whole : blendOf top own low ≡ one-f =
+        ap (λ (z : Float). blendOf z own low) (sym own-is) ∙ whole-blend top ok last among wide in
         rw whole tt
     | inr l ↦
         let e : last + 1 ≡ stepsOf top = omega arith in
@@ -99,10 +108,12 @@ module _ (top : Float) (ok : bankOk top ≡ true) (held : T (fits binary64 top))
   alone : (b : Bool) → closeOf own low ≡ b
       → whichOf b (le (blendOf top own low) epsilon) (le high (blendOf top own low)) ≡ cond b 0 1
   alone true e = refl
-  alone false e = let h = blend-high e in rw (not-low (blendOf top own low) h, is-true (le high (blendOf top own low)) h)
+  alone false e =
+      let h = blend-high e in rw (not-low (blendOf top own low) h, is-true (le high (blendOf top own low)) h)
 
   pub reads-last : (rate : Float) → clamped rate one-f top ≡ top
-      → (chosenOf top rate .safe ≡ last) × (chosenOf top rate .tighter ≡ last) × (chosenOf top rate .which ≡ cond (closeOf own low) 0 1)
+      → (chosenOf top rate .safe ≡ last) × (chosenOf top rate .tighter ≡ last)
+      × (chosenOf top rate .which ≡ cond (closeOf own low) 0 1)
   unfolding chosenOf
   reads-last rate equal =
       let t : min (last + 1) last ≡ last = min-eq-right (omega arith) in

@@ -1,4 +1,5 @@
--- The sets' rates grow with their numbers and stay from 1 to 2: each step of a rate keeps the order, and at the last set (max - 1) * n / n is at most 1.
+-- The sets' rates grow with their numbers and stay from 1 to 2: each step of a rate keeps the order,
+-- and at the last set (max - 1) * n / n is at most 1.
 -- Assumes nothing.
 use mathlib.Core.Path.{_≡_, refl}
 use mathlib.Core.Bool.{true, false}
@@ -68,21 +69,26 @@ module _ (top : Float) (ok : bankOk top ≡ true) where
   module _ (i j : ℕ) (later : i ≤ j) (l : j ≤ 50) where
     numbers : Ordered (num i) (num j)
     unfolding ofInt
-    numbers = up-to (number i (le-trans later l)) (number j l) (round-mono binary64 i 1 j 1 (lit< tt) (lit< tt) (mul-le-mul-right 1 later))
+    numbers =
+        up-to (number i (le-trans later l)) (number j l)
+        (round-mono binary64 i 1 j 1 (lit< tt) (lit< tt) (mul-le-mul-right 1 later))
 
     products : Ordered (mul binary64 D (num i)) (mul binary64 D (num j))
     products =
         up-to (product i (le-trans later l)) (product j l)
-        (product-grows binary64 (itself (span top ok)) numbers (rises (span top ok .above) refl) (rises (span top ok .above) refl) (rises (number j l .above) refl))
+        (product-grows binary64 (itself (span top ok)) numbers (rises (span top ok .above) refl)
+        (rises (span top ok .above) refl) (rises (number j l .above) refl))
 
     shares : Ordered (div binary64 (mul binary64 D (num i)) N) (div binary64 (mul binary64 D (num j)) N)
     shares =
         up-to (share i (le-trans later l)) (share j l)
-        (quotient-grows binary64 products (itself sets) (rises (product i (le-trans later l) .above) refl) (rises (product j l .above) refl) (rises (sets .above) refl) (rises (sets .above) refl) many many)
+        (quotient-grows binary64 products (itself sets) (rises (product i (le-trans later l) .above) refl)
+        (rises (product j l .above) refl) (rises (sets .above) refl) (rises (sets .above) refl) many many)
 
     pub rate-grows : Ordered (rateOf top (stepsOf top) i) (rateOf top (stepsOf top) j)
     unfolding rateOf
-    rate-grows = up-to (rate-finite i (le-trans later l)) (rate-finite j l) (sum-grows binary64 (point one-f tt .above) shares)
+    rate-grows =
+        up-to (rate-finite i (le-trans later l)) (rate-finite j l) (sum-grows binary64 (point one-f tt .above) shares)
 
   -- ---- the last set's rate is at most 2
   pub exact : HasValue N false (stepsOf top) 1
@@ -92,26 +98,32 @@ module _ (top : Float) (ok : bankOk top ≡ true) where
   last-product =
       up-to (product (stepsOf top) (most top ok)) (number (stepsOf top) (most top ok))
       (rw (one-times binary64 N (stepsOf top) exact) at
-      (product-grows binary64 (span top ok .below) (itself sets) (rises (span top ok .above) refl) refl (rises (sets .above) refl)))
+      (product-grows binary64 (span top ok .below) (itself sets) (rises (span top ok .above) refl) refl
+      (rises (sets .above) refl)))
 
   last-share : T (le (div binary64 (mul binary64 D N) N) one-f)
   unfolding ofInt
   last-share =
       rw (whole-quotient binary64 N N 1 (stepsOf top) (least top) (rw (one-mul (stepsOf top)) exact) exact) at
-      (quotient-grows binary64 last-product (itself sets) (rises (product (stepsOf top) (most top ok) .above) refl) (rises (sets .above) refl) (rises (sets .above) refl) (rises (sets .above) refl) many many)
+      (quotient-grows binary64 last-product (itself sets) (rises (product (stepsOf top) (most top ok) .above) refl)
+      (rises (sets .above) refl) (rises (sets .above) refl) (rises (sets .above) refl) many many)
 
   last-rate : T (le (rateOf top (stepsOf top) (stepsOf top)) two-f)
   unfolding rateOf add
-  last-rate = sum-grows binary64 (point one-f tt .above) (record { first = share (stepsOf top) (most top ok) .above .second; second = tt; order = last-share })
+  last-rate =
+      sum-grows binary64 (point one-f tt .above)
+      (record { first = share (stepsOf top) (most top ok) .above .second; second = tt; order = last-share })
 
   -- ---- so a set can always be built, and the sets before a slower one are slower
   pub set-in-range : (i : ℕ) → i ≤ stepsOf top → bankOk (rateOf top (stepsOf top) i) ≡ true
   set-in-range i l =
       let r = rateOf top (stepsOf top) i in
       let g = rate-grows i (stepsOf top) l (most top ok) in
-      is-true _ (and-i (le one-f r) (le r two-f) (rate-finite i (le-trans l (most top ok)) .above .order) (le-le r _ two-f (g .first) (g .second) tt (g .order) last-rate))
+      is-true _ (and-i (le one-f r) (le r two-f) (rate-finite i (le-trans l (most top ok)) .above .order)
+      (le-le r _ two-f (g .first) (g .second) tt (g .order) last-rate))
 
-  pub slower-before : (r : Float) (j k : ℕ) → j ≤ k → k < stepsOf top → slowerOf top (stepsOf top) r k ≡ true → slowerOf top (stepsOf top) r j ≡ true
+  pub slower-before : (r : Float) (j k : ℕ) → j ≤ k → k < stepsOf top → slowerOf top (stepsOf top) r k ≡ true
+      → slowerOf top (stepsOf top) r j ≡ true
   slower-before r j k l h e =
       let g = rate-grows (j + 1) (k + 1) (omega arith) (omega (arith, most top ok)) in
       is-true _ (le-lt-any _ _ r (g .first) (g .second) (g .order) (passes _ e))

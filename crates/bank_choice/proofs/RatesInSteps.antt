@@ -1,5 +1,5 @@
--- The sets' rates, bounded in steps of 2^-40: where k steps reach max - 1 and j steps reach k * i / n, set i's rate is at
--- most 1 and j steps, whatever is rounded on the way. Assumes nothing.
+-- The sets' rates, bounded in steps of 2^-40: where k steps reach max - 1 and j steps reach k * i / n,
+-- set i's rate is at most 1 and j steps, whatever is rounded on the way. Assumes nothing.
 use mathlib.Core.Path.{_≡_, refl}
 use mathlib.Core.Bool.{true}
 use Prim.Native.Nat.{ℕ, _+_, _-_, _*_, _≤_}
@@ -19,7 +19,8 @@ use Rattle.sinc_settings.specs.Ranges.{one-f}
 use Rattle.bank_choice.specs.Rates.{num, bankOk, stepsOf, rateOf}
 use Rattle.bank_choice.proofs.SetCounts.{in-range, span, least, most}
 use Rattle.bank_choice.proofs.RatesGrow.{number, sets, many, product, share, itself, exact, rate-finite}
-use Rattle.bank_choice.proofs.CoarseSteps.{unit, Value, coarse, value-of, exactly, difference-under, product-under, quotient-under, sum-under}
+use Rattle.bank_choice.proofs.CoarseSteps.{unit, Value, coarse, value-of, exactly, difference-under}
+use Rattle.bank_choice.proofs.CoarseSteps.{product-under, quotient-under, sum-under}
 use Rattle.bank_choice.proofs.StepArithmetic.{stepsAbove, next}
 
 -- 2^40 (max - 1), over max's denominator
@@ -76,29 +77,43 @@ module _ (top : Float) (ok : bankOk top ≡ true) where
     J = exactly j (omega arith)
 
     difference : Ordered D (coarse k)
-    difference = record { first = span top ok .above .second; second = K .number; order = difference-under top k finite-top (omega (arith, add-mul unit k (den top), by-k .0, above)) }
+    difference =
+        record {
+          first = span top ok .above .second;
+          second = K .number;
+          order = difference-under top k finite-top (omega (arith, add-mul unit k (den top), by-k .0, above));
+        }
 
     squeeze : (a b c : Float) → T (finite a) → T (finite c) → T (le a b) → T (le b c) → Ordered a c
-    squeeze a b c p q h g = record { first = p; second = q; order = le-le a b c p (between p q h g .above .second) q h g }
+    squeeze a b c p q h g =
+        record { first = p; second = q; order = le-le a b c p (between p q h g .above .second) q h g }
 
     products : Ordered (mul binary64 D (num i)) (coarse (k * i))
     products =
-        squeeze (mul binary64 D (num i)) (mul binary64 (coarse k) (num i)) (coarse (k * i)) (product top ok i l .above .second) (S .number)
-        (product-grows binary64 difference (itself top ok (number top ok i l)) (rises (span top ok .above) refl) (K .plain) (rises (number top ok i l .above) refl))
-        (product-under k i (coarse k) (num i) K (value-of (num i) i 1 (whole-value binary64 (pos i) (le-trans l (lit≤ tt)))))
+        squeeze (mul binary64 D (num i)) (mul binary64 (coarse k) (num i)) (coarse (k * i))
+        (product top ok i l .above .second) (S .number)
+        (product-grows binary64 difference (itself top ok (number top ok i l)) (rises (span top ok .above) refl)
+        (K .plain) (rises (number top ok i l .above) refl))
+        (product-under k i (coarse k) (num i) K
+        (value-of (num i) i 1 (whole-value binary64 (pos i) (le-trans l (lit≤ tt)))))
 
     shares : Ordered (div binary64 (mul binary64 D (num i)) N) (coarse j)
     shares =
         let n = rises (sets top ok .above) refl in
-        squeeze (div binary64 (mul binary64 D (num i)) N) (div binary64 (coarse (k * i)) N) (coarse j) (share top ok i l .above .second) (J .number)
-        (quotient-grows binary64 products (itself top ok (sets top ok)) (rises (product top ok i l .above) refl) (S .plain) n n (many top ok) (many top ok))
-        (quotient-under (k * i) (stepsOf top) j (coarse (k * i)) N S (value-of N (stepsOf top) 1 (exact top ok)) (many top ok) share-of)
+        squeeze (div binary64 (mul binary64 D (num i)) N) (div binary64 (coarse (k * i)) N) (coarse j)
+        (share top ok i l .above .second) (J .number)
+        (quotient-grows binary64 products (itself top ok (sets top ok)) (rises (product top ok i l .above) refl)
+        (S .plain) n n (many top ok) (many top ok))
+        (quotient-under (k * i) (stepsOf top) j (coarse (k * i)) N S (value-of N (stepsOf top) 1 (exact top ok))
+        (many top ok) share-of)
 
     pub rate-under : Ordered (rateOf top (stepsOf top) i) (coarse (unit + j))
     unfolding rateOf
     rate-under =
-        squeeze (rateOf top (stepsOf top) i) (add binary64 one-f (coarse j)) (coarse (unit + j)) (rate-finite top ok i l .above .second)
-        (exactly (unit + j) (omega arith) .number) (sum-grows binary64 (point one-f tt .above) shares) (sum-under j (coarse j) J)
+        squeeze (rateOf top (stepsOf top) i) (add binary64 one-f (coarse j)) (coarse (unit + j))
+        (rate-finite top ok i l .above .second)
+        (exactly (unit + j) (omega arith) .number) (sum-grows binary64 (point one-f tt .above) shares)
+        (sum-under j (coarse j) J)
 
   -- ---- the last set: no more than k steps
   pub last-under : Ordered (rateOf top (stepsOf top) (stepsOf top)) (coarse (unit + k))

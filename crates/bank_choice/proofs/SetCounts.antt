@@ -1,4 +1,5 @@
--- Where the numbers of a bank lie, by their ends: max - 1 from 0 to 1, so that (max - 1)/0.02 is at most 50 and there are 1 to 50 sets. Assumes nothing.
+-- Where the numbers of a bank lie, by their ends: max - 1 from 0 to 1, so that (max - 1)/0.02 is at most 50 and there
+-- are 1 to 50 sets. Assumes nothing.
 use mathlib.Core.Path.{_≡_, refl}
 use mathlib.Core.Bool.{true, false}
 use Prim.Native.Nat.{ℕ, _≤_, max, zero-le}
@@ -17,7 +18,9 @@ use Rattle.sinc_settings.specs.Ranges.{zero-f, one-f, two-f}
 use Rattle.bank_choice.specs.Rates.{bankOk, rateStep, ceilingOf, stepsOf}
 
 pub in-range : (top : Float) → bankOk top ≡ true → Between one-f two-f top
-in-range top h = let t = passes (bankOk top) h in between tt tt (and-l (le one-f top) (le top two-f) t) (and-r (le one-f top) (le top two-f) t)
+in-range top h =
+    let t = passes (bankOk top) h in
+    between tt tt (and-l (le one-f top) (le top two-f) t) (and-r (le one-f top) (le top two-f) t)
 
 pub span : (top : Float) → bankOk top ≡ true → Between zero-f one-f (sub binary64 top one-f)
 unfolding sub le
@@ -29,8 +32,10 @@ fifty = fin false 25 (pos 1)
 pub span-at-most : (top : Float) → bankOk top ≡ true → AtMost 50 (div binary64 (sub binary64 top one-f) rateStep)
 unfolding div le lt
 span-at-most top h =
-    let q : Between zero-f fifty (div binary64 (sub binary64 top one-f) rateStep) = quotient-between binary64 tt (span top h) (point rateStep tt) tt refl refl tt tt in
-    between-at-most 50 zero-f (div binary64 (sub binary64 top one-f) rateStep) fifty (lit≤ tt) (lit≤ tt) (q .above .order) (q .below .order)
+    let q : Between zero-f fifty (div binary64 (sub binary64 top one-f) rateStep) =
+    quotient-between binary64 tt (span top h) (point rateStep tt) tt refl refl tt tt in
+    between-at-most 50 zero-f (div binary64 (sub binary64 top one-f) rateStep) fifty (lit≤ tt) (lit≤ tt)
+    (q .above .order) (q .below .order)
 
 -- ---- how many sets
 pub ceiling-most : (b : ℕ) (x : Float) → AtMost b x → ceilingOf x ≤ b

@@ -1,5 +1,6 @@
 -- The arithmetic of `NotLast` and `AtMaximum`, over whole numbers. X is 2^40 (max - 1), over B: k steps of 2^-40 lie
--- above max - 1, j of them above k * i / n, and yet j of them and 2^28 more below max - 1, where i < n. Assumes nothing.
+-- above max - 1, j of them above k * i / n, and yet j of them and 2^28 more below max - 1, where i < n.
+-- Assumes nothing.
 use mathlib.Core.Path.{_≡_, _∙_, ap}
 use Prim.Native.Nat.{ℕ, _+_, _-_, _*_, _/_, _≤_, _<_}
 use native.Mathlib.Nat.{mul-le-mul-left, mul-le-mul-right, le-of-mul-le-mul-right, add-mul, one-mul}
@@ -15,7 +16,10 @@ abbrev pub shareAbove : ℕ → ℕ → ℕ → ℕ
 shareAbove k i n = k * i / n + 1
 
 pub next : (a b : ℕ) → 0 < b → (a ≤ (a / b + 1) * b) × ((a / b + 1) * b ≤ a + b)
-next a b B = let q = quotient-around a b B in let e : (a / b + 1) * b ≡ a / b * b + b = add-mul (a / b) 1 b ∙ ap (λ (z : ℕ). a / b * b + z) (one-mul b) in (omega (arith, q .1), omega (arith, q .0))
+next a b B =
+    let q = quotient-around a b B in
+    let e : (a / b + 1) * b ≡ a / b * b + b = add-mul (a / b) 1 b ∙ ap (λ (z : ℕ). a / b * b + z) (one-mul b) in
+    (omega (arith, q .1), omega (arith, q .0))
 
 pub room : (X B i n k j : ℕ) → 0 < n → i < n → n ≤ 50 → 17179869184 * B ≤ X → k * B ≤ X + B → j * n ≤ k * i + n
     → (j + 268435456) * B ≤ X
@@ -32,7 +36,8 @@ room X B i n k j some less few wide hk hj =
     )))
     some
 
--- The maximum is A / B and the rate below it G / C, so Y / (B * C) lies between them; `a` steps fit there, not two more.
+-- The maximum is A / B and the rate below it G / C, so Y / (B * C) lies between them; `a` steps fit there,
+-- not two more.
 module _ (A B G C Y a : ℕ) (gap : Y + G * B ≡ A * C)
     (fits : a * (B * C) ≤ unit * Y) (no-more : unit * Y ≤ (a + 1) * (B * C)) where
   pub from-below : a * (B * C) + G * B * unit ≤ A * C * unit

@@ -1,4 +1,5 @@
-// T3, T4. 000's SincBankF32 without its tables: how many sets a bank has, their rates, and which two a rate reads.
+// The original's SincBankF32 (000) without its tables: how many sets a bank has, their rates, and which two sets a rate
+// reads (T3, T4).
 mod rates; // how many sets, and the rate of each
 mod search; // how many of them are slower than a rate
 
@@ -9,9 +10,11 @@ ghost use mathlib.Core.Bool.{true, not};
 ghost use lib.Ieee.{isNan};
 ghost use Prim.Native.Nat.{min};
 ghost use Rattle.bank_choice.specs.Rates.{bankOk};
-ghost use Rattle.bank_choice.specs.Choosing.{lowerOf, whichOf, chosenOf, choiceOf, chooseVerdict, selectedOf};
+ghost use Rattle.bank_choice.specs.Choosing.{lowerOf, whichOf, chosenOf, chooseVerdict, selectedOf};
+ghost use Rattle.bank_choice.specs.Inner.{choiceOf};
 
-// Which sets a rate reads, counted from 0: by `which` the safe set alone (0), the tighter alone (1), or both (2), blended.
+// Which sets a rate reads, counted from 0. `which` is 0 for the safe set alone, 1 for the tighter one alone, and 2 for
+// both, mixed by `blend` (T4).
 pub struct Choice {
     pub safe: usize,
     pub tighter: usize,
@@ -80,8 +83,8 @@ fn chosen(max_rate: f64, rate: f64) -> Choice
     }
 }
 
-// Which sets a rate reads, for the readers, which have tested both rates. All zero where the bank's rate is out of its
-// range; a NaN gives what the same lines give.
+// Which sets a rate reads, for readers that have tested both rates. All zero if the bank's rate is out of range; a NaN
+// as rate goes through the same arithmetic.
 pub fn choice_or_zero(max_rate: f64, rate: f64) -> Choice
     ensures { λ r. ⌜ r ≡ choiceOf «max_rate» rate ⌝ }
 {

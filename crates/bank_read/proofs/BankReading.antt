@@ -1,4 +1,5 @@
--- What `read` gives, by its tests; and that with a bank for a rate in range it is the bank's reading (T4, T5). Assumes nothing.
+-- What `read` gives, by its tests; and that with a bank for a rate in range it is the bank's reading (T4, T5).
+-- Assumes nothing.
 use mathlib.Core.Path.{_≡_, refl, sym, _∙_}
 use mathlib.Core.Bool.{Bool, true, false, true≢false, not, _&&_, cond}
 use mathlib.Core.List.{List}
@@ -13,14 +14,16 @@ use Rattle.answer.specs.Refusals.{lowestOf}
 use Rattle.ring.specs.Places.{positionOk}
 use Rattle.cubic_farrow_f32.specs.Draft as draft
 use Rattle.bank_choice.specs.Rates.{bankOk, stepsOf}
-use Rattle.bank_choice.specs.Choosing.{chosenOf, choiceOf}
+use Rattle.bank_choice.specs.Choosing.{chosenOf}
+use Rattle.bank_choice.specs.Inner.{choiceOf}
 use Rattle.bank_choice.specs.declared.Choice.{Choice}
 use Rattle.bank_choice.proofs.OwnRate.{safe-inside, tighter-inside}
 use Rattle.sinc_bank_f32.specs.Sets.{bankLength}
 use Rattle.quality_mode.specs.declared.QualityMode.{QualityMode}
 use Rattle.quality_mode.specs.declared.QualityMode.the-variants.{Draft, Normal, Hq, Ultra}
 use Rattle.quality_mode.specs.Quality.{sameQ}
-use Rattle.bank_read.specs.Bank.{tablesAt, chosenAt, bankAt, setsOk, heldOk, readOf, sampleVerdict, sampledOf}
+use Rattle.bank_read.specs.Bank.{tablesAt, chosenAt, bankAt, sampleVerdict, sampledOf}
+use Rattle.bank_read.specs.Inner.{setsOk, heldOk, readOf}
 
 module _ (c : Choice) (sets xs : List Float) (count : ℕ) (p : Float) where
   pub draft-read : (q : QualityMode) → sameQ q Draft ≡ true → draft.readOf xs count p ≡ readOf c q sets xs count p
@@ -30,7 +33,8 @@ module _ (c : Choice) (sets xs : List Float) (count : ℕ) (p : Float) where
   draft-read Hq h = absurd (true≢false (sym h))
   draft-read Ultra h = absurd (true≢false (sym h))
 
-  as-tables : (q : QualityMode) → sameQ q Draft ≡ false → readOf c q sets xs count p ≡ cond (setsOk c (length sets) && positionOk p) (tablesAt c q sets xs count p) zero-f
+  as-tables : (q : QualityMode) → sameQ q Draft ≡ false
+      → readOf c q sets xs count p ≡ cond (setsOk c (length sets) && positionOk p) (tablesAt c q sets xs count p) zero-f
   unfolding chosenAt
   as-tables Draft h = absurd (true≢false h)
   as-tables Normal h = refl
@@ -38,7 +42,8 @@ module _ (c : Choice) (sets xs : List Float) (count : ℕ) (p : Float) where
   as-tables Ultra h = refl
 
   module _ (q : QualityMode) (h : sameQ q Draft ≡ false) where
-    pub tables-read : setsOk c (length sets) ≡ true → positionOk p ≡ true → tablesAt c q sets xs count p ≡ readOf c q sets xs count p
+    pub tables-read : setsOk c (length sets) ≡ true → positionOk p ≡ true
+        → tablesAt c q sets xs count p ≡ readOf c q sets xs count p
     tables-read s t = sym (as-tables q h ∙ rw (s, t))
 
     pub no-place : setsOk c (length sets) ≡ true → positionOk p ≡ false → zero-f ≡ readOf c q sets xs count p
@@ -62,7 +67,8 @@ module _ (top rate : Float) (ok : bankOk top ≡ true) where
       let t : (c .tighter + 1) * 1081648 ≤ n = omega (arith, tighter-inside top rate) in
       rw (le-leb _ _ s, le-leb _ _ t)
 
-  pub bank-read : (q : QualityMode) (sets xs : List Float) (count : ℕ) (p : Float) → length sets ≡ stepsOf top * 1081648 → positionOk p ≡ true
+  pub bank-read : (q : QualityMode) (sets xs : List Float) (count : ℕ) (p : Float) → length sets ≡ stepsOf top * 1081648
+      → positionOk p ≡ true
       → readOf (choiceOf top rate) q sets xs count p ≡ bankAt sets top rate q xs count p
   bank-read q sets xs count p l h = rw (ok, held (chosenOf top rate) q (length sets) (sets-chosen (length sets) l), h)
 
@@ -74,7 +80,8 @@ module _ (top rate : Float) (q : QualityMode) (sets xs : List Float) (count : �
     where
       go : (a b c : Bool) → bankOk top ≡ a → positionOk p ≡ b → eqb (length sets) (bankLength top) ≡ c
           → let v = lowestOf (a && b) c true true true true (not (isNan rate)) true in
-          answerF32Of v (readOf (choiceOf top rate) q sets xs count p) ≡ answerF32Of v (bankAt sets top rate q xs count p)
+          answerF32Of v (readOf (choiceOf top rate) q sets xs count p)
+          ≡ answerF32Of v (bankAt sets top rate q xs count p)
       go true true true ok h e =
           let whole : length sets ≡ stepsOf top * 1081648 = rw ok at (eqb-true (length sets) (bankLength top) e) in
           rw (bank-read top rate ok q sets xs count p whole h)

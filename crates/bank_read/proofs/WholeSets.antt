@@ -10,7 +10,8 @@ use lib.Dec.{leb, ltb}
 use lib.ListN.{length, take, drop, length-take, length-drop}
 use lib.Ieee.{Float}
 use Rattle.bank_choice.specs.declared.Choice.{Choice}
-use Rattle.bank_read.specs.Bank.{setAt, setsOk}
+use Rattle.bank_read.specs.Bank.{setAt}
+use Rattle.bank_read.specs.Inner.{setsOk}
 
 -- over the length n of a set
 module _ (n : ℕ) (some : 0 < n) where
@@ -18,7 +19,9 @@ module _ (n : ℕ) (some : 0 < n) where
   has k len = go (leb ((k + 1) * n) len) refl
     where
       go : (b : Bool) → leb ((k + 1) * n) len ≡ b → ltb k (len / n) ≡ b
-      go true e = let l : k + 1 ≤ len / n = le-div-iff-mul-le some .1 (leb-true ((k + 1) * n) len e) in lt-ltb k (len / n) (omega arith)
+      go true e =
+          let l : k + 1 ≤ len / n = le-div-iff-mul-le some .1 (leb-true ((k + 1) * n) len e) in
+          lt-ltb k (len / n) (omega arith)
       go false e =
           let m : len / n < k + 1 = div-lt-iff-lt-mul some .1 (leb-false ((k + 1) * n) len e) in
           le-ltb k (len / n) (omega arith)
@@ -30,10 +33,12 @@ pub set-length : (sets : List Float) (k : ℕ) → (k + 1) * 1081648 ≤ length 
 unfolding setAt
 set-length sets k l = simp (length-take, length-drop) (omega arith)
 
-pub both-held : (c : Choice) (n : ℕ) → setsOk c n ≡ true → ((c .safe + 1) * 1081648 ≤ n) × ((c .tighter + 1) * 1081648 ≤ n)
+pub both-held : (c : Choice) (n : ℕ) → setsOk c n ≡ true
+    → ((c .safe + 1) * 1081648 ≤ n) × ((c .tighter + 1) * 1081648 ≤ n)
 both-held c n h = go (leb ((c .safe + 1) * 1081648) n) (leb ((c .tighter + 1) * 1081648) n) refl refl h
   where
-    go : (a b : Bool) → leb ((c .safe + 1) * 1081648) n ≡ a → leb ((c .tighter + 1) * 1081648) n ≡ b → (a && b) ≡ true → ((c .safe + 1) * 1081648 ≤ n) × ((c .tighter + 1) * 1081648 ≤ n)
+    go : (a b : Bool) → leb ((c .safe + 1) * 1081648) n ≡ a → leb ((c .tighter + 1) * 1081648) n ≡ b → (a && b) ≡ true
+        → ((c .safe + 1) * 1081648 ≤ n) × ((c .tighter + 1) * 1081648 ≤ n)
     go true true p q h = (leb-true _ _ p, leb-true _ _ q)
     go true false p q h = let z : _≡_ {A = ℕ} 0 1 = cc in absurd (omega arith)
     go false b p q h = let z : _≡_ {A = ℕ} 0 1 = cc in absurd (omega arith)

@@ -1,4 +1,5 @@
--- T2, K4. 000's bessel_i0: the series of I0, each step rounded, in 000's order. The number of terms is an argument. Definitions only.
+-- T2, K4. 000's bessel_i0: the series of I0 in 000's order, each step rounded. The number of terms is an argument.
+-- Definitions only.
 use Prim.Native.Nat.{ℕ, zero, suc, _^_}
 use mathlib.Core.Bool.{Bool, false, cond}
 use lib.IntN.{pos}
@@ -9,11 +10,12 @@ pub use Rattle.constants.specs.Numbers.{one-f}
 abbrev pub termOf : Float → ℕ → Float → Float
 termOf y k term = mul binary64 term (div binary64 y (mul binary64 (ofInt binary64 (pos k)) (ofInt binary64 (pos k))))
 
--- whether a term is below sum × 1.0e-16
+-- Whether a term is below sum × 1.0e-16.
 abbrev pub ends : Float → Float → Bool
 ends sum term = lt term (mul binary64 sum (round binary64 false 1 (10 ^ 16)))
 
--- The sum at the end, from the sum and the term after k terms on, with at most n terms more: the first that is too small is the last.
+-- The final sum, given the sum and the term after k terms and at most n terms more: the first term that is too small is
+-- the last.
 unfoldable pub sumAfter : ℕ → ℕ → Float → Float → Float → Float
 sumAfter zero k y sum term = sum
 sumAfter (suc n) k y sum term =
@@ -24,7 +26,7 @@ sumAfter (suc n) k y sum term =
 abbrev pub four-f : Float
 four-f = fin false 1 (pos 2)
 
--- 1 and at most `terms` terms after it, in y = x * x / 4
+-- 1 and at most `terms` terms after it, in y = x * x / 4.
 unfoldable pub seriesOf : ℕ → Float → Float
 unfolding sumAfter
 seriesOf terms x = sumAfter terms 0 (div binary64 (mul binary64 x x) four-f) one-f one-f

@@ -1,4 +1,4 @@
-// 000's bessel_i0, with the number of terms an argument.
+// The original's bessel_i0 (000), with the number of terms as an argument (T2).
 ghost use mathlib.Core.Path.{_≡_};
 ghost use Rattle.bessel.specs.Series.{seriesOf};
 

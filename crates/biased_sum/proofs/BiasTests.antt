@@ -1,4 +1,5 @@
--- What the tests of `with_bias` say of a sum: whether it has a bias, and so what is given. And an f32 that is taken stands in the biased sum. Assumes nothing.
+-- What the tests of `with_bias` say of a sum: whether it has a bias, and so what is given. And an f32 that is taken
+-- stands in the biased sum. Assumes nothing.
 use mathlib.Core.Path.{_≡_, refl, sym, ap, _∙_, subst}
 use mathlib.Core.Bool.{Bool, true, false, not, _&&_, false≢true}
 use Prim.Native.Nat.{ℕ, _-_, _%_, _≤_, _<_}
@@ -32,7 +33,10 @@ module _ (x : Float) where
   low-without h = ap (λ (z : Bool). not (isNan x) && (z && leb f 1148)) (lt-leb 899 f h) ∙ none-of (not (isNan x))
 
   pub high-without : 1148 < f → hasBias x ≡ false
-  high-without h = ap (λ (z : Bool). not (isNan x) && (leb 899 f && z)) (lt-leb f 1148 h) ∙ ap (λ (z : Bool). not (isNan x) && z) (none-of (leb 899 f)) ∙ none-of (not (isNan x))
+  high-without h =
+      ap (λ (z : Bool). not (isNan x) && (leb 899 f && z)) (lt-leb f 1148 h)
+      ∙ ap (λ (z : Bool). not (isNan x) && z) (none-of (leb 899 f))
+      ∙ none-of (not (isNan x))
 
   with-one : T (not (isNan x)) → 899 ≤ f → f ≤ 1148 → hasBias x ≡ true
   with-one n lo hi = all (not (isNan x)) (leb 899 f) (leb f 1148) n (le-leb 899 f lo) (le-leb f 1148 hi)
@@ -51,7 +55,8 @@ module _ (x : Float) where
   abbrev given : Bool → Ends → Start
   given z e = record { fine = z; bias = e .bias; low = e .low; high = e .high; sum = add binary64 x (e .bias) }
 
-  pub something : (z : Bool) (e : Ends) → T (not (isNan x)) → 899 ≤ f → f ≤ 1148 → e ≡ found → z ≡ taken (e .low) (e .high) (add binary64 x (e .bias)) → given z e ≡ withBias x
+  pub something : (z : Bool) (e : Ends) → T (not (isNan x)) → 899 ≤ f → f ≤ 1148 → e ≡ found
+      → z ≡ taken (e .low) (e .high) (add binary64 x (e .bias)) → given z e ≡ withBias x
   something z e n lo hi is t =
       ap (λ (b : Bool). given b e) t
       ∙ ap (λ (b : Ends). biasedBy b x) is
@@ -67,9 +72,12 @@ module _ (x : Float) where
       go : (b : Bool) → hasBias x ≡ b → IsBiased (pickStart b (biasedBy found x) noBias)
       go false h t = absurd (false≢true t)
       go true h t =
-          let top : leb f 1148 ≡ true = second-of (leb 899 f && leb f 1148) (leb 899 f) (leb f 1148) refl (second-of (hasBias x) (not (isNan x)) (leb 899 f && leb f 1148) refl h) in
+          let top : leb f 1148 ≡ true =
+          second-of (leb 899 f && leb f 1148) (leb 899 f) (leb f 1148) refl
+          (second-of (hasBias x) (not (isNan x)) (leb 899 f && leb f 1148) refl h) in
           let s = add binary64 x (found .bias) in
           let lo = lt (found .low) s in
           let hi = lt s (found .high) in
-          start (leb 2048 (powerOf x)) (f - 898) (found .bias) (found .low) (found .high) x (framed (f - 898) (omega (arith, leb-true f 1148 top)) (leb 2048 (powerOf x))) held
+          start (leb 2048 (powerOf x)) (f - 898) (found .bias) (found .low) (found .high) x
+          (framed (f - 898) (omega (arith, leb-true f 1148 top)) (leb 2048 (powerOf x))) held
           (first-of (lo && hi) lo hi refl t) (second-of (lo && hi) lo hi refl t)

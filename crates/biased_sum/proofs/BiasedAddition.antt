@@ -1,4 +1,5 @@
--- p + b as an f64, where b is a bias and Q units: between the ends of the bias's frame it is the bias and what p and Q add up to as an f32. Assumes nothing.
+-- p + b as an f64, where b is a bias and Q units: between the ends of the bias's frame it is the bias and what p and Q
+-- add up to as an f32. Assumes nothing.
 use mathlib.Core.Path.{_≡_, sym, ap, _∙_, subst}
 use mathlib.Core.Bool.{Bool, true}
 use Prim.Native.Nat.{ℕ, _+_, _^_, _≤_, _<_}
@@ -22,7 +23,8 @@ pub record Taken (t : Bool) (P : ℕ) (s : Bool) (Q k : ℕ) (b : Float) : Type 
   pub biased : HasValue b s (bias-of k + size) (2 ^ 1074)
   pub rounded : HasValue (round binary32 s (sum-size t P s Q) (2 ^ 1074)) s size (2 ^ 1074)
 
-module _ (t s : Bool) (P Q k : ℕ) (m low high p b : Float) (F : Frame s k m low high) (hp : HasValue p t P (2 ^ 1074)) (hb : HasValue b s (bias-of k + Q) (2 ^ 1074)) where
+module _ (t s : Bool) (P Q k : ℕ) (m low high p b : Float) (F : Frame s k m low high) (hp : HasValue p t P (2 ^ 1074))
+    (hb : HasValue b s (bias-of k + Q) (2 ^ 1074)) where
   abbrev C : ℕ
   C = bias-of k
 
@@ -34,16 +36,22 @@ module _ (t s : Bool) (P Q k : ℕ) (m low high p b : Float) (F : Frame s k m lo
 
   pub taken : lt low (add binary64 p b) ≡ true → lt (add binary64 p b) high ≡ true → Taken t P s Q k (add binary64 p b)
   taken a h =
-      let l : Lies s (sum-sign t P s (C + Q)) k W = inside s (sum-sign t P s (C + Q)) k W m low high (add binary64 p b) F is a h in
+      let l : Lies s (sum-sign t P s (C + Q)) k W =
+      inside s (sum-sign t P s (C + Q)) k W m low high (add binary64 p b) F is a h in
       let D : 0 < digit k = pow-pos (925 + k) in
       let w : Apart t P s Q C = apart t P s Q C (l .sign) (lt-of-lt-of-le (omega arith) (l .from)) in
       let n = sum-size t P s Q in
-      let r : Rounded s k n = rounds s k n (F .small) (subst (λ (z : ℕ). near-of k ≤ z) (w .size) (l .from)) (subst (λ (z : ℕ). z < far-of k) (w .size) (l .to)) in
+      let r : Rounded s k n =
+      rounds s k n (F .small) (subst (λ (z : ℕ). near-of k ≤ z) (w .size) (l .from))
+      (subst (λ (z : ℕ). z < far-of k) (w .size) (l .to)) in
       record {
         sign = w .sign;
         more = omega (arith, w .size, l .from);
         size = r .size;
         some = lt-of-lt-of-le (omega arith) (r .least);
-        biased = subst (λ (z : Float). HasValue z s (C + r .size) L) (sym (is ∙ ap (λ (z : Bool). round binary64 z W L) (l .sign) ∙ ap (λ (z : ℕ). round binary64 s z L) (w .size))) (r .wide);
+        biased =
+            subst (λ (z : Float). HasValue z s (C + r .size) L) (sym (is
+            ∙ ap (λ (z : Bool). round binary64 z W L) (l .sign)
+            ∙ ap (λ (z : ℕ). round binary64 s z L) (w .size))) (r .wide);
         rounded = r .narrow;
       }

@@ -13,8 +13,13 @@ pub second-of : (z a b : Bool) → z ≡ (a && b) → z ≡ true → b ≡ true
 second-of z true b e t = sym e ∙ t
 second-of z false b e t = absurd (false≢true (sym e ∙ t))
 
-pub between : (low high x sum : Float) (z : Bool) → z ≡ (lt low (add binary64 x sum) && lt (add binary64 x sum) high) → z ≡ true → Between low high x sum
-between low high x sum z e t = record { lower = first-of z (lt low (add binary64 x sum)) (lt (add binary64 x sum) high) e t; upper = second-of z (lt low (add binary64 x sum)) (lt (add binary64 x sum) high) e t }
+pub between : (low high x sum : Float) (z : Bool) → z ≡ (lt low (add binary64 x sum) && lt (add binary64 x sum) high)
+    → z ≡ true → Between low high x sum
+between low high x sum z e t =
+    record {
+      lower = first-of z (lt low (add binary64 x sum)) (lt (add binary64 x sum) high) e t;
+      upper = second-of z (lt low (add binary64 x sum)) (lt (add binary64 x sum) high) e t;
+    }
 
 -- four sums, tested in pairs
 module _ (low high sum a b c d : Float) where
@@ -30,7 +35,8 @@ module _ (low high sum a b c d : Float) where
   abbrev s4 : Float
   s4 = add binary64 d s3
 
-  pub advanced : (z1 z2 z3 z4 z5 z6 z7 : Bool) → z1 ≡ (lt low s1 && lt s1 high) → z2 ≡ (lt low s2 && lt s2 high) → z3 ≡ (z1 && z2) → z4 ≡ (lt low s3 && lt s3 high) → z5 ≡ (lt low s4 && lt s4 high)
+  pub advanced : (z1 z2 z3 z4 z5 z6 z7 : Bool) → z1 ≡ (lt low s1 && lt s1 high) → z2 ≡ (lt low s2 && lt s2 high)
+      → z3 ≡ (z1 && z2) → z4 ≡ (lt low s3 && lt s3 high) → z5 ≡ (lt low s4 && lt s4 high)
       → z6 ≡ (z4 && z5) → z7 ≡ (z3 && z6) → z7 ≡ true → Advanced low high sum a b c d s4
   advanced z1 z2 z3 z4 z5 z6 z7 e1 e2 e3 e4 e5 e6 e7 t =
       let t3 = first-of z7 z3 z6 e7 t in
@@ -43,6 +49,7 @@ module _ (low high sum a b c d : Float) where
         is = refl;
       }
 
-  pub all-taken : (z1 z2 z3 z4 z5 z6 z7 : Bool) → z1 ≡ (lt low s1 && lt s1 high) → z2 ≡ (lt low s2 && lt s2 high) → z3 ≡ (z1 && z2) → z4 ≡ (lt low s3 && lt s3 high) → z5 ≡ (lt low s4 && lt s4 high)
+  pub all-taken : (z1 z2 z3 z4 z5 z6 z7 : Bool) → z1 ≡ (lt low s1 && lt s1 high) → z2 ≡ (lt low s2 && lt s2 high)
+      → z3 ≡ (z1 && z2) → z4 ≡ (lt low s3 && lt s3 high) → z5 ≡ (lt low s4 && lt s4 high)
       → z6 ≡ (z4 && z5) → z7 ≡ (z3 && z6) → z7 ≡ allTaken low high sum a b c d
   all-taken z1 z2 z3 z4 z5 z6 z7 e1 e2 e3 e4 e5 e6 e7 = rw (e7, e3, e6, e1, e2, e4, e5) refl

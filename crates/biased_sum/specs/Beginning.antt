@@ -1,4 +1,4 @@
--- K4. How a biased sum begins: with the bias for the power of two near it, where there is one. It is taken where it then
+-- K4. How a biased sum begins: with the bias for the power of two near it, if there is one. The sum is taken if it then
 -- lies between that bias's ends. Definitions only.
 use mathlib.Core.Bool.{Bool, true, false, not, _&&_, cond}
 use Prim.Native.Nat.{ℕ, _+_, _-_, _/_, _%_, _^_}

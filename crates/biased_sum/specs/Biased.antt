@@ -1,6 +1,7 @@
--- An f32 q that is kept as q + C, for a C of q's sign that is so large that an f64's last digit is an f32's: with u the last digit of an f32 below 2 ^ e,
--- C is 2 ^ (e + 29) - 2 ^ e, which is (2 ^ 53 - 2 ^ 24) u. From C + 2 ^ (e - 1) up to C + 2 ^ (e + 1) an f64 counts u, and from 2 ^ (e + 29) on 2 u, just as an f32
--- does from 2 ^ (e - 1) up to 2 ^ (e + 1). Sizes are in units of 2 ^ -1074, the smallest f64; u is 2 ^ (925 + k) of them. Definitions only.
+-- K4. An f32 q kept as q + C, where C has q's sign and is so large that an f64's last digit is an f32's. With u the
+-- last digit of an f32 below 2 ^ e, C is 2 ^ (e + 29) - 2 ^ e, which is (2 ^ 53 - 2 ^ 24) u. From C + 2 ^ (e - 1) to C
+-- + 2 ^ (e + 1) an f64 counts u, and from 2 ^ (e + 29) on 2 u, just as an f32 does from 2 ^ (e - 1) to 2 ^ (e + 1).
+-- Sizes are in units of 2 ^ -1074, the smallest f64; u is 2 ^ (925 + k) of them. Definitions only.
 use mathlib.Core.Bool.{Bool, cond}
 use Prim.Native.Nat.{ℕ, _+_, _-_, _*_, _^_, _<_}
 use lib.Dec.{T}

@@ -9,7 +9,8 @@ taken low high s = lt low s && lt s high
 abbrev pub allTaken : Float → Float → Float → Float → Float → Float → Float → Bool
 allTaken low high sum a b c d =
     (taken low high (add binary64 a sum) && taken low high (add binary64 b (add binary64 a sum)))
-    && (taken low high (add binary64 c (add binary64 b (add binary64 a sum))) && taken low high (add binary64 d (add binary64 c (add binary64 b (add binary64 a sum)))))
+    && (taken low high (add binary64 c (add binary64 b (add binary64 a sum)))
+    && taken low high (add binary64 d (add binary64 c (add binary64 b (add binary64 a sum)))))
 
 -- x + sum lies between low and high.
 pub record Between (low high x sum : Float) : Type 0 where

@@ -1,4 +1,5 @@
-// An f32 sum that is kept with a bias, so large that an f64 addition rounds it at an f32's last digit (K4): its definition and laws, how it begins, and four taps of it.
+// An f32 sum kept with a bias so large that an ordinary f64 addition rounds it at an f32's last digit (K4).
+// Here are its definition and laws, how it begins, and four taps of it.
 ghost use mathlib.Core.Path.{_≡_};
 ghost use mathlib.Core.Bool.{true, _&&_};
 ghost use Prim.Native.Nat.{_-_, _%_, _≤_, _<_};
@@ -24,7 +25,8 @@ pub struct Start {
     pub sum: f64,
 }
 
-// From the sign and the exponent's field of 2^e, as an f64's pattern has them: 2^(e + 29) - 2^e, and it with 2^(e - 1) and with 2^(e + 1) added, by the pattern of 2^(e + 29).
+// `h` is the sign and exponent field of 2^e. The bias is 2^(e+29) - 2^e; the ends are bias + 2^(e-1) and bias +
+// 2^(e+1). Each is an offset from the pattern of 2^(e+29).
 fn ends_of(h: u64) -> Ends
     requires { ⌜ (h < 4096) × (899 ≤ h % 2048) × (h % 2048 ≤ 1148) ⌝ }
     ensures { λ r. ⌜ r ≡ endsFor (leb 2048 h) (h % 2048 - 898) ⌝ }
@@ -59,8 +61,8 @@ fn no_bias() -> Start
     }
 }
 
-// The sum, biased for the power of two near it: from about 1.414 times a power on that is the next one.
-// An f32 that is taken stands in it exactly (`begins` in proofs/BiasTests.antt).
+// The sum with the bias for the power of two near it; from about 1.414 times a power on that is the next power. An f32
+// that is accepted is held exactly (`begins` in proofs/BiasTests.antt).
 pub fn with_bias(sum: f64) -> Start
     ensures { λ r. ⌜ r ≡ withBias sum ⌝ }
 {
@@ -92,7 +94,7 @@ pub struct Added {
     pub sum: f64,
 }
 
-// Four products added to a biased sum. They are fine where no sum between leaves the ends.
+// Adds four products to a biased sum; `fine` if no sum on the way leaves the ends.
 pub fn advance(p: f64, q: f64, s: f64, t: f64, low: f64, high: f64, sum: f64) -> Added
     ensures { λ r. ⌜ r .sum ≡ add binary64 t (add binary64 s (add binary64 q (add binary64 p sum))) ⌝ }
     ensures { λ r. ⌜ r .fine ≡ allTaken low high sum p q s t ⌝ }

@@ -1,12 +1,13 @@
--- O3. The one NaN and its pattern, over the format: which pattern is written for it, which patterns are read as it, and that reading and writing undo
--- each other everywhere else. Assumes nothing.
+-- O3. The one NaN and its pattern, over the format: which pattern is written for it, which patterns are read as it,
+-- and that reading and writing undo each other everywhere else. Assumes nothing.
 use mathlib.Core.Path.{_≡_, refl, sym, ap, _∙_}
 use mathlib.Core.Bool.{Bool, true, false, not, cond, true≢false}
 use Prim.Native.Nat.{ℕ, _*_, _%_, _≤_, _<_}
 use borrow.Author.Tests.{lt-ltb, le-ltb}
 use denote.Floats.{passes}
 use lib.Dec.{T}
-use lib.Ieee.{Float, nan, inf, fin, Format, binary32, binary64, div, ne, fits, isNan, hid, ones, top, nanBits, ofBits, toBits}
+use lib.Ieee.{Float, nan, inf, fin, Format, binary32, binary64, div, ne, fits, isNan, hid, ones, top, nanBits, ofBits}
+use lib.Ieee.{toBits}
 use lib.Ieee.Bits.{ofBits-toBits, toBits-ofBits, nanBits-is, nanBits-above}
 use lib.Ieee.Compare.{differs-from-itself}
 
@@ -46,7 +47,9 @@ is-nan (inf s) h = absurd (passes _ h)
 is-nan (fin s m e) h = absurd (passes _ h)
 
 pub reads-nan : (f : Format) (n : ℕ) → ones f * hid f < n % top f → div f (ofBits f 0) (ofBits f 0) ≡ ofBits f n
-reads-nan f n h = zero-by-zero f ∙ is-nan (ofBits f n) (sym (nanBits-is f n) ∙ nanBits-above f n ∙ lt-ltb (ones f * hid f) (n % top f) h)
+reads-nan f n h =
+    zero-by-zero f
+    ∙ is-nan (ofBits f n) (sym (nanBits-is f n) ∙ nanBits-above f n ∙ lt-ltb (ones f * hid f) (n % top f) h)
 
 pub reads-number : (f : Format) (n : ℕ) → n % top f ≤ ones f * hid f → T (not (nanBits f n))
 reads-number f n h = rw (nanBits-above f n, le-ltb (ones f * hid f) (n % top f) h) tt

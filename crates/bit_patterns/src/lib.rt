@@ -1,11 +1,12 @@
-// O3. Bit patterns of floats, in and out, and the NaN that leaves as a float. A compiled NaN may have any NaN's pattern,
-// so a NaN is tested for: the ones that are handed out are 7FF8000000000000 and 7FC00000.
+// Floats as bit patterns and back, and the one NaN that may leave the port at each width (O3).
+// A compiled NaN may have any NaN's pattern, so each float that leaves is tested and a NaN is replaced by
+// 7FF8000000000000 or 7FC00000.
 ghost use mathlib.Core.Path.{_≡_};
 ghost use lib.Ieee as Ieee;
 ghost use lib.Ieee.{binary32, binary64};
 
-// The number itself, and for every NaN the one that is handed out. The logic has one NaN, so this is no change there;
-// compiled, `0.0 / 0.0` is a constant, and its pattern 7FF8000000000000 (`oracle/hostile` looks at it).
+// The number itself, or for every NaN the one that is handed out. In the logic there is one NaN, so nothing changes
+// there; compiled, `0.0 / 0.0` is the constant 7FF8000000000000 (`oracle/hostile` checks it).
 pub fn one_nan(y: f64) -> f64
     ensures { λ r. ⌜ r ≡ y ⌝ }
 {

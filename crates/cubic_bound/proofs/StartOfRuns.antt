@@ -1,5 +1,6 @@
--- Demand 3's runs start where opening and reset leave a reader: where neither is refused, its state has accepted nothing and its ring, of the length that the settings
--- need, is all zeros. Opening is the reset of such a state. Assumes nothing.
+-- Demand 3's runs start where opening and reset leave a reader: where neither is refused, its state has accepted
+-- nothing and its ring, of the length that the settings need, is all zeros. Opening is the reset of such a state.
+-- Assumes nothing.
 use mathlib.Core.Path.{_≡_, ap, _∙_}
 use mathlib.Core.Bool.{true}
 use mathlib.Core.List.{List}
@@ -17,7 +18,8 @@ use Rattle.runs.proofs.Opened.{reset-leaves}
 use Rattle.cubic_bound.specs.Demand.{start}
 
 pub reset-starts : (d : VariableDelay) (zs : List Float) → resetVerdict d (length zs) ≡ 0
-    → (resetOf d (length zs) ≡ Reader (start (d .maximum) (d .margin) .state)) × (ringReset d zs ≡ start (d .maximum) (d .margin) .ring)
+    → (resetOf d (length zs) ≡ Reader (start (d .maximum) (d .margin) .state))
+    × (ringReset d zs ≡ start (d .maximum) (d .margin) .ring)
 reset-starts d zs e =
     let ranges = settingsOk (d .maximum) (d .margin) in
     let fills = eqb (length zs) (lengthFor (d .maximum) (d .margin)) in

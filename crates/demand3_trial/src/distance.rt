@@ -39,7 +39,8 @@ fn taken_apart(d: u64, e: u64) -> Given {
     }
 }
 
-// How far an answer lies from the exact value, in 1 / (6 * 65536^3 * 2^23): at most 6 more where digits were cut off. The largest word stands for farther than all that.
+// How far an answer lies from the exact value, in units of 1 / (6 * 65536^3 * 2^23); up to 6 units more where digits
+// were cut off. The largest word means that it lies farther than any word can say.
 pub fn distance(v: f64, e: Wide) -> u64 {
     let bits = bit_patterns::bits_of(v);
     let exponent = bits / 0x10_0000_0000_0000 % 0x800;

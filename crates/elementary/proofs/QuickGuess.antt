@@ -1,5 +1,6 @@
--- The quick guess: x times a number next to 1 / H, plus 2 ^ 52 + 256, is a whole number 2 ^ 52 + j, whose pattern ends in j, and |x - (j - 256) * H| ≤ 8/10: from 2 ^ 52 on
--- the sum's rounding is to the nearest whole number. The rest is the product's rounding and the multiplier's own error. Assumes nothing.
+-- The quick guess: x times a number next to 1 / H, plus 2 ^ 52 + 256, is a whole number 2 ^ 52 + j,
+-- whose pattern ends in j, and |x - (j - 256) * H| ≤ 8/10: from 2 ^ 52 on the sum's rounding is to the nearest whole
+-- number. The rest is the product's rounding and the multiplier's own error. Assumes nothing.
 use mathlib.Core.Path.{_≡_, refl, sym, _∙_, subst}
 use mathlib.Core.Bool.{true, false, not}
 use Prim.Native.Nat.{ℕ, suc, _+_, _-_, _*_, _^_, _≤_, _<_}
@@ -41,16 +42,22 @@ module _ {i : Float} (I : Inverse i) (x : Float) (h : T (atMost 256 x)) where
   placed =
       let v = is-val x (at-most-finite 256 x h) in
       let m = quotient-mag in
-      let p : Rounds u 1 (mul binary64 x i) (times (val x) (val i)) = mul-approx binary64 1 0 8 tt v (at-most-mag 256 x h) (is-near u (is-val i (I .number))) (same-refl (m .left)) m (lit≤ tt) in
-      add-approx binary64 (2 ^ 29) 0 53 tt p (is-near u (is-val middle tt)) (plus-comm (times (val x) (val i)) (val middle) (m .left) (lit< tt)) (within-plus large m) (lit≤ tt)
+      let p : Rounds u 1 (mul binary64 x i) (times (val x) (val i)) =
+      mul-approx binary64 1 0 8 tt v (at-most-mag 256 x h) (is-near u (is-val i (I .number)))
+      (same-refl (m .left)) m (lit≤ tt) in
+      add-approx binary64 (2 ^ 29) 0 53 tt p (is-near u (is-val middle tt))
+      (plus-comm (times (val x) (val i)) (val middle) (m .left) (lit< tt)) (within-plus large m) (lit≤ tt)
     where
       large : Within u ((2 ^ 52 + 256) * u) (val middle) nil
       large = record { left = lit< tt; right = lit< tt; above = lit≤ tt; below = lit≤ tt }
 
 -- ---- from there to the guess
 -- 2 ^ 52 + j less 2 ^ 52 + 256 is j - 256
-whole-near : (w j : ℕ) {t : Frac} → w ≡ 2 ^ 52 + j → Within u (2 ^ 29 + 1) (frac w 0 1) (plus (val middle) t) → Within u (2 ^ 29 + 1) (frac j 256 1) t
-whole-near w j {t} e h = from (omega (arith, e)) (to (off t (plus-right (h .right))) (within-plus h (same-within u (same-refl {x = frac 0 (2 ^ 52 + 256) 1} (lit< tt)))))
+whole-near : (w j : ℕ) {t : Frac} → w ≡ 2 ^ 52 + j → Within u (2 ^ 29 + 1) (frac w 0 1) (plus (val middle) t)
+    → Within u (2 ^ 29 + 1) (frac j 256 1) t
+whole-near w j {t} e h =
+    from (omega (arith, e)) (to (off t (plus-right (h .right)))
+    (within-plus h (same-within u (same-refl {x = frac 0 (2 ^ 52 + 256) 1} (lit< tt)))))
   where
     plus-right : 0 < 1 * t .d → 0 < t .d
     plus-right h = omega arith
@@ -71,15 +78,19 @@ abbrev reach : ℕ
 reach = 2 ^ 29 + 1 + 164 * u
 
 -- a whole number of 2 ^ 52 + 92 to 2 ^ 52 + 420
-placed-whole : {i : Float} → Inverse i → (x : Float) → T (atMost 256 x) → (y : Float) (w j : ℕ) → w ≡ 2 ^ 52 + j → w ≤ 2 ^ 53 → T (not (isNan y)) → HasValue y false (w * 2 ^ 1074) (2 ^ 1074)
+placed-whole : {i : Float} → Inverse i → (x : Float) → T (atMost 256 x) → (y : Float) (w j : ℕ) → w ≡ 2 ^ 52 + j
+    → w ≤ 2 ^ 53 → T (not (isNan y)) → HasValue y false (w * 2 ^ 1074) (2 ^ 1074)
     → Within u (2 ^ 29 + 1) (frac w 0 1) (plus (val middle) (times (val x) (val i))) → Guessed x y
 placed-whole I x h y w j e top n v r =
-    let bits : toBits binary64 y ≡ 1074 * 2 ^ 52 + w = bits-units binary64 y false w 1074 top (λ k. omega (arith, e)) v ∙ zero-add _ in
+    let bits : toBits binary64 y ≡ 1074 * 2 ^ 52 + w =
+    bits-units binary64 y false w 1074 top (λ k. omega (arith, e)) v ∙ zero-add _ in
     let near = guess-of j x h (near-x I j (val x) (at-most-mag 256 x h) (whole-near w j e r)) in
     let is : toBits binary64 y - zeroth ≡ j = omega (arith, bits, e) in
     record { number = n; enough = omega (arith, bits, e); guess = subst (Guess x) (sym is) near }
 
-cut : {i : Float} → Inverse i → (x : Float) → T (atMost 256 x) → (y : Float) → T (fits binary64 y) → Rounds u (2 ^ 29 + 1) y (plus (val middle) (times (val x) (val i))) → Within u reach (val y) (val middle) → Guessed x y
+cut : {i : Float} → Inverse i → (x : Float) → T (atMost 256 x) → (y : Float) → T (fits binary64 y)
+    → Rounds u (2 ^ 29 + 1) y (plus (val middle) (times (val x) (val i))) → Within u reach (val y) (val middle)
+    → Guessed x y
 unfolding isNan
 cut I x h nan f r w = absurd (r .real)
 cut I x h (inf s) f r w = absurd (r .real)
@@ -87,7 +98,9 @@ cut I x h (fin true n d) f r w = absurd (negative (n * up d) (down d) (down-pos 
   where
     negative : (a c : ℕ) → 0 < c → Within u reach (frac 0 a c) (val middle) → ⊥
     negative a c C w = omega (arith, w .below)
-cut I x h (fin false n (negsuc k)) f r w = absurd (fine n (2 ^ k) (2 ^ suc k) (pow-suc 2 k) (pow-pos k) (fits-parts binary64 false n (negsuc k) f .0) (large (n * 1) (2 ^ suc k) (pow-pos (suc k)) w))
+cut I x h (fin false n (negsuc k)) f r w =
+    absurd (fine n (2 ^ k) (2 ^ suc k) (pow-suc 2 k) (pow-pos k) (fits-parts binary64 false n (negsuc k) f .0)
+    (large (n * 1) (2 ^ suc k) (pow-pos (suc k)) w))
   where
     large : (a c : ℕ) → 0 < c → Within u reach (frac a 0 c) (val middle) → 2 ^ 52 * c ≤ a
     large a c C w = omega (arith, w .below)
@@ -97,7 +110,8 @@ cut I x h (fin false n (negsuc k)) f r w = absurd (fine n (2 ^ k) (2 ^ suc k) (p
 cut I x h (fin false n (pos k)) f r w =
     let v = n * 2 ^ k in
     let b = bounds v w in
-    placed-whole I x h (fin false n (pos k)) v (v - 2 ^ 52) (omega (arith, b .0)) (omega (arith, b .1)) tt (refl, sym (mul-one (v * 2 ^ 1074))) (r .near)
+    placed-whole I x h (fin false n (pos k)) v (v - 2 ^ 52) (omega (arith, b .0)) (omega (arith, b .1)) tt
+    (refl, sym (mul-one (v * 2 ^ 1074))) (r .near)
   where
     bounds : (v : ℕ) → Within u reach (frac v 0 1) (val middle) → (2 ^ 52 ≤ v) × (v ≤ 2 ^ 53)
     bounds v w = (omega (arith, w .below), omega (arith, w .above))
@@ -106,4 +120,5 @@ pub guessed : (i : Float) → T (nearInverse i) → (x : Float) → T (atMost 25
 guessed i t x h =
     let I = inverse-of i t in
     let r = placed I x h in
-    cut I x h (shifted i x) (add-fits binary64 _ _) r (chain (r .near) (beside (val middle) (lit< tt) (quotient-mag I x h)))
+    cut I x h (shifted i x) (add-fits binary64 _ _) r
+    (chain (r .near) (beside (val middle) (lit< tt) (quotient-mag I x h)))

@@ -1,4 +1,5 @@
-// M1, M2, M5. The answers of 001's engine taken apart, for a caller that takes numbers alone: the refusal, 0 for none, what it leaves of the engine, and the offsets.
+// The engine's answers (001) taken apart into plain numbers: the refusal, 0 for none, the state, and the offsets.
+// A caller that takes numbers alone is served by these (M1, M2, M5).
 ghost use mathlib.Core.Path.{_≡_};
 ghost use Rattle.modulation_engine.specs.Engine.{numberOf};
 ghost use Rattle.modulation.specs.Step.{numberOf as refusalOf};

@@ -1,4 +1,5 @@
-// M1, M2, M5. The engine's calls on its 15 words: the answer is the refusal's number, 0 for none, and a refused call leaves the very words (D1c).
+// The engine's calls (001) on a state of 15 words (M1, M2, M5).
+// Each answers with the refusal's number, 0 for none; a refused call leaves the very same words (D1c).
 ghost use mathlib.Core.Path.{_≡_};
 ghost use Rattle.modulation_engine.specs.Engine.{openedOf, setSampleRateOf, setSeedOf, resetOf};
 ghost use Rattle.engine_calls.specs.Left.{renews, renewedBy, steps, steppedBy};

@@ -1,5 +1,5 @@
--- Sums and products of finite samples with zeros: a zero added changes no value, a product by 0 is a zero, and one by 1 is
--- the factor. Every value is counted in units of the smallest. Assumes nothing.
+-- Sums and products of finite samples with zeros: a zero added changes no value, a product by 0 is a zero,
+-- and one by 1 is the factor. Every value is counted in units of the smallest. Assumes nothing.
 use mathlib.Core.Path.{_≡_, refl, sym, ap, _∙_, subst}
 use mathlib.Core.Bool.{Bool, true, false, _&&_, and-true, or-true, cond, Bool·beq}
 use Prim.Native.Nat.{ℕ, zero, suc, _+_, _-_, _*_, _^_, _<_}

@@ -1,4 +1,5 @@
--- The length of a number in binary digits: the zeros above it fill the word, and moved up to a length it fills that. Assumes nothing.
+-- The length of a number in binary digits: the zeros above it fill the word, and moved up to a length it fills that.
+-- Assumes nothing.
 use mathlib.Core.Path.{_≡_, refl, sym, ap, _∙_, subst}
 use Prim.Native.Nat.{ℕ, zero, suc, _+_, _-_, _*_, _^_, _≤_, _<_}
 use native.Mathlib.Nat.{le-trans, le-of-eq, le-add-right, lt-of-lt-of-le, lt-of-le-of-lt, mul-le-mul-right, pow-suc}
@@ -20,7 +21,8 @@ size-reach a (suc j) e =
 pub zeros-and-size : (k a : ℕ) → a < 2 ^ k → leadingZeros k a + size a ≡ k
 zeros-and-size k a h =
     let l : size a ≤ k = size-le a k h in
-    let z : k - size a ≡ leadingZeros k a = leading-unique k a (k - size a) (size a) (back k (size a) l) (size-lt a) (size-reach a (size a) refl) in
+    let z : k - size a ≡ leadingZeros k a =
+    leading-unique k a (k - size a) (size a) (back k (size a) l) (size-lt a) (size-reach a (size a) refl) in
     omega arith
 
 pub size-some : (d : ℕ) → 0 < d → 1 ≤ size d
@@ -35,8 +37,13 @@ pub size-over : (k hi lo : ℕ) → 0 < hi → lo < 2 ^ k → size (hi * 2 ^ k +
 size-over k hi lo H L =
     let s = size-some hi H in
     let n = hi * 2 ^ k + lo in
-    let e : size hi - 1 + k < size n = pow-lt-back (size hi - 1 + k) (size n) (lt-of-le-of-lt (le-trans (le-of-eq (pow-add 2 (size hi - 1) k)) (le-trans (mul-le-mul-right (2 ^ k) (size-reaches hi (size hi - 1) (omega arith))) (le-add-right (hi * 2 ^ k) lo))) (size-lt n)) in
-    let u : size n ≤ size hi + k = size-le n (size hi + k) (lt-of-lt-of-le (digits-lt (size-lt hi) L) (le-of-eq (sym (pow-add 2 (size hi) k)))) in
+    let e : size hi - 1 + k < size n =
+    pow-lt-back (size hi - 1 + k) (size n) (lt-of-le-of-lt
+    (le-trans (le-of-eq (pow-add 2 (size hi - 1) k))
+    (le-trans (mul-le-mul-right (2 ^ k) (size-reaches hi (size hi - 1) (omega arith)))
+    (le-add-right (hi * 2 ^ k) lo))) (size-lt n)) in
+    let u : size n ≤ size hi + k =
+    size-le n (size hi + k) (lt-of-lt-of-le (digits-lt (size-lt hi) L) (le-of-eq (sym (pow-add 2 (size hi) k)))) in
     omega arith
 
 -- d, moved up until it has k digits
@@ -45,7 +52,8 @@ module _ (d k : ℕ) (D : 0 < d) (K : size d ≤ k) where
   filled-least =
       let s = size-some d D in
       let e : k - 1 ≡ size d - 1 + (k - size d) = omega arith in
-      le-trans (le-of-eq (ap (λ (x : ℕ). 2 ^ x) e ∙ pow-add 2 (size d - 1) (k - size d))) (mul-le-mul-right (2 ^ (k - size d)) (size-reaches d (size d - 1) (omega arith)))
+      le-trans (le-of-eq (ap (λ (x : ℕ). 2 ^ x) e ∙ pow-add 2 (size d - 1) (k - size d)))
+      (mul-le-mul-right (2 ^ (k - size d)) (size-reaches d (size d - 1) (omega arith)))
 
   pub filled-below : d * 2 ^ (k - size d) < 2 ^ k
   filled-below =

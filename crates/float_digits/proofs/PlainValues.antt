@@ -23,7 +23,10 @@ eq-zero nan h = absurd (true≢false (sym h))
 eq-zero (inf s) h = absurd (true≢false (sym h))
 eq-zero (fin true zero e) h = rw (zero-mul (up e), zero-mul (down e))
 eq-zero (fin false zero e) h = rw (zero-mul (up e), zero-mul (down e))
-eq-zero (fin s (suc m) e) h = rw (ne-eqb (suc m * up e * 1) (0 * down e) (λ q. lt-irrefl 0 (lt-of-lt-of-le (mul-pos (mul-pos (zero-lt-suc m) (up-pos e)) (zero-lt-suc 0)) (le-of-eq (q ∙ zero-mul (down e))))))
+eq-zero (fin s (suc m) e) h =
+    rw (ne-eqb (suc m * up e * 1) (0 * down e)
+    (λ q. lt-irrefl 0 (lt-of-lt-of-le (mul-pos (mul-pos (zero-lt-suc m) (up-pos e)) (zero-lt-suc 0))
+    (le-of-eq (q ∙ zero-mul (down e))))))
 
 not-finite : (x : Float) → finite x ≡ false → false ≡ plain x
 not-finite nan h = h
@@ -66,7 +69,8 @@ pub plain-some : (x : Float) (s : Bool) (a c : ℕ) → T (plain x) → 0 < c �
 plain-some nan s a c p C v = absurd p
 plain-some (inf t) s a c p C v = absurd p
 plain-some (fin t zero e) s a c p C v = absurd p
-plain-some (fin t (suc m) e) s a c p C v = first-pos a (down e) (lt-of-lt-of-le (mul-pos (mul-pos (zero-lt-suc m) (up-pos e)) C) (le-of-eq (v .1)))
+plain-some (fin t (suc m) e) s a c p C v =
+    first-pos a (down e) (lt-of-lt-of-le (mul-pos (mul-pos (zero-lt-suc m) (up-pos e)) C) (le-of-eq (v .1)))
 
 pub positive-plain : (x : Float) → T (positive x) → T (plain x)
 positive-plain nan h = h

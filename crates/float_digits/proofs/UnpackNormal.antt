@@ -1,4 +1,5 @@
--- What `unpack` takes out of a normal value's pattern: the 52 digits under the field and a 1 before them, ten places up. Assumes nothing.
+-- What `unpack` takes out of a normal value's pattern: the 52 digits under the field and a 1 before them,
+-- ten places up. Assumes nothing.
 use mathlib.Core.Path.{_≡_, ap, _∙_}
 use Prim.Native.Nat.{ℕ, _+_, _-_, _*_, _/_, _%_, _^_, _≤_, _<_}
 use native.Mathlib.Nat.{lt-of-le-of-lt}
@@ -15,7 +16,8 @@ module _ (n : ℕ) (N : 2 ^ 52 ≤ n % 2 ^ 63) where
   sized : size (digitsOf n) ≡ 53
   sized =
       let a : size (digitsOf n) ≤ 53 = size-le (digitsOf n) 53 (omega arith) in
-      let b : 52 < size (digitsOf n) = pow-lt-back 52 (size (digitsOf n)) (lt-of-le-of-lt (omega arith) (size-lt (digitsOf n))) in
+      let b : 52 < size (digitsOf n) =
+      pow-lt-back 52 (size (digitsOf n)) (lt-of-le-of-lt (omega arith) (size-lt (digitsOf n))) in
       omega arith
 
   pub normal-place : unpacked n .e ≡ n % 2 ^ 63 / 2 ^ 52 + 52

@@ -1,4 +1,5 @@
--- K4, K5. What `is_plain`, `unpack`, `sticky` and `pack` compute, for every input. Definitions only; the laws `scaling` and `packed-rounds` say what they mean.
+-- K4, K5. What `is_plain`, `unpack`, `sticky` and `pack` compute, for every input. The laws `scaling` and
+-- `packed-rounds` say what it means. Definitions only.
 use mathlib.Core.Bool.{Bool, true, false, cond}
 use Prim.Native.Nat.{ℕ, zero, suc, _+_, _-_, _*_, _/_, _%_, _^_}
 use lib.Dec.{ltb, eqb}
@@ -13,7 +14,8 @@ plain (inf s) = false
 plain (fin s zero e) = false
 plain (fin s (suc m) e) = true
 
--- How many places above the smallest value a pattern's digits stand: the exponent's field less 1, a field of 0 counting as 1.
+-- How many places above the smallest value a pattern's digits stand: the exponent field less 1, where a field of 0
+-- counts as 1.
 abbrev pub placeOf : ℕ → ℕ
 placeOf n = n % 2 ^ 63 / 2 ^ 52 - 1
 
@@ -30,7 +32,8 @@ unpacked n = record { s = n / 2 ^ 63; m = digitsOf n * 2 ^ (63 - size (digitsOf 
 abbrev pub withSticky : ℕ → ℕ → ℕ
 withSticky w rest = cond (eqb rest 0) w (w + (1 - w % 2))
 
--- A quarter of w's last 55 digits, to the nearest whole number, a tie to the even one, with k in the exponent's field; infinity from k = 2046 on.
+-- A quarter of w's last 55 digits, rounded to the nearest whole number, a tie to even, with k in the exponent field;
+-- infinity from k = 2046 on.
 abbrev pub magnitudeOf : ℕ → ℕ → ℕ
 magnitudeOf w k = cond (ltb k 2046) (k * 2 ^ 52 + closest (w % 2 ^ 55) 4) 0x7ff0_0000_0000_0000
 

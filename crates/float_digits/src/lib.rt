@@ -1,4 +1,4 @@
-// An f64's digits taken out of its bit pattern, a number cut short, and digits put into a pattern, rounded once.
+// The digits of an f64 taken out of its bit pattern, and digits put back into a pattern with one rounding.
 ghost use mathlib.Core.Path.{_≡_};
 ghost use Prim.Native.Nat.{_-_};
 ghost use Rattle.float_digits.specs.Pattern.{plain, unpacked, withSticky, magnitudeOf, packed};
@@ -29,7 +29,7 @@ pub fn is_plain(x: f64) -> bool
     false
 }
 
-// What it means for a plain value: the law `scaling`.
+// For a plain value the law `scaling` says what the result means.
 pub fn unpack(bits: u64) -> Scaled
     ensures { λ r. ⌜ r ≡ unpacked bits ⌝ }
 {
@@ -44,15 +44,15 @@ pub fn unpack(bits: u64) -> Scaled
     }
 }
 
-// The last digit says whether anything was cut off: rounding sees no more of it (`rounding`'s law `jammed`).
+// Makes the last digit odd if anything was cut off: rounding needs to know no more (law `jammed` of `rounding`).
 pub fn sticky(w: u64, rest: u64) -> u64
     ensures { λ r. ⌜ r ≡ withSticky w rest ⌝ }
 {
     if rest == 0 { w } else { w | 1 }
 }
 
-// Half of 4 less one, and one more where the quotient is odd, rounds a quotient by 4 to the nearest, a tie to the even one.
-// A carry out of the digits adds one to the field, as it should.
+// Rounds a quotient by 4 to the nearest, a tie to even, by adding 1, and one more if the quotient is odd. A carry out
+// of the digits adds one to the exponent field, as it should.
 fn magnitude(w: u64, k: u64) -> u64
     ensures { λ r. ⌜ r ≡ magnitudeOf w k ⌝ }
 {
@@ -64,7 +64,7 @@ fn magnitude(w: u64, k: u64) -> u64
     (k << 52) + q
 }
 
-// What it means for a number of 55 digits: the law `packed-rounds`.
+// For a number of 55 digits the law `packed-rounds` says what the result means.
 pub fn pack(s: u64, w: u64, k: u64) -> f64
     ensures { λ r. ⌜ r ≡ packed s w k ⌝ }
 {

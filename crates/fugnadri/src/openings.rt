@@ -1,4 +1,5 @@
-// K1. A reader's ring and count, opened and reset: the refusal's number, 0 for none. The kernel is not named: every reader is opened alike.
+// Opening and reset of a delay reader's ring and count for C (K1): each returns the refusal number, 0 for none. Readers
+// of all kernels are opened alike, so the kernel is not named.
 ghost use mathlib.Core.Path.{_≡_};
 ghost use Rattle.answer_parts.specs.States.{stateOf};
 ghost use Rattle.answer_parts.specs.Left.{renews, openedLeft, resetLeft};

@@ -1,4 +1,5 @@
-// O3. The calls of `readers`, with the sample handed out as a pattern. They go through `readers`, so that each reader is called at one place and is compiled into it.
+// The calls of `readers` with the sample handed out as a bit pattern (O3). They go through `readers`, so that each
+// reader is called at one place only and is compiled into it.
 ghost use mathlib.Core.Path.{_≡_};
 ghost use lib.Ieee.{binary64};
 ghost use Rattle.cubic_farrow.specs.Cubic.{cubicAt};
@@ -6,7 +7,7 @@ ghost use Rattle.lagrange.specs.Kernel.{tapsOk, lagrangeAt};
 ghost use Rattle.farrow8.specs.Kernel.{farrowAt};
 ghost use Rattle.answer_parts.specs.States.{stateOf};
 ghost use Rattle.answer_parts.specs.Left.{leaves, inBits};
-ghost use Rattle.fugnadri.specs.Doors.{leftWith, leftOf};
+ghost use Rattle.fugnadri.specs.Exports.{leftWith, leftOf};
 use crate::readers::fugnadri_cubic_process;
 use crate::readers::fugnadri_farrow8_process;
 use crate::readers::fugnadri_lagrange_process;

@@ -1,4 +1,5 @@
-// O3. Floats as patterns, in and out: every NaN is read, and 7FF8000000000000 or 7FC00000 is the NaN that is handed out.
+// The number functions for C on bit patterns (O3): every NaN is read; the only NaNs handed out are 7FF8000000000000 and
+// 7FC00000.
 ghost use mathlib.Core.Path.{_≡_};
 ghost use lib.Ieee.{binary32, binary64, ofBits, toBits};
 ghost use Rattle.rounding.specs.Operations.{narrowed, fused, root};
@@ -41,7 +42,8 @@ pub extern "C" fn fugnadri_narrow_bits(x: u64) -> u32
 
 #[no_mangle]
 pub extern "C" fn fugnadri_fused32_bits(a: u32, b: u32, c: u32) -> u32
-    ensures { λ r. ⌜ r ≡ toBits binary32 (fused binary32 (ofBits binary32 a) (ofBits binary32 b) (ofBits binary32 c)) ⌝ }
+    ensures { λ r. ⌜ r ≡
+        toBits binary32 (fused binary32 (ofBits binary32 a) (ofBits binary32 b) (ofBits binary32 c)) ⌝ }
 {
     let x = bit_patterns::float_of_f32(a);
     let y = bit_patterns::float_of_f32(b);
@@ -51,7 +53,8 @@ pub extern "C" fn fugnadri_fused32_bits(a: u32, b: u32, c: u32) -> u32
 
 #[no_mangle]
 pub extern "C" fn fugnadri_fused64_bits(a: u64, b: u64, c: u64) -> u64
-    ensures { λ r. ⌜ r ≡ toBits binary64 (fused binary64 (ofBits binary64 a) (ofBits binary64 b) (ofBits binary64 c)) ⌝ }
+    ensures { λ r. ⌜ r ≡
+        toBits binary64 (fused binary64 (ofBits binary64 a) (ofBits binary64 b) (ofBits binary64 c)) ⌝ }
 {
     let x = bit_patterns::float_of(a);
     let y = bit_patterns::float_of(b);

@@ -1,5 +1,5 @@
-// Floor 1 for a caller in another language. O3: where an argument's NaN could go through as it is, `bit_patterns::one_nan` stands
-// before it; narrowing, the fused steps and the root hand out the constant by themselves.
+// The number functions for C on floats. Where an argument's NaN could come out unchanged, `bit_patterns::one_nan`
+// replaces it (O3); narrowing, the fused steps and the root already give the one NaN.
 ghost use mathlib.Core.Path.{_≡_};
 ghost use Prim.Native.Nat.{_*_, _%_, _^_};
 ghost use lib.Ieee.{binary32, binary64};

@@ -1,4 +1,4 @@
--- T1. What a builder leaves: the refusal's number, which it returns, 0 for none, and the table, in f64 and in f32 alike.
+-- T1. What a builder leaves, in f64 and f32 alike: the refusal number that it returns, 0 for none, and the table.
 -- Definitions only.
 use Prim.Native.Nat.{ℕ}
 use mathlib.Core.List.{List}
@@ -16,14 +16,14 @@ pub record Made : Type 0 where
 abbrev pub makes : ℕ → List Float → Made
 makes number table = record { number = number; table = table }
 
--- by the refusal that is due, and from the settings
+-- By the refusal that is due, and from the settings.
 abbrev pub madeBy : ℕ → Settings → List Float → Made
 madeBy v s table = makes (numberOf (builtBy v s)) (tableAfter v (tableOf s) table)
 
 abbrev pub madeF32By : ℕ → Settings → List Float → Made
 madeF32By v s table = makes (single.numberOf (single.builtBy v s)) (tableAfter v (single.tableF32Of s) table)
 
--- new and for_max_rate, of either width
+-- `new` and `for_max_rate`, of either width.
 abbrev pub newOf : (ℕ → Settings → List Float → Made) → Settings → List Float → Made
 newOf made s table = made (verdict s (length table)) s table
 

@@ -1,8 +1,9 @@
-// K1. One call of a delay reader over a lent table: the state's numbers, the ring and the table go in, the refusal's number comes back, 0 for none; the sample, 0.0 where
-// there is none, and the count through pointers. `_bits` hands the sample out as a pattern (O3).
+// One call of a delay reader over a lent table for C (K1): takes the state's numbers, the ring and the table, writes
+// the sample (0.0 if refused) and the count through pointers, and returns the refusal number, 0 for none. A name that
+// ends in `_bits` hands the sample out as a bit pattern (O3).
 ghost use mathlib.Core.Path.{_≡_};
 ghost use lib.Ieee.{binary64};
-ghost use Rattle.fugnadri_tables.specs.Doors.{leftOf};
+ghost use Rattle.fugnadri_tables.specs.Exports.{leftOf};
 ghost use Rattle.answer_parts.specs.States.{stateOf};
 ghost use Rattle.answer_parts.specs.Left.{leaves, inBits};
 use answer_parts::handing::handed;

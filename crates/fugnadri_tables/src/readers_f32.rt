@@ -1,7 +1,7 @@
 // K1. The calls of `readers` for samples and tables of single precision.
 ghost use mathlib.Core.Path.{_≡_};
 ghost use lib.Ieee.{binary32};
-ghost use Rattle.fugnadri_tables.specs.Doors.{leftF32Of};
+ghost use Rattle.fugnadri_tables.specs.Exports.{leftF32Of};
 ghost use Rattle.answer_parts.specs.States.{stateOf};
 ghost use Rattle.answer_parts.specs.Left.{leaves, inBits};
 use answer_parts::handing::handed_f32;

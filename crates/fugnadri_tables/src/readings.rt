@@ -1,5 +1,5 @@
-// K3. A table's reading of a lent slice at a position: the refusal's number, 0 for none; the sample, 0.0 where there is none, through a pointer. `_bits` hands it out as
-// a pattern (O3).
+// A table's reading of a lent slice at a position for C (K3): returns the refusal number, 0 for none, and writes the
+// sample (0.0 if refused) through a pointer. A name that ends in `_bits` hands it out as a bit pattern (O3).
 ghost use mathlib.Core.Path.{_≡_};
 ghost use lib.ListN.{length};
 ghost use lib.Ieee.{binary32, binary64};

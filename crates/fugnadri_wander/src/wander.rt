@@ -1,5 +1,6 @@
-// M1, M2, M5. 001's engine: its state goes in and out as 15 words (crates/packed_engine, crates/engine_calls), the settings as eight floats. The answer is the refusal's number, 0 for
-// none; a refused call leaves the very words (D1c).
+// The engine for C (M1, M2, M5): its state goes in and out as 15 words (crates/packed_engine, crates/engine_calls), the
+// settings as eight floats. Each call returns the refusal number, 0 for none; a refused call leaves the words unchanged
+// (D1c).
 ghost use mathlib.Core.Path.{_≡_};
 ghost use Rattle.modulation_engine.specs.Engine.{openedOf, setSampleRateOf, setSeedOf, resetOf};
 ghost use Rattle.packed_engine.specs.Words.{paramsOf};

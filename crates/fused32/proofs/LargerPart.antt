@@ -1,4 +1,5 @@
--- A sum that is not zero. Where it is above zero, its larger part has no sign; where it is below, the negatives have such a sum. Assumes nothing.
+-- A sum that is not zero. Where it is above zero, its larger part has no sign; where it is below,
+-- the negatives have such a sum. Assumes nothing.
 use mathlib.Core.Path.{_≡_, refl, sym, ap, _∙_}
 use mathlib.Core.Logic.{inl, inr}
 use mathlib.Core.Bool.{Bool, true, false, not, cond, true≢false, false≢true}
@@ -23,7 +24,8 @@ use Rattle.rounding.proofs.Values.{neg-value, value-finite}
 use Rattle.rounding.proofs.WholeUnits.{exact-multiple, places}
 
 -- the larger of two parts whose sum is above zero has no sign; a comparison tells which it is
-larger : (s t : Bool) (X Y : ℕ) → sum-sign s X t Y ≡ false → 0 < sum-size s X t Y → (below s X t Y ≡ true → (t ≡ false) × (X ≤ Y)) × (below s X t Y ≡ false → (s ≡ false) × (Y ≤ X))
+larger : (s t : Bool) (X Y : ℕ) → sum-sign s X t Y ≡ false → 0 < sum-size s X t Y
+    → (below s X t Y ≡ true → (t ≡ false) × (X ≤ Y)) × (below s X t Y ≡ false → (s ≡ false) × (Y ≤ X))
 larger true true X Y e h = absurd (true≢false e)
 larger false false X Y e h = (λ l. (refl, le-of-lt (ltb-true X Y l)), λ l. (refl, ltb-false X Y l))
 larger false true X Y e h = (λ l. absurd (false≢true l), λ l. (refl, go (ltb X Y) (ltb-false X Y) e))
@@ -31,7 +33,8 @@ larger false true X Y e h = (λ l. absurd (false≢true l), λ l. (refl, go (ltb
     go : (b : Bool) → (b ≡ false → Y ≤ X) → cond b true false ≡ false → Y ≤ X
     go true f e = absurd (true≢false e)
     go false f e = f refl
-larger true false X Y e h = (λ l. (refl, go (ltb X Y) (ltb-true X Y) e), λ l. absurd (none (ltb X Y) (ltb-false 0 (X + Y) l) h))
+larger true false X Y e h =
+    (λ l. (refl, go (ltb X Y) (ltb-true X Y) e), λ l. absurd (none (ltb X Y) (ltb-false 0 (X + Y) l) h))
   where
     go : (b : Bool) → (b ≡ true → X < Y) → cond b false (ltb Y X) ≡ false → X ≤ Y
     go true f e = le-of-lt (f refl)
@@ -42,10 +45,19 @@ larger true false X Y e h = (λ l. (refl, go (ltb X Y) (ltb-true X Y) e), λ l. 
     none false l h = omega arith
 
 abbrev pub short-neg : {x : Float} → Short x → Short (neg x)
-short-neg {x} p = record { sign = not (p .sign); digits = p .digits; places = p .places; few = p .few; bounded = p .bounded; value = neg-value x (p .sign) (amount p) (2 ^ 1074) (p .value) }
+short-neg {x} p =
+    record {
+      sign = not (p .sign);
+      digits = p .digits;
+      places = p .places;
+      few = p .few;
+      bounded = p .bounded;
+      value = neg-value x (p .sign) (amount p) (2 ^ 1074) (p .value);
+    }
 
 pub swapped : (p c : Float) (P : Short p) (C : Short c) (f : Format) → add f p c ≡ add f c p
-swapped p c P C f = add-swap f p c (P .sign) (C .sign) (amount P) (amount C) (2 ^ 1074) (pow-pos 1074) (P .value) (C .value)
+swapped p c P C f =
+    add-swap f p c (P .sign) (C .sign) (amount P) (amount C) (2 ^ 1074) (pow-pos 1074) (P .value) (C .value)
 
 module _ (p c : Float) (P : Short p) (C : Short c) (bounded : T (finite (add binary64 p c))) where
   abbrev s : Float
@@ -58,7 +70,8 @@ module _ (p c : Float) (P : Short p) (C : Short c) (bounded : T (finite (add bin
   some h =
       let w = v p c P C in
       elim (eq-zero-or-pos w) [
-        | inl e ↦ absurd (clash 0 (G p c P C) h (le-of-eq (exact-multiple binary64 w 0 (e ∙ sym (zero-mul (2 ^ places binary64 w))) ∙ e)))
+        | inl e ↦ absurd (clash 0 (G p c P C) h
+            (le-of-eq (exact-multiple binary64 w 0 (e ∙ sym (zero-mul (2 ^ places binary64 w))) ∙ e)))
         | inr g ↦ g
       ]
 
@@ -76,7 +89,9 @@ module _ (p c : Float) (P : Short p) (C : Short c) (bounded : T (finite (add bin
   test-is : lt p c ≡ test
   test-is = lt-units p c (P .sign) (C .sign) (amount P) (amount C) (2 ^ 1074) (pow-pos 1074) (P .value) (C .value)
 
-  pick : lt (ofBits binary64 0) s ≡ true → (test ≡ true → (C .sign ≡ false) × (amount P ≤ amount C)) × (test ≡ false → (P .sign ≡ false) × (amount C ≤ amount P))
+  pick : lt (ofBits binary64 0) s ≡ true
+      → (test ≡ true → (C .sign ≡ false) × (amount P ≤ amount C))
+      × (test ≡ false → (P .sign ≡ false) × (amount C ≤ amount P))
   pick a = larger (P .sign) (C .sign) (amount P) (amount C) (above a .0) (above a .1)
 
   pub second-larger : lt (ofBits binary64 0) s ≡ true → lt p c ≡ true → Ordered c p
@@ -99,9 +114,11 @@ module _ (p c : Float) (P : Short p) (C : Short c) (bounded : T (finite (add bin
 
   pub negatives : lt s (ofBits binary64 0) ≡ true → (f : Format) → add f (neg p) (neg c) ≡ neg (add f p c)
   negatives h f =
-      add-units f (neg p) (neg c) (not (P .sign)) (not (C .sign)) (amount P) (amount C) (2 ^ 1074) (pow-pos 1074) (short-neg P .value) (short-neg C .value)
+      add-units f (neg p) (neg c) (not (P .sign)) (not (C .sign)) (amount P) (amount C) (2 ^ 1074) (pow-pos 1074)
+      (short-neg P .value) (short-neg C .value)
       ∙ sum-neg f (P .sign) (amount P) (C .sign) (amount C) (2 ^ 1074) (some (under h .1))
-      ∙ ap neg (sym (add-units f p c (P .sign) (C .sign) (amount P) (amount C) (2 ^ 1074) (pow-pos 1074) (P .value) (C .value)))
+      ∙ ap neg (sym (add-units f p c (P .sign) (C .sign) (amount P) (amount C) (2 ^ 1074) (pow-pos 1074) (P .value)
+      (C .value)))
 
   negative-value : HasValue (neg s) (not (S p c P C)) (G p c P C) (2 ^ 1074)
   negative-value = neg-value s (S p c P C) (G p c P C) (2 ^ 1074) (s-value p c P C fine)
@@ -111,6 +128,7 @@ module _ (p c : Float) (P : Short p) (C : Short c) (bounded : T (finite (add bin
 
   pub negative-above : lt s (ofBits binary64 0) ≡ true → lt (ofBits binary64 0) (neg s) ≡ true
   negative-above h =
-      lt-units (ofBits binary64 0) (neg s) false (not (S p c P C)) 0 (G p c P C) (2 ^ 1074) (pow-pos 1074) zero-value negative-value
+      lt-units (ofBits binary64 0) (neg s) false (not (S p c P C)) 0 (G p c P C) (2 ^ 1074)
+      (pow-pos 1074) zero-value negative-value
       ∙ ap (λ (b : Bool). below false 0 (not b) (G p c P C)) (under h .0)
       ∙ lt-ltb 0 (G p c P C) (under h .1)

@@ -42,7 +42,8 @@ both (fin s m e) nan h = absurd h
 both (fin s m e) (inf t) h = absurd h
 both (fin s m e) (fin t k d) h = (tt, tt)
 
-pub clear-code : (p c : Float) → T (fits binary64 p) → T (fits binary64 c) → Clear (add binary64 p c) → narrowed (add binary64 p c) ≡ add binary32 p c
+pub clear-code : (p c : Float) → T (fits binary64 p) → T (fits binary64 c) → Clear (add binary64 p c)
+    → narrowed (add binary64 p c) ≡ add binary32 p c
 clear-code p c P C h = go (finite p) refl (finite c) refl
   where
     go : (x : Bool) → finite p ≡ x → (y : Bool) → finite c ≡ y → narrowed (add binary64 p c) ≡ add binary32 p c
@@ -62,12 +63,25 @@ module _ (s : Float) (held : T (fits binary64 s)) (d : ne s s ≡ false) where
   n = toBits binary64 s
 
   pub small-tested : bitAnd n (2 ^ 63 - 1) < 0x3810_0000_0000_0000 → Tested s false
-  small-tested h = record { clear = λ e. absurd (false≢true e); plain = λ _. bits-finite binary64 s (differs-no-nan s d) (omega (arith, and-mask n 63)) }
+  small-tested h =
+      record {
+        clear = λ e. absurd (false≢true e);
+        plain = λ _. bits-finite binary64 s (differs-no-nan s d) (omega (arith, and-mask n 63));
+      }
 
-  pub other-tested : 0x3810_0000_0000_0000 ≤ bitAnd n (2 ^ 63 - 1) → Tested s (not (eqb (bitAnd (bitAnd n (2 ^ 63 - 1)) (2 ^ 29 - 1)) 0x1000_0000))
+  pub other-tested : 0x3810_0000_0000_0000 ≤ bitAnd n (2 ^ 63 - 1)
+      → Tested s (not (eqb (bitAnd (bitAnd n (2 ^ 63 - 1)) (2 ^ 29 - 1)) 0x1000_0000))
   other-tested h = record {
-    clear = λ e _. (omega (arith, and-mask n 63), λ m. eqb-false (bitAnd (bitAnd n (2 ^ 63 - 1)) (2 ^ 29 - 1)) 0x1000_0000 (not-true (eqb (bitAnd (bitAnd n (2 ^ 63 - 1)) (2 ^ 29 - 1)) 0x1000_0000) e) (lower ∙ m));
-    plain = λ e. bits-finite binary64 s (differs-no-nan s d) (small (eqb-true (bitAnd (bitAnd n (2 ^ 63 - 1)) (2 ^ 29 - 1)) 0x1000_0000 (not-false (eqb (bitAnd (bitAnd n (2 ^ 63 - 1)) (2 ^ 29 - 1)) 0x1000_0000) e)));
+    clear =
+        λ e _. (
+          omega (arith, and-mask n 63),
+          λ m. eqb-false (bitAnd (bitAnd n (2 ^ 63 - 1)) (2 ^ 29 - 1)) 0x1000_0000
+              (not-true (eqb (bitAnd (bitAnd n (2 ^ 63 - 1)) (2 ^ 29 - 1)) 0x1000_0000) e) (lower ∙ m),
+        );
+    plain =
+        λ e. bits-finite binary64 s (differs-no-nan s d)
+        (small (eqb-true (bitAnd (bitAnd n (2 ^ 63 - 1)) (2 ^ 29 - 1)) 0x1000_0000
+        (not-false (eqb (bitAnd (bitAnd n (2 ^ 63 - 1)) (2 ^ 29 - 1)) 0x1000_0000) e)));
   }
     where
       lower : bitAnd (bitAnd n (2 ^ 63 - 1)) (2 ^ 29 - 1) ≡ n % 2 ^ 29

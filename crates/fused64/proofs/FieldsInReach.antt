@@ -1,8 +1,10 @@
--- One word of the quick way: fields in reach, told by one test of all three; and a product cut to a word. Assumes nothing.
+-- One word of the quick way: fields in reach, told by one test of all three; and a product cut to a word.
+-- Assumes nothing.
 use mathlib.Core.Path.{_≡_, sym, ap, _∙_}
 use mathlib.Core.Logic.{inl, inr}
 use Prim.Native.Nat.{ℕ, _+_, _-_, _*_, _/_, _%_, _^_, _≤_, _<_}
-use native.Mathlib.Nat.{le-of-eq, lt-of-lt-of-le, lt-of-le-of-lt, eq-zero-or-pos, mul-assoc, mul-comm, add-mul, mod-lt, div-add-mod'}
+use native.Mathlib.Nat.{le-of-eq, lt-of-lt-of-le, lt-of-le-of-lt, eq-zero-or-pos, mul-assoc, mul-comm, add-mul, mod-lt}
+use native.Mathlib.Nat.{div-add-mod'}
 use native.Mathlib.Omega.{arith}
 use borrow.Author.Tests.{eq-eqb, ne-eqb}
 use lib.Arith.{digits-lt}
@@ -24,10 +26,16 @@ or-ge-r x y = omega (arith, or-add-and x y, and-le-l x y)
 pub heads : (f g h : ℕ) → bitAnd (bitOr (bitOr f g) h) 0x7ff < 512 → Heads f g h
 heads f g h l =
     let e : bitAnd (bitOr (bitOr f g) h) 0x7ff ≡ bitOr (bitOr (f % 2 ^ 11) (g % 2 ^ 11)) (h % 2 ^ 11) =
-    and-mask (bitOr (bitOr f g) h) 11 ∙ or-mod (bitOr f g) h 11 ∙ ap (λ (x : ℕ). bitOr x (h % 2 ^ 11)) (or-mod f g 11) in
+    and-mask (bitOr (bitOr f g) h) 11
+    ∙ or-mod (bitOr f g) h 11
+    ∙ ap (λ (x : ℕ). bitOr x (h % 2 ^ 11)) (or-mod f g 11) in
     let a = or-ge-l (bitOr (f % 2 ^ 11) (g % 2 ^ 11)) (h % 2 ^ 11) in
     let b = or-ge-r (bitOr (f % 2 ^ 11) (g % 2 ^ 11)) (h % 2 ^ 11) in
-    record { first = omega (arith, or-ge-l (f % 2 ^ 11) (g % 2 ^ 11)); second = omega (arith, or-ge-r (f % 2 ^ 11) (g % 2 ^ 11)); third = omega arith }
+    record {
+      first = omega (arith, or-ge-l (f % 2 ^ 11) (g % 2 ^ 11));
+      second = omega (arith, or-ge-r (f % 2 ^ 11) (g % 2 ^ 11));
+      third = omega arith;
+    }
 
 -- ---- cut to a word
 sticky-same : (q r r' : ℕ) → (r ≡ 0 → r' ≡ 0) → (r' ≡ 0 → r ≡ 0) → withSticky q r ≡ withSticky q r'
@@ -52,11 +60,16 @@ nothing x y lo t z =
 -- the columns of a word tell it
 pub columns-tell : (middle low : ℕ) → Tells (bitAnd (bitOr middle low) 0xffff_ffff) (lower middle low)
 columns-tell middle low =
-    let e : bitAnd (bitOr middle low) 0xffff_ffff ≡ bitOr (middle % 2 ^ 32) (low % 2 ^ 32) = and-mask (bitOr middle low) 32 ∙ or-mod middle low 32 in
+    let e : bitAnd (bitOr middle low) 0xffff_ffff ≡ bitOr (middle % 2 ^ 32) (low % 2 ^ 32) =
+    and-mask (bitOr middle low) 32 ∙ or-mod middle low 32 in
     let a = or-ge-l (middle % 2 ^ 32) (low % 2 ^ 32) in
     let b = or-ge-r (middle % 2 ^ 32) (low % 2 ^ 32) in
     let up : middle * 2 ^ 32 % 2 ^ 64 ≡ middle % 2 ^ 32 * 2 ^ 32 = moved middle in
-    record { word = omega arith; none = λ z. omega arith; nothing = λ z. omega (arith, or-add-and (middle % 2 ^ 32) (low % 2 ^ 32)) }
+    record {
+      word = omega arith;
+      none = λ z. omega arith;
+      nothing = λ z. omega (arith, or-add-and (middle % 2 ^ 32) (low % 2 ^ 32));
+    }
   where
     moved : (m : ℕ) → m * 2 ^ 32 % 2 ^ 64 ≡ m % 2 ^ 32 * 2 ^ 32
     moved m = omega arith
@@ -88,12 +101,20 @@ module _ (hi rest d : ℕ) (H : hi < 2 ^ 62) where
   cut-off lo t =
       let e : hi - hi / D * D % 2 ^ 64 ≡ hi % D = omega (arith, back-fits, div-add-mod' hi D) in
       let same : withSticky (hi / D) (bitOr (hi % D) rest) ≡ withSticky (hi / D) (val (hi % D) lo) =
-      sticky-same (hi / D) (bitOr (hi % D) rest) (val (hi % D) lo) (none (hi % D) rest lo t) (nothing (hi % D) rest lo t) in
+      sticky-same (hi / D) (bitOr (hi % D) rest) (val (hi % D) lo) (none (hi % D) rest lo t)
+      (nothing (hi % D) rest lo t) in
       let unit : 2 ^ (64 + d) ≡ D * 2 ^ 64 = pow-add 2 64 d ∙ mul-comm (2 ^ 64) D in
-      let parts : hi / D * (D * 2 ^ 64) + val (hi % D) lo ≡ val hi lo = whole (hi / D) D (hi % D) lo hi (div-add-mod' hi D) in
+      let parts : hi / D * (D * 2 ^ 64) + val (hi % D) lo ≡ val hi lo =
+      whole (hi / D) D (hi % D) lo hi (div-add-mod' hi D) in
       record {
         below = sticky-lt (hi / D) (bitOr (hi - hi / D * D % 2 ^ 64) rest) (lt-of-le-of-lt (shr-le hi d) H);
-        jams = rw (e, same, unit) (jam-cut (val hi lo) (D * 2 ^ 64) (hi / D) (val (hi % D) lo) parts (digits-lt (mod-lt hi (pow-pos d)) (t .word)));
+        jams =
+            rw (
+              e,
+              same,
+              unit,
+            ) (jam-cut (val hi lo) (D * 2 ^ 64) (hi / D) (val (hi % D) lo) parts
+            (digits-lt (mod-lt hi (pow-pos d)) (t .word)));
       }
     where
       whole : (q u r lo hi : ℕ) → q * u + r ≡ hi → q * (u * 2 ^ 64) + val r lo ≡ val hi lo

@@ -23,11 +23,14 @@ module _ (xs row0 row1 : List Float) (blend : Float) where
   pub stay : (k : ℕ) (s : Float) → T (fits binary32 s) → Carries xs row0 row1 blend k k s s
   stay k s h = record { held = h; is = λ a e. e }
 
-  pub on : {i j k : ℕ} {a b c : Float} → Carries xs row0 row1 blend i j a b → Carries xs row0 row1 blend j k b c → Carries xs row0 row1 blend i k a c
+  pub on : {i j k : ℕ} {a b c : Float} → Carries xs row0 row1 blend i j a b → Carries xs row0 row1 blend j k b c
+      → Carries xs row0 row1 blend i k a c
   on p q = record { held = q .held; is = λ z e. q .is z (p .is z e) }
 
-  pub once : (k j : ℕ) (s r : Float) → k + 1 ≡ j → r ≡ turnOf xs row0 row1 blend k s → Carries xs row0 row1 blend k j s r
+  pub once : (k j : ℕ) (s r : Float) → k + 1 ≡ j → r ≡ turnOf xs row0 row1 blend k s
+      → Carries xs row0 row1 blend k j s r
   once k j s r e h = record {
     held = subst (λ (z : Float). T (fits binary32 z)) (sym h) (fused-fits binary32 _ _ _);
-    is = λ a is. subst (λ (z : ℕ). r ≡ chainOf xs row0 row1 blend a z) e (turn (turnOf xs row0 row1 blend) a k s r is h);
+    is =
+        λ a is. subst (λ (z : ℕ). r ≡ chainOf xs row0 row1 blend a z) e (turn (turnOf xs row0 row1 blend) a k s r is h);
   }

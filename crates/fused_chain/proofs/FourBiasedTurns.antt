@@ -19,7 +19,8 @@ renamed {x} {y} {c} {d} {p} e f h = subst (λ (z : Float). Product y z p) f (sub
 
 module _ (xs row0 row1 : List Float) (blend bias low high : Float) where
   -- ---- one turn
-  one : (k : ℕ) (p s q : Float) → TapProduct xs row0 row1 blend k p → Between low high p s → Biased bias low high s q → Biased bias low high (add binary64 p s) (turnOf xs row0 row1 blend k q)
+  one : (k : ℕ) (p s q : Float) → TapProduct xs row0 row1 blend k p → Between low high p s → Biased bias low high s q
+      → Biased bias low high (add binary64 p s) (turnOf xs row0 row1 blend k q)
   one k p s q h b B =
       let x = getD xs k nan in
       let c = coefficientOf blend (getD row0 k nan) (getD row1 k nan) in
@@ -32,7 +33,8 @@ module _ (xs row0 row1 : List Float) (blend bias low high : Float) where
   abbrev pub Stands : ℕ → Float → ℕ → Float → Type 0
   Stands from sum k s = (q : Float) × (Biased bias low high s q) × (Carries xs row0 row1 blend from k sum q)
 
-  pub four : (from : ℕ) (sum : Float) (k : ℕ) (s a b c d r : Float) → Multiplied xs row0 row1 blend k a b c d → Advanced low high s a b c d r → Stands from sum k s → Stands from sum (k + 4) r
+  pub four : (from : ℕ) (sum : Float) (k : ℕ) (s a b c d r : Float) → Multiplied xs row0 row1 blend k a b c d
+      → Advanced low high s a b c d r → Stands from sum k s → Stands from sum (k + 4) r
   four from sum k s a b c d r M A (q, B, C) =
       let q1 = turnOf xs row0 row1 blend k q in
       let q2 = turnOf xs row0 row1 blend (k + 1) q1 in
@@ -55,5 +57,11 @@ module _ (xs row0 row1 : List Float) (blend bias low high : Float) where
       )
 
   -- ---- what it stands for comes back
-  pub ended : (from to : ℕ) (sum : Float) (k : ℕ) (s : Float) → from ≤ k → k ≤ to → Stands from sum k s → Runs xs row0 row1 blend from to sum k (sub binary64 s bias)
-  ended from to sum k s a b (q, B, C) = record { first = a; last = b; carried = subst (λ (z : Float). Carries xs row0 row1 blend from k sum z) (sym (back bias low high s q B)) C }
+  pub ended : (from to : ℕ) (sum : Float) (k : ℕ) (s : Float) → from ≤ k → k ≤ to → Stands from sum k s
+      → Runs xs row0 row1 blend from to sum k (sub binary64 s bias)
+  ended from to sum k s a b (q, B, C) =
+      record {
+        first = a;
+        last = b;
+        carried = subst (λ (z : Float). Carries xs row0 row1 blend from k sum z) (sym (back bias low high s q B)) C;
+      }

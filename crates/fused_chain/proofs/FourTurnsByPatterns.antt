@@ -11,10 +11,14 @@ use Rattle.fused_chain.specs.Rounding.{Nearest, FourNearest}
 use Rattle.fused_chain.proofs.ChainParts.{on, once}
 
 module _ (xs row0 row1 : List Float) (blend : Float) where
-  one : (k j : ℕ) (p s r : Float) → k + 1 ≡ j → TapProduct xs row0 row1 blend k p → Nearest p s r → Carries xs row0 row1 blend k j s r
-  one k j p s r e P N = once xs row0 row1 blend k j s r e (N .is (getD xs k nan) (coefficientOf blend (getD row0 k nan) (getD row1 k nan)) P)
+  one : (k j : ℕ) (p s r : Float) → k + 1 ≡ j → TapProduct xs row0 row1 blend k p → Nearest p s r
+      → Carries xs row0 row1 blend k j s r
+  one k j p s r e P N =
+      once xs row0 row1 blend k j s r e (N .is (getD xs k nan)
+      (coefficientOf blend (getD row0 k nan) (getD row1 k nan)) P)
 
-  pub four : (k : ℕ) (s a b c d r : Float) → Multiplied xs row0 row1 blend k a b c d → FourNearest a b c d s r → Carries xs row0 row1 blend k (k + 4) s r
+  pub four : (k : ℕ) (s a b c d r : Float) → Multiplied xs row0 row1 blend k a b c d → FourNearest a b c d s r
+      → Carries xs row0 row1 blend k (k + 4) s r
   four k s a b c d r M N =
       let C1 = one k (k + 1) a s (N .one) refl (M .first) (N .first) in
       let C2 = one (k + 1) (k + 2) b (N .one) (N .two) (omega arith) (M .second) (N .second) in

@@ -1,4 +1,5 @@
--- The nearest f32 of an f64 that is plain, without its sign, as the pattern of an f64: half a unit is added, and the 29 digits that an f32 lacks are cut off. Assumes nothing.
+-- The nearest f32 of an f64 that is plain, without its sign, as the pattern of an f64: half a unit is added,
+-- and the 29 digits that an f32 lacks are cut off. Assumes nothing.
 use mathlib.Core.Path.{_≡_, refl, sym, ap, _∙_, subst}
 use mathlib.Core.Bool.{Bool, cond}
 use Prim.Native.Nat.{ℕ, _+_, _-_, _*_, _/_, _%_, _^_, _≤_, _<_}
@@ -25,7 +26,8 @@ d = 2 ^ 29
 half-up : (q : ℕ) → (q % d ≡ 2 ^ 28 → ⊥) → closest q d ≡ (q + 2 ^ 28) / d
 half-up q off = closest-unique q d ((q + 2 ^ 28) / d) (pow-pos 29) (omega arith) (omega arith)
 
-module _ (s : Bool) (m : ℕ) (lo : 0x3810_0000_0000_0000 ≤ m) (hi : m < 0x47e0_0000_0000_0000) (off : m % d ≡ 2 ^ 28 → ⊥) where
+module _ (s : Bool) (m : ℕ) (lo : 0x3810_0000_0000_0000 ≤ m) (hi : m < 0x47e0_0000_0000_0000)
+    (off : m % d ≡ 2 ^ 28 → ⊥) where
   abbrev q : ℕ
   q = count m
 
@@ -57,17 +59,23 @@ module _ (s : Bool) (m : ℕ) (lo : 0x3810_0000_0000_0000 ≤ m) (hi : m < 0x47e
       let K : k ≤ 252 = omega arith in
       let small : c * 2 ^ k < 2 ^ 277 = lt-of-le-of-lt (mul-le-mul (digits-le s q k ge lt) (pow-mono K)) (lit< tt) in
       rescale (narrowed x) s (c * 2 ^ k) (2 ^ 149) (c * d * 2 ^ (896 + k)) (2 ^ 1074) (pow-pos 149) (finer c k)
-      (subst (λ (y : Float). HasValue y s (c * 2 ^ k) (2 ^ 149)) (sym (rounds ∙ normal-units s q k ge lt)) (units-val binary32 s c k small))
+      (subst (λ (y : Float). HasValue y s (c * 2 ^ k) (2 ^ 149)) (sym (rounds ∙ normal-units s q k ge lt))
+      (units-val binary32 s c k small))
     where
       finer : (c k : ℕ) → c * 2 ^ k * 2 ^ 1074 ≡ c * d * 2 ^ (896 + k) * 2 ^ 149
       finer c k =
           mul-assoc c (2 ^ k) (2 ^ 1074)
-          ∙ ap (λ (z : ℕ). c * z) (sym (pow-add 2 k 1074) ∙ ap (λ (z : ℕ). 2 ^ z) (omega arith) ∙ pow-add 2 (29 + (896 + k)) 149 ∙ ap (λ (z : ℕ). z * 2 ^ 149) (pow-add 2 29 (896 + k)))
+          ∙ ap (λ (z : ℕ). c * z) (sym (pow-add 2 k 1074)
+          ∙ ap (λ (z : ℕ). 2 ^ z) (omega arith)
+          ∙ pow-add 2 (29 + (896 + k)) 149
+          ∙ ap (λ (z : ℕ). z * 2 ^ 149) (pow-add 2 29 (896 + k)))
           ∙ sym (mul-assoc c (d * 2 ^ (896 + k)) (2 ^ 149))
           ∙ ap (λ (z : ℕ). z * 2 ^ 149) (sym (mul-assoc c d (2 ^ (896 + k))))
 
   held : T (fits binary64 (narrowed x))
-  held = fits-widens (narrowed x) (subst (λ (y : Float). T (fits binary32 y)) (sym rounds) (round-fits binary32 s (q * 2 ^ (896 + k)) (2 ^ 1074)))
+  held =
+      fits-widens (narrowed x)
+      (subst (λ (y : Float). T (fits binary32 y)) (sym rounds) (round-fits binary32 s (q * 2 ^ (896 + k)) (2 ^ 1074)))
 
   pub cut : ofBits binary64 (cond s 0x8000_0000_0000_0000 0 + (m + 2 ^ 28) / d * d) ≡ narrowed x
   cut =

@@ -48,7 +48,8 @@ module _ (x : Float) (held : T (fits binary64 x)) (number : T (not (isNan x))) w
     masked = and-high (n + 0x1000_0000) 35 29 ∙ omega (arith, half-fits)
 
     pub plain-no-nan : T (not (nanBits binary64 (bitAnd (n + 0x1000_0000) 0xffff_ffff_e000_0000)))
-    plain-no-nan = rest-no-nan binary64 (bitAnd (n + 0x1000_0000) 0xffff_ffff_e000_0000) (omega (arith, masked, N, small))
+    plain-no-nan =
+        rest-no-nan binary64 (bitAnd (n + 0x1000_0000) 0xffff_ffff_e000_0000) (omega (arith, masked, N, small))
 
     pub plain-finite : T (finite (ofBits binary64 (bitAnd (n + 0x1000_0000) 0xffff_ffff_e000_0000)))
     plain-finite =
@@ -57,7 +58,8 @@ module _ (x : Float) (held : T (fits binary64 x)) (number : T (not (isNan x))) w
         let s = leb (2 ^ 63) b in
         let B : b < 2 ^ 64 = omega (arith, masked, half-fits) in
         let R : r < 0x7ff0_0000_0000_0000 = omega (arith, masked, N, small) in
-        subst (λ (z : ℕ). T (finite (ofBits binary64 z))) (sym (sign-rest binary64 b B)) (value-finite (ofBits binary64 (cond s (2 ^ 63) 0 + r)) s _ _ (value r R s))
+        subst (λ (z : ℕ). T (finite (ofBits binary64 z))) (sym (sign-rest binary64 b B))
+        (value-finite (ofBits binary64 (cond s (2 ^ 63) 0 + r)) s _ _ (value r R s))
 
     pub plain-cut : ofBits binary64 (bitAnd (n + 0x1000_0000) 0xffff_ffff_e000_0000) ≡ narrowed x
     plain-cut =
@@ -69,6 +71,7 @@ module _ (x : Float) (held : T (fits binary64 x)) (number : T (not (isNan x))) w
         ∙ ap narrowed (ofBits-toBits binary64 x held)
       where
         -- the sign stays out of it
-        beside : (s : Bool) (r n : ℕ) → n ≡ cond s (2 ^ 63) 0 + r → (n + 2 ^ 28) / d * d ≡ cond s (2 ^ 63) 0 + (r + 2 ^ 28) / d * d
+        beside : (s : Bool) (r n : ℕ) → n ≡ cond s (2 ^ 63) 0 + r
+            → (n + 2 ^ 28) / d * d ≡ cond s (2 ^ 63) 0 + (r + 2 ^ 28) / d * d
         beside true r n e = omega arith
         beside false r n e = omega arith

@@ -13,16 +13,21 @@ pub turned-none : (params : ModulationParams) (e : ModulationEngine) → e ≡ t
 unfolding turnedBy
 turned-none params e = refl
 
-pub turned-more : (params : ModulationParams) (e : ModulationEngine) (k : ℕ) {f : ModulationEngine} {n : Next} → f ≡ turnedBy params e k → n ≡ nextOf f params
+pub turned-more : (params : ModulationParams) (e : ModulationEngine) (k : ℕ) {f : ModulationEngine} {n : Next}
+    → f ≡ turnedBy params e k → n ≡ nextOf f params
     → n .engine ≡ turnedBy params e (k + 1)
 unfolding turnedBy
 turned-more params e k p q = rw (add-one k, q, p)
 
 -- a frame's delays, from what the engine handed back
-pub left-turned : (params : ModulationParams) (e : ModulationEngine) (k : ℕ) (middle : Float) {f : ModulationEngine} {n : Next} {y : Float} → f ≡ turnedBy params e k
+pub left-turned : (params : ModulationParams) (e : ModulationEngine) (k : ℕ) (middle : Float) {f : ModulationEngine}
+    {n : Next} {y : Float}
+    → f ≡ turnedBy params e k
     → n ≡ nextOf f params → y ≡ leftOf middle (n .offset) → y ≡ leftOf middle (offsetAt params e k)
 left-turned params e k middle p q r = r ∙ rw (q, p)
 
-pub right-turned : (params : ModulationParams) (e : ModulationEngine) (k : ℕ) (middle : Float) {f : ModulationEngine} {n : Next} {y : Float} → f ≡ turnedBy params e k
+pub right-turned : (params : ModulationParams) (e : ModulationEngine) (k : ℕ) (middle : Float) {f : ModulationEngine}
+    {n : Next} {y : Float}
+    → f ≡ turnedBy params e k
     → n ≡ nextOf f params → y ≡ rightOf middle (n .offset) → y ≡ rightOf middle (offsetAt params e k)
 right-turned params e k middle p q r = r ∙ rw (q, p)

@@ -1,5 +1,5 @@
--- One channel at the middle 512 with the default settings becomes what the program `render` writes for it, as long as no
--- sample is refused. Sample by sample, over the definitions. Assumes nothing.
+-- One channel at the middle 512 with the default settings becomes what the program `render` writes for it,
+-- as long as no sample is refused. Sample by sample, over the definitions. Assumes nothing.
 use mathlib.Core.Path.{_≡_, refl, sym, ap, _∙_}
 use mathlib.Core.Bool.{false}
 use mathlib.Core.List.{List, [], _∷_, _++_}
@@ -29,19 +29,22 @@ unfolding listOf
 list-first f zero = refl
 list-first f (suc n) = ap (λ (t : List Float). t ++ (f (suc n) ∷ [])) (list-first f n)
 
-turned-first : (params : ModulationParams) (e : ModulationEngine) (k : ℕ) → turnedBy params e (suc k) ≡ turnedBy params (nextOf e params .engine) k
+turned-first : (params : ModulationParams) (e : ModulationEngine) (k : ℕ)
+    → turnedBy params e (suc k) ≡ turnedBy params (nextOf e params .engine) k
 unfolding turnedBy
 turned-first params e zero = refl
 turned-first params e (suc k) = ap (λ (f : ModulationEngine). nextOf f params .engine) (turned-first params e k)
 
 -- the delays behind the first frame are those of the engine after it
 delays-behind : (params : ModulationParams) (m : Float) (e : ModulationEngine) (n : ℕ)
-    → leftDelays params m e (suc n) ≡ leftOf m (nextOf e params .offset) ∷ leftDelays params m (nextOf e params .engine) n
+    → leftDelays params m e (suc n)
+    ≡ leftOf m (nextOf e params .offset) ∷ leftDelays params m (nextOf e params .engine) n
 unfolding turnedBy
 delays-behind params m e n =
     list-first (λ (k : ℕ). leftOf m (offsetAt params e k)) n
     ∙ ap (λ (t : List Float). leftOf m (nextOf e params .offset) ∷ t)
-    (same-list _ _ n (λ k l. ap (λ (f : ModulationEngine). leftOf m (nextOf f params .offset)) (turned-first params e k)))
+    (same-list _ _ n (λ k l. ap (λ (f : ModulationEngine). leftOf m (nextOf f params .offset))
+    (turned-first params e k)))
 
 abbrev middle : Float
 middle = fin false 1 (pos 9)
@@ -53,24 +56,38 @@ same-delay (Refused k) = refl
 module _ (table : List Float) where
   -- the channel whose reader, ring and engine a rendering holds
   abbrev pub imitated : Held → List Float → Ran VariableDelay
-  imitated h xs = heard table (h .state .reader) (h .ring) xs (leftDelays defaultParams middle (h .state .engine) (length xs))
+  imitated h xs =
+      heard table (h .state .reader) (h .ring) xs (leftDelays defaultParams middle (h .state .engine) (length xs))
 
   -- the first sample, and those behind it
   first-behind : (h : Held) (x : Float) (xs : List Float) → dueFor table h x ≡ 0
-      → imitated h (x ∷ xs) ≡ andThen 0 (callOf table (h .state .reader) (h .ring) x (delayFor h)) (imitated (afterSample table h x) xs)
+      → imitated h (x ∷ xs)
+      ≡ andThen 0 (callOf table (h .state .reader) (h .ring) x (delayFor h)) (imitated (afterSample table h x) xs)
   unfolding stretchOf callOf
-  first-behind h x xs e = rw (delays-behind defaultParams middle (h .state .engine) (length xs), same-delay (nextOf (h .state .engine) defaultParams .offset), e)
+  first-behind h x xs e =
+      rw (
+        delays-behind defaultParams middle (h .state .engine) (length xs),
+        same-delay (nextOf (h .state .engine) defaultParams .offset),
+        e,
+      )
 
-  refused-first : (h : Held) (x : Float) (xs : List Float) (k : ℕ) → dueFor table h x ≡ suc k → imitated h (x ∷ xs) .number ≡ suc k
+  refused-first : (h : Held) (x : Float) (xs : List Float) (k : ℕ) → dueFor table h x ≡ suc k
+      → imitated h (x ∷ xs) .number ≡ suc k
   unfolding stretchOf callOf
   refused-first h x xs k e =
-      rw (delays-behind defaultParams middle (h .state .engine) (length xs), same-delay (nextOf (h .state .engine) defaultParams .offset), e)
+      rw (
+        delays-behind defaultParams middle (h .state .engine) (length xs),
+        same-delay (nextOf (h .state .engine) defaultParams .offset),
+        e,
+      )
 
-  same-sample : (h : Held) (x : Float) → callOf table (h .state .reader) (h .ring) x (delayFor h) .sample ≡ sampleFor table h x
+  same-sample : (h : Held) (x : Float)
+      → callOf table (h .state .reader) (h .ring) x (delayFor h) .sample ≡ sampleFor table h x
   unfolding callOf
   same-sample h x = refl
 
-  pub as-render : (h : Held) (xs : List Float) → imitated h xs .number ≡ 0 → imitated h xs .samples ≡ answersFor table h xs
+  pub as-render : (h : Held) (xs : List Float) → imitated h xs .number ≡ 0
+      → imitated h xs .samples ≡ answersFor table h xs
   unfolding stretchOf answersFor
   as-render h [] z = refl
   as-render h (x ∷ xs) z = by (dueFor table h x) refl (as-render (afterSample table h x) xs)

@@ -1,4 +1,5 @@
--- The cast to an `i64` past the ends of its range: at 2 ^ 63 or above it is the largest, below -2 ^ 63 the smallest. Assumes nothing.
+-- The cast to an `i64` past the ends of its range: at 2 ^ 63 or above it is the largest, below -2 ^ 63 the smallest.
+-- Assumes nothing.
 use mathlib.Core.Path.{_≡_, refl, sym, ap, subst}
 use mathlib.Core.Bool.{Bool, true, false, true≢false}
 use Prim.Native.Nat.{ℕ, _+_, _-_, _*_, _/_, _^_, _≤_, _<_, min}
@@ -22,7 +23,9 @@ unfolding lt eq toSigned
 above nan h k = absurd (true≢false (sym k))
 above (inf true) h k = absurd (true≢false h)
 above (inf false) h k = refl
-above (fin true m e) h k = let z : m * up e * 1 + 1 * 2 ^ 63 * down e ≤ 0 = ltb-false 0 (m * up e * 1 + 1 * 2 ^ 63 * down e) h in absurd (omega (arith, down-pos e))
+above (fin true m e) h k =
+    let z : m * up e * 1 + 1 * 2 ^ 63 * down e ≤ 0 = ltb-false 0 (m * up e * 1 + 1 * 2 ^ 63 * down e) h in
+    absurd (omega (arith, down-pos e))
 above (fin false m e) h k =
     let z : 1 * 2 ^ 63 * down e ≤ m * up e * 1 = ltb-false (m * up e * 1) (1 * 2 ^ 63 * down e) h in
     ap pos (sym (reached (m * up e) (down e) (2 ^ 63 - 1) (down-pos e) (lit≤ tt) (omega arith)))
@@ -30,13 +33,18 @@ above (fin false m e) h k =
 inside : (x : Float) → le (fin true 1 (pos 63)) x ≡ false → AtMost (2 ^ 63) x → ⊥
 inside x k h = subst T k (at-most-ge (2 ^ 63) x (fin true 1 (pos 63)) (refl, refl) h)
 
-pub under : (x : Float) → lt x (fin false 1 (pos 63)) ≡ true → le (fin true 1 (pos 63)) x ≡ false → negℤ (pos (2 ^ 63)) ≡ toSigned 63 x
+pub under : (x : Float) → lt x (fin false 1 (pos 63)) ≡ true → le (fin true 1 (pos 63)) x ≡ false
+    → negℤ (pos (2 ^ 63)) ≡ toSigned 63 x
 unfolding lt toSigned
 under nan h k = absurd (true≢false (sym h))
 under (inf true) h k = refl
 under (inf false) h k = absurd (true≢false (sym h))
-under (fin false m e) h k = let z : m * up e * 1 < 1 * 2 ^ 63 * down e = ltb-true (m * up e * 1) (1 * 2 ^ 63 * down e) h in absurd (inside (fin false m e) k (omega arith))
-under (fin true m e) h k = ap (λ (z : ℕ). negℤ (pos z)) (sym (reached (m * up e) (down e) (2 ^ 63) (down-pos e) (lit≤ tt) (go (ltb (m * up e) (2 ^ 63 * down e)) refl)))
+under (fin false m e) h k =
+    let z : m * up e * 1 < 1 * 2 ^ 63 * down e = ltb-true (m * up e * 1) (1 * 2 ^ 63 * down e) h in
+    absurd (inside (fin false m e) k (omega arith))
+under (fin true m e) h k =
+    ap (λ (z : ℕ). negℤ (pos z))
+    (sym (reached (m * up e) (down e) (2 ^ 63) (down-pos e) (lit≤ tt) (go (ltb (m * up e) (2 ^ 63 * down e)) refl)))
   where
     go : (t : Bool) → ltb (m * up e) (2 ^ 63 * down e) ≡ t → 2 ^ 63 * down e ≤ m * up e
     go true l = absurd (inside (fin true m e) k (le-of-lt (ltb-true (m * up e) (2 ^ 63 * down e) l)))

@@ -1,5 +1,5 @@
--- Outside ±2 ^ 52 an f64 is whole, an infinity or a NaN, so its floor is what the cast gives: a value with places below the point is a number below
--- 2 ^ 53 over 2 at least. Assumes nothing.
+-- Outside ±2 ^ 52 an f64 is whole, an infinity or a NaN, so its floor is what the cast gives:
+-- a value with places below the point is a number below 2 ^ 53 over 2 at least. Assumes nothing.
 use mathlib.Core.Path.{_≡_, refl, subst}
 use mathlib.Core.Bool.{Bool, true, false, _&&_}
 use Prim.Native.Nat.{ℕ, zero, suc, _*_, _%_, _^_, _<_, zero-le}
@@ -29,10 +29,14 @@ placed s (suc m) k h =
     let odd = eqb (suc m % 2) 1 in
     let short = ltb (suc m) (2 ^ 53) in
     let fine = leb (2 ^ suc k) (2 ^ 1074) in
-    let few : suc m < 2 ^ 53 = ltb→lt (suc m) (2 ^ 53) (and-r odd short (and-l (odd && short) fine (and-l (odd && short && fine) (ltb (suc m * 1) (2 ^ 1024 * 2 ^ suc k)) h))) in
+    let few : suc m < 2 ^ 53 =
+    ltb→lt (suc m) (2 ^ 53)
+    (and-r odd short (and-l (odd && short) fine
+    (and-l (odd && short && fine) (ltb (suc m * 1) (2 ^ 1024 * 2 ^ suc k)) h))) in
     omega (arith, two-pow-succ k, pow-pos k)
 
-pub beyond : (x : Float) → T (fits binary64 x) → (le (fin true 1 (pos 52)) x && le x (fin false 1 (pos 52))) ≡ false → toSigned 63 x ≡ floorOf x
+pub beyond : (x : Float) → T (fits binary64 x) → (le (fin true 1 (pos 52)) x && le x (fin false 1 (pos 52))) ≡ false
+    → toSigned 63 x ≡ floorOf x
 unfolding toSigned floorOf
 beyond nan h out = refl
 beyond (inf s) h out = refl

@@ -1,4 +1,5 @@
--- Signed sums near a place: a small unsigned number read as a signed one, and a sum and a difference that stay in the range of an `i64`. Assumes nothing.
+-- Signed sums near a place: a small unsigned number read as a signed one, and a sum and a difference that stay in the
+-- range of an `i64`. Assumes nothing.
 use mathlib.Core.Path.{_≡_, _∙_}
 use Prim.Native.Nat.{ℕ, zero, suc, _+_, _^_, _≤_, _<_}
 use native.Mathlib.Omega.{arith}

@@ -1,4 +1,5 @@
--- A number against a whole number that is given as n less another, and a whole number through a float and back. Assumes nothing.
+-- A number against a whole number that is given as n less another, and a whole number through a float and back.
+-- Assumes nothing.
 use mathlib.Core.Path.{_≡_, refl, sym, ap, _∙_}
 use mathlib.Core.Bool.{Bool, true, false, cond, not, true≢false}
 use Prim.Native.Nat.{ℕ, suc, _+_, _-_, _*_, _^_, _≤_, _<_}
@@ -26,7 +27,9 @@ parts (negsuc n) = (omega arith, omega arith)
 pub parts-less : (a b : ℕ) → posPart (subℕ a b) + b ≡ a + negPart (subℕ a b)
 parts-less a b = go (ltb a b) refl
   where
-    go : (t : Bool) → ltb a b ≡ t → posPart (cond t (negsuc (b - suc a)) (pos (a - b))) + b ≡ a + negPart (cond t (negsuc (b - suc a)) (pos (a - b)))
+    go : (t : Bool) → ltb a b ≡ t
+        → posPart (cond t (negsuc (b - suc a)) (pos (a - b))) + b
+        ≡ a + negPart (cond t (negsuc (b - suc a)) (pos (a - b)))
     go true h = omega (arith, ltb-true a b h)
     go false h = omega (arith, ltb-false a b h)
 
@@ -62,7 +65,9 @@ module _ (big g l d g' l' c p q n : ℕ) (G : g' ≡ p * c) (L : l' ≡ q * c) (
       omega (arith, scaled)
 
   back : g + big * d < n * d + l → g * c + l' * d < g' * d + l * c
-  back h = let k : g + q * d < p * d + l = omega (arith, scaled) in rw (G, L) (simp ring (simp ring at (mul-lt-mul-of-pos-right k C)))
+  back h =
+      let k : g + q * d < p * d + l = omega (arith, scaled) in
+      rw (G, L) (simp ring (simp ring at (mul-lt-mul-of-pos-right k C)))
 
 module _ (big : ℕ) (B : big ≤ 2 ^ 53) (x : Float) (ok : T (finite x)) (n : ℕ) (N : n ≤ 2 ^ 53) where
   abbrev z : ℤ
@@ -75,12 +80,18 @@ module _ (big : ℕ) (B : big ≤ 2 ^ 53) (x : Float) (ok : T (finite x)) (n : �
   beside = whole y z (whole-value binary64 z (abs-less n big (2 ^ 53) N B))
 
   pub below : T (lt x y) → gain x + big * den x < n * den x + loss x
-  below h = across big (gain x) (loss x) (den x) (gain y) (loss y) (den y) (posPart z) (negPart z) n (beside .gains) (beside .loses) (parts-less n big) (den-pos y) (strictly x y ok (beside .number) h)
+  below h =
+      across big (gain x) (loss x) (den x) (gain y) (loss y) (den y) (posPart z) (negPart z) n (beside .gains)
+      (beside .loses) (parts-less n big) (den-pos y) (strictly x y ok (beside .number) h)
 
   pub is-below : gain x + big * den x < n * den x + loss x → T (lt x y)
-  is-below h = of-strictly x y ok (beside .number) (back big (gain x) (loss x) (den x) (gain y) (loss y) (den y) (posPart z) (negPart z) n (beside .gains) (beside .loses) (parts-less n big) (den-pos y) h)
+  is-below h =
+      of-strictly x y ok (beside .number)
+      (back big (gain x) (loss x) (den x) (gain y) (loss y) (den y) (posPart z) (negPart z) n (beside .gains)
+      (beside .loses) (parts-less n big) (den-pos y) h)
 
 -- ---- a whole number as a float, cast back
-pub cast-back : (z : ℤ) → mag z ≤ 2 ^ 52 → T (inSigned binary64 63 (ofInt binary64 z)) × (toSigned 63 (ofInt binary64 z) ≡ z)
+pub cast-back : (z : ℤ) → mag z ≤ 2 ^ 52
+    → T (inSigned binary64 63 (ofInt binary64 z)) × (toSigned 63 (ofInt binary64 z) ≡ z)
 cast-back (pos n) h = positive-back binary64 63 n (in-float (pos n) h) (omega arith)
 cast-back (negsuc k) h = negative-back binary64 63 k (in-float (negsuc k) h) (omega arith)

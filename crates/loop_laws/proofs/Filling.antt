@@ -1,4 +1,5 @@
--- A loop that lends a table's rows `&mut table[p * width..p * width + width]` one after the other: its invariant, over any rule for a row. Assumes nothing.
+-- A loop that lends a table's rows `&mut table[p * width..p * width + width]` one after the other:
+-- its invariant, over any rule for a row. Assumes nothing.
 use mathlib.Core.Path.{_≡_, ap, _∙_}
 use mathlib.Core.List.{List, _++_}
 use Prim.Native.Nat.{ℕ, _+_, _-_, _*_, _≤_, _<_}
@@ -27,7 +28,8 @@ module _ (f : ℕ → List Float) (width n : ℕ) where
   unfilled xs l = record { long = l; most = omega arith; front = no-row f width xs }
 
   pub row-end : (p : ℕ) → p < n → p * width + width ≤ n * width
-  row-end p h = let g : p + 1 ≤ n = omega arith in omega (arith, add-mul p 1 width, one-mul width, mul-le-mul-right width g)
+  row-end p h =
+      let g : p + 1 ≤ n = omega arith in omega (arith, add-mul p 1 width, one-mul width, mul-le-mul-right width g)
 
   module _ (xs : List Float) (p : ℕ) (i : Filled f width n xs p) (h : p < n) where
     width-is : p * width + width - p * width ≡ width
@@ -39,7 +41,8 @@ module _ (f : ℕ → List Float) (width n : ℕ) where
     pub length-lent : length (lentRow width xs p) ≡ width
     length-lent = length-part xs (p * width) _ width width-is fits
 
-    pub filled-more : (ys : List Float) → ys ≡ f p → length (f p) ≡ width → Filled f width n (withRow width xs p ys) (p + 1)
+    pub filled-more : (ys : List Float) → ys ≡ f p → length (f p) ≡ width
+        → Filled f width n (withRow width xs p ys) (p + 1)
     filled-more ys e w =
         let l = ap length e ∙ w in
         record {

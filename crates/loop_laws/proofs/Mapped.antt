@@ -1,4 +1,5 @@
--- One function over every element: of a list by a rule, of a table by its rows, and of a list that a loop changes in place. Assumes nothing.
+-- One function over every element: of a list by a rule, of a table by its rows, and of a list that a loop changes in
+-- place. Assumes nothing.
 use mathlib.Core.Path.{_≡_, refl, sym, _∙_, ap}
 use mathlib.Core.List.{List, [], _∷_, _++_, map, append-assoc, append-nil}
 use Prim.Native.Nat.{ℕ, zero, suc, _+_, _<_}
@@ -51,14 +52,17 @@ module _ (f : Float → Float) where
   front xs k l = length-map (take k xs) f ∙ length-take-le k xs (omega arith)
 
   pub not-yet : (xs : List Float) (k : ℕ) (d : Float) → k < length xs → getD (halfway xs k) k d ≡ getD xs k d
-  not-yet xs k d l = rw (drop-cons xs k d) (getD-at (map f (take k xs)) (getD xs k d) (drop (suc k) xs) d k (front xs k l))
+  not-yet xs k d l =
+      rw (drop-cons xs k d) (getD-at (map f (take k xs)) (getD xs k d) (drop (suc k) xs) d k (front xs k l))
 
-  pub one-more : (xs : List Float) (k : ℕ) (d : Float) → k < length xs → set (halfway xs k) k (f (getD xs k d)) ≡ halfway xs (k + 1)
+  pub one-more : (xs : List Float) (k : ℕ) (d : Float) → k < length xs
+      → set (halfway xs k) k (f (getD xs k d)) ≡ halfway xs (k + 1)
   one-more xs k d l =
       ap (λ (t : List Float). set (map f (take k xs) ++ t) k (f (getD xs k d))) (drop-cons xs k d l)
       ∙ set-at (map f (take k xs)) (getD xs k d) (drop (suc k) xs) _ k (front xs k l)
       ∙ sym (append-assoc (map f (take k xs)) (f (getD xs k d) ∷ []) (drop (suc k) xs))
-      ∙ ap (λ (t : List Float). t ++ drop (suc k) xs) (sym (ap (map f) (take-suc xs k d l) ∙ map-append (take k xs) (getD xs k d ∷ [])))
+      ∙ ap (λ (t : List Float). t ++ drop (suc k) xs)
+      (sym (ap (map f) (take-suc xs k d l) ∙ map-append (take k xs) (getD xs k d ∷ [])))
       ∙ ap (halfway xs) (sym (add-one k))
 
   pub at-last : (xs : List Float) (k : ℕ) → k ≡ length xs → halfway xs k ≡ map f xs

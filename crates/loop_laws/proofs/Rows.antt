@@ -18,7 +18,8 @@ module _ (f : ℕ → List Float) (width : ℕ) where
   no-row xs = ap (λ (n : ℕ). take n xs) (zero-mul width)
 
   -- the table after ys was written as row p; k is how the code counts the width
-  module _ (xs ys : List Float) (p k : ℕ) (e : k ≡ width) (fits : p * width + width ≤ length xs) (long : length ys ≡ width) where
+  module _ (xs ys : List Float) (p k : ℕ) (e : k ≡ width) (fits : p * width + width ≤ length xs)
+      (long : length ys ≡ width) where
     abbrev after : List Float
     after = take (p * width) xs ++ (ys ++ drop k (drop (p * width) xs))
 
@@ -41,7 +42,8 @@ module _ (f : ℕ → List Float) (width : ℕ) where
   all-rows xs n l h = sym (take-all (n * width) xs (omega arith)) ∙ h
 
 -- a part as it is lent
-pub length-part : (xs : List Float) (a k width : ℕ) → k ≡ width → a + width ≤ length xs → length (take k (drop a xs)) ≡ width
+pub length-part : (xs : List Float) (a k width : ℕ) → k ≡ width → a + width ≤ length xs
+    → length (take k (drop a xs)) ≡ width
 length-part xs a k width e fits = simp (length-take, length-drop) (omega arith)
 
 -- ---- rows by number
@@ -62,7 +64,8 @@ module _ (f : ℕ → List Float) (width : ℕ) (long : (p : ℕ) → length (f 
       ∙ take-all width (f n) (omega (arith, long n)) ∙ ap f (sym e))
       (λ (l : p < n).
       let g : p + 1 ≤ n = omega arith in
-      let b : p * width + width ≤ length (rows f n) = omega (arith, length-rows n, add-mul p 1 width, one-mul width, mul-le-mul-right width g) in
+      let b : p * width + width ≤ length (rows f n) =
+      omega (arith, length-rows n, add-mul p 1 width, one-mul width, mul-le-mul-right width g) in
       ap (take width) (drop-append-le (p * width) (rows f n) (f n) (omega arith))
       ∙ take-append-le width (drop (p * width) (rows f n)) (f n) (simp length-drop (omega arith))
       ∙ row n p l)

@@ -1,4 +1,5 @@
--- The first n elements of a longer scratch, lent as `[0..n]` to be written and then lent again to be read. Assumes nothing.
+-- The first n elements of a longer scratch, lent as `[0..n]` to be written and then lent again to be read.
+-- Assumes nothing.
 use mathlib.Core.Path.{_≡_}
 use mathlib.Core.List.{List, _++_}
 use Prim.Native.Nat.{ℕ, _-_, _≤_}

@@ -1,1 +1,2 @@
-// Laws only: a loop as a function of its number of turns, and what a loop writes into a list.
+// Laws about loops: a loop as a function of its number of turns, and what a loop writes into a list.
+// There is no code.

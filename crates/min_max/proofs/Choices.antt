@@ -1,5 +1,5 @@
--- Which argument `chosen` hands back, by the tests that the code makes; and what is known of it: whatever holds of both arguments, and on which side of
--- the second it lies. Assumes nothing.
+-- Which argument `chosen` hands back, by the tests that the code makes; and what is known of it:
+-- whatever holds of both arguments, and on which side of the second it lies. Assumes nothing.
 use mathlib.Core.Path.{_≡_, refl, sym}
 use mathlib.Core.Bool.{Bool, true, false, not, cond, true≢false}
 use lib.Dec.{T}
@@ -37,7 +37,8 @@ lone x y h k = rw (h, differs-from-itself y (rw k tt)) (beside-nan x)
 -- ---- what is known of it
 pub chosen-keeps : (P : Float → Type 0) (t : Bool) (x y : Float) → P x → P y → P (chosen t x y)
 unfolding chosen
-chosen-keeps P t x y p q = pick (isNan x) y (cond (isNan y) x (cond t x y)) q (pick (isNan y) x (cond t x y) p (pick t x y p q))
+chosen-keeps P t x y p q =
+    pick (isNan x) y (cond (isNan y) x (cond t x y)) q (pick (isNan y) x (cond t x y) p (pick t x y p q))
   where
     pick : (t : Bool) (x y : Float) → P x → P y → P (cond t x y)
     pick true x y p q = p

@@ -1,4 +1,5 @@
--- A clamped number lies from low to high, so its magnitude is at most theirs: each test that failed says the order the other way round. Assumes nothing.
+-- A clamped number lies from low to high, so its magnitude is at most theirs: each test that failed says the order the
+-- other way round. Assumes nothing.
 use mathlib.Core.Path.{_≡_, refl}
 use mathlib.Core.Bool.{Bool, true, false, not, cond}
 use Prim.Native.Nat.{ℕ}

@@ -6,14 +6,14 @@ use lib.Ieee.{Float, lt, isNan}
 unfoldable pub chosen : Bool → Float → Float → Float
 chosen before x y = cond (isNan x) y (cond (isNan y) x (cond before x y))
 
--- max and min. Where x and y compare equal, as 0.0 and -0.0 do, Rust leaves open which of them comes, and here it is the second. 000 and 001 always hand
--- a constant second that is not -0.0, and there this is what the Rust's release build gives.
+-- max and min. If x and y compare equal, as 0.0 and -0.0 do, Rust leaves open which one comes; here it is the second.
+-- 000 and 001 always hand in a constant second that is not -0.0, and then this is what Rust's release build gives.
 unfoldable pub larger : Float → Float → Float
 larger x y = chosen (lt y x) x y
 
 unfoldable pub smaller : Float → Float → Float
 smaller x y = chosen (lt x y) x y
 
--- clamp: a NaN stays a NaN, and -0.0 stays where low is 0.0.
+-- `clamp`: a NaN stays a NaN, and -0.0 stays where low is 0.0.
 unfoldable pub clamped : Float → Float → Float → Float
 clamped x low high = cond (lt x low) low (cond (lt high x) high x)

@@ -1,4 +1,5 @@
-// Rust's max, min and clamp of floats. Where the second of max or min is a constant, its test for a NaN folds away.
+// Rust's `max`, `min` and `clamp` of floats.
+// Where the second argument of `max` or `min` is a constant, its test for a NaN folds away.
 ghost use mathlib.Core.Path.{_≡_};
 ghost use Rattle.min_max.specs.Choice.{larger, smaller, clamped};
 
@@ -32,7 +33,8 @@ pub fn min_f32(a: f32, b: f32) -> f32
     if b == b { b } else { a }
 }
 
-// Rust's f64::clamp, which panics where low is above high or one of the two is a NaN: here the same tests in the same order.
+// Rust's f64::clamp. Rust panics if low is above high or one of them is a NaN; here the same tests follow in the same
+// order.
 pub fn clamp(x: f64, low: f64, high: f64) -> f64
     ensures { λ r. ⌜ r ≡ clamped x low high ⌝ }
 {

@@ -1,4 +1,5 @@
--- A drift's value lies from -2 to 2 (`smooth_random`), so half of it, times an amount from 0 to 1, lies from -1 to 1: an argument that exp2 does not refuse.
+-- A drift's value lies from -2 to 2 (`smooth_random`), so half of it, times an amount from 0 to 1, lies from -1 to 1:
+-- an argument that exp2 does not refuse.
 -- Assumes nothing.
 use Prim.Native.Nat.{ℕ, zero, suc}
 use lib.Count.{trailingZeros}
@@ -39,10 +40,13 @@ wander-at-most r drift-amount ok real =
     let number = finite-number drift-amount real in
     let a = clamped drift-amount numbers.zero one in
     let x = mul binary64 (mul binary64 half a) (valueAt r) in
-    let amount : Between numbers.zero one a = between tt tt (clamped-ge drift-amount numbers.zero one number tt) (clamped-le drift-amount numbers.zero one number tt) in
+    let amount : Between numbers.zero one a =
+    between tt tt (clamped-ge drift-amount numbers.zero one number tt)
+    (clamped-le drift-amount numbers.zero one number tt) in
     let b : Between (neg one) one x = lies-between bent-ends (bent-of a (valueAt r)) (inner amount) bent tt in
     between-at-most 1 (neg one) x one (lit≤ tt) (lit≤ tt) (b .above .order) (b .below .order)
   where
-    inner : {amount : Float} → Between numbers.zero one amount → (i : ℕ) → Between (bent-ends i .low) (bent-ends i .high) (bent-of amount (valueAt r) i)
+    inner : {amount : Float} → Between numbers.zero one amount → (i : ℕ)
+        → Between (bent-ends i .low) (bent-ends i .high) (bent-of amount (valueAt r) i)
     inner w zero = w
     inner w (suc i) = value-between r ok

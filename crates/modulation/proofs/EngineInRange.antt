@@ -1,5 +1,5 @@
--- G8. What an engine in range holds: `Sound`. Opening gives it, and each method keeps it: the phases by `advance-cycle`, the generators by what stands in
--- Generators. Assumes nothing.
+-- G8. What an engine in range holds: `Sound`. Opening gives it, and each method keeps it: the phases by
+-- `advance-cycle`, the generators by what stands in Generators. Assumes nothing.
 use mathlib.Core.Path.{refl}
 use mathlib.Core.Bool.{_&&_}
 use Prim.Native.Nat.{ℕ, _^_, _<_}
@@ -22,7 +22,8 @@ use Rattle.modulation.specs.Step.{wowPace, flutterPace, steppedOf}
 use Rattle.modulation_engine.specs.declared.ModulationEngine.{ModulationEngine}
 use Rattle.modulation_params.specs.declared.ModulationParams.{ModulationParams}
 use Rattle.modulation.proofs.SettingsInRange.{held}
-use Rattle.modulation.proofs.Generators.{Steady, new-steady, reset-steady, set-seed-steady, next-steady, flutter-word}
+use Rattle.modulation.proofs.Generators.{Steady, new-steady, reset-steady, set-seed-steady, next-steady}
+use Rattle.modulation.proofs.Generators.{flutter-word}
 
 pub record Sound (e : ModulationEngine) : Type 0 where
   pub rate : T (sampleRateOk (e .«sample_rate»))
@@ -34,15 +35,26 @@ pub record Sound (e : ModulationEngine) : Type 0 where
 pub sound-valid : {e : ModulationEngine} → Sound e → T (validEngine e)
 unfolding validEngine phasesOk
 sound-valid {e} h =
-    and-i (phasesOk e) (validOf (e .«wow_drift») && validOf (e .«flutter_drift»)) (and-i (cycleOk (e .«wow_phase»)) (cycleOk (e .«flutter_phase»)) (h .wow-phase) (h .flutter-phase))
+    and-i (phasesOk e) (validOf (e .«wow_drift») && validOf (e .«flutter_drift»))
+    (and-i (cycleOk (e .«wow_phase»)) (cycleOk (e .«flutter_phase»)) (h .wow-phase) (h .flutter-phase))
     (and-i (validOf (e .«wow_drift»)) (validOf (e .«flutter_drift»)) (h .wow .valid) (h .flutter .valid))
 
-pub fresh-sound : (sample-rate : Float) (seed : ℕ) → T (sampleRateOk sample-rate) → seed < 2 ^ 64 → Sound (fresh sample-rate seed)
+pub fresh-sound : (sample-rate : Float) (seed : ℕ) → T (sampleRateOk sample-rate) → seed < 2 ^ 64
+    → Sound (fresh sample-rate seed)
 unfolding trailingZeros odd lt eq le ofFields ofBits
-fresh-sound sample-rate seed r w = record { rate = r; wow-phase = tt; flutter-phase = tt; wow = new-steady seed w; flutter = new-steady (flutterSeedOf seed) (flutter-word seed) }
+fresh-sound sample-rate seed r w =
+    record {
+      rate = r;
+      wow-phase = tt;
+      flutter-phase = tt;
+      wow = new-steady seed w;
+      flutter = new-steady (flutterSeedOf seed) (flutter-word seed);
+    }
 
-pub rated-sound : {e : ModulationEngine} (sample-rate : Float) → T (sampleRateOk sample-rate) → Sound e → Sound (rated e sample-rate)
-rated-sound sample-rate r h = record { rate = r; wow-phase = h .wow-phase; flutter-phase = h .flutter-phase; wow = h .wow; flutter = h .flutter }
+pub rated-sound : {e : ModulationEngine} (sample-rate : Float) → T (sampleRateOk sample-rate) → Sound e
+    → Sound (rated e sample-rate)
+rated-sound sample-rate r h =
+    record { rate = r; wow-phase = h .wow-phase; flutter-phase = h .flutter-phase; wow = h .wow; flutter = h .flutter }
 
 pub seeded-sound : {e : ModulationEngine} (seed : ℕ) → seed < 2 ^ 64 → Sound e → Sound (seeded e seed)
 seeded-sound {e} seed w h = record {
@@ -55,14 +67,23 @@ seeded-sound {e} seed w h = record {
 
 pub restarted-sound : {e : ModulationEngine} → Sound e → Sound (restarted e)
 unfolding trailingZeros odd lt eq le ofFields ofBits
-restarted-sound {e} h = record { rate = h .rate; wow-phase = tt; flutter-phase = tt; wow = reset-steady (e .«wow_drift») (h .wow); flutter = reset-steady (e .«flutter_drift») (h .flutter) }
+restarted-sound {e} h =
+    record {
+      rate = h .rate;
+      wow-phase = tt;
+      flutter-phase = tt;
+      wow = reset-steady (e .«wow_drift») (h .wow);
+      flutter = reset-steady (e .«flutter_drift») (h .flutter);
+    }
 
 -- a rate of at most 1000 times a power of two is not huge
-slow : (rate drift-amount value : Float) → AtMost 1000 rate → T (le (mul binary64 rate (multiplierOf drift-amount value)) huge)
+slow : (rate drift-amount value : Float) → AtMost 1000 rate
+    → T (le (mul binary64 rate (multiplierOf drift-amount value)) huge)
 unfolding multiplierOf trailingZeros odd ofFields ofBits
 slow rate drift-amount value h =
     let x = mul binary64 rate (multiplierOf drift-amount value) in
-    at-most-le (2 ^ 25) x huge (refl, refl) (at-most-mono x (lit≤ tt) (mul-at-most binary64 1000 (2 ^ 15) rate (multiplierOf drift-amount value) (lit≤ tt) h (pow2-at-most _)))
+    at-most-le (2 ^ 25) x huge (refl, refl) (at-most-mono x (lit≤ tt)
+    (mul-at-most binary64 1000 (2 ^ 15) rate (multiplierOf drift-amount value) (lit≤ tt) h (pow2-at-most _)))
 
 pub stepped-sound : {e : ModulationEngine} (p : ModulationParams) → T (paramsOk p) → Sound e → Sound (steppedOf e p)
 stepped-sound {e} p ok h =

@@ -1,5 +1,5 @@
--- G8, M2. What holds of an engine throughout a run: it is sound, and has the sample rate and the seeds that were set last. In a sound state only an
--- argument is refused. Assumes nothing.
+-- G8, M2. What holds of an engine throughout a run: it is sound, and has the sample rate and the seeds that were set
+-- last. In a sound state only an argument is refused. Assumes nothing.
 use mathlib.Core.Path.{_≡_, refl, sym, _∙_}
 use mathlib.Core.Bool.{Bool, true, false, cond}
 use mathlib.Core.List.{List, [], _∷_}
@@ -19,14 +19,17 @@ use Rattle.oscillator_ranges.specs.Ranges.{sampleRateOk}
 use Rattle.modulation_params.specs.Settings.{paramsOk}
 use Rattle.modulation_engine.specs.Engine.{validEngine, verdict, openedBy, fresh, rated}
 use Rattle.modulation.specs.Step.{wowPace, flutterPace, nextBy}
-use Rattle.modulation.specs.Runs.{Call, step, rate, seed, again, leftBy, after, run, rateAfter, lastRate, seedAfter, lastSeed, Word, Words}
+use Rattle.modulation.specs.Runs.{Call, step, rate, seed, again, leftBy, after, run, rateAfter, lastRate}
+use Rattle.modulation.specs.Runs.{seedAfter, lastSeed, Word, Words}
 use Rattle.modulation_engine.specs.declared.ModulationEngine.{ModulationEngine}
 use Rattle.modulation_params.specs.declared.ModulationParams.{ModulationParams}
-use Rattle.modulation.proofs.EngineInRange.{Sound, sound-valid, fresh-sound, rated-sound, seeded-sound, restarted-sound, stepped-sound}
+use Rattle.modulation.proofs.EngineInRange.{Sound, sound-valid, fresh-sound, rated-sound, seeded-sound}
+use Rattle.modulation.proofs.EngineInRange.{restarted-sound, stepped-sound}
 
 pub sound-verdict : {e : ModulationEngine} → Sound e → (arguments : Bool) → verdict arguments e ≡ cond arguments 0 1
 unfolding verdict
-sound-verdict {e} h true = rw (is-true (sampleRateOk (e .«sample_rate»)) (h .rate), is-true (validEngine e) (sound-valid h))
+sound-verdict {e} h true =
+    rw (is-true (sampleRateOk (e .«sample_rate»)) (h .rate), is-true (validEngine e) (sound-valid h))
 sound-verdict {e} h false = rw (is-true (sampleRateOk (e .«sample_rate»)) (h .rate))
 
 pub record Running (sample-rate : Float) (s : ℕ) (e : ModulationEngine) : Type 0 where
@@ -39,9 +42,11 @@ pub record Running (sample-rate : Float) (s : ℕ) (e : ModulationEngine) : Type
 pub flutter-twice : (s : ℕ) → seedOf (flutterSeedOf s) ≡ flutterSeedOf s
 flutter-twice s = seed-twice (xor s 0xD1B5_4A32_D192_ED03)
 
-pub fresh-running : (sample-rate : Float) (s : ℕ) → T (sampleRateOk sample-rate) → s < 2 ^ 64 → Running sample-rate s (fresh sample-rate s)
+pub fresh-running : (sample-rate : Float) (s : ℕ) → T (sampleRateOk sample-rate) → s < 2 ^ 64
+    → Running sample-rate s (fresh sample-rate s)
 unfolding drift.started
-fresh-running sample-rate s r w = record { sound = fresh-sound sample-rate s r w; rated-at = refl; wow-seed = refl; flutter-seed = flutter-twice s }
+fresh-running sample-rate s r w =
+    record { sound = fresh-sound sample-rate s r w; rated-at = refl; wow-seed = refl; flutter-seed = flutter-twice s }
 
 set-to : (r : SmoothRandom) (s : ℕ) → drift.setSeedOf r s .«initial_seed» ≡ seedOf s
 unfolding drift.started
@@ -52,20 +57,30 @@ set-to r s = go (eqb (seedOf s) (r .«initial_seed»)) refl
     go false h = refl
 
 module _ {sample-rate : Float} {s : ℕ} {e : ModulationEngine} (h : Running sample-rate s e) where
-  stepped-running : (p : ModulationParams) (b : Bool) → paramsOk p ≡ b → Running sample-rate s (nextBy (verdict b e) e p .engine)
+  stepped-running : (p : ModulationParams) (b : Bool) → paramsOk p ≡ b
+      → Running sample-rate s (nextBy (verdict b e) e p .engine)
   stepped-running p true ok =
       rw (sound-verdict (h .sound) true)
       (record {
         sound = stepped-sound p (passes (paramsOk p) ok) (h .sound);
         rated-at = h .rated-at;
         wow-seed = next-kept (e .«wow_drift») (wowPace p) (e .«sample_rate») (h .sound .wow .state) .1 ∙ h .wow-seed;
-        flutter-seed = next-kept (e .«flutter_drift») (flutterPace p) (e .«sample_rate») (h .sound .flutter .state) .1 ∙ h .flutter-seed;
+        flutter-seed =
+            next-kept (e .«flutter_drift») (flutterPace p) (e .«sample_rate») (h .sound .flutter .state) .1
+            ∙ h .flutter-seed;
       })
   stepped-running p false ok = rw (sound-verdict (h .sound) false) h
 
-  rated-running : (r : Float) (b : Bool) → sampleRateOk r ≡ b → Running (cond b r sample-rate) s (leftBy (openedBy (verdict b e) (rated e r)) e)
+  rated-running : (r : Float) (b : Bool) → sampleRateOk r ≡ b
+      → Running (cond b r sample-rate) s (leftBy (openedBy (verdict b e) (rated e r)) e)
   rated-running r true ok =
-      rw (sound-verdict (h .sound) true) (record { sound = rated-sound r (passes (sampleRateOk r) ok) (h .sound); rated-at = refl; wow-seed = h .wow-seed; flutter-seed = h .flutter-seed })
+      rw (sound-verdict (h .sound)
+      true) (record {
+        sound = rated-sound r (passes (sampleRateOk r) ok) (h .sound);
+        rated-at = refl;
+        wow-seed = h .wow-seed;
+        flutter-seed = h .flutter-seed;
+      })
   rated-running r false ok = rw (sound-verdict (h .sound) false) h
 
   pub after-running : (c : Call) → Word c → Running (rateAfter sample-rate c) (seedAfter s c) (after e c)
@@ -80,9 +95,17 @@ module _ {sample-rate : Float} {s : ℕ} {e : ModulationEngine} (h : Running sam
         wow-seed = set-to (e .«wow_drift») t;
         flutter-seed = set-to (e .«flutter_drift») (flutterSeedOf t) ∙ flutter-twice t;
       })
-  after-running again w = rw (sound-verdict (h .sound) true) (record { sound = restarted-sound (h .sound); rated-at = h .rated-at; wow-seed = h .wow-seed; flutter-seed = h .flutter-seed })
+  after-running again w =
+      rw (sound-verdict (h .sound)
+      true) (record {
+        sound = restarted-sound (h .sound);
+        rated-at = h .rated-at;
+        wow-seed = h .wow-seed;
+        flutter-seed = h .flutter-seed;
+      })
 
-pub running : (cs : List Call) {sample-rate : Float} {s : ℕ} {e : ModulationEngine} → Words cs → Running sample-rate s e → Running (lastRate sample-rate cs) (lastSeed s cs) (run e cs)
+pub running : (cs : List Call) {sample-rate : Float} {s : ℕ} {e : ModulationEngine} → Words cs → Running sample-rate s e
+    → Running (lastRate sample-rate cs) (lastSeed s cs) (run e cs)
 unfolding run lastRate lastSeed Words
 running [] w h = h
 running (c ∷ cs) w h = running cs (w .1) (after-running h c (w .0))

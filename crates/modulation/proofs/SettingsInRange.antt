@@ -34,10 +34,20 @@ held p h =
     let s = and-l shapes amounts rest in
     let a = and-r shapes amounts rest in
     record {
-      wow-rate = rate-at-most (p .«wow_rate_hz») (is-true (rateOk (p .«wow_rate_hz»)) (and-l (rateOk (p .«wow_rate_hz»)) (depthOk (p .«wow_depth_cents»)) w));
-      wow-depth = depth-at-most (p .«wow_depth_cents») (is-true (depthOk (p .«wow_depth_cents»)) (and-r (rateOk (p .«wow_rate_hz»)) (depthOk (p .«wow_depth_cents»)) w));
-      flutter-rate = rate-at-most (p .«flutter_rate_hz») (is-true (rateOk (p .«flutter_rate_hz»)) (and-l (rateOk (p .«flutter_rate_hz»)) (depthOk (p .«flutter_depth_cents»)) f));
-      flutter-depth = depth-at-most (p .«flutter_depth_cents») (is-true (depthOk (p .«flutter_depth_cents»)) (and-r (rateOk (p .«flutter_rate_hz»)) (depthOk (p .«flutter_depth_cents»)) f));
+      wow-rate =
+          rate-at-most (p .«wow_rate_hz»)
+          (is-true (rateOk (p .«wow_rate_hz»)) (and-l (rateOk (p .«wow_rate_hz»)) (depthOk (p .«wow_depth_cents»)) w));
+      wow-depth =
+          depth-at-most (p .«wow_depth_cents»)
+          (is-true (depthOk (p .«wow_depth_cents»))
+          (and-r (rateOk (p .«wow_rate_hz»)) (depthOk (p .«wow_depth_cents»)) w));
+      flutter-rate =
+          rate-at-most (p .«flutter_rate_hz») (is-true (rateOk (p .«flutter_rate_hz»))
+          (and-l (rateOk (p .«flutter_rate_hz»)) (depthOk (p .«flutter_depth_cents»)) f));
+      flutter-depth =
+          depth-at-most (p .«flutter_depth_cents»)
+          (is-true (depthOk (p .«flutter_depth_cents»))
+          (and-r (rateOk (p .«flutter_rate_hz»)) (depthOk (p .«flutter_depth_cents»)) f));
       wow-shape = and-l (finite (p .«wow_shape»)) (finite (p .«flutter_shape»)) s;
       flutter-shape = and-r (finite (p .«wow_shape»)) (finite (p .«flutter_shape»)) s;
       drift = and-l (finite (p .«drift_amount»)) (finite (p .«stereo_amount»)) a;

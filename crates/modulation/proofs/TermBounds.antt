@@ -1,4 +1,5 @@
--- A term of sums, differences and products, each rounded once, whose variables lie between ends: so does its value, between ends that are computed from theirs.
+-- A term of sums, differences and products, each rounded once, whose variables lie between ends:
+-- so does its value, between ends that are computed from theirs.
 -- A product's first factor may not be negative. Assumes nothing.
 use mathlib.Core.Path.{refl}
 use mathlib.Core.Bool.{Bool, true, false, _&&_, cond}
@@ -39,7 +40,11 @@ abbrev parted : Ends → Ends → Ends
 parted u v = record { low = sub binary64 (u .low) (v .high); high = sub binary64 (u .high) (v .low) }
 
 abbrev multiplied : Ends → Ends → Ends
-multiplied u v = record { low = mul binary64 (cond (le zero (v .low)) (u .low) (u .high)) (v .low); high = mul binary64 (cond (le zero (v .high)) (u .high) (u .low)) (v .high) }
+multiplied u v =
+    record {
+      low = mul binary64 (cond (le zero (v .low)) (u .low) (u .high)) (v .low);
+      high = mul binary64 (cond (le zero (v .high)) (u .high) (u .low)) (v .high);
+    }
 
 unfoldable pub ends : (ℕ → Ends) → Term → Ends
 ends σ (var i) = σ i
@@ -89,11 +94,14 @@ module _ (σ : ℕ → Ends) (ρ : ℕ → Float) (inside : (i : ℕ) → Betwee
   bounded (times x y) t =
       let (here, left, right) = three (le zero (ends σ x .low) && real (ends σ (times x y))) (sure σ x) (sure σ y) t in
       let (p, q) = reals (ends σ (times x y)) (and-r (le zero (ends σ x .low)) (real (ends σ (times x y))) here) in
-      product-between binary64 (and-l (le zero (ends σ x .low)) (real (ends σ (times x y))) here) (bounded x left) (bounded y right) refl refl p q
+      product-between binary64 (and-l (le zero (ends σ x .low)) (real (ends σ (times x y))) here) (bounded x left)
+      (bounded y right) refl refl p q
 
   pub lies-between : (e : Term) {l h : Float} → T (lies σ e l h) → Between l h (value ρ e)
   unfolding lies
   lies-between e {l} {h} t =
-      let (fixed, safe, fits) = three (real (record { low = l; high = h })) (sure σ e) (le l (ends σ e .low) && le (ends σ e .high) h) t in
+      let (fixed, safe, fits) =
+      three (real (record { low = l; high = h })) (sure σ e) (le l (ends σ e .low) && le (ends σ e .high) h) t in
       let (p, q) = reals (record { low = l; high = h }) fixed in
-      widen (bounded e safe) p q (and-l (le l (ends σ e .low)) (le (ends σ e .high) h) fits) (and-r (le l (ends σ e .low)) (le (ends σ e .high) h) fits)
+      widen (bounded e safe) p q (and-l (le l (ends σ e .low)) (le (ends σ e .high) h) fits)
+      (and-r (le l (ends σ e .low)) (le (ends σ e .high) h) fits)

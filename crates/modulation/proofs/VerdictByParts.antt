@@ -1,4 +1,5 @@
--- N1, N3. The engine learns from its generators' answers whether their states are in range, and so tests each range once; what it finds is its verdict.
+-- N1, N3. The engine learns from its generators' answers whether their states are in range, and so tests each range
+-- once; what it finds is its verdict.
 -- Assumes nothing.
 use mathlib.Core.Path.{_≡_}
 use mathlib.Core.Bool.{Bool, true, false, _&&_, cond}
@@ -16,7 +17,8 @@ use Rattle.modulation_params.specs.declared.ModulationParams.{ModulationParams}
 use Rattle.modulation.proofs.SettingsInRange.{held}
 use Rattle.modulation.proofs.PacesInRange.{wow-paces, flutter-paces, refuses-a-state-alone}
 
-module _ (e : ModulationEngine) (p : ModulationParams) (settings : (sampleRateOk (e .«sample_rate») && paramsOk p) ≡ true) where
+module _ (e : ModulationEngine) (p : ModulationParams)
+    (settings : (sampleRateOk (e .«sample_rate») && paramsOk p) ≡ true) where
   pub ready : (phasesOk e && (eqb (wowDrift e p .refusal) 0 && eqb (flutterDrift e p .refusal) 0)) ≡ validEngine e
   unfolding validEngine
   ready =
@@ -24,14 +26,17 @@ module _ (e : ModulationEngine) (p : ModulationParams) (settings : (sampleRateOk
       let rate = and-l (sampleRateOk (e .«sample_rate»)) (paramsOk p) both in
       let h = held p (and-r (sampleRateOk (e .«sample_rate»)) (paramsOk p) both) in
       rw (
-        refuses-a-state-alone (e .«wow_drift») (wowPace p) (e .«sample_rate») (and-i (within zero fastest (wowPace p)) (sampleRateOk (e .«sample_rate»)) (wow-paces p h) rate),
-        refuses-a-state-alone (e .«flutter_drift») (flutterPace p) (e .«sample_rate») (and-i (within zero fastest (flutterPace p)) (sampleRateOk (e .«sample_rate»)) (flutter-paces p h) rate),
+        refuses-a-state-alone (e .«wow_drift») (wowPace p) (e .«sample_rate»)
+            (and-i (within zero fastest (wowPace p)) (sampleRateOk (e .«sample_rate»)) (wow-paces p h) rate),
+        refuses-a-state-alone (e .«flutter_drift») (flutterPace p) (e .«sample_rate»)
+            (and-i (within zero fastest (flutterPace p)) (sampleRateOk (e .«sample_rate»)) (flutter-paces p h) rate),
       )
 
   pub found : (b : Bool) → validEngine e ≡ b → verdict (paramsOk p) e ≡ cond b 0 3
   unfolding verdict
   found b h = rw (settings, h)
 
-pub outside : (e : ModulationEngine) (p : ModulationParams) → (sampleRateOk (e .«sample_rate») && paramsOk p) ≡ false → verdict (paramsOk p) e ≡ 1
+pub outside : (e : ModulationEngine) (p : ModulationParams) → (sampleRateOk (e .«sample_rate») && paramsOk p) ≡ false
+    → verdict (paramsOk p) e ≡ 1
 unfolding verdict
 outside e p h = rw h

@@ -1,5 +1,6 @@
-// 001's ModulationEngine::next: two oscillators whose rates wander. M5. One sample, in 001's order: the drifts are drawn, the offsets rendered, then the phases advance.
-// What cannot be served is refused by 01's number, and nothing has changed then.
+// The original's ModulationEngine::next (001): one step of two oscillators whose rates wander (M5).
+// The drifts are drawn, the offsets rendered, then the phases advance, in the original's order. What cannot be served
+// is refused by its number, and then nothing has changed.
 ghost use mathlib.Core.Path.{_≡_};
 ghost use mathlib.Core.Bool.{_&&_};
 ghost use Rattle.modulation.specs.Step.{nextOf};

@@ -1,4 +1,5 @@
-// M5. What a sample of 001's engine is made of: the offsets that it renders, and the phases that it advances. The settings and the state are tested before (`modulation`).
+// What one step of the engine is made of: the offsets that it renders and the phases that it advances (001, M5).
+// Settings and state have been tested before, in `modulation`.
 ghost use mathlib.Core.Path.{_≡_};
 ghost use mathlib.Core.Bool.{_&&_};
 ghost use lib.Dec.{eqb};
@@ -58,12 +59,14 @@ fn same(a: f64, b: f64) -> bool
 
 // Whether neither pair differs.
 fn pairs(a: f64, b: f64, c: f64, d: f64) -> bool
-    ensures { λ r. ⌜ r ≡ ((Ieee.eq a b && eqb (Ieee.toBits binary64 a) (Ieee.toBits binary64 b)) && (Ieee.eq c d && eqb (Ieee.toBits binary64 c) (Ieee.toBits binary64 d))) ⌝ }
+    ensures { λ r. ⌜ r ≡ ((Ieee.eq a b && eqb (Ieee.toBits binary64 a) (Ieee.toBits binary64 b))
+        && (Ieee.eq c d && eqb (Ieee.toBits binary64 c) (Ieee.toBits binary64 d))) ⌝ }
 {
     if same(a, b) { same(c, d) } else { false }
 }
 
-// 001 renders each side by oscillator_delay; what that multiplies the shapes by is the same on both, and so is all where no side is displaced: that is rendered once.
+// The original calls oscillator_delay for each side (001). The factors of the shapes are the same on both sides, and
+// with no stereo amount so is everything else: that is rendered once.
 pub fn render(engine: ModulationEngine, params: ModulationParams) -> StereoDelayOffset
     ensures { λ r. ⌜ r ≡ offsetOf engine params ⌝ }
 {

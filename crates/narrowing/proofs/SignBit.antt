@@ -22,7 +22,9 @@ module _ (x : Float) (held : T (fits binary64 x)) where
   n = toBits binary64 x
 
   pub size-of : ne x x ≡ false → bitAnd n (2 ^ 63 - 1) ≤ 0x7ff0_0000_0000_0000
-  size-of h = subst (λ (z : ℕ). z ≤ 0x7ff0_0000_0000_0000) (sym (and-mask n 63)) (no-nan-rest binary64 n (value-bits binary64 x held (differs-no-nan x h)))
+  size-of h =
+      subst (λ (z : ℕ). z ≤ 0x7ff0_0000_0000_0000) (sym (and-mask n 63))
+      (no-nan-rest binary64 n (value-bits binary64 x held (differs-no-nan x h)))
 
   module _ (r : ℕ) (R : Rounds (bitAnd n (2 ^ 63 - 1)) r) where
     abbrev joined : ℕ
@@ -42,7 +44,9 @@ module _ (x : Float) (held : T (fits binary64 x)) where
     joined-lt = omega (arith, N, R .small)
 
     pub joined-no-nan : T (not (nanBits binary32 joined))
-    joined-no-nan = subst (λ (z : ℕ). T (not (nanBits binary32 z))) (sym joined-is) (sign-no-nan binary32 (leb (2 ^ 63) n) r (R .small))
+    joined-no-nan =
+        subst (λ (z : ℕ). T (not (nanBits binary32 z))) (sym joined-is)
+        (sign-no-nan binary32 (leb (2 ^ 63) n) r (R .small))
 
     pub joined-reads : ofBits binary32 joined ≡ narrowed x
     joined-reads =

@@ -16,7 +16,8 @@ use Rattle.near_fused.proofs.PatternSplit.{split}
 use Rattle.near_fused.proofs.WholeStep.{pl, u, hi, lo}
 use Rattle.near_fused.proofs.Tests.{Inside, inside-size}
 
-module _ (v mu c : Float) (hv : T (fits binary64 v)) (hm : T (fits binary64 mu)) (hc : T (fits binary64 c)) (i : Inside mu) (part : Float) where
+module _ (v mu c : Float) (hv : T (fits binary64 v)) (hm : T (fits binary64 mu)) (hc : T (fits binary64 c))
+    (i : Inside mu) (part : Float) where
   abbrev vh : Float
   vh = high v
 
@@ -49,7 +50,9 @@ module _ (v mu c : Float) (hv : T (fits binary64 v)) (hm : T (fits binary64 mu))
     fc = add-finite (mul binary64 vh mh) c fs .1
 
     parts : T (finite (mul binary64 vh (sub binary64 mu mh))) × T (finite (mul binary64 (sub binary64 v vh) mu))
-    parts = add-finite (mul binary64 vh (sub binary64 mu mh)) (mul binary64 (sub binary64 v vh) mu) (add-finite _ (pl v mu c vh mh e) (fue .0) .1)
+    parts =
+        add-finite (mul binary64 vh (sub binary64 mu mh)) (mul binary64 (sub binary64 v vh) mu)
+        (add-finite _ (pl v mu c vh mh e) (fue .0) .1)
 
     fm : T (finite mu)
     fm = sub-finite mu mh (mul-finite vh (sub binary64 mu mh) (parts .0) .1) .0
@@ -57,7 +60,8 @@ module _ (v mu c : Float) (hv : T (fits binary64 v)) (hm : T (fits binary64 mu))
     pub fv : T (finite v)
     fv = sub-finite v vh (mul-finite (sub binary64 v vh) mu (parts .1) .0) .0
 
-    pub answer : T (le (add binary64 s H) (add binary64 s L)) → T (enough part) → add binary64 s H ≡ fused binary64 v mu c
+    pub answer : T (le (add binary64 s H) (add binary64 s L)) → T (enough part)
+        → add binary64 s H ≡ fused binary64 v mu c
     answer test en =
         let X = split v hv fv in
         let R = split mu hm fm in
@@ -66,5 +70,8 @@ module _ (v mu c : Float) (hv : T (fits binary64 v)) (hm : T (fits binary64 mu))
         let B = C .q * 2 ^ C .k in
         let P = margin-least part en (sized v) (sized c) A B (X .size) (C .size) (fue .1) in
         law (unit _ P) v mu c vh mh e
-        (step _ P v mu c e X R C (inside-size mu fm i) (first-most part en (sized v) (sized c) A B (X .size) (C .size) (fue .1) (X .q) (X .k) refl (X .digits)) (second-most part en (sized v) (sized c) A B (X .size) (C .size) (fue .1) (C .q) (C .k) refl (C .digits)) hc (margin-value part en (sized v) (sized c) A B (X .size) (C .size) (fue .1)) fp)
+        (step _ P v mu c e X R C (inside-size mu fm i)
+        (first-most part en (sized v) (sized c) A B (X .size) (C .size) (fue .1) (X .q) (X .k) refl (X .digits))
+        (second-most part en (sized v) (sized c) A B (X .size) (C .size) (fue .1) (C .q) (C .k) refl (C .digits)) hc
+        (margin-value part en (sized v) (sized c) A B (X .size) (C .size) (fue .1)) fp)
         fv fm fc real test

@@ -1,4 +1,5 @@
--- A finite f64 as a whole number of its smallest values, and numbers with no more digits than an f64: rounding leaves them. Assumes nothing.
+-- A finite f64 as a whole number of its smallest values, and numbers with no more digits than an f64:
+-- rounding leaves them. Assumes nothing.
 use mathlib.Core.Path.{_≡_, refl, sym, ap, _∙_}
 use mathlib.Core.Bool.{Bool, true, false, not}
 use Prim.Native.Nat.{ℕ, _*_, _^_, _<_}
@@ -39,7 +40,15 @@ pub record Short (q : Frac) : Type 0 where
 pub units-of : (x : Float) → T (fits binary64 x) → T (finite x) → Units x
 units-of nan h f = absurd f
 units-of (inf s) h f = absurd f
-units-of (fin s m e) h f = let (i, v, few, b) = fits-units binary64 s m e h in record { sign = s; amount = m * 2 ^ i; few = (m, i, refl, few); under = lt-of-lt-of-le b (le-of-eq refl); value = v }
+units-of (fin s m e) h f =
+    let (i, v, few, b) = fits-units binary64 s m e h in
+    record {
+      sign = s;
+      amount = m * 2 ^ i;
+      few = (m, i, refl, few);
+      under = lt-of-lt-of-le b (le-of-eq refl);
+      value = v;
+    }
 
 pub units-same : {x : Float} (u : Units x) → Same (signed (u .sign) (u .amount) (2 ^ 1074)) (val x)
 units-same {x} u = same-sym (value-is x (u .sign) (u .amount) L (pow-pos 1074) (u .value) .same)
@@ -48,10 +57,18 @@ pub short-of : {x : Float} → Units x → Short (val x)
 short-of u = record { sign = u .sign; amount = u .amount; few = u .few; under = u .under; same = units-same u }
 
 pub short-same : {q r : Frac} → Same q r → Short q → Short r
-short-same e h = record { sign = h .sign; amount = h .amount; few = h .few; under = h .under; same = same-trans (h .same) e }
+short-same e h =
+    record { sign = h .sign; amount = h .amount; few = h .few; under = h .under; same = same-trans (h .same) e }
 
 pub short-opp : {q : Frac} → Short q → Short (opp q)
-short-opp {q} h = record { sign = not (h .sign); amount = h .amount; few = h .few; under = h .under; same = go (h .sign) (opp-same (h .same)) }
+short-opp {q} h =
+    record {
+      sign = not (h .sign);
+      amount = h .amount;
+      few = h .few;
+      under = h .under;
+      same = go (h .sign) (opp-same (h .same));
+    }
   where
     go : (s : Bool) → Same (opp (signed s (h .amount) L)) (opp q) → Same (signed (not s) (h .amount) L) (opp q)
     go true e = e
@@ -69,5 +86,8 @@ short-exact {x} {q} h r =
     let C = bottom r in
     let (d, i, e, few) = h .few in
     let a = size-same (r .s) (h .sign) (r .a) (r .c) (h .amount) L (same-trans (r .same) (same-sym (h .same))) in
-    let v = value-is (round binary64 (r .s) (r .a) (r .c)) (r .s) (r .a) (r .c) C (round-exact binary64 (r .s) (r .a) (r .c) d i C few (lt-of-le-of-lt (le-of-eq (sym e)) (h .under)) (a ∙ ap (λ (z : ℕ). z * r .c) e)) in
+    let v =
+    value-is (round binary64 (r .s) (r .a) (r .c)) (r .s) (r .a) (r .c) C
+    (round-exact binary64 (r .s) (r .a) (r .c) d i C few (lt-of-le-of-lt (le-of-eq (sym e)) (h .under))
+    (a ∙ ap (λ (z : ℕ). z * r .c) e)) in
     rw (r .is) (record { real = v .real; same = same-trans (v .same) (r .same) })

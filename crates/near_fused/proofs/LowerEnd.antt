@@ -46,7 +46,8 @@ never-least nan f h = f
 never-least (inf s) f h = f
 never-least (fin s m e) f h = no-inf s m e h
 
-pub finite-low : (s r x : Float) {y : Float} {a b : Frac} → T (finite s) → T (finite r) → T (le r (add binary64 s x)) → T (finite y) → AtMost a b → Rounded binary64 x a → Rounded binary64 y b → T (finite x)
+pub finite-low : (s r x : Float) {y : Float} {a b : Frac} → T (finite s) → T (finite r) → T (le r (add binary64 s x))
+    → T (finite y) → AtMost a b → Rounded binary64 x a → Rounded binary64 y b → T (finite x)
 finite-low s r nan fs fr t fy l X Y = never-nan r fr (subst (λ (z : Float). T (le r z)) (with-nan s) t)
 finite-low s r (inf true) fs fr t fy l X Y = never-least r fr (subst (λ (z : Float). T (le r z)) (with-inf s fs) t)
 finite-low s r (inf false) {y} fs fr t fy l X Y = top-inf y fy (mono-above {x = inf false} tt l X Y)
@@ -65,7 +66,8 @@ zero-not-above (fin false (suc m) e) z a f =
 pub zero-same : (x : Float) → val x .p + val x .n ≡ 0 → Same (val x) nil
 zero-same x z = record { left = val-pos x; right = lit< tt; cross = omega arith }
 
-neg-zero : (s : Bool) (m : ℕ) (e : ℤ) → val (fin s m e) .p + val (fin s m e) .n ≡ 0 → val (fin (not s) m e) .p + val (fin (not s) m e) .n ≡ 0
+neg-zero : (s : Bool) (m : ℕ) (e : ℤ) → val (fin s m e) .p + val (fin s m e) .n ≡ 0
+    → val (fin (not s) m e) .p + val (fin (not s) m e) .n ≡ 0
 neg-zero true m e z = omega arith
 neg-zero false m e z = omega arith
 
@@ -73,13 +75,20 @@ negative : (r : Float) (n : ℕ) (d : ℤ) → T (finite r) → val r .p + val r
 unfolding neg
 negative nan n d f z t = f
 negative (inf s) n d f z t = f
-negative (fin s m e) n d f z t = zero-not-above (fin (not s) m e) (neg-zero s m e z) (above-of-le (fin false (suc n) d) (fin (not s) m e) (lt→ltb 0 (suc n) (zero-lt-suc n)) (neg-mono s m e (fin true (suc n) d) t)) tt
+negative (fin s m e) n d f z t =
+    zero-not-above (fin (not s) m e) (neg-zero s m e z)
+    (above-of-le (fin false (suc n) d) (fin (not s) m e) (lt→ltb 0 (suc n) (zero-lt-suc n))
+    (neg-mono s m e (fin true (suc n) d) t)) tt
 
-pub zero-too : (r l : Float) {a b : Frac} → T (finite r) → val r .p + val r .n ≡ 0 → T (le r l) → AtMost a b → Rounded binary64 l a → Rounded binary64 r b → T (finite l) × (val l .p + val l .n ≡ 0)
+pub zero-too : (r l : Float) {a b : Frac} → T (finite r) → val r .p + val r .n ≡ 0 → T (le r l) → AtMost a b
+    → Rounded binary64 l a → Rounded binary64 r b → T (finite l) × (val l .p + val l .n ≡ 0)
 zero-too r nan f z t h L R = absurd (never-nan r f t)
 zero-too r (inf true) f z t h L R = absurd (never-least r f t)
 zero-too r (inf false) f z t h L R = absurd (top-inf r f (mono-above {x = inf false} tt h L R))
 zero-too r (fin false zero d) f z t h L R = (tt, omega arith)
 zero-too r (fin true zero d) f z t h L R = (tt, omega arith)
-zero-too r (fin false (suc n) d) f z t h L R = absurd (zero-not-above r z (above-of-le (fin false (suc n) d) r (lt→ltb 0 (suc n) (zero-lt-suc n)) (mono-above {x = fin false (suc n) d} (lt→ltb 0 (suc n) (zero-lt-suc n)) h L R)) f)
+zero-too r (fin false (suc n) d) f z t h L R =
+    absurd (zero-not-above r z
+    (above-of-le (fin false (suc n) d) r (lt→ltb 0 (suc n) (zero-lt-suc n))
+    (mono-above {x = fin false (suc n) d} (lt→ltb 0 (suc n) (zero-lt-suc n)) h L R)) f)
 zero-too r (fin true (suc n) d) f z t h L R = absurd (negative r n d f z t)

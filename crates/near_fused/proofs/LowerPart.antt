@@ -22,7 +22,9 @@ module _ (x : Float) (S : Split x) where
   rests = S .q % 2 ^ lower * 2 ^ S .k
 
   whole : S .q * 2 ^ S .k ≡ cut + rests
-  whole = ap (λ (z : ℕ). z * 2 ^ S .k) (sym (div-add-mod' (S .q) (2 ^ lower))) ∙ add-mul (S .q / 2 ^ lower * 2 ^ lower) (S .q % 2 ^ lower) (2 ^ S .k)
+  whole =
+      ap (λ (z : ℕ). z * 2 ^ S .k) (sym (div-add-mod' (S .q) (2 ^ lower)))
+      ∙ add-mul (S .q / 2 ^ lower * 2 ^ lower) (S .q % 2 ^ lower) (2 ^ S .k)
 
   pub cut-le : cut ≤ S .q * 2 ^ S .k
   cut-le = mul-le-mul-right (2 ^ S .k) (under (S .q))
@@ -32,8 +34,12 @@ module _ (x : Float) (S : Split x) where
 
   pub rest-same : Same (signed (S .sign) rests (2 ^ 1074)) (rest x (high x))
   rest-same =
-      same-trans (subst (λ (z : ℕ). Same (signed (S .sign) rests (2 ^ 1074)) (plus (signed (S .sign) z (2 ^ 1074)) (opp (signed (S .sign) cut (2 ^ 1074))))) (sym whole) (up (S .sign) rests cut (2 ^ 1074) (pow-pos 1074)))
-      (plus-same (same-sym (value-is x (S .sign) (S .q * 2 ^ S .k) (2 ^ 1074) (pow-pos 1074) (S .value) .same)) (opp-same (same-sym (value-is (high x) (S .sign) cut (2 ^ 1074) (pow-pos 1074) (S .upper) .same))))
+      same-trans (subst
+      (λ (z : ℕ). Same (signed (S .sign) rests (2 ^ 1074))
+      (plus (signed (S .sign) z (2 ^ 1074)) (opp (signed (S .sign) cut (2 ^ 1074)))))
+      (sym whole) (up (S .sign) rests cut (2 ^ 1074) (pow-pos 1074)))
+      (plus-same (same-sym (value-is x (S .sign) (S .q * 2 ^ S .k) (2 ^ 1074) (pow-pos 1074) (S .value) .same))
+      (opp-same (same-sym (value-is (high x) (S .sign) cut (2 ^ 1074) (pow-pos 1074) (S .upper) .same))))
 
   pub rests-le : rests * 2 ^ 25 ≤ S .q * 2 ^ S .k + 2 ^ 52
   rests-le = go (S .k) (S .normal)

@@ -24,4 +24,11 @@ pub share : (x : Float) → T (enough x) → Share x
 share nan h = absurd h
 share (inf s) h = absurd h
 share (fin true m e) h = absurd h
-share (fin false m e) h = record { n = m * up e; d = down e; some = down-pos e; value = (refl, refl); most = leb→le (down e) (m * up e * 2 ^ 70) h }
+share (fin false m e) h =
+    record {
+      n = m * up e;
+      d = down e;
+      some = down-pos e;
+      value = (refl, refl);
+      most = leb→le (down e) (m * up e * 2 ^ 70) h;
+    }

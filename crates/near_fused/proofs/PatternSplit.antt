@@ -38,7 +38,8 @@ split x held f =
     let whole : n ≡ cond b (2 ^ 63) 0 + r = sign-rest binary64 n (toBits-lt binary64 x held) in
     let K : k ≤ 2045 = omega arith in
     let Q : q < 2 ^ 53 = omega arith in
-    let O : (d : ℕ) → d < 2 ^ 53 → d * 2 ^ k < overflow binary64 = (λ d D. lt-of-lt-of-le (shl-lt 53 k D) (pow-mono {j = 2098} (omega arith))) in
+    let O : (d : ℕ) → d < 2 ^ 53 → d * 2 ^ k < overflow binary64 =
+    (λ d D. lt-of-lt-of-le (shl-lt 53 k D) (pow-mono {j = 2098} (omega arith))) in
     let reads : x ≡ units binary64 b q k = sym back ∙ ap (ofBits binary64) whole ∙ unpacked binary64 b r F in
     record {
       sign = b;
@@ -49,21 +50,33 @@ split x held f =
       under = O q Q;
       value = subst (λ (z : Float). HasValue z b (q * 2 ^ k) (2 ^ 1074)) (sym reads) (units-val binary64 b q k (O q Q));
       upper = cut n r b whole F O;
-      size = subst (λ (z : Float). HasValue z false (q * 2 ^ k) (2 ^ 1074)) (sym (ap (ofBits binary64) (sym (zero-add r)) ∙ unpacked binary64 false r F)) (units-val binary64 false q k (O q Q));
+      size =
+          subst (λ (z : Float). HasValue z false (q * 2 ^ k) (2 ^ 1074))
+          (sym (ap (ofBits binary64) (sym (zero-add r)) ∙ unpacked binary64 false r F))
+          (units-val binary64 false q k (O q Q));
     }
   where
-    cut : (n r : ℕ) (b : Bool) → n ≡ cond b (2 ^ 63) 0 + r → r < 0x7ff0_0000_0000_0000 → ((d : ℕ) → d < 2 ^ 53 → d * 2 ^ (r / 2 ^ 52 - 1) < overflow binary64)
-        → HasValue (ofBits binary64 (n / 2 ^ lower * 2 ^ lower)) b ((r - (r / 2 ^ 52 - 1) * 2 ^ 52) / 2 ^ lower * 2 ^ lower * 2 ^ (r / 2 ^ 52 - 1)) (2 ^ 1074)
+    cut : (n r : ℕ) (b : Bool) → n ≡ cond b (2 ^ 63) 0 + r → r < 0x7ff0_0000_0000_0000
+        → ((d : ℕ) → d < 2 ^ 53 → d * 2 ^ (r / 2 ^ 52 - 1) < overflow binary64)
+        → HasValue (ofBits binary64 (n / 2 ^ lower * 2 ^ lower)) b
+        ((r - (r / 2 ^ 52 - 1) * 2 ^ 52) / 2 ^ lower * 2 ^ lower * 2 ^ (r / 2 ^ 52 - 1)) (2 ^ 1074)
     cut n r b w F O =
         let t = r / 2 ^ lower * 2 ^ lower in
         let G : t < 0x7ff0_0000_0000_0000 = omega arith in
         let kk : t / 2 ^ 52 - 1 ≡ r / 2 ^ 52 - 1 = omega arith in
-        let qq : t - (t / 2 ^ 52 - 1) * 2 ^ 52 ≡ (r - (r / 2 ^ 52 - 1) * 2 ^ 52) / 2 ^ lower * 2 ^ lower = omega arith in
+        let qq : t - (t / 2 ^ 52 - 1) * 2 ^ 52
+        ≡ (r - (r / 2 ^ 52 - 1) * 2 ^ 52) / 2 ^ lower * 2 ^ lower = omega arith in
         let D : (r - (r / 2 ^ 52 - 1) * 2 ^ 52) / 2 ^ lower * 2 ^ lower < 2 ^ 53 = omega arith in
-        let reads : ofBits binary64 (n / 2 ^ lower * 2 ^ lower) ≡ units binary64 b ((r - (r / 2 ^ 52 - 1) * 2 ^ 52) / 2 ^ lower * 2 ^ lower) (r / 2 ^ 52 - 1) =
-        ap (ofBits binary64) (moved n r b w) ∙ unpacked binary64 b t G ∙ ap (λ (z : ℕ). units binary64 b z (t / 2 ^ 52 - 1)) qq ∙ ap (λ (z : ℕ). units binary64 b ((r - (r / 2 ^ 52 - 1) * 2 ^ 52) / 2 ^ lower * 2 ^ lower) z) kk in
-        rw reads (units-val binary64 b ((r - (r / 2 ^ 52 - 1) * 2 ^ 52) / 2 ^ lower * 2 ^ lower) (r / 2 ^ 52 - 1) (O ((r - (r / 2 ^ 52 - 1) * 2 ^ 52) / 2 ^ lower * 2 ^ lower) D))
+        let reads : ofBits binary64 (n / 2 ^ lower * 2 ^ lower)
+        ≡ units binary64 b ((r - (r / 2 ^ 52 - 1) * 2 ^ 52) / 2 ^ lower * 2 ^ lower) (r / 2 ^ 52 - 1) =
+        ap (ofBits binary64) (moved n r b w)
+        ∙ unpacked binary64 b t G
+        ∙ ap (λ (z : ℕ). units binary64 b z (t / 2 ^ 52 - 1)) qq
+        ∙ ap (λ (z : ℕ). units binary64 b ((r - (r / 2 ^ 52 - 1) * 2 ^ 52) / 2 ^ lower * 2 ^ lower) z) kk in
+        rw reads (units-val binary64 b ((r - (r / 2 ^ 52 - 1) * 2 ^ 52) / 2 ^ lower * 2 ^ lower) (r / 2 ^ 52 - 1)
+        (O ((r - (r / 2 ^ 52 - 1) * 2 ^ 52) / 2 ^ lower * 2 ^ lower) D))
       where
-        moved : (n r : ℕ) (b : Bool) → n ≡ cond b (2 ^ 63) 0 + r → n / 2 ^ lower * 2 ^ lower ≡ cond b (2 ^ 63) 0 + r / 2 ^ lower * 2 ^ lower
+        moved : (n r : ℕ) (b : Bool) → n ≡ cond b (2 ^ 63) 0 + r
+            → n / 2 ^ lower * 2 ^ lower ≡ cond b (2 ^ 63) 0 + r / 2 ^ lower * 2 ^ lower
         moved n r true w = omega arith
         moved n r false w = omega arith

@@ -1,5 +1,6 @@
--- A sum of two values of 53 digits, rounded, less the larger of them has 53 digits too. Either nothing was rounded, and the smaller is left; or the unit that was rounded to
--- divides the larger, or is twice its last place. Units are 2 ^ -1074. Assumes nothing.
+-- A sum of two values of 53 digits, rounded, less the larger of them has 53 digits too. Either nothing was rounded,
+-- and the smaller is left; or the unit that was rounded to divides the larger, or is twice its last place.
+-- Units are 2 ^ -1074. Assumes nothing.
 use mathlib.Core.Path.{_≡_, sym, ap, _∙_}
 use mathlib.Core.Logic.{inl, inr}
 use Prim.Native.Nat.{ℕ, suc, _+_, _-_, _*_, _^_, _≤_, _<_}
@@ -42,7 +43,8 @@ module _ (m a n b : ℕ) (M : m < 2 ^ 53) (N : n < 2 ^ 53) (o : n * 2 ^ b ≤ m 
       | inl l ↦
           let c : 2 ^ a * 2 ≤ u = le-trans (le-of-eq (sym (pow-suc 2 a))) (pow-mono l) in
           let g : 2 ^ 52 * u ≤ v = v-ge binary64 v (omega arith) in
-          let h : X + 2 ^ a ≤ 2 ^ 53 * 2 ^ a = le-trans (le-of-eq (sym (suc-mul m (2 ^ a)))) (mul-le-mul-right (2 ^ a) M) in
+          let h : X + 2 ^ a ≤ 2 ^ 53 * 2 ^ a =
+          le-trans (le-of-eq (sym (suc-mul m (2 ^ a)))) (mul-le-mul-right (2 ^ a) M) in
           let t : 2 ^ (52 + j) < 2 ^ (54 + a) = omega (arith, pow-add 2 52 j, pow-add 2 54 a, pow-pos a) in
           let k : j ≡ suc a = omega (arith, pow-lt-back (52 + j) (54 + a) t) in
           let w : u ≡ 2 ^ a * 2 = ap (λ (z : ℕ). 2 ^ z) k ∙ pow-suc 2 a in
@@ -51,17 +53,30 @@ module _ (m a n b : ℕ) (M : m < 2 ^ 53) (N : n < 2 ^ 53) (o : n * 2 ^ b ≤ m 
           let y : X < v = lt-of-lt-of-le (mul-lt-mul-of-pos-right M (pow-pos a)) (twice (2 ^ a) u v c g) in
           let q : m ≤ p = lower m p (2 ^ a) (reach X v (rounded v) (2 ^ a) u p w r y (near-hi v)) in
           let f : (p - m) * 2 ^ a ≡ p * 2 ^ a - X = sub-mul p m (2 ^ a) in
-          let x : p - m ≤ 2 ^ 53 = lower (p - m) (2 ^ 53) (2 ^ a) (short X Y v (rounded v) (2 ^ a) u (p * 2 ^ a) ((p - m) * 2 ^ a) (pow-pos a) w r e f h o (near-lo v)) in
-          ((p - m) * 2 ^ a, r ∙ joined X (p * 2 ^ a) ((p - m) * 2 ^ a) (mul-le-mul-right (2 ^ a) q) f, few-of (p - m) a x)
+          let x : p - m ≤ 2 ^ 53 =
+          lower (p - m) (2 ^ 53) (2 ^ a)
+          (short X Y v (rounded v) (2 ^ a) u (p * 2 ^ a) ((p - m) * 2 ^ a) (pow-pos a) w r e f h o (near-lo v)) in (
+            (p - m) * 2 ^ a,
+            r ∙ joined X (p * 2 ^ a) ((p - m) * 2 ^ a) (mul-le-mul-right (2 ^ a) q) f,
+            few-of (p - m) a x,
+          )
       | inr g ↦ elim (lt-or-ge b j) [
         | inl l ↦
             let w = m * 2 ^ (a - j) in
             let i : X ≡ w * u = whole m a j g in
             let q : w ≤ near binary64 v = closest-ge v u w (pow-pos j) (omega arith) in
-            let f : (near binary64 v - w) * u ≡ rounded v - w * u = sub-mul (near binary64 v) w u in
-            ((near binary64 v - w) * u, omega (arith, mul-le-mul-right u q), rest (near binary64 v - w) j l (omega (arith, near-lo v, mul-le-mul-right u q)))
-        | inr k ↦
-            (Y, exact-multiple binary64 v (m * 2 ^ (a - j) + n * 2 ^ (b - j)) (e ∙ omega (arith, whole m a j g, whole n b j k)) ∙ e, (n, b, ap (λ (z : ℕ). n * 2 ^ z) (omega arith), N))
+            let f : (near binary64 v - w) * u ≡ rounded v - w * u = sub-mul (near binary64 v) w u in (
+              (near binary64 v - w) * u,
+              omega (arith, mul-le-mul-right u q),
+              rest (near binary64 v - w) j l (omega (arith, near-lo v, mul-le-mul-right u q)),
+            )
+        | inr k ↦ (
+          Y,
+          exact-multiple binary64 v (m * 2 ^ (a - j) + n * 2 ^ (b - j))
+              (e ∙ omega (arith, whole m a j g, whole n b j k))
+              ∙ e,
+          (n, b, ap (λ (z : ℕ). n * 2 ^ z) (omega arith), N),
+        )
       ]
     ]
       where
@@ -71,7 +86,8 @@ module _ (m a n b : ℕ) (M : m < 2 ^ 53) (N : n < 2 ^ 53) (o : n * 2 ^ b ≤ m 
         reach : (X v G t u p : ℕ) → u ≡ t * 2 → G ≡ p * t → X < v → v * 2 ≤ G * 2 + u → X < suc p * t
         reach X v G t u p a b c d = omega arith
 
-        short : (X Y v G t u P D : ℕ) → 0 < t → u ≡ t * 2 → G ≡ P → v ≡ X + Y → D ≡ P - X → X + t ≤ 2 ^ 53 * t → Y ≤ X → G * 2 ≤ v * 2 + u → D < suc (2 ^ 53) * t
+        short : (X Y v G t u P D : ℕ) → 0 < t → u ≡ t * 2 → G ≡ P → v ≡ X + Y → D ≡ P - X → X + t ≤ 2 ^ 53 * t → Y ≤ X
+            → G * 2 ≤ v * 2 + u → D < suc (2 ^ 53) * t
         short X Y v G t u P D a b c d e f g h = omega arith
 
         joined : (X P D : ℕ) → X ≤ P → D ≡ P - X → P ≡ X + D
@@ -89,10 +105,16 @@ module _ (m a n b : ℕ) (M : m < 2 ^ 53) (N : n < 2 ^ 53) (o : n * 2 ^ b ≤ m 
             let w = m * 2 ^ (a - j) in
             let i : X ≡ w * u = whole m a j g in
             let q : near binary64 v ≤ w = closest-most v u w (pow-pos j) (omega arith) in
-            let f : (w - near binary64 v) * u ≡ w * u - rounded v = sub-mul w (near binary64 v) u in
-            ((w - near binary64 v) * u, omega (arith, mul-le-mul-right u q), rest (w - near binary64 v) j l (omega (arith, near-hi v, mul-le-mul-right u q)))
+            let f : (w - near binary64 v) * u ≡ w * u - rounded v = sub-mul w (near binary64 v) u in (
+              (w - near binary64 v) * u,
+              omega (arith, mul-le-mul-right u q),
+              rest (w - near binary64 v) j l (omega (arith, near-hi v, mul-le-mul-right u q)),
+            )
         | inr k ↦
-            let x : rounded v ≡ v = exact-multiple binary64 v (m * 2 ^ (a - j) - n * 2 ^ (b - j)) (e ∙ ap (λ (z : ℕ). z - Y) (whole m a j g) ∙ ap (λ (z : ℕ). m * 2 ^ (a - j) * u - z) (whole n b j k) ∙ sym (sub-mul (m * 2 ^ (a - j)) (n * 2 ^ (b - j)) u)) in
+            let x : rounded v ≡ v =
+            exact-multiple binary64 v (m * 2 ^ (a - j) - n * 2 ^ (b - j))
+            (e ∙ ap (λ (z : ℕ). z - Y) (whole m a j g) ∙ ap (λ (z : ℕ). m * 2 ^ (a - j) * u - z)
+            (whole n b j k) ∙ sym (sub-mul (m * 2 ^ (a - j)) (n * 2 ^ (b - j)) u)) in
             (Y, omega arith, (n, b, ap (λ (z : ℕ). n * 2 ^ z) (omega arith), N))
       ]
     ]

@@ -1,8 +1,10 @@
--- Whole numbers rounded to 53 digits: how far, what stands still, and what is not rounded below a number of 53 digits. Units are 2 ^ -1074. Assumes nothing.
+-- Whole numbers rounded to 53 digits: how far, what stands still, and what is not rounded below a number of 53 digits.
+-- Units are 2 ^ -1074. Assumes nothing.
 use mathlib.Core.Path.{_≡_, sym, ap, _∙_}
 use mathlib.Core.Logic.{inl, inr}
 use Prim.Native.Nat.{ℕ, suc, _+_, _-_, _*_, _^_, _≤_, _<_}
-use native.Mathlib.Nat.{le-trans, le-of-eq, lt-of-le-of-lt, one-mul, mul-assoc, mul-le-mul-right, mul-lt-mul-of-pos-right, lt-of-mul-lt-mul-right, pow-suc, eq-or-lt-of-le}
+use native.Mathlib.Nat.{le-trans, le-of-eq, lt-of-le-of-lt, one-mul, mul-assoc, mul-le-mul-right}
+use native.Mathlib.Nat.{mul-lt-mul-of-pos-right, lt-of-mul-lt-mul-right, pow-suc, eq-or-lt-of-le}
 use native.Mathlib.Omega.{arith}
 use lib.Pow.{pow-add, pow-pos, pow-mono}
 use lib.Ieee.{binary64}
@@ -22,7 +24,10 @@ rounded v = near binary64 v * 2 ^ places binary64 v
 
 -- P * 2 ^ a in units of 2 ^ j
 pub whole : (P a j : ℕ) → j ≤ a → P * 2 ^ a ≡ P * 2 ^ (a - j) * 2 ^ j
-whole P a j h = ap (λ (z : ℕ). P * 2 ^ z) (sym (back a j h)) ∙ ap (λ (z : ℕ). P * z) (pow-add 2 (a - j) j) ∙ sym (mul-assoc P (2 ^ (a - j)) (2 ^ j))
+whole P a j h =
+    ap (λ (z : ℕ). P * 2 ^ z) (sym (back a j h))
+    ∙ ap (λ (z : ℕ). P * z) (pow-add 2 (a - j) j)
+    ∙ sym (mul-assoc P (2 ^ (a - j)) (2 ^ j))
 
 pub lower : (x y z : ℕ) → x * z < suc y * z → x ≤ y
 lower x y z h =
@@ -64,7 +69,8 @@ few-below m a v M h =
           let g : 2 ^ 52 * 2 ^ j ≤ rounded v = mul-le-mul-right (2 ^ j) (near-ge binary64 v (omega arith)) in
           let k : m * 2 ^ a < 2 ^ 53 * 2 ^ a = mul-lt-mul-of-pos-right M (pow-pos a) in
           under (m * 2 ^ a) (2 ^ a) (2 ^ j) (rounded v) c g k
-      | inr g ↦ le-trans (le-of-eq (whole m a j g)) (mul-le-mul-right (2 ^ j) (closest-ge v (2 ^ j) (m * 2 ^ (a - j)) (pow-pos j) (le-trans (le-of-eq (sym (whole m a j g))) h)))
+      | inr g ↦ le-trans (le-of-eq (whole m a j g)) (mul-le-mul-right (2 ^ j)
+          (closest-ge v (2 ^ j) (m * 2 ^ (a - j)) (pow-pos j) (le-trans (le-of-eq (sym (whole m a j g))) h)))
     ]
   where
     under : (x t u w : ℕ) → t * 2 ≤ u → 2 ^ 52 * u ≤ w → x < 2 ^ 53 * t → x ≤ w
@@ -74,12 +80,25 @@ pub few-rounded : (v : ℕ) → Few (rounded v)
 few-rounded v = few-of (near binary64 v) (places binary64 v) (near-le binary64 v)
 
 -- Y - X, where it is less than both
-pub few-difference : (m a n b : ℕ) → m < 2 ^ 53 → n < 2 ^ 53 → n * 2 ^ b - m * 2 ^ a < m * 2 ^ a → m * 2 ^ a ≤ n * 2 ^ b → Few (n * 2 ^ b - m * 2 ^ a)
+pub few-difference : (m a n b : ℕ) → m < 2 ^ 53 → n < 2 ^ 53 → n * 2 ^ b - m * 2 ^ a < m * 2 ^ a → m * 2 ^ a ≤ n * 2 ^ b
+    → Few (n * 2 ^ b - m * 2 ^ a)
 few-difference m a n b M N h o = elim (lt-or-ge a b) [
   | inl l ↦
-      let i : n * 2 ^ b - m * 2 ^ a ≡ (n * 2 ^ (b - a) - m) * 2 ^ a = ap (λ (z : ℕ). z - m * 2 ^ a) (whole n b a (omega arith)) ∙ sym (sub-mul (n * 2 ^ (b - a)) m (2 ^ a)) in
-      (n * 2 ^ (b - a) - m, a, i, lt-of-mul-lt-mul-right (2 ^ a) (lt-of-le-of-lt (le-of-eq (sym i)) (omega (arith, mul-lt-mul-of-pos-right M (pow-pos a)))))
+      let i : n * 2 ^ b - m * 2 ^ a ≡ (n * 2 ^ (b - a) - m) * 2 ^ a =
+      ap (λ (z : ℕ). z - m * 2 ^ a) (whole n b a (omega arith)) ∙ sym (sub-mul (n * 2 ^ (b - a)) m (2 ^ a)) in (
+        n * 2 ^ (b - a) - m,
+        a,
+        i,
+        lt-of-mul-lt-mul-right (2 ^ a)
+            (lt-of-le-of-lt (le-of-eq (sym i)) (omega (arith, mul-lt-mul-of-pos-right M (pow-pos a)))),
+      )
   | inr g ↦
-      let i : n * 2 ^ b - m * 2 ^ a ≡ (n - m * 2 ^ (a - b)) * 2 ^ b = ap (λ (z : ℕ). n * 2 ^ b - z) (whole m a b g) ∙ sym (sub-mul n (m * 2 ^ (a - b)) (2 ^ b)) in
-      (n - m * 2 ^ (a - b), b, i, lt-of-mul-lt-mul-right (2 ^ b) (lt-of-le-of-lt (le-of-eq (sym i)) (omega (arith, mul-lt-mul-of-pos-right N (pow-pos b)))))
+      let i : n * 2 ^ b - m * 2 ^ a ≡ (n - m * 2 ^ (a - b)) * 2 ^ b =
+      ap (λ (z : ℕ). n * 2 ^ b - z) (whole m a b g) ∙ sym (sub-mul n (m * 2 ^ (a - b)) (2 ^ b)) in (
+        n - m * 2 ^ (a - b),
+        b,
+        i,
+        lt-of-mul-lt-mul-right (2 ^ b)
+            (lt-of-le-of-lt (le-of-eq (sym i)) (omega (arith, mul-lt-mul-of-pos-right N (pow-pos b)))),
+      )
 ]

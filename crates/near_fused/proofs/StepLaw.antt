@@ -1,4 +1,5 @@
--- The law of the step: where the upper end does not round above the lower one, both are v * mu + c rounded once. Assumes nothing.
+-- The law of the step: where the upper end does not round above the lower one, both are v * mu + c rounded once.
+-- Assumes nothing.
 use mathlib.Core.Path.{_≡_, sym}
 use Prim.Native.Nat.{_+_, _^_, _<_}
 use native.Mathlib.Nat.{mul-pos}
@@ -21,9 +22,11 @@ use Rattle.near_fused.proofs.Sides.{over, under, not-both}
 use Rattle.near_fused.proofs.FiniteParts.{add-finite}
 use Rattle.near_fused.specs.Step.{total}
 use Rattle.near_fused.proofs.LowerEnd.{finite-low, zero-same, zero-too}
-use Rattle.near_fused.proofs.WholeStep.{Step, p, u, hi, lo, end-near, upper-near, lower-end-near, end-size, margin-size}
+use Rattle.near_fused.proofs.WholeStep.{Step, p, u, hi, lo, end-near, upper-near, lower-end-near, end-size}
+use Rattle.near_fused.proofs.WholeStep.{margin-size}
 
-module _ (U : Unit) (v mu c vh mh e : Float) (K : Step U v mu c vh mh e) (fv : T (finite v)) (fm : T (finite mu)) (fc : T (finite c)) where
+module _ (U : Unit) (v mu c vh mh e : Float) (K : Step U v mu c vh mh e) (fv : T (finite v)) (fm : T (finite mu))
+    (fc : T (finite c)) where
   abbrev s : Float
   s = total (p v mu c vh mh e) c
 
@@ -55,10 +58,14 @@ module _ (U : Unit) (v mu c vh mh e : Float) (K : Step U v mu c vh mh e) (fv : T
     ordered : AtMost (plus (val M) (opp (val e))) (plus (val M) (val e))
     ordered =
         let d = mul-pos (val-pos M) (val-pos e) in
-        at-most-trans (val-pos M) (under U (val M) (val e) (val-pos M) 2048 (K .margin) (plus (val M) (opp (val e))) 0 (lit≤ tt) (same-e d)) (over U (val M) (val e) (val-pos M) 2048 (K .margin) (plus (val M) (val e)) 0 (lit≤ tt) (same-e d))
+        at-most-trans (val-pos M)
+        (under U (val M) (val e) (val-pos M) 2048 (K .margin) (plus (val M) (opp (val e))) 0 (lit≤ tt) (same-e d))
+        (over U (val M) (val e) (val-pos M) 2048 (K .margin) (plus (val M) (val e)) 0 (lit≤ tt) (same-e d))
 
     fl : T (finite L)
-    fl = finite-low s (add binary64 s H) L fs real test fh ordered (sub-rounded M e fu fe) (add-rounded binary64 M e fu fe)
+    fl =
+        finite-low s (add binary64 s H) L fs real test fh ordered (sub-rounded M e fu fe)
+        (add-rounded binary64 M e fu fe)
 
     abbrev Q : Frac
     Q = plus (times (val v) (val mu)) (val c)
@@ -79,18 +86,31 @@ module _ (U : Unit) (v mu c vh mh e : Float) (K : Step U v mu c vh mh e) (fv : T
     below = under U Q (val e) Qd 2048 (K .margin) (plus (val s) (val L)) 490 (lit≤ tt) low
 
     -- an end that rounds to zero is next to nothing
-    vanish : (w : Float) → T (finite w) → T (finite (add binary64 s w)) → Near U (2 ^ 85) (plus (val s) (val w)) nil → val (add binary64 s w) .p + val (add binary64 s w) .n ≡ 0 → Near U 1 (plus (val s) (val w)) nil
+    vanish : (w : Float) → T (finite w) → T (finite (add binary64 s w)) → Near U (2 ^ 85) (plus (val s) (val w)) nil
+        → val (add binary64 s w) .p + val (add binary64 s w) .n ≡ 0 → Near U 1 (plus (val s) (val w)) nil
     vanish w f g n z =
         let r = add-rounded binary64 s w fs f in
-        let a = to (zero-same (add binary64 s w) z) (flip (near-rounds U (2 ^ 85) (2 ^ 32) (lit< tt) (lit≤ tt) g n r)) in
+        let a =
+        to (zero-same (add binary64 s w) z) (flip (near-rounds U (2 ^ 85) (2 ^ 32) (lit< tt) (lit≤ tt) g n r)) in
         to (zero-same (add binary64 s w) z) (flip (near-rounds U (2 ^ 32) 1 (lit< tt) (lit≤ tt) g a r))
 
     not-zero : val (add binary64 s H) .p + val (add binary64 s H) .n ≡ 0 → ⊥
     not-zero z =
-        let (g, y) = zero-too (add binary64 s H) (add binary64 s L) real z test (at-most-trans Qd below above) (add-rounded binary64 s L fs fl) (add-rounded binary64 s H fs fh) in
-        let a = vanish H fh real (end-size U v mu c vh mh e K fu fe (val e) H (margin-size U v mu c vh mh e K fu fe) (upper-near U v mu c vh mh e K fu fe fh)) z in
-        let b = vanish L fl g (end-size U v mu c vh mh e K fu fe (opp (val e)) L (within-opp (margin-size U v mu c vh mh e K fu fe)) (lower-end-near U v mu c vh mh e K fu fe fl)) y in
-        not-both U Q (val e) Qd 2048 (K .margin) 982 (lit≤ tt) (lit< tt) (near-chain U 490 492 (flip low) (near-chain U 1 491 b (near-chain U 1 490 (flip a) high)))
+        let (g, y) =
+        zero-too (add binary64 s H) (add binary64 s L) real z test (at-most-trans Qd below above)
+        (add-rounded binary64 s L fs fl) (add-rounded binary64 s H fs fh) in
+        let a =
+        vanish H fh real
+        (end-size U v mu c vh mh e K fu fe (val e) H (margin-size U v mu c vh mh e K fu fe)
+        (upper-near U v mu c vh mh e K fu fe fh)) z in
+        let b =
+        vanish L fl g
+        (end-size U v mu c vh mh e K fu fe (opp (val e)) L (within-opp (margin-size U v mu c vh mh e K fu fe))
+        (lower-end-near U v mu c vh mh e K fu fe fl)) y in
+        not-both U Q (val e) Qd 2048 (K .margin) 982 (lit≤ tt) (lit< tt)
+        (near-chain U 490 492 (flip low) (near-chain U 1 491 b (near-chain U 1 490 (flip a) high)))
 
     pub law : add binary64 s H ≡ fused binary64 v mu c
-    law = sym (ziv (add binary64 s H) (add-rounded binary64 s L fs fl) (fused-rounded binary64 v mu c fv fm fc) (add-rounded binary64 s H fs fh) below above real not-zero test)
+    law =
+        sym (ziv (add binary64 s H) (add-rounded binary64 s L fs fl) (fused-rounded binary64 v mu c fv fm fc)
+        (add-rounded binary64 s H fs fh) below above real not-zero test)

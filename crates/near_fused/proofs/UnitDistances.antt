@@ -1,9 +1,11 @@
--- Distances counted in a unit N / g that is not below 2 ^ -1020: they add up, and one rounding of a number of k units is off by at most k / 2 ^ 53 of them. Assumes nothing.
+-- Distances counted in a unit N / g that is not below 2 ^ -1020: they add up, and one rounding of a number of k units
+-- is off by at most k / 2 ^ 53 of them. Assumes nothing.
 use mathlib.Core.Path.{_∙_, subst}
 use mathlib.Core.Logic.{inl, inr}
 use mathlib.Core.Bool.{Bool}
 use Prim.Native.Nat.{ℕ, _+_, _*_, _^_, _≤_, _<_}
-use native.Mathlib.Nat.{le-trans, le-of-eq, add-mul, add-zero, zero-mul, mul-assoc, mul-pos, mul-le-mul-right, mul-le-mul-left}
+use native.Mathlib.Nat.{le-trans, le-of-eq, add-mul, add-zero, zero-mul, mul-assoc, mul-pos, mul-le-mul-right}
+use native.Mathlib.Nat.{mul-le-mul-left}
 use native.Mathlib.Omega.{arith}
 use lib.Dec.{T, lit≤, lit<}
 use lib.Pow.{pow-pos}
@@ -25,12 +27,16 @@ use Rattle.near_fused.proofs.FractionSums.{none}
 grid-below : (s : Bool) (a c : ℕ) → T (finite (round binary64 s a c)) → grid binary64 a c < overflow binary64
 grid-below s a c t = elim (lt-or-ge (grid binary64 a c) (overflow binary64)) [
   | inl l ↦ l
-  | inr g ↦ absurd (subst (λ (z : Float). T (finite z)) (round-is binary64 s a c ∙ units-over binary64 s (kept 53 (a * 2 ^ 1074) c) (drop 53 (a * 2 ^ 1074) c) g) t)
+  | inr g ↦ absurd (subst (λ (z : Float). T (finite z))
+      (round-is binary64 s a c ∙ units-over binary64 s (kept 53 (a * 2 ^ 1074) c) (drop 53 (a * 2 ^ 1074) c) g) t)
 ]
 
-pub rounded-part : {x : Float} {q : Frac} {K B : ℕ} → T (finite x) → 0 < K → Within K B q nil → K * 2 ^ 53 ≤ B * (2 ^ 1074 * 2) → Rounded binary64 x q → Rounds (K * 2 ^ 53) B x q
+pub rounded-part : {x : Float} {q : Frac} {K B : ℕ} → T (finite x) → 0 < K → Within K B q nil
+    → K * 2 ^ 53 ≤ B * (2 ^ 1074 * 2) → Rounded binary64 x q → Rounds (K * 2 ^ 53) B x q
 rounded-part {x} {K = K} {B} f k w m r =
-    let n = round-part binary64 (r .s) (r .a) (r .c) K B (bottom r) k (bounded r w) m (grid-below (r .s) (r .a) (r .c) (subst (λ (z : Float). T (finite z)) (r .is) f)) in
+    let n =
+    round-part binary64 (r .s) (r .a) (r .c) K B (bottom r) k (bounded r w) m
+    (grid-below (r .s) (r .a) (r .c) (subst (λ (z : Float). T (finite z)) (r .is) f)) in
     record { real = f; near = rw (r .is) (to (r .same) (n .near)) }
 
 -- the unit N / g
@@ -59,7 +65,8 @@ module _ (U : Unit) where
   near-two k j h w = to (plus-nil nil (lit< tt)) (near-plus k j h w)
 
   pub near-gap : {x y : Frac} (k : ℕ) → Near k x y → Near k (plus x (opp y)) nil
-  near-gap {x} {y} k h = to (none y (h .right)) (rw (add-zero k) at (near-plus k 0 h (near-same (same-refl {x = opp y} (h .right)))))
+  near-gap {x} {y} k h =
+      to (none y (h .right)) (rw (add-zero k) at (near-plus k 0 h (near-same (same-refl {x = opp y} (h .right)))))
 
   -- b * m / t units are no more than k
   pub near-of : {x y : Frac} (b m k t : ℕ) → 0 < t → b * m ≤ k * t → Within (t * U .g) (b * U .N * m) x y → Near k x y
@@ -68,8 +75,11 @@ module _ (U : Unit) where
       spread : (b m k t g N : ℕ) → b * m ≤ k * t → b * N * m * g ≤ k * N * (t * g)
       spread b m k t g N h = simp ring (simp ring at (mul-le-mul-right (N * g) h))
 
-  pub near-rounds : {x : Float} {q : Frac} (k j : ℕ) → 0 < k → k ≤ j * 2 ^ 53 → T (finite x) → Near k q nil → Rounded binary64 x q → Near j (val x) q
-  near-rounds {x} {q} k j K h f w r = rescale (mul-pos (U .G) (pow-pos 53)) (spread k j (U .g) (U .N) (2 ^ 53) h) (rounded-part f (U .G) w (low k K) r .near)
+  pub near-rounds : {x : Float} {q : Frac} (k j : ℕ) → 0 < k → k ≤ j * 2 ^ 53 → T (finite x) → Near k q nil
+      → Rounded binary64 x q → Near j (val x) q
+  near-rounds {x} {q} k j K h f w r =
+      rescale (mul-pos (U .G) (pow-pos 53)) (spread k j (U .g) (U .N) (2 ^ 53) h)
+      (rounded-part f (U .G) w (low k K) r .near)
     where
       spread : (k j g N t : ℕ) → k ≤ j * t → k * N * g ≤ j * N * (g * t)
       spread k j g N t h = simp ring (simp ring at (mul-le-mul-right (N * g) h))
@@ -80,4 +90,6 @@ module _ (U : Unit) where
       low : (k : ℕ) → 0 < k → U .g * 2 ^ 53 ≤ k * U .N * (2 ^ 1074 * 2)
       low k K =
           let z : 2 ^ 1020 * 2 ^ 53 ≤ 2 ^ 1074 * 2 = lit≤ tt in
-          le-trans (mul-le-mul-right (2 ^ 53) (U .deep)) (le-trans (le-of-eq (mul-assoc (U .N) (2 ^ 1020) (2 ^ 53))) (le-trans (mul-le-mul-left (U .N) z) (mul-le-mul-right (2 ^ 1074 * 2) (more k (U .N) K))))
+          le-trans (mul-le-mul-right (2 ^ 53) (U .deep))
+          (le-trans (le-of-eq (mul-assoc (U .N) (2 ^ 1020) (2 ^ 53)))
+          (le-trans (mul-le-mul-left (U .N) z) (mul-le-mul-right (2 ^ 1074 * 2) (more k (U .N) K))))

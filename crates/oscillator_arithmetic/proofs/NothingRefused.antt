@@ -1,4 +1,5 @@
--- In 01's ranges no cosine and no power of two that 001 takes is refused, so that `cos` and `pow2` are the port's own functions with their bounds:
+-- In 01's ranges no cosine and no power of two that 001 takes is refused, so that `cos` and `pow2` are the port's own
+-- functions with their bounds:
 -- five times a phase of at most 51 is at most 255, and a depth of at most 1200 over 1200 is at most 1. Assumes nothing.
 use mathlib.Core.Path.{_≡_, refl, ap}
 use mathlib.Core.Bool.{true}
@@ -45,8 +46,12 @@ pub cosines-answer : (phase : Float) → AtMost 51 phase → Cosines phase
 unfolding trailingZeros odd ofFields ofBits
 cosines-answer phase p = record {
   first = cosine-answers phase (at-most-mono phase (lit≤ tt) p);
-  third = cosine-answers (mul binary64 three phase) (at-most-mono (mul binary64 three phase) (lit≤ tt) (mul-at-most binary64 3 51 three phase (lit≤ tt) (lit≤ tt) p));
-  fifth = cosine-answers (mul binary64 five phase) (at-most-mono (mul binary64 five phase) (lit≤ tt) (mul-at-most binary64 5 51 five phase (lit≤ tt) (lit≤ tt) p));
+  third =
+      cosine-answers (mul binary64 three phase)
+      (at-most-mono (mul binary64 three phase) (lit≤ tt) (mul-at-most binary64 3 51 three phase (lit≤ tt) (lit≤ tt) p));
+  fifth =
+      cosine-answers (mul binary64 five phase)
+      (at-most-mono (mul binary64 five phase) (lit≤ tt) (mul-at-most binary64 5 51 five phase (lit≤ tt) (lit≤ tt) p));
 }
 
 -- ---- the rate and the depth
@@ -62,6 +67,10 @@ pub larger-at-most : (b : ℕ) (x : Float) → AtMost b x → AtMost b (larger x
 unfolding larger trailingZeros odd ofFields ofBits
 larger-at-most b x h = chosen-keeps (AtMost b) _ x zero h zero-le
 
-pub delta-answers : (depth : Float) → AtMost 1200 depth → speedDelta depth ≡ sub binary64 (powerAt (div binary64 depth octave)) one
+pub delta-answers : (depth : Float) → AtMost 1200 depth
+    → speedDelta depth ≡ sub binary64 (powerAt (div binary64 depth octave)) one
 unfolding speedDelta trailingZeros odd ofFields ofBits
-delta-answers depth h = ap (λ (z : Float). sub binary64 z one) (power-answers (div binary64 depth octave) (div-at-most binary64 1200 1 depth octave _ 1200 1 (lit≤ tt) (lit< tt) (lit< tt) h (refl, refl) (lit≤ tt)))
+delta-answers depth h =
+    ap (λ (z : Float). sub binary64 z one)
+    (power-answers (div binary64 depth octave)
+    (div-at-most binary64 1200 1 depth octave _ 1200 1 (lit≤ tt) (lit< tt) (lit< tt) h (refl, refl) (lit≤ tt)))

@@ -1,6 +1,8 @@
-// 001's functions on floats alone, for every float: an engine that has tested its settings once calls these.
+// The oscillators' functions on floats alone, with no refusal (001, M4, M5).
+// An engine that has tested its settings once calls these at every sample.
 ghost use mathlib.Core.Path.{_≡_};
-ghost use Rattle.oscillator_arithmetic.specs.Arithmetic.{cos, pow2, speedDelta, advancePhase, shapePrimitive, amplitudeOf};
+ghost use Rattle.oscillator_arithmetic.specs.Arithmetic.{cos, pow2, speedDelta, advancePhase, shapePrimitive};
+ghost use Rattle.oscillator_arithmetic.specs.Arithmetic.{amplitudeOf};
 use oscillator_ranges::TAU;
 
 // f64::cos, and 0.0 where that is refused: no phase from -51 to 51 makes it so.

@@ -1,8 +1,10 @@
-// 001's oscillators: what stands outside its engine, each function total. Where an argument is outside 01's range (`oscillator_ranges`) the answer is refusal 1,
-// else what the arithmetic gives (`oscillator_arithmetic`).
+// The original's oscillator functions (001), each with its refusal.
+// An argument outside its range (`oscillator_ranges`) is refused by 1; otherwise the answer is what
+// `oscillator_arithmetic` computes.
 ghost use mathlib.Core.Path.{_≡_};
 ghost use mathlib.Core.Bool.{_&&_};
-ghost use Rattle.oscillators.specs.Answers.{answeredBy, speedDeltaOf, advancePhaseOf, shapePrimitiveOf, oscillatorDelayOf, excursionOf, rateDeltaOf};
+ghost use Rattle.oscillators.specs.Answers.{answeredBy, speedDeltaOf, advancePhaseOf, shapePrimitiveOf};
+ghost use Rattle.oscillators.specs.Answers.{oscillatorDelayOf, excursionOf, rateDeltaOf};
 use elementary::Answer;
 use oscillator_ranges as ranges;
 use oscillator_ranges::TAU;

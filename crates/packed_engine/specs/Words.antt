@@ -1,4 +1,5 @@
--- 001's engine as what another language can hand in: 15 words in the order of its fields, a float as its pattern, and the settings as eight floats. Definitions only.
+-- 001's engine as another language can hand it in: 15 words in the order of its fields, a float as its pattern, and the
+-- settings as eight floats. Definitions only.
 use Prim.Native.Nat.{ℕ, zero, suc}
 use mathlib.Core.List.{List, [], _∷_}
 use lib.ListN.{getD}
@@ -32,14 +33,16 @@ engineOf words = record {
 
 abbrev pub randomWords : SmoothRandom → List ℕ → List ℕ
 randomWords r rest =
-    r .«initial_seed» ∷ r .state ∷ toBits binary64 (r .current) ∷ toBits binary64 (r .next) ∷ toBits binary64 (r .position) ∷ toBits binary64 (r .«segment_rate_scale») ∷ rest
+    r .«initial_seed» ∷ r .state ∷ toBits binary64 (r .current) ∷ toBits binary64 (r .next)
+    ∷ toBits binary64 (r .position) ∷ toBits binary64 (r .«segment_rate_scale») ∷ rest
 
 abbrev pub wordsOf : ModulationEngine → List ℕ
 wordsOf e =
     toBits binary64 (e .«sample_rate») ∷ toBits binary64 (e .«wow_phase») ∷ toBits binary64 (e .«flutter_phase»)
     ∷ randomWords (e .«wow_drift») (randomWords (e .«flutter_drift») [])
 
--- D1c. What a call leaves of the words: those of the engine after it, and where it is refused the very words, a NaN's own pattern too.
+-- D1c. The words that a call leaves: those of the engine after it or, if refused, the very same words, even a NaN's own
+-- pattern.
 abbrev pub wordsLeft : ℕ → ModulationEngine → List ℕ → List ℕ
 wordsLeft zero after words = wordsOf after
 wordsLeft (suc k) after words = words

@@ -1,4 +1,5 @@
-// 001's engine as 15 words in the order of its fields, a float as its pattern: what another language, or a line of text, can hold. `engine_calls` has the engine's own.
+// The engine's state (001) as 15 words in the order of its fields, a float as its bit pattern.
+// So another language, or a line of text, can hold it. `engine_calls` has the engine's calls on such words.
 ghost use mathlib.Core.Path.{_≡_};
 ghost use Rattle.packed_engine.specs.Words.{randomOf, engineOf, wordsOf, wordsLeft, paramsOf};
 use bit_patterns::bits_of;
@@ -83,7 +84,8 @@ pub fn settings_of(
     drift_amount: f64,
     stereo_amount: f64,
 ) -> ModulationParams
-    ensures { λ r. ⌜ r ≡ paramsOf «wow_rate_hz» «wow_depth_cents» «wow_shape» «flutter_rate_hz» «flutter_depth_cents» «flutter_shape» «drift_amount» «stereo_amount» ⌝ }
+    ensures { λ r. ⌜ r ≡ paramsOf «wow_rate_hz» «wow_depth_cents» «wow_shape» «flutter_rate_hz» «flutter_depth_cents»
+        «flutter_shape» «drift_amount» «stereo_amount» ⌝ }
 {
     ModulationParams {
         wow_rate_hz,

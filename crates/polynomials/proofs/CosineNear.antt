@@ -1,5 +1,5 @@
--- E1. The cosine's polynomial is within 2 ^ -45 of Taylor's fraction through x ^ 20, for |x| ≤ 1: nine steps of Horner's rule, 101 units of 2 ^ -54 where 512
--- are allowed. Assumes nothing.
+-- E1. The cosine's polynomial is within 2 ^ -45 of Taylor's fraction through x ^ 20, for |x| ≤ 1:
+-- nine steps of Horner's rule, 101 units of 2 ^ -54 where 512 are allowed. Assumes nothing.
 use Prim.Native.Nat.{_<_, _^_}
 use native.Mathlib.Omega.{arith}
 use lib.Dec.{T, lit≤, lit<}
@@ -23,4 +23,10 @@ pub cosine-close : (x : Float) → T (atMost 1 x) → Rounds (2 ^ 45) 1 (cosineN
 unfolding cosineNear cost last factorial power
 cosine-close x h =
     let w = in-square x h 0 cosineSteps 10 1 (lit< tt) (lit≤ tt) (lit≤ tt) in
-    record { real = w .real; near = rescale (lit< tt) (lit≤ tt) (to (same-trans (once (nested 2 (squared x) 0 10) (w .near .right)) (alternates (val x) 0 10 (val-pos x))) (w .near)) }
+    record {
+      real = w .real;
+      near =
+          rescale (lit< tt) (lit≤ tt)
+          (to (same-trans (once (nested 2 (squared x) 0 10) (w .near .right)) (alternates (val x) 0 10 (val-pos x)))
+          (w .near));
+    }

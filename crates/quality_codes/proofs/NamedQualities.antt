@@ -1,4 +1,5 @@
--- What a call on plain numbers gives where every number names a quality, and where one does not; what stood is kept by a refusal. Assumes nothing.
+-- What a call on plain numbers gives where every number names a quality, and where one does not;
+-- what stood is kept by a refusal. Assumes nothing.
 use mathlib.Core.Path.{_≡_, refl}
 use mathlib.Core.Bool.{Bool, true, false}
 use mathlib.Core.List.{List}
@@ -36,7 +37,8 @@ pub given : (m : ℕ) {n : ℕ} (before after : Changed) {w : Changed} {xs ys : 
 given zero before after e z w x = rw (w, x)
 given (suc k) before after e z w x = absurd (omega arith)
 
--- D1c. A quality that went in as a number comes out as the same number, so that a refused call leaves both numbers of the state.
+-- D1c. A quality that went in as a number comes out as the same number, so that a refused call leaves both numbers of
+-- the state.
 pub same-code : (c : ℕ) → codeOk c ≡ true → codeOf (modeOf c) ≡ c
 same-code zero h = refl
 same-code (suc zero) h = refl

@@ -1,5 +1,5 @@
--- Q1. A fade to its end: as many calls as the length are mixed, the first that asks included, with the weights 1, 2, .. , length; all the calls after those are
--- plain. By the calls that are left to mix. Assumes nothing.
+-- Q1. A fade to its end: as many calls as the length are mixed, the first that asks included, with the weights 1, 2, ..
+-- , length; all the calls after those are plain. By the calls that are left to mix. Assumes nothing.
 use mathlib.Core.Path.{_≡_, refl, sym, _∙_, ap}
 use mathlib.Core.Bool.{Bool, true, false}
 use mathlib.Core.List.{List, [], _∷_, _++_, map, map-append}
@@ -25,7 +25,9 @@ module _ (c q : QualityMode) (len : ℕ) (fits : lengthOk len ≡ true) where
   reads-on = goes-on (openOf q len) q (open-valid q len fits) (same-refl q) ∙ stays q len len
 
   pub fades-on : (i : ℕ) → sameQ c q ≡ false → i < len → stepOf (fadeOf c q i len) q ≡ mixTurn (fadeOf c q i len)
-  fades-on i h l = goes-on (fadeOf c q i len) q (fade-valid c q i len fits (omega arith) (λ f. l)) (same-refl q) ∙ mixes c q i len h (omega arith)
+  fades-on i h l =
+      goes-on (fadeOf c q i len) q (fade-valid c q i len fits (omega arith) (λ f. l)) (same-refl q)
+      ∙ mixes c q i len h (omega arith)
 
   rest : (k : ℕ) → turnsOf (openOf q len) (replicate k q) ≡ replicate k (plainTurn (openOf q len))
   unfolding turnsOf
@@ -34,7 +36,8 @@ module _ (c q : QualityMode) (len : ℕ) (fits : lengthOk len ≡ true) where
 
   -- from the place i on, with n + 1 calls left to mix
   onto : sameQ c q ≡ false → (n i k : ℕ) → i + suc n ≡ len
-      → mixTurn (fadeOf c q i len) ∷ turnsOf (mixTurn (fadeOf c q i len) .state) (replicate n q ++ replicate k q) ≡ rampOf c q len i (suc n) ++ replicate k (plainTurn (openOf q len))
+      → mixTurn (fadeOf c q i len) ∷ turnsOf (mixTurn (fadeOf c q i len) .state) (replicate n q ++ replicate k q)
+      ≡ rampOf c q len i (suc n) ++ replicate k (plainTurn (openOf q len))
   unfolding turnsOf rampOf
   onto h zero i k e =
       let f : leb len (i + 1) ≡ true = le-leb len (i + 1) (omega arith) in
@@ -43,22 +46,30 @@ module _ (c q : QualityMode) (len : ℕ) (fits : lengthOk len ≡ true) where
   onto h (suc n) i k e =
       let f : leb len (i + 1) ≡ false = lt-leb len (i + 1) (omega arith) in
       let g : i + 1 + suc n ≡ len = omega arith in
-      ap (λ (l : List Turn). mixTurn (fadeOf c q i len) ∷ l) (rw (f, fades-on (i + 1) h (omega arith)) (onto h n (i + 1) k g))
+      ap (λ (l : List Turn). mixTurn (fadeOf c q i len) ∷ l)
+      (rw (f, fades-on (i + 1) h (omega arith)) (onto h n (i + 1) k g))
 
-module _ (s : Fade) (q : QualityMode) (k : ℕ) (v : validOf s ≡ true) (ht : sameQ q (s .target) ≡ false) (hc : sameQ q (s .current) ≡ false) (l : 0 < s .length) where
+module _ (s : Fade) (q : QualityMode) (k : ℕ) (v : validOf s ≡ true) (ht : sameQ q (s .target) ≡ false)
+    (hc : sameQ q (s .current) ≡ false) (l : 0 < s .«crossfade_samples») where
   -- Q1, with what each call reads
-  pub fades : turnsOf s (replicate (s .length) q ++ replicate k q) ≡ rampOf (s .current) q (s .length) 0 (s .length) ++ replicate k (plainTurn (openOf q (s .length)))
+  pub fades : turnsOf s (replicate (s .«crossfade_samples») q ++ replicate k q)
+      ≡ rampOf (s .current) q (s .«crossfade_samples») 0 (s .«crossfade_samples»)
+      ++ replicate k (plainTurn (openOf q (s .«crossfade_samples»)))
   unfolding turnsOf
-  fades = go (s .length) refl l
+  fades = go (s .«crossfade_samples») refl l
     where
       other : sameQ (s .current) q ≡ false
       other = same-not q (s .current) hc
 
-      go : (n : ℕ) → n ≡ s .length → 0 < n → turnsOf s (replicate n q ++ replicate k q) ≡ rampOf (s .current) q (s .length) 0 n ++ replicate k (plainTurn (openOf q (s .length)))
+      go : (n : ℕ) → n ≡ s .«crossfade_samples» → 0 < n
+          → turnsOf s (replicate n q ++ replicate k q)
+          ≡ rampOf (s .current) q (s .«crossfade_samples») 0 n
+          ++ replicate k (plainTurn (openOf q (s .«crossfade_samples»)))
       go zero e p = absurd (omega arith)
       go (suc n) e p =
           ap (λ (t : Turn). t ∷ turnsOf (t .state) (replicate n q ++ replicate k q)) (third s q v ht other l)
-          ∙ onto (s .current) q (s .length) (both (lengthOk (s .length)) _ v .0) other n 0 k (omega arith)
+          ∙ onto (s .current) q (s .«crossfade_samples») (both (lengthOk (s .«crossfade_samples»)) _ v .0) other n 0 k
+          (omega arith)
 
 mixes-ramp : (c q : QualityMode) (len n i : ℕ) → mixesOf (rampOf c q len i n) ≡ replicate n true
 unfolding rampOf
@@ -69,17 +80,27 @@ mixes-plain : (s : Fade) (k : ℕ) → mixesOf (replicate k (plainTurn s)) ≡ r
 mixes-plain s zero = refl
 mixes-plain s (suc k) = ap (λ (l : List Bool). false ∷ l) (mixes-plain s k)
 
--- Q1. Exactly N calls are mixed, the one that asks for a quality other than the target and the current included, and the next are plain.
-pub exactly : (s : Fade) (q : QualityMode) (k : ℕ) → validOf s ≡ true → sameQ q (s .target) ≡ false → sameQ q (s .current) ≡ false → 0 < s .length
-    → mixesOf (turnsOf s (replicate (s .length + k) q)) ≡ replicate (s .length) true ++ replicate k false
+-- Q1. Exactly N calls are mixed, the one that asks for a quality other than the target and the current included,
+-- and the next are plain.
+pub exactly : (s : Fade) (q : QualityMode) (k : ℕ) → validOf s ≡ true → sameQ q (s .target) ≡ false
+    → sameQ q (s .current) ≡ false → 0 < s .«crossfade_samples»
+    → mixesOf (turnsOf s (replicate (s .«crossfade_samples» + k) q))
+    ≡ replicate (s .«crossfade_samples») true ++ replicate k false
 exactly s q k v ht hc l =
-    ap (λ (qs : List QualityMode). mixesOf (turnsOf s qs)) (sym (replicate-append-replicate (s .length) k q))
+    ap (λ (qs : List QualityMode). mixesOf (turnsOf s qs))
+    (sym (replicate-append-replicate (s .«crossfade_samples») k q))
     ∙ ap mixesOf (fades s q k v ht hc l)
-    ∙ map-append (λ t. t .mixed) (rampOf (s .current) q (s .length) 0 (s .length)) (replicate k (plainTurn (openOf q (s .length))))
-    ∙ rw (mixes-ramp (s .current) q (s .length) (s .length) 0, mixes-plain (openOf q (s .length)) k)
+    ∙ map-append (λ t. t .mixed) (rampOf (s .current) q (s .«crossfade_samples») 0 (s .«crossfade_samples»))
+    (replicate k (plainTurn (openOf q (s .«crossfade_samples»))))
+    ∙ rw (
+      mixes-ramp (s .current) q (s .«crossfade_samples») (s .«crossfade_samples») 0,
+      mixes-plain (openOf q (s .«crossfade_samples»)) k,
+    )
 
 -- Q2. At length 0 no call of a run is mixed.
-pub never : (s : Fade) (qs : List QualityMode) → s .length ≡ 0 → mixesOf (turnsOf s qs) ≡ replicate (length qs) false
+pub never : (s : Fade) (qs : List QualityMode) → s .«crossfade_samples» ≡ 0
+    → mixesOf (turnsOf s qs) ≡ replicate (length qs) false
 unfolding turnsOf
 never s [] h = refl
-never s (q ∷ qs) h = rw (never-mixed s q h) (ap (λ (l : List Bool). false ∷ l) (never (stepOf s q .state) qs (step-length s q ∙ h)))
+never s (q ∷ qs) h =
+    rw (never-mixed s q h) (ap (λ (l : List Bool). false ∷ l) (never (stepOf s q .state) qs (step-length s q ∙ h)))

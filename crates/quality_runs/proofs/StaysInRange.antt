@@ -1,4 +1,5 @@
--- G2, N3, Q3. A call leaves a state in its ranges where it was in them, over whole runs too; and so do opening and reset, which leave nothing to fade.
+-- G2, N3, Q3. A call leaves a state in its ranges where it was in them, over whole runs too;
+-- and so do opening and reset, which leave nothing to fade.
 -- Assumes nothing.
 use mathlib.Core.Path.{_≡_, refl, _∙_}
 use mathlib.Core.Bool.{Bool, true, _&&_}
@@ -40,7 +41,13 @@ module _ (s n e a p : Bool) where
   valid : lowestOf (s && n) e (a && p) true true true true true ≡ 0 → Valid
   valid h =
       let q = passed (s && n) e (a && p) true true true true true h in
-      record { settings = is-true s (and-l s n (q .p1)); fits = is-true n (and-r s n (q .p1)); long = is-true e (q .p2); counts = is-true a (and-l a p (q .p3)); placed = is-true p (and-r a p (q .p3)) }
+      record {
+        settings = is-true s (and-l s n (q .p1));
+        fits = is-true n (and-r s n (q .p1));
+        long = is-true e (q .p2);
+        counts = is-true a (and-l a p (q .p3));
+        placed = is-true p (and-r a p (q .p3));
+      }
 
   sound : Valid → lowestOf (s && n) e (a && p) true true true true true ≡ 0
   sound v = rw (v .settings, v .fits, v .long, v .counts, v .placed)
@@ -48,17 +55,23 @@ module _ (s n e a p : Bool) where
 -- what the five tests of a state and its ring's length say
 abbrev inRange : QualityVariableDelayF32 → ℕ → Type 0
 inRange d len =
-    Valid (settingsOk (d .maximum) (d .margin)) (lengthOk (d .«crossfade_samples»)) (eqb len (lengthFor (d .maximum) (d .margin))) (leb (d .accepted) (2 ^ 36)) (placeOk (fadePart d))
+    Valid (settingsOk (d .maximum) (d .margin)) (lengthOk (d .«crossfade_samples»))
+    (eqb len (lengthFor (d .maximum) (d .margin))) (leb (d .accepted) (2 ^ 36)) (placeOk (fadePart d))
 
 in-range : (d : QualityVariableDelayF32) (len : ℕ) → resetVerdict d len ≡ 0 → inRange d len
-in-range d len h = valid (settingsOk (d .maximum) (d .margin)) (lengthOk (d .«crossfade_samples»)) (eqb len (lengthFor (d .maximum) (d .margin))) (leb (d .accepted) (2 ^ 36)) (placeOk (fadePart d)) h
+in-range d len h =
+    valid (settingsOk (d .maximum) (d .margin)) (lengthOk (d .«crossfade_samples»))
+    (eqb len (lengthFor (d .maximum) (d .margin))) (leb (d .accepted) (2 ^ 36)) (placeOk (fadePart d)) h
 
 not-due : (d : QualityVariableDelayF32) (len : ℕ) → inRange d len → resetVerdict d len ≡ 0
-not-due d len v = sound (settingsOk (d .maximum) (d .margin)) (lengthOk (d .«crossfade_samples»)) (eqb len (lengthFor (d .maximum) (d .margin))) (leb (d .accepted) (2 ^ 36)) (placeOk (fadePart d)) v
+not-due d len v =
+    sound (settingsOk (d .maximum) (d .margin)) (lengthOk (d .«crossfade_samples»))
+    (eqb len (lengthFor (d .maximum) (d .margin))) (leb (d .accepted) (2 ^ 36)) (placeOk (fadePart d)) v
 
 -- ---- a call
 
-taken-kept : (d : QualityVariableDelayF32) (xs : List Float) (x : Float) (q : QualityMode) → inRange d (length xs) → d .accepted < 2 ^ 36
+taken-kept : (d : QualityVariableDelayF32) (xs : List Float) (x : Float) (q : QualityMode) → inRange d (length xs)
+    → d .accepted < 2 ^ 36
     → inRange (stateAfter 0 d q) (length (ringAfter 0 d xs x))
 taken-kept d xs x q v l =
     let s = fadePart d in
@@ -67,20 +80,24 @@ taken-kept d xs x q v l =
       fits = rw (fade.step-length s q) (v .fits);
       long = rw (length-set xs (d .accepted % length xs) x) (v .long);
       counts = le-leb (d .accepted + 1) (2 ^ 36) (omega arith);
-      placed = fade.both (lengthOk (stepOf s q .state .length)) (placeOk (stepOf s q .state)) faded .1;
+      placed = fade.both (lengthOk (stepOf s q .state .«crossfade_samples»)) (placeOk (stepOf s q .state)) faded .1;
     }
 
 -- no refusal 1 to 3 is due of a state and a ring that a call leaves, where none was due before
-pub kept : (r : Reader) (c : Call) → resetVerdict (r .state) (length (r .ring)) ≡ 0 → resetVerdict (after r c .state) (length (after r c .ring)) ≡ 0
+pub kept : (r : Reader) (c : Call) → resetVerdict (r .state) (length (r .ring)) ≡ 0
+    → resetVerdict (after r c .state) (length (after r c .ring)) ≡ 0
 kept r c h = go (due r c) refl
   where
     go : (v : ℕ) → due r c ≡ v → resetVerdict (afterBy v r c .state) (length (afterBy v r c .ring)) ≡ 0
     go zero e =
-        let t = taken (c .bank) (c .lent) (r .state) (length (r .ring)) (c .input) (c .delay) (c .rate) e in
-        not-due (afterBy 0 r c .state) (length (afterBy 0 r c .ring)) (taken-kept (r .state) (r .ring) (c .input) (c .quality) (in-range (r .state) (length (r .ring)) h) (room t))
+        let t = taken (c .bank) (c .lent) (r .state) (length (r .ring)) (c .input) (c .delay) (c .playback-rate) e in
+        not-due (afterBy 0 r c .state) (length (afterBy 0 r c .ring))
+        (taken-kept (r .state) (r .ring) (c .input) (c .quality) (in-range (r .state) (length (r .ring)) h)
+        (room t))
     go (suc k) e = h
 
-pub run-kept : (r : Reader) (cs : List Call) → resetVerdict (r .state) (length (r .ring)) ≡ 0 → resetVerdict (run r cs .state) (length (run r cs .ring)) ≡ 0
+pub run-kept : (r : Reader) (cs : List Call) → resetVerdict (r .state) (length (r .ring)) ≡ 0
+    → resetVerdict (run r cs .state) (length (run r cs .ring)) ≡ 0
 unfolding runOf
 run-kept r [] h = h
 run-kept r (c ∷ cs) h = run-kept (after r c) cs (kept r c h)
@@ -96,7 +113,9 @@ reset-kept d len h =
       fits = v .fits;
       long = v .long;
       counts = refl;
-      placed = fade.both (lengthOk (d .«crossfade_samples»)) _ (open-valid (d .«target_quality») (d .«crossfade_samples») (v .fits)) .1;
+      placed =
+          fade.both (lengthOk (d .«crossfade_samples»)) _
+          (open-valid (d .«target_quality») (d .«crossfade_samples») (v .fits)) .1;
     }
 
 -- a reset of what a reset leaves changes nothing
@@ -104,9 +123,14 @@ pub reset-again : (d : QualityVariableDelayF32) → renewed (renewed d) ≡ rene
 reset-again d = refl
 
 -- Q3. opening leaves its one quality, and only 1 and 2 can be due
-pub opens : (maximum margin crossfade : ℕ) (q : QualityMode) → renewed (fresh maximum margin q crossfade) ≡ fresh maximum margin q crossfade
+pub opens : (maximum margin crossfade : ℕ) (q : QualityMode)
+    → renewed (fresh maximum margin q crossfade) ≡ fresh maximum margin q crossfade
 opens maximum margin crossfade q = refl
 
 pub open-due : (maximum margin crossfade len : ℕ) (q : QualityMode)
-    → resetVerdict (fresh maximum margin q crossfade) len ≡ lowestOf (settingsOk maximum margin && lengthOk crossfade) (eqb len (lengthFor maximum margin)) true true true true true true
-open-due maximum margin crossfade len q = rw (fade.in-place q q crossfade crossfade (omega arith) (λ f. let z : _≡_ {A = ℕ} 0 1 = cc (same-refl q) in absurd (omega arith)))
+    → resetVerdict (fresh maximum margin q crossfade) len
+    ≡ lowestOf (settingsOk maximum margin && lengthOk crossfade)
+    (eqb len (lengthFor maximum margin)) true true true true true true
+open-due maximum margin crossfade len q =
+    rw (fade.in-place q q crossfade crossfade (omega arith)
+    (λ f. let z : _≡_ {A = ℕ} 0 1 = cc (same-refl q) in absurd (omega arith)))

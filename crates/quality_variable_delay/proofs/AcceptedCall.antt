@@ -1,4 +1,5 @@
--- What an accepted call knows: every test passed, those of a plain delay reader among them, so that its position lies in range and its ring has room.
+-- What an accepted call knows: every test passed, those of a plain delay reader among them, so that its position lies
+-- in range and its ring has room.
 -- And what it leaves. Assumes nothing.
 use mathlib.Core.Path.{_≡_, refl}
 use mathlib.Core.Bool.{Bool, true, false, not, _&&_}
@@ -36,12 +37,21 @@ record Tests (s n b e l a p x y w r m : Bool) : Type 0 where
   lasting : l ≡ true
   placed : p ≡ true
 
-tests : (s n b e l a p x y w r m : Bool) → lowestOf (s && (n && b)) (e && l) (a && p) x y w r m ≡ 0 → Tests s n b e l a p x y w r m
+tests : (s n b e l a p x y w r m : Bool) → lowestOf (s && (n && b)) (e && l) (a && p) x y w r m ≡ 0
+    → Tests s n b e l a p x y w r m
 tests s n b e l a p x y w r m h =
     let q = passed (s && (n && b)) (e && l) (a && p) x y w r m h in
     let own = and-r s (n && b) (q .p1) in record {
       fewer =
-          rw (is-true s (and-l s (n && b) (q .p1)), is-true e (and-l e l (q .p2)), is-true a (and-l a p (q .p3)), is-true x (q .p4), is-true y (q .p5), is-true w (q .p6), is-true m (q .p8));
+          rw (
+            is-true s (and-l s (n && b) (q .p1)),
+            is-true e (and-l e l (q .p2)),
+            is-true a (and-l a p (q .p3)),
+            is-true x (q .p4),
+            is-true y (q .p5),
+            is-true w (q .p6),
+            is-true m (q .p8),
+          );
       fits = is-true n (and-l n b own);
       banked = is-true b (and-r n b own);
       lasting = is-true l (and-r e l (q .p2));
@@ -55,10 +65,14 @@ pub record Taken (bank lent : Bool) (d : QualityVariableDelayF32) (len : ℕ) (x
   pub lasting : lent ≡ true
   pub placed : placeOk (fadePart d) ≡ true
 
-pub taken : (bank lent : Bool) (d : QualityVariableDelayF32) (len : ℕ) (x y rate : Float) → verdict bank lent d len x y rate ≡ 0 → Taken bank lent d len x y
+pub taken : (bank lent : Bool) (d : QualityVariableDelayF32) (len : ℕ) (x y rate : Float)
+    → verdict bank lent d len x y rate ≡ 0 → Taken bank lent d len x y
 taken bank lent d len x y rate h =
     let t =
-    tests (settingsOk (d .maximum) (d .margin)) (lengthOk (d .«crossfade_samples»)) bank (eqb len (lengthFor (d .maximum) (d .margin))) lent (leb (d .accepted) (2 ^ 36)) (placeOk (fadePart d)) (finite x) (finite y && le (fin false 0 (pos 0)) y) (le y (fin false 1 (pos 36))) (not (isNan rate)) (ltb (d .accepted) (2 ^ 36)) h in
+    tests (settingsOk (d .maximum) (d .margin)) (lengthOk (d .«crossfade_samples»)) bank
+    (eqb len (lengthFor (d .maximum) (d .margin))) lent (leb (d .accepted) (2 ^ 36)) (placeOk (fadePart d))
+    (finite x) (finite y && le (fin false 0 (pos 0)) y) (le y (fin false 1 (pos 36))) (not (isNan rate))
+    (ltb (d .accepted) (2 ^ 36)) h in
     record { plain-none = t .fewer; fits = t .fits; banked = t .banked; lasting = t .lasting; placed = t .placed }
 
 module _ {bank lent : Bool} {d : QualityVariableDelayF32} {len : ℕ} {x y : Float} (t : Taken bank lent d len x y) where
@@ -75,7 +89,8 @@ module _ {bank lent : Bool} {d : QualityVariableDelayF32} {len : ℕ} {x y : Flo
   position-in-range = plainly.position-in-range as-plain
 
 -- the call's record, from the turn, the ring and the position that it read with
-pub taken-call : (read : QualityMode → Reading) (d : QualityVariableDelayF32) (xs : List Float) (x y : Float) (q : QualityMode) {t : Turn} {ys : List Float} {p z : Float} {s : QualityVariableDelayF32} {a : AnswerF32}
+pub taken-call : (read : QualityMode → Reading) (d : QualityVariableDelayF32) (xs : List Float) (x y : Float)
+    (q : QualityMode) {t : Turn} {ys : List Float} {p z : Float} {s : QualityVariableDelayF32} {a : AnswerF32}
     → s ≡ joined (record { maximum = d .maximum; margin = d .margin; accepted = d .accepted + 1 }) (t .state)
     → a ≡ answerF32Of 0 z
     → z ≡ outputOf read t ys (d .accepted + 1) p
@@ -83,4 +98,5 @@ pub taken-call : (read : QualityMode → Reading) (d : QualityVariableDelayF32) 
     → ys ≡ stored (d .accepted) xs x
     → p ≡ positionOf (d .accepted) y
     → _≡_ {A = ProcessedQ} (record { state = s; answer = a }) (processedBy read 0 d xs x y q)
-taken-call read d xs x y q left answered read-out turned kept placed = rw (left, answered, read-out, turned, kept, placed)
+taken-call read d xs x y q left answered read-out turned kept placed =
+    rw (left, answered, read-out, turned, kept, placed)

@@ -6,7 +6,8 @@ use Prim.Native.Nat.{_-_, _^_}
 use lib.Ieee.{nan}
 use Rattle.modulation_params.specs.Settings.{defaultParams}
 use Rattle.packed_engine.specs.Words.{paramsOf}
-use Rattle.range_ends.specs.Floats.{f64, zero, one, rate-8000, across, fromZero, bitsAbout, bitsAcross, bitsFromZero}
+use Rattle.range_ends.specs.Floats.{f64, zero, one, rate-8000, across, fromZero, bitsAbout, bitsAcross}
+use Rattle.range_ends.specs.Floats.{bitsFromZero}
 use Rattle.range_ends.specs.Wander.{with, off, steppedBy, stepped, rated, seeded, restarted, drifted}
 
 -- G8, N3. Both phases are at least 0 and below TAU.

@@ -7,7 +7,7 @@ use Rattle.word_bytes.specs.Bytes.{lowBytes}
 use Rattle.sample_kind.specs.declared.SampleKind.the-variants.{Pcm16, Pcm24, Float32}
 use Rattle.wav_samples.specs.Filling.{verdict}
 use Rattle.sample_kind.specs.Kinds.{kindOf}
-use Rattle.fugnadri_wav.specs.Doors.{channelsOf}
+use Rattle.fugnadri_wav.specs.Exports.{channelsOf}
 use Rattle.range_ends.specs.Files.{format, formatted, ofKind, refused, coded}
 
 -- 13. A `fmt ` has at least 16 bytes; 15 and 17 have a pad byte.

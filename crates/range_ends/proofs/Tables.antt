@@ -9,7 +9,8 @@ use Rattle.sinc_settings.specs.Ranges.{passbandOk}
 use Rattle.sinc_settings.specs.Refusals.{tableVerdict}
 use Rattle.sinc_read.specs.Reading.{sampleVerdict}
 use Rattle.range_ends.specs.Floats.{f64, zero, one, limit, about, across, fromZero}
-use Rattle.range_ends.specs.Readers.{calledBy, lagrangeCalled, lagrangeSampled, builtIn, built, builtForIn, builtFor}
+use Rattle.range_ends.specs.Readers.{calledBy, lagrangeCalled, lagrangeSampled, builtIn, built, builtForIn}
+use Rattle.range_ends.specs.Readers.{builtFor}
 
 -- G5. Lagrange's taps are even, 2 to 16: of a reader, and of a slice, whose position is tested too.
 pub lagrange-taps : map lagrangeCalled (0 ∷ 1 ∷ 2 ∷ 3 ∷ 15 ∷ 16 ∷ 17 ∷ 18 ∷ []) ≡ 1 ∷ 1 ∷ 0 ∷ 1 ∷ 1 ∷ 0 ∷ 1 ∷ 1 ∷ []

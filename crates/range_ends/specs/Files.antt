@@ -9,7 +9,7 @@ use Rattle.wav_format.specs.Format.{formatOk}
 use Rattle.wav_format.specs.Tags.{wraps}
 use Rattle.wav.specs.Wave.{isWave, foundIn, foundWrapped}
 use Rattle.sample_kind.specs.Kinds.{codeOf}
-use Rattle.fugnadri_wav.specs.Doors.{numberOf, waveOf}
+use Rattle.fugnadri_wav.specs.Exports.{numberOf, waveOf}
 
 -- `RIFF`, `WAVE`, `fmt `, `data`, and a chunk that nobody knows, `note`
 abbrev pub riffLetters : List ℕ

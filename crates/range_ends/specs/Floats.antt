@@ -16,7 +16,7 @@ f64 pattern = ofBits binary64 pattern
 abbrev pub noNumbers : List ℕ
 noNumbers = 0x7ff0_0000_0000_0000 ∷ 0xfff0_0000_0000_0000 ∷ 0x7ff8_0000_0000_0000 ∷ []
 
--- 0.0, 1.0 and 8000.0; 2^36 and the number next above it
+-- 0.0, 1.0 and 8000.0; 2^36 and the number next above it.
 abbrev pub zero : Float
 zero = f64 0
 

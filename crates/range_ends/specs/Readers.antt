@@ -58,16 +58,17 @@ built taps phases cutoff beta = builtIn taps phases cutoff beta (tableLength tap
 
 unfoldable pub builtForIn : Float → Float → ℕ → ℕ
 unfolding le lt div
-builtForIn rate passband len = rateVerdict (forRate 4 2 rate passband one) rate passband len
+builtForIn max-rate passband len = rateVerdict (forRate 4 2 max-rate passband one) max-rate passband len
 
 abbrev pub builtFor : Float → Float → ℕ
-builtFor rate passband = builtForIn rate passband 12
+builtFor max-rate passband = builtForIn max-rate passband 12
 
--- A call of the reader whose quality may change, lent a bank of `lent` f32 for the maximum rate `top`, and its reset.
--- The settings 0 and 0 want a ring of 8, and the rate 1 a bank of 1081648.
+-- A call of the quality reader, lent a bank of `lent` f32 for the maximum rate `max-rate`, and its reset. The settings
+-- 0 and 0 need a ring of 8, and the rate 1 a bank of 1081648.
 unfoldable pub asked : Coded → ℕ → ℕ → Float → Float → Float → Float → ℕ
 unfolding lengthFor placeOk stepsOf ceilingOf size isNan le sub div
-asked state len lent top input delay rate = dueOf lent top (decoded state) len input delay rate
+asked state len lent max-rate input delay playback-rate =
+    dueOf lent max-rate (decoded state) len input delay playback-rate
 
 unfoldable pub renewed : Coded → ℕ → ℕ
 unfolding lengthFor placeOk size

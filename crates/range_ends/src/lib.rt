@@ -1,3 +1,3 @@
-// Every range and every order of refusals that 01 and 02 name, at its ends: what is accepted at the end, what is
-// refused one step beyond it, and by which number. Closed facts over the definitions that the contracts cite, so that
-// a code and a definition that move an end together are told. There is no code.
+// Every range and every order of refusals that documents 01 and 02 name, proved at its ends.
+// Each fact says what is accepted at the end, what is refused one step beyond it, and by which number. The facts are
+// closed, so a change that moves an end in code and definition together is noticed. There is no code.

@@ -28,7 +28,8 @@ apart (inf false) (fin t n d) h k = h
 apart (fin s m e) nan h k = h
 apart (fin s m e) (inf true) h k = h
 apart (fin s m e) (inf false) h k = k
-apart (fin s m e) (fin t n d) h k = omega (arith, under (fin s m e) (fin t n d) tt tt h, strictly (fin t n d) (fin s m e) tt tt k)
+apart (fin s m e) (fin t n d) h k =
+    omega (arith, under (fin s m e) (fin t n d) tt tt h, strictly (fin t n d) (fin s m e) tt tt k)
 
 -- ---- below the second
 smaller : (s t : Bool) (a b : ℕ) → (s ≡ true → a ≡ 0) → T (below s a t b) → a < b
@@ -53,10 +54,14 @@ rem-below f (inf false) (inf t) p z h = absurd h
 rem-below f (inf false) (fin t n d) p z h = absurd h
 rem-below f (fin s m e) nan p z h = absurd h
 rem-below f (fin s m e) (inf t) p z h = refl
-rem-below f (fin s m e) (fin t n d) p z h = go n (smaller s t (m * up e * down d) (n * up d * down e) (none s m e (down d) z) h)
+rem-below f (fin s m e) (fin t n d) p z h =
+    go n (smaller s t (m * up e * down d) (n * up d * down e) (none s m e (down d) z) h)
   where
     own : (b : ℕ) → m * up e * down d < b → round f s (m * up e * down d % b) (down e * down d) ≡ fin s m e
-    own b l = rw (mod-eq-of-lt l) (round-own f (fin s m e) s (m * up e * down d) (down e * down d) p (mul-pos (down-pos e) (down-pos d)) (refl, sym (mul-assoc (m * up e) (down e) (down d)) ∙ mul-right-comm (m * up e) (down e) (down d)))
+    own b l =
+        rw (mod-eq-of-lt l) (round-own f (fin s m e) s (m * up e * down d) (down e * down d) p
+        (mul-pos (down-pos e) (down-pos d))
+        (refl, sym (mul-assoc (m * up e) (down e) (down d)) ∙ mul-right-comm (m * up e) (down e) (down d)))
 
     go : (n : ℕ) → m * up e * down d < n * up d * down e → rem f (fin s m e) (fin t n d) ≡ fin s m e
     go zero l = absurd (omega (arith, l, zero-mul (up d), zero-mul (down e)))

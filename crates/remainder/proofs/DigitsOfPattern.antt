@@ -3,7 +3,8 @@ use mathlib.Core.Path.{_≡_, sym, ap, _∙_, subst}
 use mathlib.Core.Bool.{Bool, true, false, cond}
 use mathlib.Core.Logic.{dite}
 use Prim.Native.Nat.{ℕ, _+_, _-_, _*_, _/_, _%_, _^_, _≤_, _<_}
-use native.Mathlib.Nat.{lt-of-lt-of-le, le-trans, le-of-eq, lt-irrefl, mul-le-mul, mul-lt-mul-of-pos-right, mul-assoc, zero-add}
+use native.Mathlib.Nat.{lt-of-lt-of-le, le-trans, le-of-eq, lt-irrefl, mul-le-mul, mul-lt-mul-of-pos-right, mul-assoc}
+use native.Mathlib.Nat.{zero-add}
 use native.Mathlib.Decide.{decLt}
 use native.Mathlib.Omega.{arith}
 use lib.Dec.{T, leb}
@@ -39,11 +40,14 @@ taken x held p =
     let back : ofBits binary64 n ≡ x = ofBits-toBits binary64 x held in
     let F : r < 0x7ff0_0000_0000_0000 = finite-rest binary64 n (rw back (positive-finite x p)) in
     let parts : n ≡ cond s (2 ^ 63) 0 + r = sign-rest binary64 n (toBits-lt binary64 x held) in
-    let reads : x ≡ units binary64 s (digitsOf r) (placeOf r) = sym back ∙ ap (ofBits binary64) parts ∙ unpacked binary64 s r F in
+    let reads : x ≡ units binary64 s (digitsOf r) (placeOf r) =
+    sym back ∙ ap (ofBits binary64) parts ∙ unpacked binary64 s r F in
     let K : placeOf r ≤ 2045 = omega arith in
     let D : digitsOf r < 2 ^ 53 = omega arith in
     let value : HasValue x s (digitsOf r * 2 ^ placeOf r) (2 ^ 1074) =
-    subst (λ (v : Float). HasValue v s (digitsOf r * 2 ^ placeOf r) (2 ^ 1074)) (sym reads) (units-val binary64 s (digitsOf r) (placeOf r) (lt-of-lt-of-le (shl-lt 53 (placeOf r) D) (pow-mono {j = 2098} (omega arith)))) in
+    subst (λ (v : Float). HasValue v s (digitsOf r * 2 ^ placeOf r) (2 ^ 1074)) (sym reads)
+    (units-val binary64 s (digitsOf r) (placeOf r)
+    (lt-of-lt-of-le (shl-lt 53 (placeOf r) D) (pow-mono {j = 2098} (omega arith)))) in
     let plus : s ≡ false = clear x s _ _ p value in
     let same : n ≡ r = parts ∙ ap (λ (b : Bool). cond b (2 ^ 63) 0 + r) plus ∙ zero-add r in
     record {
@@ -53,7 +57,10 @@ taken x held p =
 
 -- a number that is not below another has its digits at no lower a place
 pub place-order : (m i n j : ℕ) → m < 2 ^ 53 → (0 < j → 2 ^ 52 ≤ n) → n * 2 ^ j ≤ m * 2 ^ i → j ≤ i
-place-order m i n j M N h = dite (decLt i j) (λ l. absurd (lt-irrefl _ (lt-of-lt-of-le (mul-lt-mul-of-pos-right M (pow-pos i)) (le-trans (larger l) h)))) (λ l. omega arith)
+place-order m i n j M N h =
+    dite (decLt i j)
+    (λ l. absurd (lt-irrefl _ (lt-of-lt-of-le (mul-lt-mul-of-pos-right M (pow-pos i)) (le-trans (larger l) h))))
+    (λ l. omega arith)
   where
     larger : i < j → 2 ^ 53 * 2 ^ i ≤ n * 2 ^ j
     larger l =

@@ -1,4 +1,5 @@
-// X2. What the program `render` does with a sample: a WindowedSincF32 of 32 taps and 64 phases reads a ring of 1024, at the delay 512 plus the left offset of an engine
+// What the program `render` does with one sample (X2).
+// A WindowedSincF32 of 32 taps and 64 phases reads a ring of 1024 at the delay 512 plus the left offset of an engine
 // that steps at every sample. Ring and table are lent; the state goes in by value and comes back.
 ghost use mathlib.Core.Path.{_≡_};
 ghost use lib.Ieee as Ieee;
@@ -30,9 +31,12 @@ fn delay_of(offset: Offset) -> f64
 
 // One sample, by its pattern: the engine steps, then the reader is called. A refused sample writes 0.0.
 pub fn step<'a>(state: Rendering, ring: &mut [f32], table: &'a [f32], bits: u32) -> Rendered
-    ensures { λ r. ⌜ r .state ≡ afterSample (now (table .entry)) (heldOf state (now (ring .entry))) (Ieee.ofBits binary32 bits) .state ⌝ }
-    ensures { λ r. ⌜ r .bits ≡ Ieee.toBits binary32 (sampleFor (now (table .entry)) (heldOf state (now (ring .entry))) (Ieee.ofBits binary32 bits)) ⌝ }
-    ensures { λ r. ⌜ now (ring .exit) ≡ afterSample (now (table .entry)) (heldOf state (now (ring .entry))) (Ieee.ofBits binary32 bits) .ring ⌝ }
+    ensures { λ r. ⌜ r .state ≡
+        afterSample (now (table .entry)) (heldOf state (now (ring .entry))) (Ieee.ofBits binary32 bits) .state ⌝ }
+    ensures { λ r. ⌜ r .bits ≡ Ieee.toBits binary32 (sampleFor (now (table .entry)) (heldOf state (now (ring .entry)))
+        (Ieee.ofBits binary32 bits)) ⌝ }
+    ensures { λ r. ⌜ now (ring .exit) ≡
+        afterSample (now (table .entry)) (heldOf state (now (ring .entry))) (Ieee.ofBits binary32 bits) .ring ⌝ }
 {
     let engine = state.engine;
     let n = modulation::next(engine, modulation_params::default_params());

@@ -1,4 +1,4 @@
-// A slice of samples that the lines fill, and Draft's reading of it: nothing lies outside of it, whatever a line brings.
+// A slice of samples that the lines fill, and Draft's reading of it. No line can write or read outside of it.
 use super::Words;
 use super::refused;
 use bit_patterns::bits_of_f32;

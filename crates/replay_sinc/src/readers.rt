@@ -41,7 +41,8 @@ fn process<'a>(
     }
 }
 
-// `o` opens a reader (maximum delay, margin), `p` hands it a sample (the sample, the delay), any other letter resets it.
+// `o` opens a reader (maximum delay, margin), `p` hands it a sample (the sample, the delay), any other letter resets
+// it.
 fn called<'a>(
     s: VariableDelay,
     shape: Shape,

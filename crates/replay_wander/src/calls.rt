@@ -1,4 +1,5 @@
-// The engine's calls, each as the engine that it leaves, the number of its refusal, 0 for none, and the offsets that it hands out as patterns, 0 where there are none.
+// The engine's calls. Each gives the engine that it leaves, the refusal number, 0 for none, and the offsets as bit
+// patterns, 0 if there are none.
 use bit_patterns::bits_of;
 use modulation_engine::ModulationEngine;
 use modulation_engine::Opened;

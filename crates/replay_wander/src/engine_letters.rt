@@ -18,7 +18,8 @@ fn called(params: ModulationParams, turn: Turn, agrees: bool) -> Found {
     }
 }
 
-// `o` opens an engine, `t` sets its sample rate, `d` its seed, `r` resets it: the third word is the number of the refusal, 0 for none.
+// `o` opens an engine, `t` sets its sample rate, `d` its seed, `r` resets it. The third word is the refusal number, 0
+// for none.
 pub fn call(
     e: ModulationEngine,
     p: ModulationParams,

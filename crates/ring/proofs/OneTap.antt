@@ -10,14 +10,16 @@ use lib.IntN.{ℤ, pos, negsuc}
 use lib.ListN.{length, getD}
 use lib.Ieee.{Float, nan, fin}
 use Rattle.ring.specs.Taps.{tapOf}
-use Rattle.ring.specs.Places.{placeOf, startOf}
+use Rattle.ring.specs.Quick.{placeOf, startOf}
 use Rattle.ring.specs.declared.Start.{Start}
 use Rattle.ring.proofs.RunStartWays.{place-inside}
 use Rattle.ring.proofs.HeldRuns.{Run, run-of}
 
 module _ (xs : List Float) (count : ℕ) where
-  kept : {i : ℤ} {p : ℕ} (k : ℕ) → i ≡ pos k → k + 1 ≤ count → count ≤ k + length xs → p ≡ placeOf k (length xs) → getD xs p nan ≡ tapOf xs count i
-  kept k e a b q = rw (q, e, lt-ltb k count (omega arith), le-leb count (k + length xs) b, ne-eqb (length xs) 0 (λ z. omega arith))
+  kept : {i : ℤ} {p : ℕ} (k : ℕ) → i ≡ pos k → k + 1 ≤ count → count ≤ k + length xs → p ≡ placeOf k (length xs)
+      → getD xs p nan ≡ tapOf xs count i
+  kept k e a b q =
+      rw (q, e, lt-ltb k count (omega arith), le-leb count (k + length xs) b, ne-eqb (length xs) 0 (λ z. omega arith))
 
   absent : (i : ℤ) → startOf (length xs) count i 1 .held ≡ false → fin false 0 (pos 0) ≡ tapOf xs count i
   absent (negsuc k) h = refl

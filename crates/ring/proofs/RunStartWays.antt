@@ -1,4 +1,5 @@
--- A run of taps by where its index stands, for an index that the code holds as a word: one law for each way out of `run_start`. Assumes nothing.
+-- A run of taps by where its index stands, for an index that the code holds as a word: one law for each way out of
+-- `run_start`. Assumes nothing.
 use mathlib.Core.Path.{_≡_, sym, subst}
 use mathlib.Core.Bool.{true, false}
 use Prim.Native.Nat.{ℕ, _+_, _%_, _<_, _≤_}
@@ -11,15 +12,17 @@ use lib.Signed.{ltZ, nonNeg, natAbs-le}
 use mir.Syntax.{w64}
 use mir.Val.{Fits, SFits, toZ, ofZ}
 use mir.ValLaws.{toZ-ofZ}
-use Rattle.ring.specs.Places.{placeOf, startOf}
+use Rattle.ring.specs.Quick.{placeOf, startOf}
 use Rattle.ring.specs.declared.Start.{Start}
 
 -- a negative number where the test for one failed
 not-negative : (k : ℕ) → ltZ (negsuc k) (pos 0) ≡ false → ⊥
 not-negative k h = let e : _≡_ {A = ℕ} 0 1 = cc in omega arith
 
-pub fits : (i : ℤ) → SFits w64 i → ltZ (toZ w64 (ofZ w64 i)) (pos 0) ≡ false → T (nonNeg (toZ w64 (ofZ w64 i))) × Fits w64 (natAbs (toZ w64 (ofZ w64 i)))
-fits i f = subst (λ (z : ℤ). ltZ z (pos 0) ≡ false → T (nonNeg z) × Fits w64 (natAbs z)) (sym (toZ-ofZ w64 i f)) (go i f)
+pub fits : (i : ℤ) → SFits w64 i → ltZ (toZ w64 (ofZ w64 i)) (pos 0) ≡ false
+    → T (nonNeg (toZ w64 (ofZ w64 i))) × Fits w64 (natAbs (toZ w64 (ofZ w64 i)))
+fits i f =
+    subst (λ (z : ℤ). ltZ z (pos 0) ≡ false → T (nonNeg z) × Fits w64 (natAbs z)) (sym (toZ-ofZ w64 i f)) (go i f)
   where
     go : (i : ℤ) → SFits w64 i → ltZ i (pos 0) ≡ false → T (nonNeg i) × Fits w64 (natAbs i)
     go (pos k) f h = (tt, record { fits = omega (arith, natAbs-le (pos k) (f .sfits)) })
@@ -40,15 +43,18 @@ module _ (len count taps : ℕ) where
   none-before (negsuc k) e h = rw (← e)
   none-before (pos k) e h = let l : k < 0 = ltb-true k 0 h in absurd (omega arith)
 
-  pub none-ahead : (z : ℤ) {i : ℤ} → z ≡ i → ltZ z (pos 0) ≡ false → count < natAbs z + taps → none ≡ startOf len count i taps
+  pub none-ahead : (z : ℤ) {i : ℤ} → z ≡ i → ltZ z (pos 0) ≡ false → count < natAbs z + taps
+      → none ≡ startOf len count i taps
   none-ahead (negsuc k) e h l = absurd (not-negative k h)
   none-ahead (pos k) e h l = rw (← e, lt-leb (k + taps) count l)
 
-  pub none-gone : (z : ℤ) {i : ℤ} → z ≡ i → ltZ z (pos 0) ≡ false → natAbs z + taps ≤ count → natAbs z + len < count → none ≡ startOf len count i taps
+  pub none-gone : (z : ℤ) {i : ℤ} → z ≡ i → ltZ z (pos 0) ≡ false → natAbs z + taps ≤ count → natAbs z + len < count
+      → none ≡ startOf len count i taps
   none-gone (negsuc k) e h l g = absurd (not-negative k h)
   none-gone (pos k) e h l g = rw (← e, le-leb (k + taps) count l, lt-leb count (k + len) g)
 
-  pub all-kept : (z : ℤ) {i : ℤ} {p : ℕ} → z ≡ i → ltZ z (pos 0) ≡ false → natAbs z + taps ≤ count → count ≤ natAbs z + len → p ≡ placeOf (natAbs z) len
+  pub all-kept : (z : ℤ) {i : ℤ} {p : ℕ} → z ≡ i → ltZ z (pos 0) ≡ false → natAbs z + taps ≤ count
+      → count ≤ natAbs z + len → p ≡ placeOf (natAbs z) len
       → _≡_ {A = Start} (record { held = true; place = p }) (startOf len count i taps)
   all-kept (negsuc k) e h l g q = absurd (not-negative k h)
   all-kept (pos k) e h l g q = rw (← e, q, le-leb (k + taps) count l, le-leb count (k + len) g)

@@ -1,5 +1,6 @@
--- `round` is IEEE 754's rounding to nearest, a tie to even, for either sign: infinite from the midpoint above the largest value on, and below it the nearest of all values of either
--- sign. One of the other sign lies no nearer than zero does. Assumes nothing.
+-- `round` is IEEE 754's rounding to nearest, a tie to even, for either sign: infinite from the midpoint above the
+-- largest value on, and below it the nearest of all values of either sign. One of the other sign lies no nearer than
+-- zero does. Assumes nothing.
 use mathlib.Core.Path.{_≡_, refl}
 use mathlib.Core.Logic.{inl, inr}
 use mathlib.Core.Bool.{Bool}
@@ -42,7 +43,8 @@ module _ (f : Format) (s : Bool) (num den : ℕ) (D : 0 < den) (fine : grid f nu
   value : HasValue (round f s num den) s R (2 ^ low f)
   value = round-value f s num den fine
 
-  like : (y : Float) (t : Bool) (Y : ℕ) → T (fits f y) → HasValue y t Y (2 ^ low f) → n - R * den + (R * den - n) ≤ n - Y * den + (Y * den - n)
+  like : (y : Float) (t : Bool) (Y : ℕ) → T (fits f y) → HasValue y t Y (2 ^ low f)
+      → n - R * den + (R * den - n) ≤ n - Y * den + (Y * den - n)
   like y t Y held v = no-nearer n den R Y (round-nearest f s t num den R Y y D value held v)
 
   from-zero : n - R * den + (R * den - n) ≤ n
@@ -56,22 +58,36 @@ module _ (f : Format) (s : Bool) (num den : ℕ) (D : 0 < den) (fine : grid f nu
     | inr p ↦
         let o : 0 * den ≡ 0 = zero-mul den in
         let d : 0 < R * den = mul-pos p D in
-        round-even f s s num den R 0 (fin s 0 (pos 0)) D value (zero-held f s) (zero-value s (2 ^ low f)) (λ z. lt-irrefl 0 (rw z at p)) (omega (arith, from-zero, add-mul R 0 den))
+        round-even f s s num den R 0 (fin s 0 (pos 0)) D value (zero-held f s) (zero-value s (2 ^ low f))
+        (λ z. lt-irrefl 0 (rw z at p)) (omega (arith, from-zero, add-mul R 0 den))
   ]
 
-  tie-even : (y : Float) (t : Bool) (Y : ℕ) → T (fits f y) → HasValue y t Y (2 ^ low f) → (y ≡ round f s num den → ⊥) → off f s num den s R ≡ off f s num den t Y → LastEven f R
+  tie-even : (y : Float) (t : Bool) (Y : ℕ) → T (fits f y) → HasValue y t Y (2 ^ low f) → (y ≡ round f s num den → ⊥)
+      → off f s num den s R ≡ off f s num den t Y → LastEven f R
   tie-even y t Y held v ne e = elim (apart-eq s t n (R * den) (Y * den) e) [
     | inl (i, h) ↦
-        let other : R ≡ Y → ⊥ = λ z. ne (value-unique f y (round f s num den) s R held (round-fits f s num den) (rw (i, ← z) at v) value) in
+        let other : R ≡ Y → ⊥ =
+        λ z. ne (value-unique f y (round f s num den) s R held (round-fits f s num den) (rw (i, ← z) at v) value) in
         round-even f s t num den R Y y D value held v other (as-near n den R Y D other h)
     | inr h ↦ tie-zero Y h
   ]
 
   nearest-value : Nearest f s num den (round f s num den)
-  nearest-value = record { size = R; held = round-fits f s num den; value = value; nearest = λ y t Y held v. apart-le s t n (R * den) (Y * den) (like y t Y held v) from-zero; even = tie-even }
+  nearest-value =
+      record {
+        size = R;
+        held = round-fits f s num den;
+        value = value;
+        nearest = λ y t Y held v. apart-le s t n (R * den) (Y * den) (like y t Y held v) from-zero;
+        even = tie-even;
+      }
 
 pub round-once : (f : Format) (s : Bool) (num den : ℕ) → 0 < den → RoundedOnce f s num den (round f s num den)
-round-once f s num den D = record { above = round-infinite f num den D s .0; below = λ h. nearest-value f s num den D (round-finite f num den D h) }
+round-once f s num den D =
+    record {
+      above = round-infinite f num den D s .0;
+      below = λ h. nearest-value f s num den D (round-finite f num den D h);
+    }
 
 pub narrowed-nearest : (s : Bool) (m : ℕ) (e : ℤ) → RoundedOnce binary32 s (m * up e) (down e) (narrowed (fin s m e))
 unfolding narrowed

@@ -1,4 +1,5 @@
--- A sum the other way round is the same sum, and a sum of the negatives is the negative, unless it is exactly zero. Assumes nothing.
+-- A sum the other way round is the same sum, and a sum of the negatives is the negative, unless it is exactly zero.
+-- Assumes nothing.
 use mathlib.Core.Path.{_≡_, refl, sym, ap, _∙_}
 use mathlib.Core.Bool.{Bool, true, false, not, Bool·beq, cond, false≢true}
 use Prim.Native.Nat.{ℕ, zero, suc, _+_, _-_, _*_, _^_, _<_, compare, Ordering, Ordering·lt, Ordering·eq, Ordering·gt}
@@ -34,13 +35,18 @@ sum-swap f s a t b c C = go (Bool·beq s t) refl (compare a b) (cmp a b)
     go : (z : Bool) → Bool·beq s t ≡ z → (o : Ordering) → Cmp o a b → sum f s a t b c ≡ sum f t b s a c
     go true e o h =
         let x : s ≡ t = like s t e in
-        sum-like f s t a b c x ∙ ap (λ (z : Bool). round f z (a + b) c) x ∙ ap (λ (z : ℕ). round f t z c) (add-comm a b) ∙ sym (sum-like f t s b a c (sym x))
+        sum-like f s t a b c x
+        ∙ ap (λ (z : Bool). round f z (a + b) c) x
+        ∙ ap (λ (z : ℕ). round f t z c) (add-comm a b)
+        ∙ sym (sum-like f t s b a c (sym x))
     go false e Ordering·lt h = sum-over f s t a b c e h ∙ sym (sum-less f t s b a c (beq-swap t s ∙ e) h)
     go false e Ordering·eq h = sum-level f s t a b c C e h ∙ sym (sum-level f t s b a c C (beq-swap t s ∙ e) (sym h))
     go false e Ordering·gt h = sum-less f s t a b c e h ∙ sym (sum-over f t s b a c (beq-swap t s ∙ e) h)
 
-pub add-swap : (f : Format) (x y : Float) (s t : Bool) (A B L : ℕ) → 0 < L → HasValue x s A L → HasValue y t B L → add f x y ≡ add f y x
-add-swap f x y s t A B L P h k = add-units f x y s t A B L P h k ∙ sum-swap f s A t B L P ∙ sym (add-units f y x t s B A L P k h)
+pub add-swap : (f : Format) (x y : Float) (s t : Bool) (A B L : ℕ) → 0 < L → HasValue x s A L → HasValue y t B L
+    → add f x y ≡ add f y x
+add-swap f x y s t A B L P h k =
+    add-units f x y s t A B L P h k ∙ sum-swap f s A t B L P ∙ sym (add-units f y x t s B A L P k h)
 
 -- ---- the negatives
 odd-neg : (d : ℕ) (s : Bool) (q k l : ℕ) → odd d (not s) q k l ≡ neg (odd d s q k l)
@@ -52,7 +58,9 @@ units-neg : (f : Format) (s : Bool) (q k : ℕ) → units f (not s) q k ≡ neg 
 unfolding units neg
 units-neg f s q k = go (ltb (q * 2 ^ k) (overflow f))
   where
-    go : (b : Bool) → cond b (odd (suc (prec f)) (not s) q k (low f)) (inf (not s)) ≡ neg (cond b (odd (suc (prec f)) s q k (low f)) (inf s))
+    go : (b : Bool)
+        → cond b (odd (suc (prec f)) (not s) q k (low f)) (inf (not s))
+        ≡ neg (cond b (odd (suc (prec f)) s q k (low f)) (inf s))
     go true = odd-neg (suc (prec f)) s q k (low f)
     go false = refl
 
@@ -89,7 +97,8 @@ size-neg true false a b = refl
 size-neg false true a b = refl
 size-neg false false a b = refl
 
-pub sum-neg : (f : Format) (s : Bool) (a : ℕ) (t : Bool) (b c : ℕ) → 0 < sum-size s a t b → sum f (not s) a (not t) b c ≡ neg (sum f s a t b c)
+pub sum-neg : (f : Format) (s : Bool) (a : ℕ) (t : Bool) (b c : ℕ) → 0 < sum-size s a t b
+    → sum f (not s) a (not t) b c ≡ neg (sum f s a t b c)
 sum-neg f s a t b c h =
     sum-is f (not s) a (not t) b c
     ∙ ap (λ (z : Bool). round f z (sum-size (not s) a (not t) b) c) (sign-neg s t a b h)

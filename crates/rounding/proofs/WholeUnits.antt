@@ -46,13 +46,18 @@ module _ (f : Format) (v : ℕ) where
   pub round-units : (s : Bool) → round f s v (2 ^ low f) ≡ units f s (near f v) (places f v)
   round-units s =
       round-is f s v (2 ^ low f)
-      ∙ ap (λ (z : ℕ). units f s (closest (v * 2 ^ low f) (2 ^ low f * 2 ^ (size z - prec f))) (size z - prec f)) (mul-div-cancel v (pow-pos (low f)))
+      ∙ ap (λ (z : ℕ). units f s (closest (v * 2 ^ low f) (2 ^ low f * 2 ^ (size z - prec f))) (size z - prec f))
+      (mul-div-cancel v (pow-pos (low f)))
       ∙ ap (λ (z : ℕ). units f s z (places f v))
-      (closest-same (v * 2 ^ low f) (2 ^ low f * 2 ^ places f v) v (2 ^ places f v) (mul-pos (pow-pos (low f)) unit-pos) unit-pos (mul-assoc v (2 ^ low f) (2 ^ places f v)))
+      (closest-same (v * 2 ^ low f) (2 ^ low f * 2 ^ places f v) v (2 ^ places f v)
+      (mul-pos (pow-pos (low f)) unit-pos) unit-pos (mul-assoc v (2 ^ low f) (2 ^ places f v)))
 
   -- ---- exact, where v is a multiple of the unit, as it is where the unit is 1
   pub exact-multiple : (w : ℕ) → v ≡ w * 2 ^ places f v → near f v * 2 ^ places f v ≡ v
-  exact-multiple w e = ap (λ (z : ℕ). closest z (2 ^ places f v) * 2 ^ places f v) e ∙ ap (λ (z : ℕ). z * 2 ^ places f v) (closest-multiple w (2 ^ places f v) unit-pos) ∙ sym e
+  exact-multiple w e =
+      ap (λ (z : ℕ). closest z (2 ^ places f v) * 2 ^ places f v) e
+      ∙ ap (λ (z : ℕ). z * 2 ^ places f v) (closest-multiple w (2 ^ places f v) unit-pos)
+      ∙ sym e
 
   pub exact-short : places f v ≡ 0 → near f v * 2 ^ places f v ≡ v
   exact-short e = exact-multiple v (sym (mul-one v) ∙ ap (λ (z : ℕ). v * 2 ^ z) (sym e))
@@ -60,7 +65,9 @@ module _ (f : Format) (v : ℕ) where
   -- ---- where it is finite: its value and its pattern
   module _ (s : Bool) (fine : near f v * 2 ^ places f v < overflow f) where
     pub rounded-value : HasValue (round f s v (2 ^ low f)) s (near f v * 2 ^ places f v) (2 ^ low f)
-    rounded-value = subst (λ (x : Float). HasValue x s (near f v * 2 ^ places f v) (2 ^ low f)) (sym (round-units s)) (units-val f s (near f v) (places f v) fine)
+    rounded-value =
+        subst (λ (x : Float). HasValue x s (near f v * 2 ^ places f v) (2 ^ low f)) (sym (round-units s))
+        (units-val f s (near f v) (places f v) fine)
 
     pub rounded-bits : toBits f (round f s v (2 ^ low f)) ≡ cond s (top f) 0 + (places f v * hid f + near f v)
     rounded-bits = bits-units f (round f s v (2 ^ low f)) s (near f v) (places f v) near-le near-ge rounded-value

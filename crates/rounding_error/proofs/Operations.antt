@@ -1,4 +1,5 @@
--- Each operation is one rounding of its exact result: a sum, a product, a quotient by a number above zero. By the cases of the signs. Assumes nothing.
+-- Each operation is one rounding of its exact result: a sum, a product, a quotient by a number above zero.
+-- By the cases of the signs. Assumes nothing.
 use mathlib.Core.Path.{_≡_, refl}
 use mathlib.Core.Bool.{Bool, true, false, cond}
 use Prim.Native.Nat.{ℕ, _+_, _*_, _≤_, _<_}
@@ -45,7 +46,8 @@ abbrev pub joint : Bool → ℕ → Bool → ℕ → ℕ → Frac
 joint s a t b c = frac (signed s a c .p + signed t b c .p) (signed s a c .n + signed t b c .n) c
 
 -- ±num / den is ±a / c + ±b / c
-pub sum-is-joint : (S s t : Bool) (num den a b c : ℕ) → 0 < den → 0 < c → SumOf S (num * c) s (a * den) t (b * den) → Same (signed S num den) (joint s a t b c)
+pub sum-is-joint : (S s t : Bool) (num den a b c : ℕ) → 0 < den → 0 < c → SumOf S (num * c) s (a * den) t (b * den)
+    → Same (signed S num den) (joint s a t b c)
 sum-is-joint true true true num den a b c D C h = omega (arith, h .adds, add-mul a b den)
 sum-is-joint true true false num den a b c D C h = omega (arith, h .adds)
 sum-is-joint true false true num den a b c D C h = omega (arith, h .adds)
@@ -55,19 +57,27 @@ sum-is-joint false true false num den a b c D C h = omega (arith, h .adds)
 sum-is-joint false false true num den a b c D C h = omega (arith, h .adds)
 sum-is-joint false false false num den a b c D C h = omega (arith, h .adds, add-mul a b den)
 
-pub sum-same : (s : Bool) (a : ℕ) (t : Bool) (b c : ℕ) → 0 < c → Same (signed (sum-sign s a t b) (sum-size s a t b) c) (joint s a t b c)
+pub sum-same : (s : Bool) (a : ℕ) (t : Bool) (b c : ℕ) → 0 < c
+    → Same (signed (sum-sign s a t b) (sum-size s a t b) c) (joint s a t b c)
 sum-same s a t b c C = sum-is-joint (sum-sign s a t b) s t (sum-size s a t b) c a b c C C (sum-adds s a t b c C)
 
-pub joint-same : (s t : Bool) (a c b d : ℕ) → 0 < c → 0 < d → Same (joint s (a * d) t (b * c) (c * d)) (plus (signed s a c) (signed t b d))
-joint-same s t a c b d C D = record { left = mul-pos C D; right = mul-pos (signed-pos s a c C) (signed-pos t b d D); cross = go s t }
+pub joint-same : (s t : Bool) (a c b d : ℕ) → 0 < c → 0 < d
+    → Same (joint s (a * d) t (b * c) (c * d)) (plus (signed s a c) (signed t b d))
+joint-same s t a c b d C D =
+    record { left = mul-pos C D; right = mul-pos (signed-pos s a c C) (signed-pos t b d D); cross = go s t }
   where
-    go : (s t : Bool) → let x = signed s a c in let y = signed t b d in let j = joint s (a * d) t (b * c) (c * d) in j .p * (x .d * y .d) + (x .n * y .d + y .n * x .d) * (c * d) ≡ (x .p * y .d + y .p * x .d) * (c * d) + j .n * (x .d * y .d)
+    go : (s t : Bool) → let x = signed s a c in
+        let y = signed t b d in
+        let j = joint s (a * d) t (b * c) (c * d) in
+        j .p * (x .d * y .d) + (x .n * y .d + y .n * x .d) * (c * d)
+        ≡ (x .p * y .d + y .p * x .d) * (c * d) + j .n * (x .d * y .d)
     go false false = simp ring (omega arith)
     go false true = simp ring (omega arith)
     go true false = simp ring (omega arith)
     go true true = simp ring (omega arith)
 
-pub add-rounded : (f : Format) (x y : Float) → T (finite x) → T (finite y) → Rounded f (add f x y) (plus (val x) (val y))
+pub add-rounded : (f : Format) (x y : Float) → T (finite x) → T (finite y)
+    → Rounded f (add f x y) (plus (val x) (val y))
 unfolding add
 add-rounded f nan y h k = absurd h
 add-rounded f (inf s) y h k = absurd h
@@ -82,30 +92,50 @@ add-rounded f (fin s m e) (fin t n d) h k =
       a = sum-size s a t b;
       c = c;
       is = sum-is f s a t b c;
-      same = same-trans (sum-same s a t b c (mul-pos (down-pos e) (down-pos d))) (joint-same s t (m * up e) (down e) (n * up d) (down d) (down-pos e) (down-pos d));
+      same =
+          same-trans (sum-same s a t b c (mul-pos (down-pos e) (down-pos d)))
+          (joint-same s t (m * up e) (down e) (n * up d) (down d) (down-pos e) (down-pos d));
     }
 
 -- ---- a product
-pub product-same : (s t : Bool) (a c b d : ℕ) → 0 < c → 0 < d → Same (signed (unlike s t) (a * b) (c * d)) (times (signed s a c) (signed t b d))
-product-same s t a c b d C D = record { left = signed-pos (unlike s t) (a * b) (c * d) (mul-pos C D); right = mul-pos (signed-pos s a c C) (signed-pos t b d D); cross = go s t }
+pub product-same : (s t : Bool) (a c b d : ℕ) → 0 < c → 0 < d
+    → Same (signed (unlike s t) (a * b) (c * d)) (times (signed s a c) (signed t b d))
+product-same s t a c b d C D =
+    record {
+      left = signed-pos (unlike s t) (a * b) (c * d) (mul-pos C D);
+      right = mul-pos (signed-pos s a c C) (signed-pos t b d D);
+      cross = go s t;
+    }
   where
-    go : (s t : Bool) → let x = signed s a c in let y = signed t b d in let j = signed (unlike s t) (a * b) (c * d) in j .p * (x .d * y .d) + (x .p * y .n + x .n * y .p) * j .d ≡ (x .p * y .p + x .n * y .n) * j .d + j .n * (x .d * y .d)
+    go : (s t : Bool) → let x = signed s a c in
+        let y = signed t b d in
+        let j = signed (unlike s t) (a * b) (c * d) in
+        j .p * (x .d * y .d) + (x .p * y .n + x .n * y .p) * j .d
+        ≡ (x .p * y .p + x .n * y .n) * j .d + j .n * (x .d * y .d)
     go false false = simp ring (omega arith)
     go false true = simp ring (omega arith)
     go true false = simp ring (omega arith)
     go true true = simp ring (omega arith)
 
-pub mul-rounded : (f : Format) (x y : Float) → T (finite x) → T (finite y) → Rounded f (mul f x y) (times (val x) (val y))
+pub mul-rounded : (f : Format) (x y : Float) → T (finite x) → T (finite y)
+    → Rounded f (mul f x y) (times (val x) (val y))
 unfolding mul
 mul-rounded f nan y h k = absurd h
 mul-rounded f (inf s) y h k = absurd h
 mul-rounded f (fin s m e) nan h k = absurd k
 mul-rounded f (fin s m e) (inf t) h k = absurd k
 mul-rounded f (fin s m e) (fin t n d) h k =
-    record { s = unlike s t; a = m * up e * (n * up d); c = down e * down d; is = refl; same = product-same s t (m * up e) (down e) (n * up d) (down d) (down-pos e) (down-pos d) }
+    record {
+      s = unlike s t;
+      a = m * up e * (n * up d);
+      c = down e * down d;
+      is = refl;
+      same = product-same s t (m * up e) (down e) (n * up d) (down d) (down-pos e) (down-pos d);
+    }
 
 -- ---- a quotient, by a number that is above zero
-pub div-rounded : (f : Format) (x : Float) (n : ℕ) (d : ℤ) → T (finite x) → 0 < n → Rounded f (div f x (fin false n d)) (over (val x) (n * up d) (down d))
+pub div-rounded : (f : Format) (x : Float) (n : ℕ) (d : ℤ) → T (finite x) → 0 < n
+    → Rounded f (div f x (fin false n d)) (over (val x) (n * up d) (down d))
 unfolding div
 div-rounded f nan n d h N = absurd h
 div-rounded f (inf s) n d h N = absurd h
@@ -114,13 +144,25 @@ div-rounded f (fin s m e) n d h N = go (eqb n 0) (eqb→eq n 0)
     B : 0 < n * up d
     B = mul-pos N (up-pos d)
 
-    same-of : (s : Bool) (a c b d : ℕ) → 0 < b * c → 0 < c * b → Same (signed (unlike s false) (a * d) (b * c)) (over (signed s a c) b d)
+    same-of : (s : Bool) (a c b d : ℕ) → 0 < b * c → 0 < c * b
+        → Same (signed (unlike s false) (a * d) (b * c)) (over (signed s a c) b d)
     same-of false a c b d L R = record { left = L; right = R; cross = simp ring (omega arith) }
     same-of true a c b d L R = record { left = L; right = R; cross = simp ring (omega arith) }
 
-    go : (z : Bool) → (T z → n ≡ 0) → Rounded f (cond z (cond (eqb m 0) nan (inf (unlike s false))) (round f (unlike s false) (m * up e * down d) (n * up d * down e))) (over (val (fin s m e)) (n * up d) (down d))
+    go : (z : Bool) → (T z → n ≡ 0)
+        → Rounded f
+        (cond z (cond (eqb m 0) nan (inf (unlike s false)))
+        (round f (unlike s false) (m * up e * down d) (n * up d * down e)))
+        (over (val (fin s m e)) (n * up d) (down d))
     go true k = absurd (clash (k tt))
       where
         clash : n ≡ 0 → ⊥
         clash b = omega arith
-    go false k = record { s = unlike s false; a = m * up e * down d; c = n * up d * down e; is = refl; same = same-of s (m * up e) (down e) (n * up d) (down d) (mul-pos B (down-pos e)) (mul-pos (down-pos e) B) }
+    go false k =
+        record {
+          s = unlike s false;
+          a = m * up e * down d;
+          c = n * up d * down e;
+          is = refl;
+          same = same-of s (m * up e) (down e) (n * up d) (down d) (mul-pos B (down-pos e)) (mul-pos (down-pos e) B);
+        }

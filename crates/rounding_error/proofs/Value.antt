@@ -35,7 +35,13 @@ signed-same true a c w l C L e = omega arith
 pub value-is : (x : Float) (s : Bool) (w l : ℕ) → 0 < l → HasValue x s w l → Is x (signed s w l)
 value-is nan s w l L h = absurd h
 value-is (inf t) s w l L h = absurd h
-value-is (fin t m e) s w l L h = record { real = tt; same = subst (λ (u : Bool). Same (signed u (m * up e) (down e)) (signed s w l)) (sym (h .0)) (signed-same s (m * up e) (down e) w l (down-pos e) L (h .1)) }
+value-is (fin t m e) s w l L h =
+    record {
+      real = tt;
+      same =
+          subst (λ (u : Bool). Same (signed u (m * up e) (down e)) (signed s w l)) (sym (h .0))
+          (signed-same s (m * up e) (down e) w l (down-pos e) L (h .1));
+    }
 
 -- ---- the opposite
 pub neg-val : (x : Float) → val (neg x) ≡ opp (val x)

@@ -1,5 +1,5 @@
--- A whole number as a difference of naturals, so that `omega` and `simp ring` can be used on what is said of ℤ: z is p - n, through sums, differences and
--- products. Assumes nothing.
+-- A whole number as a difference of naturals, so that `omega` and `simp ring` can be used on what is said of ℤ:
+-- z is p - n, through sums, differences and products. Assumes nothing.
 use mathlib.Core.Path.{_≡_, refl, ap}
 use mathlib.Core.Bool.{Bool, true, false, not, cond}
 use Prim.Native.Nat.{ℕ, zero, suc, _+_, _-_, _*_, _≤_, _<_}
@@ -50,11 +50,14 @@ rep-add {x} {y} r s = rep-to (own-add x y) (omega arith)
 pub rep-minus : {x y : ℤ} {p n p' n' : ℕ} → Rep x p n → Rep y p' n' → Rep (x -ℤ y) (p + n') (n + p')
 rep-minus r s = rep-add r (rep-neg s)
 
-core : (a b c d p n q m : ℕ) → a + n ≡ p + b → c + m ≡ q + d → (a * c + b * d) + (p * m + n * q) ≡ (p * q + n * m) + (a * d + b * c)
-core a b c d p n q m h k = omega (arith, ap (λ (x : ℕ). x * c) h, ap (λ (x : ℕ). x * d) h, ap (λ (x : ℕ). x * p) k, ap (λ (x : ℕ). x * n) k)
+core : (a b c d p n q m : ℕ) → a + n ≡ p + b → c + m ≡ q + d
+    → (a * c + b * d) + (p * m + n * q) ≡ (p * q + n * m) + (a * d + b * c)
+core a b c d p n q m h k =
+    omega (arith, ap (λ (x : ℕ). x * c) h, ap (λ (x : ℕ). x * d) h, ap (λ (x : ℕ). x * p) k, ap (λ (x : ℕ). x * n) k)
 
 pub rep-mul : {x y : ℤ} {p n p' n' : ℕ} → Rep x p n → Rep y p' n' → Rep (x *ℤ y) (p * p' + n * n') (p * n' + n * p')
-rep-mul {x} {y} {p} {n} {p'} {n'} r s = rep-to (own-mul x y) (core (zp x) (zn x) (zp y) (zn y) p n p' n' (r .is) (s .is))
+rep-mul {x} {y} {p} {n} {p'} {n'} r s =
+    rep-to (own-mul x y) (core (zp x) (zn x) (zp y) (zn y) p n p' n' (r .is) (s .is))
 
 -- the difference of two naturals is one integer
 pub rep-unique : {z w : ℤ} {p n : ℕ} → Rep z p n → Rep w p n → z ≡ w

@@ -1,1 +1,2 @@
-// Signed fractions and the error of one rounding, for either format: definitions (specs/) and laws (proofs/) that the floors above cite. No code of its own.
+// Signed fractions and the error of one rounding, for f32 and f64: definitions (specs/) and laws (proofs/).
+// There is no code.

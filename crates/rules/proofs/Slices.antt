@@ -1,5 +1,6 @@
--- G3. A plain slice is a ring of its own length whose count is its length: every element is read at its place, and zero before the start and past the end. K1. Up to
--- 2^36 a sample's number is held exactly, so that a position is rounded once. Assumes nothing.
+-- G3. A plain slice is a ring of its own length whose count is its length: every element is read at its place,
+-- and zero before the start and past the end. K1. Up to 2^36 a sample's number is held exactly,
+-- so that a position is rounded once. Assumes nothing.
 use mathlib.Core.Path.{_≡_, refl}
 use mathlib.Core.Bool.{false, true}
 use mathlib.Core.List.{List}

@@ -1,4 +1,5 @@
--- How long a quality's table, a set and a bank are; and each quality's part of a set is its own table, each set of a bank its own. Assumes nothing.
+-- How long a quality's table, a set and a bank are; and each quality's part of a set is its own table,
+-- each set of a bank its own. Assumes nothing.
 use mathlib.Core.Path.{_≡_, sym, _∙_, ap}
 use mathlib.Core.List.{List, _++_, append-assoc}
 use Prim.Native.Nat.{ℕ, _+_, _*_, _<_}
@@ -22,7 +23,8 @@ long : (s : Settings) → length (tableF32Of s) ≡ tableLength (s .taps) (s .ph
 long s = length-map (tableOf s) narrowed ∙ length-table s
 
 -- three lists, one behind the other
-one-behind-another : (x y z : List Float) (a b c : ℕ) → length x ≡ a → length y ≡ b → length z ≡ c → (take a (x ++ (y ++ z)) ≡ x) × (take b (drop a (x ++ (y ++ z))) ≡ y) × (take c (drop (a + b) (x ++ (y ++ z))) ≡ z)
+one-behind-another : (x y z : List Float) (a b c : ℕ) → length x ≡ a → length y ≡ b → length z ≡ c
+    → (take a (x ++ (y ++ z)) ≡ x) × (take b (drop a (x ++ (y ++ z))) ≡ y) × (take c (drop (a + b) (x ++ (y ++ z))) ≡ z)
 one-behind-another x y z a b c p q r = (
   take-at x (y ++ z) a p,
   ap (take b) (drop-at x (y ++ z) a p) ∙ take-at y z b q,
@@ -46,9 +48,13 @@ module _ (rate : Float) where
   set-long = simp (length-append, normal-long, hq-long, ultra-long)
 
   -- T5
-  parts : (take 163920 (setOf rate) ≡ tableF32Of (normalAt rate)) × (take 393312 (drop 163920 (setOf rate)) ≡ tableF32Of (hqAt rate)) × (take 524416 (drop (163920 + 393312) (setOf rate)) ≡ tableF32Of (ultraAt rate))
+  parts : (take 163920 (setOf rate) ≡ tableF32Of (normalAt rate))
+      × (take 393312 (drop 163920 (setOf rate)) ≡ tableF32Of (hqAt rate))
+      × (take 524416 (drop (163920 + 393312) (setOf rate)) ≡ tableF32Of (ultraAt rate))
   unfolding setOf
-  parts = one-behind-another (tableF32Of (normalAt rate)) (tableF32Of (hqAt rate)) (tableF32Of (ultraAt rate)) 163920 393312 524416 normal-long hq-long ultra-long
+  parts =
+      one-behind-another (tableF32Of (normalAt rate)) (tableF32Of (hqAt rate))
+      (tableF32Of (ultraAt rate)) 163920 393312 524416 normal-long hq-long ultra-long
 
   pub normal-part : partOf Normal (setOf rate) ≡ tableF32Of (normalAt rate)
   normal-part = parts .0
@@ -60,10 +66,15 @@ module _ (rate : Float) where
   ultra-part = parts .2
 
 -- T3. set i of a bank, counted from 0
-pub set-at : (top : Float) (i : ℕ) → i < stepsOf top → take setLength (drop (i * setLength) (bankOf top)) ≡ setOf (rateOf top (stepsOf top) (i + 1))
+pub set-at : (top : Float) (i : ℕ) → i < stepsOf top
+    → take setLength (drop (i * setLength) (bankOf top)) ≡ setOf (rateOf top (stepsOf top) (i + 1))
 unfolding bankOf
-set-at top i h = row (λ (k : ℕ). setOf (rateOf top (stepsOf top) (k + 1))) setLength (λ k. set-long (rateOf top (stepsOf top) (k + 1))) (stepsOf top) i h
+set-at top i h =
+    row (λ (k : ℕ). setOf (rateOf top (stepsOf top) (k + 1))) setLength
+    (λ k. set-long (rateOf top (stepsOf top) (k + 1))) (stepsOf top) i h
 
 pub bank-long : (top : Float) → length (bankOf top) ≡ stepsOf top * setLength
 unfolding bankOf
-bank-long top = length-rows (λ (k : ℕ). setOf (rateOf top (stepsOf top) (k + 1))) setLength (λ k. set-long (rateOf top (stepsOf top) (k + 1))) (stepsOf top)
+bank-long top =
+    length-rows (λ (k : ℕ). setOf (rateOf top (stepsOf top) (k + 1))) setLength
+    (λ k. set-long (rateOf top (stepsOf top) (k + 1))) (stepsOf top)

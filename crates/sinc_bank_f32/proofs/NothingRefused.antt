@@ -1,4 +1,5 @@
--- A rate from 1 to 2 gives a cutoff 0.995 / rate from 0.4975 to 0.995, which is within a table's range: so no table of a set is refused. Assumes nothing.
+-- A rate from 1 to 2 gives a cutoff 0.995 / rate from 0.4975 to 0.995, which is within a table's range:
+-- so no table of a set is refused. Assumes nothing.
 use mathlib.Core.Path.{_≡_, refl}
 use mathlib.Core.Bool.{true, false}
 use Prim.Native.Nat.{ℕ}
@@ -25,13 +26,17 @@ cutoff-between rate ok = quotient-between binary64 tt (point passband tt) (in-ra
 cutoff-ok : (rate : Float) → bankOk rate ≡ true → cutoffOk (div binary64 passband rate) ≡ true
 unfolding le
 cutoff-ok rate ok =
-    let b : Between (fin false 1 (negsuc 9)) one-f (div binary64 passband rate) = widen (cutoff-between rate ok) tt tt tt tt in
-    is-true _ (and-i (le (fin false 1 (negsuc 9)) (div binary64 passband rate)) (le (div binary64 passband rate) one-f) (b .above .order) (b .below .order))
+    let b : Between (fin false 1 (negsuc 9)) one-f (div binary64 passband rate) =
+    widen (cutoff-between rate ok) tt tt tt tt in
+    is-true _ (and-i (le (fin false 1 (negsuc 9)) (div binary64 passband rate)) (le (div binary64 passband rate) one-f)
+    (b .above .order) (b .below .order))
 
 passband-ok : passbandOk passband ≡ true
 unfolding le lt
 passband-ok = refl
 
-pub unrefused : (taps phases : ℕ) (rate beta : Float) (len : ℕ) → bankOk rate ≡ true → tapsOk taps ≡ true → phasesOk phases ≡ true → betaOk beta ≡ true → len ≡ tableLength taps phases
+pub unrefused : (taps phases : ℕ) (rate beta : Float) (len : ℕ) → bankOk rate ≡ true → tapsOk taps ≡ true
+    → phasesOk phases ≡ true → betaOk beta ≡ true → len ≡ tableLength taps phases
     → rateVerdict (forRate taps phases rate passband beta) rate passband len ≡ 0
-unrefused taps phases rate beta len ok t p b l = rw (ok, passband-ok, t, p, cutoff-ok rate ok, b, eq-eqb len (tableLength taps phases) l)
+unrefused taps phases rate beta len ok t p b l =
+    rw (ok, passband-ok, t, p, cutoff-ok rate ok, b, eq-eqb len (tableLength taps phases) l)

@@ -1,4 +1,5 @@
--- What the number of sets says of the bank's rate: it is 0 exactly where the rate is out of range, and at most 50. Assumes nothing.
+-- What the number of sets says of the bank's rate: it is 0 exactly where the rate is out of range, and at most 50.
+-- Assumes nothing.
 use mathlib.Core.Path.{_≡_, refl, ap, _∙_}
 use mathlib.Core.Bool.{Bool, true, false, cond}
 use Prim.Native.Nat.{ℕ, _*_, _≤_}

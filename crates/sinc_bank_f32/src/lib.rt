@@ -1,4 +1,5 @@
-// T3, T5. 000's SincBankF32 over lent slices: the sets of a bank are built in their places, and the part of a set that a quality reads is handed back.
+// The original's SincBankF32 (000) over lent slices: builds the sets of a bank, and gives the part of a set that a
+// quality reads (T3, T5).
 mod parts; // the part of a set that is to be read
 
 use constants::SET_LENGTH;
@@ -19,7 +20,8 @@ pub enum Built {
     Refused(u8),
 }
 
-// One table of a set, in its part of the lent slice. Nothing is refused: a rate from 1 to 2 gives a cutoff from 0.4975 to 0.995.
+// Writes one table of a set into its part of the lent slice. Nothing is refused: a rate from 1 to 2 gives a cutoff from
+// 0.4975 to 0.995.
 fn write_part(
     taps: usize,
     phases: usize,
@@ -29,8 +31,10 @@ fn write_part(
     start: usize,
     end: usize,
 )
-    requires { ⌜ (start ≤ end) × (end ≤ length (now set)) × (rateVerdict (forRate taps phases rate passband beta) rate passband (end - start) ≡ 0) ⌝ }
-    ensures { λ _. ⌜ now (set .exit) ≡ withPart start end (tableF32Of (forRate taps phases rate passband beta)) (now (set .entry)) ⌝ }
+    requires { ⌜ (start ≤ end) × (end ≤ length (now set))
+        × (rateVerdict (forRate taps phases rate passband beta) rate passband (end - start) ≡ 0) ⌝ }
+    ensures { λ _. ⌜ now (set .exit) ≡
+        withPart start end (tableF32Of (forRate taps phases rate passband beta)) (now (set .entry)) ⌝ }
 {
     let _built = windowed_sinc_f32::for_max_rate(
         taps,
@@ -52,10 +56,11 @@ fn write_set(rate: f64, set: &mut [f32])
     write_part(128, 4096, rate, 16.0, &mut set[..], 557232, SET_LENGTH);
 }
 
-// One set in its place: 0, or the refusal that is due, which leaves the slice.
+// Builds one set in its place; returns 0, or the refusal that is due, which leaves the slice unchanged.
 pub fn build_set(rate: f64, set: &mut [f32]) -> u8
     ensures { λ r. ⌜ r ≡ setVerdict rate (length (now (set .entry))) ⌝ }
-    ensures { λ r. ⌜ now (set .exit) ≡ tableAfter (setVerdict rate (length (now (set .entry)))) (setOf rate) (now (set .entry)) ⌝ }
+    ensures { λ r. ⌜ now (set .exit) ≡
+        tableAfter (setVerdict rate (length (now (set .entry)))) (setOf rate) (now (set .entry)) ⌝ }
 {
     if !magnitude::within(rate, 1.0, 2.0) {
         return 1;
@@ -76,7 +81,8 @@ pub fn bank_length(max_rate: f64) -> usize
 
 // Lends each set's part of the bank to `write_set`.
 fn write_sets(max_rate: f64, n: usize, width: usize, sets: &mut [f32])
-    requires { ⌜ (bankOk «max_rate» ≡ true) × (n ≡ stepsOf «max_rate») × (width ≡ setLength) × (length (now sets) ≡ n * width) ⌝ }
+    requires { ⌜ (bankOk «max_rate» ≡ true) × (n ≡ stepsOf «max_rate») × (width ≡ setLength)
+        × (length (now sets) ≡ n * width) ⌝ }
     ensures { λ _. ⌜ now (sets .exit) ≡ bankOf «max_rate» ⌝ }
 {
     let mut i: usize = 0;
@@ -92,7 +98,8 @@ fn write_sets(max_rate: f64, n: usize, width: usize, sets: &mut [f32])
 // 000's SincBankF32::for_max_rate: refuses by 1 or 2, or builds every set.
 pub fn build(max_rate: f64, sets: &mut [f32]) -> Built
     ensures { λ r. ⌜ r ≡ builtBy (bankVerdict «max_rate» (length (now (sets .entry)))) «max_rate» ⌝ }
-    ensures { λ r. ⌜ now (sets .exit) ≡ tableAfter (bankVerdict «max_rate» (length (now (sets .entry)))) (bankOf «max_rate») (now (sets .entry)) ⌝ }
+    ensures { λ r. ⌜ now (sets .exit) ≡
+        tableAfter (bankVerdict «max_rate» (length (now (sets .entry)))) (bankOf «max_rate») (now (sets .entry)) ⌝ }
 {
     let n = bank_choice::steps(max_rate);
     if n == 0 {

@@ -1,8 +1,11 @@
--- The whole part of a float, held to a top: above the top it is the top, between 0 and the top its floor, below 0 nothing. Assumes nothing.
+-- The whole part of a float, held to a top: above the top it is the top, between 0 and the top its floor,
+-- below 0 nothing. Assumes nothing.
 use mathlib.Core.Path.{_≡_, refl, sym, _∙_, ap, subst}
 use mathlib.Core.Bool.{Bool, true, false, true≢false}
 use Prim.Native.Nat.{ℕ, _*_, _/_, _^_, _<_, _≤_}
-use native.Mathlib.Nat.{mul-one, mul-comm, mul-right-comm, le-of-mul-le-mul-right, lt-of-mul-lt-mul-right, le-trans, le-of-lt, min-eq-left, min-eq-right, min-le-right, zero-div, div-le-of-le-mul, le-div-iff-mul-le}
+use native.Mathlib.Nat.{mul-one, mul-comm, mul-right-comm, le-of-mul-le-mul-right, lt-of-mul-lt-mul-right, le-trans}
+use native.Mathlib.Nat.{le-of-lt, min-eq-left, min-eq-right, min-le-right, zero-div, div-le-of-le-mul}
+use native.Mathlib.Nat.{le-div-iff-mul-le}
 use native.Mathlib.Omega.{arith}
 use borrow.Author.Tests.{ltb-true, ltb-false}
 use lib.Dec.{lit≤}
@@ -48,7 +51,8 @@ whole top nan l u = absurd u
 whole top (inf s) l u = absurd u
 whole top (fin true m e) l u = absurd u
 whole top (fin false m e) l u =
-    let q : m * up e / down e ≤ top = div-le-of-le-mul (down e) (subst (λ (z : ℕ). m * up e ≤ z) (mul-comm top (down e)) (le-of-lt u)) in
+    let q : m * up e / down e ≤ top =
+    div-le-of-le-mul (down e) (subst (λ (z : ℕ). m * up e ≤ z) (mul-comm top (down e)) (le-of-lt u)) in
     ap pos (min-eq-left (le-trans q (le-trans l (lit≤ tt))) ∙ sym (min-eq-left q))
 
 pub over : (top : ℕ) (x y : Float) → HasValue y false top 1 → lt zero-f x ≡ true → lt x y ≡ false → top ≡ cutTo top x

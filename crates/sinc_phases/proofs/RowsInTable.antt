@@ -1,4 +1,5 @@
--- What is known where the phases and the position are in range: the row that is read and the next lie in the table. Assumes nothing.
+-- What is known where the phases and the position are in range: the row that is read and the next lie in the table.
+-- Assumes nothing.
 use mathlib.Core.Path.{_≡_}
 use mathlib.Core.Bool.{true, _&&_}
 use Prim.Native.Nat.{ℕ, _+_, _-_, _*_, _^_, _≤_}

@@ -31,7 +31,8 @@ module _ (taps phases len : ℕ) (p : Float) where
   pub readable : sampleVerdict taps phases len p ≡ 0 → Readable taps phases len p
   readable h = go (tapsOk taps && phasesOk phases) (positionOk p) (eqb len (tableLength taps phases)) refl refl refl h
     where
-      go : (a b c : Bool) → tapsOk taps && phasesOk phases ≡ a → positionOk p ≡ b → eqb len (tableLength taps phases) ≡ c → due (a && b) c ≡ 0 → Readable taps phases len p
+      go : (a b c : Bool) → tapsOk taps && phasesOk phases ≡ a → positionOk p ≡ b
+          → eqb len (tableLength taps phases) ≡ c → due (a && b) c ≡ 0 → Readable taps phases len p
       go true true true A B C t = record { counted = A; here = B; long = eqb-true _ _ C }
       go true true false A B C t = absurd (omega arith)
       go true false c A B C t = absurd (omega arith)
@@ -41,6 +42,7 @@ module _ (taps phases len : ℕ) (p : Float) where
   pub same-test : eqb (tableVerdict taps phases len) 0 && positionOk p ≡ eqb (sampleVerdict taps phases len p) 0
   same-test = go (positionOk p) refl
     where
-      go : (b : Bool) → positionOk p ≡ b → eqb (tableVerdict taps phases len) 0 && b ≡ eqb (sampleVerdict taps phases len p) 0
+      go : (b : Bool) → positionOk p ≡ b
+          → eqb (tableVerdict taps phases len) 0 && b ≡ eqb (sampleVerdict taps phases len p) 0
       go true h = and-true (eqb (tableVerdict taps phases len) 0) ∙ ap (λ (v : ℕ). eqb v 0) (within h)
       go false h = and-false (eqb (tableVerdict taps phases len) 0) ∙ ap (λ (v : ℕ). eqb v 0) (beyond h)

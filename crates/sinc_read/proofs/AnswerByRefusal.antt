@@ -1,5 +1,5 @@
--- What a reader of a lent table gives, at either width, from the refusal that is due: where none is, its reading r; else zero, and an answer that has the refusal's
--- number alone. Assumes nothing.
+-- What a reader of a lent table gives, at either width, from the refusal that is due: where none is, its reading r;
+-- else zero, and an answer that has the refusal's number alone. Assumes nothing.
 use mathlib.Core.Path.{_≡_, refl, sym, _∙_, ap}
 use mathlib.Core.Bool.{Bool, _&&_, cond}
 use Prim.Native.Nat.{ℕ, zero, suc}

@@ -1,5 +1,5 @@
--- Both ways of a reading that nothing refuses, every tap held and taps one by one, are the definition's, at what the code holds: r from `phase_at`, z from
--- `first_tap`, s from `run_start`. Assumes nothing.
+-- Both ways of a reading that nothing refuses, every tap held and taps one by one, are the definition's,
+-- at what the code holds: r from `phase_at`, z from `first_tap`, s from `run_start`. Assumes nothing.
 use mathlib.Core.Path.{_≡_, _∙_, ap}
 use mathlib.Core.Bool.{true, _&&_, cond}
 use mathlib.Core.List.{List}
@@ -20,7 +20,8 @@ use Rattle.integer_part.proofs.SumsInRange.{minus-mag}
 use Rattle.loop_laws.specs.Loops.{fold}
 use Rattle.loop_laws.proofs.Folds.{same}
 use Rattle.ring.specs.Taps.{tapOf}
-use Rattle.ring.specs.Places.{positionOk, startOf}
+use Rattle.ring.specs.Places.{positionOk}
+use Rattle.ring.specs.Quick.{startOf}
 use Rattle.ring.specs.declared.Start.{Start}
 use Rattle.ring.proofs.Positions.{position-at-most}
 use Rattle.ring.proofs.HeldRuns as run
@@ -38,10 +39,14 @@ module _ {taps phases len : ℕ} {p : Float} (ok : Readable taps phases len p) w
   counted = counts taps phases (ok .counted)
 
   taps-fine : tapsOk taps ≡ true
-  taps-fine = is-true (tapsOk taps) (and-l (tapsOk taps) (phasesOk phases) (passes (tapsOk taps && phasesOk phases) (ok .counted)))
+  taps-fine =
+      is-true (tapsOk taps)
+      (and-l (tapsOk taps) (phasesOk phases) (passes (tapsOk taps && phasesOk phases) (ok .counted)))
 
   phases-fine : phasesOk phases ≡ true
-  phases-fine = is-true (phasesOk phases) (and-r (tapsOk taps) (phasesOk phases) (passes (tapsOk taps && phasesOk phases) (ok .counted)))
+  phases-fine =
+      is-true (phasesOk phases)
+      (and-r (tapsOk taps) (phasesOk phases) (passes (tapsOk taps && phasesOk phases) (ok .counted)))
 
   pub phase-is : {r : Phase} → r ≡ phaseAt p phases → r .phase ≡ phaseOf p phases
   phase-is e = ap (λ (r : Phase). r .phase) e ∙ rw (phases-fine, ok .here)
@@ -54,7 +59,8 @@ module _ {taps phases len : ℕ} {p : Float} (ok : Readable taps phases len p) w
 
   -- both rows lie in the table
   pub rows-fit : {r : Phase} → r ≡ phaseAt p phases → r .phase * taps + taps + taps ≤ len
-  rows-fit e = rw (phase-is e, ok .long) (two-rows (phaseOf p phases) taps phases (next-phase p phases (counted .least-phases)))
+  rows-fit e =
+      rw (phase-is e, ok .long) (two-rows (phaseOf p phases) taps phases (next-phase p phases (counted .least-phases)))
 
   pub few : taps ≤ 128
   few = counted .most-taps
@@ -63,13 +69,24 @@ module _ {taps phases len : ℕ} {p : Float} (ok : Readable taps phases len p) w
   some = omega (arith, counted .least-taps)
 
   pub first-near : mag (firstTap p taps) ≤ 2 ^ 37
-  first-near = omega (arith, minus-mag (floorOf p) (taps / 2 - 1), floor-mag (2 ^ 36) p (lit< tt) (position-at-most p (ok .here)), few)
+  first-near =
+      omega (
+        arith,
+        minus-mag (floorOf p) (taps / 2 - 1),
+        floor-mag (2 ^ 36) p (lit< tt) (position-at-most p (ok .here)),
+        few,
+      )
 
-  module _ (table xs : List Float) (count : ℕ) {r : Phase} {z : ℤ} {v : Float} (phase : r ≡ phaseAt p phases) (first : z ≡ firstTap p taps) where
-    pub one-by-one : v ≡ fold (tapTurn (λ (k : ℕ). tapOf xs count (z +ℤ pos k)) table (r .blend) taps (r .phase)) zero-f taps → v ≡ sincAt table taps phases xs count p
+  module _ (table xs : List Float) (count : ℕ) {r : Phase} {z : ℤ} {v : Float} (phase : r ≡ phaseAt p phases)
+      (first : z ≡ firstTap p taps) where
+    pub one-by-one : v
+        ≡ fold (tapTurn (λ (k : ℕ). tapOf xs count (z +ℤ pos k)) table (r .blend) taps (r .phase)) zero-f taps
+        → v ≡ sincAt table taps phases xs count p
     unfolding sincAt
     one-by-one e = e ∙ rw (phase-is phase, blend-is phase, first)
 
     pub held : (s : Start) → s ≡ startOf (length xs) count z taps → s .held ≡ true
-        → v ≡ fold (tapTurn (λ (k : ℕ). getD xs ((s .place + k) % length xs) nan) table (r .blend) taps (r .phase)) zero-f taps → v ≡ sincAt table taps phases xs count p
+        → v ≡ fold
+        (tapTurn (λ (k : ℕ). getD xs ((s .place + k) % length xs) nan) table (r .blend) taps (r .phase)) zero-f taps
+        → v ≡ sincAt table taps phases xs count p
     held s start all e = one-by-one (e ∙ same _ _ zero-f taps (λ k l v. rw (run.each xs count taps z s start all k l)))

@@ -15,7 +15,11 @@ pub record Window (s : Settings) (len : ℕ) : Type 0 where
   pub long : len ≡ s .taps
 
 window : (s : Settings) (len : ℕ) → T (windowReady s len) → Window s len
-window s len t = record { settings = is-true _ (and-l (settingsOk s) (eqb len (s .taps)) t); long = eqb→eq len (s .taps) (and-r (settingsOk s) (eqb len (s .taps)) t) }
+window s len t =
+    record {
+      settings = is-true _ (and-l (settingsOk s) (eqb len (s .taps)) t);
+      long = eqb→eq len (s .taps) (and-r (settingsOk s) (eqb len (s .taps)) t);
+    }
 
 pub window-ready : (s : Settings) (len : ℕ) → windowReady s len ≡ true → Window s len
 window-ready s len h = window s len (passes (windowReady s len) h)

@@ -1,4 +1,5 @@
--- K4, T1. 000's sinc, Kaiser's window, and a coefficient before its row is divided: each step rounded, in 000's order. Definitions only.
+-- K4, T1. 000's sinc, Kaiser's window, and a coefficient before its row is divided, in 000's order, each step rounded.
+-- Definitions only.
 use Prim.Native.Nat.{ℕ, _-_, _^_}
 use mathlib.Core.Bool.{Bool, false, cond}
 use lib.IntN.{pos, negsuc}
@@ -13,7 +14,7 @@ use Rattle.sinc_settings.specs.Ranges.{zero-f, one-f, two-f}
 abbrev pub num : ℕ → Float
 num n = ofInt binary64 (pos n)
 
--- Rust's f64::abs
+-- Rust's f64::abs.
 abbrev pub absOf : Float → Float
 absOf nan = nan
 absOf (inf s) = inf false
@@ -23,7 +24,7 @@ absOf (fin s m e) = fin false m e
 unfoldable pub smallOf : Float → Bool
 smallOf x = lt (absOf x) (round binary64 false 1 (10 ^ 12))
 
--- PI, 400921FB54442D18
+-- PI, 400921FB54442D18.
 abbrev pub pi : Float
 pi = fin false 884279719003555 (negsuc 47)
 
@@ -34,13 +35,15 @@ sincOf x = cond (smallOf x) one-f (div binary64 (sineAt (mul binary64 pi x)) (mu
 abbrev pub normalizedOf : ℕ → ℕ → Float
 normalizedOf taps k = sub binary64 (div binary64 (mul binary64 two-f (num k)) (num (taps - 1))) one-f
 
--- Kaiser's window: I0 of beta times the root of 1 - normalized^2, at least 0, over I0 of beta
+-- Kaiser's window: I0 of beta times the root of 1 - normalized^2, at least 0, over I0 of beta.
 unfoldable pub windowOf : Settings → ℕ → Float
 windowOf s k =
     let n = normalizedOf (s .taps) k in
-    div binary64 (seriesOf 24 (mul binary64 (s .beta) (root binary64 (larger (sub binary64 one-f (mul binary64 n n)) zero-f)))) (seriesOf 24 (s .beta))
+    div binary64
+    (seriesOf 24 (mul binary64 (s .beta) (root binary64 (larger (sub binary64 one-f (mul binary64 n n)) zero-f))))
+    (seriesOf 24 (s .beta))
 
--- `k - center - frac`, center being taps / 2 - 1 and frac phase / phases
+-- `k - center - frac`, center being taps / 2 - 1 and frac phase / phases.
 abbrev pub centerOf : ℕ → Float
 centerOf taps = sub binary64 (div binary64 (num taps) two-f) one-f
 

@@ -1,4 +1,5 @@
-// One row of 000's WindowedSinc: the coefficients of a phase. The window depends on the tap alone, so it is computed once and lent to every row.
+// One row of a windowed sinc table: the coefficients of one phase (000, T1).
+// The window depends on the tap alone, so it is computed once and lent to every row.
 mod window; // what a window has at each tap
 
 pub use window::write_window;
@@ -48,7 +49,8 @@ fn coefficient(cutoff: f64, distance: f64, window: f64) -> f64
 
 // Writes a row's coefficients and returns their sum.
 fn fill<'a>(row: &mut [f64], settings: Settings, window: &'a [f64], phase: usize) -> f64
-    requires { ⌜ (settingsOk settings ≡ true) × (phase ≤ settings .phases) × (length (now row) ≡ settings .taps) × (length (now window) ≡ settings .taps) ⌝ }
+    requires { ⌜ (settingsOk settings ≡ true) × (phase ≤ settings .phases) × (length (now row) ≡ settings .taps)
+        × (length (now window) ≡ settings .taps) ⌝ }
     ensures { λ r. ⌜ r ≡ gainOf settings (at (now (window .entry))) phase (settings .taps) ⌝ }
     ensures { λ _. ⌜ now (row .exit) ≡ listOf (rawOf settings (at (now (window .entry))) phase) (settings .taps) ⌝ }
 {
@@ -107,7 +109,8 @@ fn row_ready(settings: Settings, phase: usize, len: usize, lent: usize) -> bool
     }
 }
 
-// T1. A phase's row under a lent window, divided by its sum. Where a setting, the phase or a length is out of range, nothing is written.
+// Writes a phase's row under a lent window, divided by its sum (T1). If a setting, the phase or a length is out of
+// range, nothing is written.
 pub fn write_row<'a>(row: &mut [f64], settings: Settings, window: &'a [f64], phase: usize)
     ensures { λ _. ⌜ now (row .exit) ≡ rowAfter settings (now (window .entry)) phase (now (row .entry)) ⌝ }
 {

@@ -1,5 +1,5 @@
--- Where no refusal is due to a builder its settings are in range and the lent table has their length; and none is due to one by rate only where none is due by the
--- cutoff. Assumes nothing.
+-- Where no refusal is due to a builder its settings are in range and the lent table has their length;
+-- and none is due to one by rate only where none is due by the cutoff. Assumes nothing.
 use mathlib.Core.Path.{_≡_}
 use mathlib.Core.Bool.{true, _&&_}
 use Prim.Native.Nat.{ℕ}
@@ -23,7 +23,9 @@ fitting s len h =
 
 pub by-rate : (s : Settings) (rate passband : Float) (len : ℕ) → rateVerdict s rate passband len ≡ 0 → verdict s len ≡ 0
 by-rate s rate passband len h =
-    let p = passed ((rateOk rate && passbandOk passband) && settingsOk s) (eqb len (tableLength (s .taps) (s .phases))) true true true true true true h in
+    let p =
+    passed ((rateOk rate && passbandOk passband) && settingsOk s)
+    (eqb len (tableLength (s .taps) (s .phases))) true true true true true true h in
     let ok = is-true (settingsOk s) (and-r (rateOk rate && passbandOk passband) (settingsOk s) (p .p1)) in
     let long = is-true (eqb len (tableLength (s .taps) (s .phases))) (p .p2) in
     rw (ok, long)

@@ -41,7 +41,8 @@ counts taps phases h =
 
 -- a whole table is short enough for every index
 pub length-fits : {taps phases : ℕ} → Counts taps phases → tableLength taps phases ≤ 2 ^ 20
-length-fits {taps} {phases} c = let l : phases + 1 ≤ 4097 = omega (arith, c .most-phases) in omega (arith, mul-le-mul l (c .most-taps))
+length-fits {taps} {phases} c =
+    let l : phases + 1 ≤ 4097 = omega (arith, c .most-phases) in omega (arith, mul-le-mul l (c .most-taps))
 
 -- of all four: the counts pass their tests, and the cutoff is at most 1
 abbrev least : Float
@@ -55,8 +56,13 @@ pub accepted : (s : Settings) → settingsOk s ≡ true → Accepted s
 accepted s h =
     let t = passes (settingsOk s) h in
     let c = and-l (tapsOk (s .taps) && phasesOk (s .phases)) (cutoffOk (s .cutoff) && betaOk (s .beta)) t in
-    let cut = and-l (cutoffOk (s .cutoff)) (betaOk (s .beta)) (and-r (tapsOk (s .taps) && phasesOk (s .phases)) (cutoffOk (s .cutoff) && betaOk (s .beta)) t) in
+    let cut =
+    and-l (cutoffOk (s .cutoff)) (betaOk (s .beta))
+    (and-r (tapsOk (s .taps) && phasesOk (s .phases)) (cutoffOk (s .cutoff) && betaOk (s .beta)) t) in
     record {
       counted = is-true _ c;
-      unit = between-at-most 1 least (s .cutoff) one-f (lit≤ tt) (lit≤ tt) (and-l (le least (s .cutoff)) (le (s .cutoff) one-f) cut) (and-r (le least (s .cutoff)) (le (s .cutoff) one-f) cut);
+      unit =
+          between-at-most 1 least (s .cutoff) one-f (lit≤ tt) (lit≤ tt)
+          (and-l (le least (s .cutoff)) (le (s .cutoff) one-f) cut)
+          (and-r (le least (s .cutoff)) (le (s .cutoff) one-f) cut);
     }

@@ -41,8 +41,12 @@ held r h =
     record {
       from-zero = and-l (le zero (r .position)) (lt (r .position) one) position;
       below-one = and-r (le zero (r .position)) (lt (r .position) one) position;
-      current-in = in-range (neg one) one (r .current) tt tt (and-l (within (neg one) one (r .current)) (within (neg one) one (r .next)) targets);
-      next-in = in-range (neg one) one (r .next) tt tt (and-r (within (neg one) one (r .current)) (within (neg one) one (r .next)) targets);
+      current-in =
+          in-range (neg one) one (r .current) tt tt
+          (and-l (within (neg one) one (r .current)) (within (neg one) one (r .next)) targets);
+      next-in =
+          in-range (neg one) one (r .next) tt tt
+          (and-r (within (neg one) one (r .current)) (within (neg one) one (r .next)) targets);
       pace-in = in-range slowest fastest (r .«segment_rate_scale») tt tt (and-l (paceOf r) (seedsOf r) last);
       state-some = some (r .state) (and-l (not (eqb (r .state) 0)) (not (eqb (r .«initial_seed») 0)) seeds);
       seed-some = some (r .«initial_seed») (and-r (not (eqb (r .state) 0)) (not (eqb (r .«initial_seed») 0)) seeds);
@@ -51,9 +55,12 @@ held r h =
 pub valid : (r : SmoothRandom) → Held r → T (validOf r)
 unfolding validOf
 valid r h =
-    and-i (positionOf r) (targetsOf r && (paceOf r && seedsOf r)) (and-i (le zero (r .position)) (lt (r .position) one) (h .from-zero) (h .below-one))
+    and-i (positionOf r) (targetsOf r && (paceOf r && seedsOf r))
+    (and-i (le zero (r .position)) (lt (r .position) one) (h .from-zero) (h .below-one))
     (and-i (targetsOf r) (paceOf r && seedsOf r)
-    (and-i (within (neg one) one (r .current)) (within (neg one) one (r .next)) (tested (neg one) one (r .current) (h .current-in)) (tested (neg one) one (r .next) (h .next-in)))
+    (and-i (within (neg one) one (r .current)) (within (neg one) one (r .next))
+    (tested (neg one) one (r .current) (h .current-in)) (tested (neg one) one (r .next) (h .next-in)))
     (and-i (paceOf r) (seedsOf r) (tested slowest fastest (r .«segment_rate_scale») (h .pace-in))
-    (and-i (not (eqb (r .state) 0)) (not (eqb (r .«initial_seed») 0)) (not-T (eqb (r .state) 0) (λ t. h .state-some (eqb→eq (r .state) 0 t)))
+    (and-i (not (eqb (r .state) 0)) (not (eqb (r .«initial_seed») 0))
+    (not-T (eqb (r .state) 0) (λ t. h .state-some (eqb→eq (r .state) 0 t)))
     (not-T (eqb (r .«initial_seed») 0) (λ t. h .seed-some (eqb→eq (r .«initial_seed») 0 t))))))

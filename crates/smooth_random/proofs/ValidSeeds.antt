@@ -1,5 +1,5 @@
--- G8, M1, M2. Whatever seed it starts from, a generator is valid; a draw and another seed keep it so. Setting the seed already held does nothing, and to reset a new
--- state does nothing. Assumes nothing.
+-- G8, M1, M2. Whatever seed it starts from, a generator is valid; a draw and another seed keep it so.
+-- Setting the seed already held does nothing, and to reset a new state does nothing. Assumes nothing.
 use mathlib.Core.Path.{_≡_, refl, sym}
 use mathlib.Core.Bool.{Bool, true, false, cond}
 use Prim.Native.Nat.{ℕ, _^_, _<_}
@@ -45,7 +45,8 @@ started-valid seed w some =
       current-in = bipolar-between first;
       next-in = bipolar-between second;
       pace-in = scale-between (stepOf second);
-      state-some = λ e. some (step-zero seed w (step-zero first (step-word seed) (step-zero second (step-word first) e)));
+      state-some =
+          λ e. some (step-zero seed w (step-zero first (step-word seed) (step-zero second (step-word first) e)));
       seed-some = some;
     })
 

@@ -1,11 +1,13 @@
--- M5. The value of a valid state lies from -2 to 2, so that half of it, times a drift from 0 to 1, is an exponent that 2^x takes. Piece by piece of the current
--- target, since the way to the next one shrinks as that one grows. Assumes nothing.
+-- M5. The value of a valid state lies from -2 to 2, so that half of it, times a drift from 0 to 1,
+-- is an exponent that 2^x takes. Piece by piece of the current target, since the way to the next one shrinks as that
+-- one grows. Assumes nothing.
 use mathlib.Core.Path.{refl}
 use mathlib.Core.Bool.{Bool}
 use mathlib.Core.List.{List, [], _∷_}
 use lib.Count.{trailingZeros}
 use lib.Dec.{T}
-use lib.Ieee.{Float, binary64, size, span, climb, odd, units, round, neg, sum, add, sub, mul, lt, eq, le, ofFields, ofBits}
+use lib.Ieee.{Float, binary64, size, span, climb, odd, units, round, neg, sum, add, sub, mul, lt, eq, le, ofFields}
+use lib.Ieee.{ofBits}
 use lib.Ieee.Scale.{finite}
 use Rattle.magnitude.proofs.Comparisons.{finite-number}
 use Rattle.min_max.specs.Choice.{clamped}
@@ -41,7 +43,8 @@ unfolding tests half trailingZeros size span climb odd units round neg sum add s
 checked = tt
 
 module _ (q n : Float) (u : Between zero bound q) (v : Between (neg one) one n) where
-  piece : (a b x : Float) → T (all (tests a b)) → Between a b x → Between (neg two) two (add binary64 x (mul binary64 q (sub binary64 n x)))
+  piece : (a b x : Float) → T (all (tests a b)) → Between a b x
+      → Between (neg two) two (add binary64 x (mul binary64 q (sub binary64 n x)))
   unfolding tests trailingZeros odd neg lt eq le ofFields ofBits
   piece a b x h w =
       let k = all-of (tests a b) h in
@@ -51,13 +54,18 @@ module _ (q n : Float) (u : Between zero bound q) (v : Between (neg one) one n) 
       let part = product-between binary64 tt u way refl refl (f .0) (f .1 .0) in
       widen (sum-between binary64 w part refl refl (g .0) (g .1 .0)) tt tt (g .1 .1 .0) (g .1 .1 .1 .0)
 
-  on-the-way : (x : Float) → Between (neg one) one x → Between (neg two) two (add binary64 x (mul binary64 q (sub binary64 n x)))
-  on-the-way x = pieces (λ x. Between (neg two) two (add binary64 x (mul binary64 q (sub binary64 n x)))) (λ a b. all (tests a b)) piece (neg one) (neg half) (zero ∷ half ∷ one ∷ []) x checked
+  on-the-way : (x : Float) → Between (neg one) one x
+      → Between (neg two) two (add binary64 x (mul binary64 q (sub binary64 n x)))
+  on-the-way x =
+      pieces (λ x. Between (neg two) two (add binary64 x (mul binary64 q (sub binary64 n x))))
+      (λ a b. all (tests a b)) piece (neg one) (neg half) (zero ∷ half ∷ one ∷ []) x checked
 
 pub value-between : (r : SmoothRandom) → T (validOf r) → Between (neg two) two (valueAt r)
 unfolding valueAt trailingZeros odd lt eq le ofFields ofBits
 value-between r h =
     let k = held r h in
     let number = finite-number (r .position) (position-in r k .below .first) in
-    let t : Between zero one (clamped (r .position) zero one) = between tt tt (clamped-ge (r .position) zero one number tt) (clamped-le (r .position) zero one number tt) in
-    on-the-way (quinticOf (clamped (r .position) zero one)) (r .next) (quintic-between (clamped (r .position) zero one) t) (k .next-in) (r .current) (k .current-in)
+    let t : Between zero one (clamped (r .position) zero one) =
+    between tt tt (clamped-ge (r .position) zero one number tt) (clamped-le (r .position) zero one number tt) in
+    on-the-way (quinticOf (clamped (r .position) zero one)) (r .next)
+    (quintic-between (clamped (r .position) zero one) t) (k .next-in) (r .current) (k .current-in)

@@ -1,4 +1,5 @@
--- The cases of `square_root`: what its tests say of x, and that x, or a NaN, is the root where nothing is to be computed. Assumes nothing.
+-- The cases of `square_root`: what its tests say of x, and that x, or a NaN, is the root where nothing is to be
+-- computed. Assumes nothing.
 use mathlib.Core.Path.{_≡_, refl, sym, _∙_}
 use mathlib.Core.Bool.{true, false, not, true≢false}
 use Prim.Native.Nat.{zero, suc, _*_}
@@ -23,7 +24,9 @@ above-zero nan a b = a
 above-zero (inf true) a b = a
 above-zero (inf false) a b = b
 above-zero (fin true m e) a b = a
-above-zero (fin false m e) a b = lt-ltb 0 m (first-pos m (up e) (first-pos (m * up e) 1 (lt-of-le-of-lt (le-of-eq (sym (zero-mul (down e)))) (ltb-true (0 * 1 * down e) (m * up e * 1) a))))
+above-zero (fin false m e) a b =
+    lt-ltb 0 m (first-pos m (up e) (first-pos (m * up e) 1
+    (lt-of-le-of-lt (le-of-eq (sym (zero-mul (down e)))) (ltb-true (0 * 1 * down e) (m * up e * 1) a))))
 
 pub at-infinity : (x : Float) → lt zero-f x ≡ true → lt x infinity ≡ false → x ≡ root binary64 x
 unfolding lt div ofBits ofFields odd root
@@ -46,7 +49,9 @@ below-zero (inf true) a b = refl
 below-zero (inf false) a b = absurd (true≢false a)
 below-zero (fin s zero e) a b = absurd (true≢false (sym (eq-zero (fin s zero e) refl) ∙ b))
 below-zero (fin true (suc m) e) a b = refl
-below-zero (fin false (suc m) e) a b = absurd (lt-irrefl 0 (lt-of-lt-of-le (mul-pos (mul-pos (zero-lt-suc m) (up-pos e)) (zero-lt-suc 0)) (le-trans (ltb-false (0 * 1 * down e) (suc m * up e * 1) a) (le-of-eq (zero-mul (down e))))))
+below-zero (fin false (suc m) e) a b =
+    absurd (lt-irrefl 0 (lt-of-lt-of-le (mul-pos (mul-pos (zero-lt-suc m) (up-pos e)) (zero-lt-suc 0))
+    (le-trans (ltb-false (0 * 1 * down e) (suc m * up e * 1) a) (le-of-eq (zero-mul (down e))))))
 
 -- what lies below something is no NaN
 pub below-no-nan : (x y : Float) → lt x y ≡ true → T (not (isNan x))

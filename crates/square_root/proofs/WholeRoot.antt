@@ -1,9 +1,11 @@
--- Where the root of n lies, seen from its whole root s: twice s, and 1 more if that is not exact, stands for twice the root in every comparison with a whole number.
+-- Where the root of n lies, seen from its whole root s: twice s, and 1 more if that is not exact,
+-- stands for twice the root in every comparison with a whole number.
 -- So digits near a root jam it. Assumes nothing.
 use mathlib.Core.Path.{_≡_, sym, ap, _∙_}
 use mathlib.Core.Logic.{inl, inr, dite}
 use Prim.Native.Nat.{ℕ, _+_, _-_, _*_, _≤_, _<_}
-use native.Mathlib.Nat.{le-refl, lt-of-lt-of-le, lt-of-le-of-lt, le-of-eq, mul-comm, mul-assoc, mul-left-comm, mul-pos, mul-lt-mul-of-pos-right, add-mul}
+use native.Mathlib.Nat.{le-refl, lt-of-lt-of-le, lt-of-le-of-lt, le-of-eq, mul-comm, mul-assoc, mul-left-comm, mul-pos}
+use native.Mathlib.Nat.{mul-lt-mul-of-pos-right, add-mul}
 use native.Mathlib.Decide.{ℕ-discrete}
 use native.Mathlib.Omega.{arith}
 use borrow.Author.Tests.{eq-eqb, ne-eqb}
@@ -24,7 +26,9 @@ module _ (n s : ℕ) (lo : s * s ≤ n) (hi : n < (s + 1) * (s + 1)) where
       rw (ne-eqb (s * s) n g) (omega arith))
 
   pub more-le : more s n ≤ 1
-  more-le = dite (ℕ-discrete (s * s) n) (λ e. rw (eq-eqb (s * s) n e) (omega arith)) (λ g. rw (ne-eqb (s * s) n g) (le-refl 1))
+  more-le =
+      dite (ℕ-discrete (s * s) n) (λ e. rw (eq-eqb (s * s) n e) (omega arith))
+      (λ g. rw (ne-eqb (s * s) n g) (le-refl 1))
 
   pub under : (x : ℕ) → n < x * x → 2 * s + more s n < 2 * x
   under x h =
@@ -46,13 +50,19 @@ module _ (n s : ℕ) (lo : s * s ≤ n) (hi : n < (s + 1) * (s + 1)) where
 
   -- n is a * c ^ 2, and w near the root of a
   pub near-jam : (a c w : ℕ) → 0 < c → n ≡ a * (c * c) → NearRoot a w → Jam (2 * s + more s n) (2 * c) w
-  near-jam a c w C e (inl h) = inl (exactly (w * c) (square w ∙ ap (λ (x : ℕ). x * (c * c)) h ∙ sym e) ∙ mul-left-comm 2 w c)
+  near-jam a c w C e (inl h) =
+      inl (exactly (w * c) (square w ∙ ap (λ (x : ℕ). x * (c * c)) h ∙ sym e) ∙ mul-left-comm 2 w c)
     where
       square : (v : ℕ) → v * c * (v * c) ≡ v * v * (c * c)
       square v = simp (mul-assoc, mul-comm, mul-left-comm)
   near-jam a c w C e (inr h) =
-      let below = above ((w - 1) * c) (lt-of-le-of-lt (le-of-eq (square (w - 1))) (lt-of-lt-of-le (mul-lt-mul-of-pos-right (h .1) (mul-pos C C)) (le-of-eq (sym e)))) in
-      let over = under ((w + 1) * c) (lt-of-le-of-lt (le-of-eq e) (lt-of-lt-of-le (mul-lt-mul-of-pos-right (h .2) (mul-pos C C)) (le-of-eq (sym (square (w + 1)))))) in
+      let below =
+      above ((w - 1) * c)
+      (lt-of-le-of-lt (le-of-eq (square (w - 1)))
+      (lt-of-lt-of-le (mul-lt-mul-of-pos-right (h .1) (mul-pos C C)) (le-of-eq (sym e)))) in
+      let over =
+      under ((w + 1) * c) (lt-of-le-of-lt (le-of-eq e)
+      (lt-of-lt-of-le (mul-lt-mul-of-pos-right (h .2) (mul-pos C C)) (le-of-eq (sym (square (w + 1)))))) in
       let o = h .0 in
       let back : w - 1 + 1 ≡ w = omega arith in
       let one : (w - 1) * c + 1 * c ≡ w * c = sym (add-mul (w - 1) 1 c) ∙ ap (λ (x : ℕ). x * c) back in

@@ -1,4 +1,6 @@
-// K4. The square root of an f64, rounded once: a guess that is checked; and where the check says nothing, 55 digits by restoring steps, the last of them sticky, then one rounding.
+// The square root of an f64, rounded once (K4).
+// A guess is made and checked. Where the check decides nothing, 55 digits are found by restoring steps, the last of
+// them sticky, and rounded.
 mod quick;
 
 ghost use mathlib.Core.Path.{_≡_};
@@ -17,7 +19,8 @@ fn digit(a: u64, t: u64) -> u64
     if t <= a { 1 } else { 0 }
 }
 
-// The root of z * 2^46, two digits of z to one of the root: s is the root of what has been brought down, r what is left of that, y what is still to come.
+// The root of z * 2^46; two digits of z give one of the root. s is the root of what has been brought down so far, r
+// what it leaves over, y what is still to come.
 fn root_digits(z: u64) -> u64
     requires { ⌜ 2 ^ 62 ≤ z ⌝ }
     ensures { λ w. ⌜ RootDigits z w ⌝ }

@@ -1,4 +1,5 @@
--- Nothing is cut off where there are 50 bytes for each sample: a line has at most 20 digits, a blank, 28 bytes of an answer and a line's end. By the digits.
+-- Nothing is cut off where there are 50 bytes for each sample: a line has at most 20 digits, a blank,
+-- 28 bytes of an answer and a line's end. By the digits.
 -- Assumes nothing.
 use mathlib.Core.Path.{_≡_, refl, _∙_, ap}
 use mathlib.Core.List.{List, [], _∷_, _++_}
@@ -45,7 +46,12 @@ short-lines r [] = omega arith
 short-lines r (x ∷ xs) =
     let line = lineOf (r .state .accepted) (answerTo r (call x)) in
     let rest = linesOf (after r (call x)) xs in
-    omega (arith, length-append line rest, short-line (r .state .accepted) (answerTo r (call x)), short-lines (after r (call x)) xs)
+    omega (
+      arith,
+      length-append line rest,
+      short-line (r .state .accepted) (answerTo r (call x)),
+      short-lines (after r (call x)) xs,
+    )
 
 in-samples : (n : ℕ) (bytes : List ℕ) → length (samplesOf n bytes) ≡ n
 unfolding samplesOf
@@ -53,11 +59,17 @@ in-samples zero bytes = refl
 in-samples (suc n) bytes = ap suc (in-samples n (drop 8 bytes))
 
 -- so what `put_lines` leaves up to the length that it gives is the whole text
-pub whole : (d : VariableDelay) (ring : List Float) (bytes out : List ℕ) {r : ℕ} {ys : List ℕ} → 50 * (length bytes / 8) ≤ length out
+pub whole : (d : VariableDelay) (ring : List Float) (bytes out : List ℕ) {r : ℕ} {ys : List ℕ}
+    → 50 * (length bytes / 8) ≤ length out
     → Puts out 0 (textOf d ring bytes) r ys → take r ys ≡ textOf d ring bytes
 whole d ring bytes out h p =
     let text = textOf d ring bytes in
-    let fits : length text ≤ length out = omega (arith, short-lines (record { state = d; ring = ring }) (samplesIn bytes), in-samples (length bytes / 8) bytes) in
+    let fits : length text ≤ length out =
+    omega (
+      arith,
+      short-lines (record { state = d; ring = ring }) (samplesIn bytes),
+      in-samples (length bytes / 8) bytes,
+    ) in
     let e = p .1 ∙ sets-eq text out 0 (omega arith) in
     let n = p .0 ∙ min-eq-right {n = 0 + length text} {m = length out} (omega arith) ∙ zero-add (length text) in
     rw (e, n) (take-at text (drop (0 + length text) out) (length text) refl)

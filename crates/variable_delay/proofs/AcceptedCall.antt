@@ -29,12 +29,16 @@ pub record Taken (own lent : Bool) (d : VariableDelay) (len : ℕ) (x y : Float)
   pub not-below : T (le (fin false 0 (pos 0)) y)
   pub not-above : T (le y (fin false 1 (pos 36)))
 
-pub taken : (own lent : Bool) (d : VariableDelay) (len : ℕ) (x y : Float) → verdict own lent d len x y ≡ 0 → Taken own lent d len x y
+pub taken : (own lent : Bool) (d : VariableDelay) (len : ℕ) (x y : Float) → verdict own lent d len x y ≡ 0
+    → Taken own lent d len x y
 taken own lent d len x y h =
     let ranges = settingsOk (d .maximum) (d .margin) in
     let fills = eqb len (lengthFor (d .maximum) (d .margin)) in
     let zero = le (fin false 0 (pos 0)) y in
-    let p = passed (ranges && own) (fills && lent) (leb (d .accepted) (2 ^ 36)) (finite x) (finite y && zero) (le y (fin false 1 (pos 36))) true (ltb (d .accepted) (2 ^ 36)) h in record {
+    let p =
+    passed (ranges && own) (fills && lent) (leb (d .accepted) (2 ^ 36)) (finite x) (finite y && zero)
+    (le y (fin false 1 (pos 36))) true (ltb (d .accepted) (2 ^ 36)) h in
+    record {
       settings = leb→le _ _ (and-l ranges own (p .p1));
       owned = and-r ranges own (p .p1);
       long = eqb→eq _ _ (and-l fills lent (p .p2));
@@ -56,5 +60,9 @@ module _ {own lent : Bool} {d : VariableDelay} {len : ℕ} {x y : Float} (t : Ta
   position-in-range =
       let place = positionOf (d .accepted) y in
       let b : Between (fin true 1 (pos 36)) (fin false 1 (pos 36)) place =
-      difference-between binary64 (whole-between binary64 {k = 0} {m = 2 ^ 36} (omega arith) (le-of-lt (t .room)) refl refl tt tt) (between {low = fin false 0 (pos 0)} {high = fin false 1 (pos 36)} tt tt (t .not-below) (t .not-above)) refl refl tt tt in
-      is-true (positionOk place) (and-i (le (fin true 1 (pos 36)) place) (le place (fin false 1 (pos 36))) (b .above .order) (b .below .order))
+      difference-between binary64
+      (whole-between binary64 {k = 0} {m = 2 ^ 36} (omega arith) (le-of-lt (t .room)) refl refl tt tt)
+      (between {low = fin false 0 (pos 0)} {high = fin false 1 (pos 36)} tt tt (t .not-below) (t .not-above)) refl
+      refl tt tt in
+      is-true (positionOk place)
+      (and-i (le (fin true 1 (pos 36)) place) (le place (fin false 1 (pos 36))) (b .above .order) (b .below .order))

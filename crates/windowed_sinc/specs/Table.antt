@@ -1,4 +1,5 @@
--- T1. A windowed sinc table, and what a builder answers and leaves in the lent slice by the refusal that is due. Definitions only.
+-- T1. A windowed sinc table, and what a builder answers and leaves in the lent slice, by the refusal that is due.
+-- Definitions only.
 use Prim.Native.Nat.{ℕ, zero, suc, _+_}
 use mathlib.Core.List.{List}
 use lib.Ieee.{Float}
@@ -9,7 +10,7 @@ use Rattle.sinc_row.specs.Row.{rowOf}
 use Rattle.windowed_sinc.specs.declared.Built.{Built}
 use Rattle.windowed_sinc.specs.declared.Built.the-variants.{Kernel, Refused}
 
--- a row for each phase from 0 to phases, each divided by its sum
+-- A row for each phase from 0 to phases, each divided by its sum.
 unfoldable pub tableOf : Settings → List Float
 tableOf s = rows (rowOf s (windowOf s)) (s .phases + 1)
 

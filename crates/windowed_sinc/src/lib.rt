@@ -1,4 +1,5 @@
-// 000's WindowedSinc over a lent table: new and for_max_rate. The reader of such a table is in sinc_read.
+// The original's WindowedSinc (000) built into a lent table: `new` and `for_max_rate`.
+// Such a table is read by `sinc_read`.
 ghost use mathlib.Core.Path.{_≡_};
 ghost use lib.ListN.{length};
 ghost use Rattle.loop_laws.specs.Loops.{listOf};
@@ -20,7 +21,8 @@ pub enum Built {
 
 // T1. Lends each phase's part of the table to `write_row`, under one window.
 fn write_rows<'a>(table: &mut [f64], settings: Settings, window: &'a [f64])
-    requires { ⌜ (verdict settings (length (now table)) ≡ 0) × (now window ≡ listOf (windowOf settings) (settings .taps)) ⌝ }
+    requires { ⌜ (verdict settings (length (now table)) ≡ 0)
+        × (now window ≡ listOf (windowOf settings) (settings .taps)) ⌝ }
     ensures { λ _. ⌜ now (table .exit) ≡ tableOf settings ⌝ }
 {
     let taps = settings.taps;
@@ -65,7 +67,8 @@ fn build(no: u8, settings: Settings, table: &mut [f64]) -> Built
 // 000's WindowedSinc::new: refuses by 1 or 2, or writes the table.
 pub fn new(settings: Settings, table: &mut [f64]) -> Built
     ensures { λ r. ⌜ r ≡ builtBy (verdict settings (length (now (table .entry)))) settings ⌝ }
-    ensures { λ r. ⌜ now (table .exit) ≡ tableAfter (verdict settings (length (now (table .entry)))) (tableOf settings) (now (table .entry)) ⌝ }
+    ensures { λ r. ⌜ now (table .exit) ≡
+        tableAfter (verdict settings (length (now (table .entry)))) (tableOf settings) (now (table .entry)) ⌝ }
 {
     let no = sinc_settings::refusal(settings, table.len());
     build(no, settings, &mut table[..])
@@ -80,8 +83,14 @@ pub fn for_max_rate(
     beta: f64,
     table: &mut [f64],
 ) -> Built
-    ensures { λ r. ⌜ r ≡ builtBy (rateVerdict (forRate taps phases «max_rate» passband beta) «max_rate» passband (length (now (table .entry)))) (forRate taps phases «max_rate» passband beta) ⌝ }
-    ensures { λ r. ⌜ now (table .exit) ≡ tableAfter (rateVerdict (forRate taps phases «max_rate» passband beta) «max_rate» passband (length (now (table .entry)))) (tableOf (forRate taps phases «max_rate» passband beta)) (now (table .entry)) ⌝ }
+    ensures { λ r. ⌜ r ≡ builtBy
+        (rateVerdict (forRate taps phases «max_rate» passband beta) «max_rate» passband
+        (length (now (table .entry))))
+        (forRate taps phases «max_rate» passband beta) ⌝ }
+    ensures { λ r. ⌜ now (table .exit) ≡ tableAfter
+        (rateVerdict (forRate taps phases «max_rate» passband beta) «max_rate» passband
+        (length (now (table .entry))))
+        (tableOf (forRate taps phases «max_rate» passband beta)) (now (table .entry)) ⌝ }
 {
     let settings = sinc_settings::for_rate(taps, phases, max_rate, passband, beta);
     let no = sinc_settings::rate_refusal(settings, max_rate, passband, table.len());

@@ -18,8 +18,10 @@ module _ (s : Settings) where
   pub length-table-f32 : length (tableF32Of s) ≡ tableLength (s .taps) (s .phases)
   length-table-f32 = length-map (tableOf s) narrowed ∙ length-table s
 
-  pub table-row-f32 : (phase : ℕ) → phase ≤ s .phases → take (s .taps) (drop (phase * s .taps) (tableF32Of s)) ≡ map narrowed (rowOf s (windowOf s) phase)
-  table-row-f32 phase h = map-part narrowed (tableOf s) (phase * s .taps) (s .taps) ∙ ap (map narrowed) (table-row s phase h)
+  pub table-row-f32 : (phase : ℕ) → phase ≤ s .phases
+      → take (s .taps) (drop (phase * s .taps) (tableF32Of s)) ≡ map narrowed (rowOf s (windowOf s) phase)
+  table-row-f32 phase h =
+      map-part narrowed (tableOf s) (phase * s .taps) (s .taps) ∙ ap (map narrowed) (table-row s phase h)
 
   -- wherever it stands, inside the table or not: the NaN stands for no element
   pub rounded-once : (i : ℕ) → getD (tableF32Of s) i nan ≡ narrowed (getD (tableOf s) i nan)
@@ -27,5 +29,6 @@ module _ (s : Settings) where
   rounded-once i = List·getD-map narrowed (tableOf s) i nan
 
   pub table-element-f32 : (phase k : ℕ) → phase ≤ s .phases → k < s .taps
-      → getD (tableF32Of s) (phase * s .taps + k) nan ≡ narrowed (div binary64 (rawOf s (windowOf s) phase k) (gainOf s (windowOf s) phase (s .taps)))
+      → getD (tableF32Of s) (phase * s .taps + k) nan
+      ≡ narrowed (div binary64 (rawOf s (windowOf s) phase k) (gainOf s (windowOf s) phase (s .taps)))
   table-element-f32 phase k h l = rounded-once (phase * s .taps + k) ∙ ap narrowed (table-element s phase k h l)

@@ -1,5 +1,5 @@
--- T1. The windowed sinc table in f32, and what a builder answers by the refusal that is due. What it leaves in the lent slice is windowed_sinc's `tableAfter`.
--- Definitions only.
+-- T1. The windowed sinc table in f32, and what a builder answers by the refusal that is due. What it leaves in the lent
+-- slice is windowed_sinc's `tableAfter`. Definitions only.
 use Prim.Native.Nat.{ℕ, zero, suc}
 use mathlib.Core.List.{List, map}
 use lib.Ieee.{Float}
@@ -9,7 +9,7 @@ use Rattle.windowed_sinc.specs.Table.{tableOf}
 use Rattle.windowed_sinc_f32.specs.declared.Built.{Built}
 use Rattle.windowed_sinc_f32.specs.declared.Built.the-variants.{Kernel, Refused}
 
--- each coefficient of the f64 table, rounded once
+-- Each coefficient of the f64 table, rounded once.
 abbrev pub tableF32Of : Settings → List Float
 tableF32Of s = map narrowed (tableOf s)
 

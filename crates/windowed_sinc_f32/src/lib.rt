@@ -1,4 +1,5 @@
-// 000's WindowedSincF32 over a lent table: new and for_max_rate. No f64 table is made: a row stands in a scratch, and is rounded into its place.
+// The original's WindowedSincF32 (000) built into a lent table: `new` and `for_max_rate`.
+// No f64 table is made: each row is computed in a scratch and rounded into its place.
 ghost use mathlib.Core.Path.{_≡_};
 ghost use mathlib.Core.Bool.{true};
 ghost use mathlib.Core.List.{map};
@@ -38,7 +39,8 @@ fn narrow_row<'a>(row: &mut [f32], from: &'a [f64])
 
 // A phase's row in f64, then each coefficient rounded once.
 fn write_row<'a>(row: &mut [f32], settings: Settings, window: &'a [f64], phase: usize)
-    requires { ⌜ (settingsOk settings ≡ true) × (now window ≡ listOf (windowOf settings) (settings .taps)) × (phase ≤ settings .phases) × (length (now row) ≡ settings .taps) ⌝ }
+    requires { ⌜ (settingsOk settings ≡ true) × (now window ≡ listOf (windowOf settings) (settings .taps))
+        × (phase ≤ settings .phases) × (length (now row) ≡ settings .taps) ⌝ }
     ensures { λ _. ⌜ now (row .exit) ≡ map narrowed (rowOf settings (windowOf settings) phase) ⌝ }
 {
     let mut scratch: [f64; 128] = [0.0; 128];
@@ -49,7 +51,8 @@ fn write_row<'a>(row: &mut [f32], settings: Settings, window: &'a [f64], phase: 
 
 // T1. Lends each phase's part of the table to `write_row`, under one window.
 fn write_rows<'a>(table: &mut [f32], settings: Settings, window: &'a [f64])
-    requires { ⌜ (verdict settings (length (now table)) ≡ 0) × (now window ≡ listOf (windowOf settings) (settings .taps)) ⌝ }
+    requires { ⌜ (verdict settings (length (now table)) ≡ 0)
+        × (now window ≡ listOf (windowOf settings) (settings .taps)) ⌝ }
     ensures { λ _. ⌜ now (table .exit) ≡ tableF32Of settings ⌝ }
 {
     let taps = settings.taps;
@@ -92,7 +95,8 @@ fn build(no: u8, settings: Settings, table: &mut [f32]) -> Built
 // 000's WindowedSincF32::new: refuses by 1 or 2, or writes the table.
 pub fn new(settings: Settings, table: &mut [f32]) -> Built
     ensures { λ r. ⌜ r ≡ builtBy (verdict settings (length (now (table .entry)))) settings ⌝ }
-    ensures { λ r. ⌜ now (table .exit) ≡ tableAfter (verdict settings (length (now (table .entry)))) (tableF32Of settings) (now (table .entry)) ⌝ }
+    ensures { λ r. ⌜ now (table .exit) ≡
+        tableAfter (verdict settings (length (now (table .entry)))) (tableF32Of settings) (now (table .entry)) ⌝ }
 {
     let no = sinc_settings::refusal(settings, table.len());
     build(no, settings, &mut table[..])
@@ -107,8 +111,14 @@ pub fn for_max_rate(
     beta: f64,
     table: &mut [f32],
 ) -> Built
-    ensures { λ r. ⌜ r ≡ builtBy (rateVerdict (forRate taps phases «max_rate» passband beta) «max_rate» passband (length (now (table .entry)))) (forRate taps phases «max_rate» passband beta) ⌝ }
-    ensures { λ r. ⌜ now (table .exit) ≡ tableAfter (rateVerdict (forRate taps phases «max_rate» passband beta) «max_rate» passband (length (now (table .entry)))) (tableF32Of (forRate taps phases «max_rate» passband beta)) (now (table .entry)) ⌝ }
+    ensures { λ r. ⌜ r ≡ builtBy
+        (rateVerdict (forRate taps phases «max_rate» passband beta) «max_rate» passband
+        (length (now (table .entry))))
+        (forRate taps phases «max_rate» passband beta) ⌝ }
+    ensures { λ r. ⌜ now (table .exit) ≡ tableAfter
+        (rateVerdict (forRate taps phases «max_rate» passband beta) «max_rate» passband
+        (length (now (table .entry))))
+        (tableF32Of (forRate taps phases «max_rate» passband beta)) (now (table .entry)) ⌝ }
 {
     let settings = sinc_settings::for_rate(taps, phases, max_rate, passband, beta);
     let no = sinc_settings::rate_refusal(settings, max_rate, passband, table.len());

@@ -1,4 +1,5 @@
--- Reading gives back what was written: a number below b ^ k is the number of its k digits to the base b. Assumes nothing.
+-- Reading gives back what was written: a number below b ^ k is the number of its k digits to the base b.
+-- Assumes nothing.
 use mathlib.Core.Path.{_≡_, refl, _∙_}
 use mathlib.Core.Bool.{Bool, true, false, cond}
 use mathlib.Core.List.{List, [], _∷_, _++_}
@@ -21,7 +22,12 @@ either d true e h =
     simp (le-ltb (48 + d) 48 (omega arith), lt-ltb (48 + d) 58 (omega arith)) (omega arith)
 either d false e h =
     let l = ltb-false d 10 e in
-    simp (le-ltb (55 + d) 48 (omega arith), le-ltb (55 + d) 58 (omega arith), le-ltb (55 + d) 65 (omega arith), lt-ltb (55 + d) 71 (omega arith)) (omega arith)
+    simp (
+      le-ltb (55 + d) 48 (omega arith),
+      le-ltb (55 + d) 58 (omega arith),
+      le-ltb (55 + d) 65 (omega arith),
+      lt-ltb (55 + d) 71 (omega arith),
+    ) (omega arith)
 
 last : (cs : List ℕ) (v c : ℕ) → hexValue v (cs ++ (c ∷ [])) ≡ hexValue v cs * 16 + digitOf c
 unfolding hexValue
@@ -33,7 +39,8 @@ unfolding hexDigits hexValue
 hex-back zero n h = omega arith
 hex-back (suc k) n h =
     last (hexDigits k (n / 16)) 0 (glyph (n % 16))
-    ∙ rw (hex-back k (n / 16) (fewer 16 k n (lit≤ tt) h), either (n % 16) (ltb (n % 16) 10) refl (mod-lt n (lit≤ tt))) (div-add-mod' n 16)
+    ∙ rw (hex-back k (n / 16) (fewer 16 k n (lit≤ tt) h), either (n % 16) (ltb (n % 16) 10) refl (mod-lt n (lit≤ tt)))
+    (div-add-mod' n 16)
 
 pub bytes-back : (k n : ℕ) → n < 256 ^ k → bytesValue (lowBytes k n) ≡ n
 unfolding lowBytes bytesValue

@@ -1,4 +1,5 @@
--- C3. P1 to P9 as 01 has them, in one table, computed over the definitions that the contracts cite. A float is its odd whole number times a power of two. Assumes nothing.
+-- C3. P1 to P9 as 01 has them, in one table, computed over the definitions that the contracts cite.
+-- A float is its odd whole number times a power of two. Assumes nothing.
 use mathlib.Core.Path.{_≡_, refl}
 use mathlib.Core.Bool.{false, true}
 use mathlib.Core.List.{[], _∷_}

@@ -1,1 +1,2 @@
-// 01's nine worked numbers that are marked P, as one theorem (C3). There is no code.
+// The nine worked numbers of document 01 that are marked P, as one theorem (C3).
+// There is no code.

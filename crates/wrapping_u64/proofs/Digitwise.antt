@@ -1,4 +1,5 @@
--- The exclusive or that computes is the machine's, over any number of digits; and an exclusive or is 0 only of two equal numbers. Assumes nothing.
+-- The exclusive or that computes is the machine's, over any number of digits; and an exclusive or is 0 only of two
+-- equal numbers. Assumes nothing.
 use mathlib.Core.Path.{_≡_, refl, _∙_}
 use Prim.Native.Nat.{ℕ, zero, suc, _+_, _/_, _%_, _^_, _<_}
 use native.Mathlib.Nat.{pow-succ'}
@@ -24,7 +25,8 @@ pub xor-is : (k a b : ℕ) → a < 2 ^ k → b < 2 ^ k → bitXor a b ≡ xorTo 
 unfolding xorTo
 xor-is zero a b ha hb = rw (lt-one ha, xor-zero-l, lt-one hb)
 xor-is (suc k) a b ha hb =
-    xor-step a b ∙ rw (xor-is k (a / 2) (b / 2) (half k a ha) (half k b hb), digit (a % 2) (b % 2) (omega arith) (omega arith))
+    xor-step a b
+    ∙ rw (xor-is k (a / 2) (b / 2) (half k a ha) (half k b hb), digit (a % 2) (b % 2) (omega arith) (omega arith))
 
 pub xor-below : (k a b : ℕ) → xorTo k a b < 2 ^ k
 unfolding xorTo

@@ -1,9 +1,11 @@
--- A word exclusive or itself shifted, either way and by any number of digits above 0, is 0 only of the word 0: it would equal itself shifted. To the right
--- that halves it; to the left, where 2^j divides it so does 2^(j + 1). Assumes nothing.
+-- A word exclusive or itself shifted, either way and by any number of digits above 0, is 0 only of the word 0:
+-- it would equal itself shifted. To the right that halves it; to the left, where 2^j divides it so does 2^(j + 1).
+-- Assumes nothing.
 use mathlib.Core.Path.{_≡_, _∙_}
 use mathlib.Core.Logic.{inl, inr}
 use Prim.Native.Nat.{ℕ, zero, suc, _-_, _*_, _/_, _%_, _^_, _≤_, _<_, _∣_}
-use native.Mathlib.Nat.{eq-zero-or-pos, not-le-of-lt, lt-of-le-of-lt, mod-lt, sub-add-cancel, one-dvd, dvd-mul-left, dvd-mod-iff, mul-dvd-mul, le-of-dvd, pow-suc}
+use native.Mathlib.Nat.{eq-zero-or-pos, not-le-of-lt, lt-of-le-of-lt, mod-lt, sub-add-cancel, one-dvd, dvd-mul-left}
+use native.Mathlib.Nat.{dvd-mod-iff, mul-dvd-mul, le-of-dvd, pow-suc}
 use native.Mathlib.Numerals.{one-add}
 use native.Mathlib.Omega.{arith}
 use lib.Pow.{shr-le, shr-shr, pow-pos, pow-add}
@@ -31,5 +33,6 @@ every n w x e (suc j) h =
 
 pub left-zero : (n x : ℕ) → x < 2 ^ 64 → xor x (x * 2 ^ suc n % 2 ^ 64) ≡ 0 → x ≡ 0
 left-zero n x hx h =
-    let whole : 2 ^ 64 ∣ x = every n 64 x (equal x (x * 2 ^ suc n % 2 ^ 64) hx (mod-lt _ (pow-pos 64)) h) 64 (omega arith) in
+    let whole : 2 ^ 64 ∣ x =
+    every n 64 x (equal x (x * 2 ^ suc n % 2 ^ 64) hx (mod-lt _ (pow-pos 64)) h) 64 (omega arith) in
     elim (eq-zero-or-pos x) [ inl z ↦ z | inr p ↦ absurd (not-le-of-lt hx (le-of-dvd p whole)) ]

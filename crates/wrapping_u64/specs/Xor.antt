@@ -1,5 +1,6 @@
--- The exclusive or of two words, digit by digit. `lib.Bits.bitXor`, which is what `^` gives, takes as many steps as its first argument and so does not
--- compute at a word; this one takes as many as a word has digits. The law `xor-is` says that they are the same.
+-- The exclusive or of two words, digit by digit. `lib.Bits.bitXor`, which is what `^` gives, takes as many steps as its
+-- first argument and so does not compute at a word; this one takes as many as a word has digits. The law `xor-is` says
+-- that they are the same.
 use Prim.Native.Nat.{ℕ, zero, suc, _+_, _*_, _/_, _%_}
 
 -- Of the k lowest digits.

@@ -1,8 +1,10 @@
-// 64-bit words as Rust's wrapping_mul and << have them: what does not fit is lost. By halves of 32 digits and one wrapping sum.
+// Products and left shifts of 64-bit words that drop what does not fit, as Rust's `wrapping_mul` and `<<` do (F6).
+// The product is made of halves of 32 bits and one wrapping sum, since an ordinary product that overflows is refused.
 ghost use mathlib.Core.Path.{_≡_};
 ghost use Prim.Native.Nat.{_*_, _%_, _^_};
 
-// F6. a * b modulo 2^64. The product of the two upper halves is a multiple of 2^64; of the two mixed ones the lower halves count.
+// a * b modulo 2^64 (F6). The product of the two upper halves is a multiple of 2^64; of the two mixed products only the
+// lower halves count.
 pub fn wrapping_mul(a: u64, b: u64) -> u64
     ensures { λ r. ⌜ r ≡ a * b % 2 ^ 64 ⌝ }
 {

@@ -1,4 +1,4 @@
-// M1, M3. The generator xorshift64*: the seeds that 001 starts it from, its step, and the numbers that are made of a draw.
+// The random generator xorshift64*: its seeds, its step, and the numbers that are made of a draw (M1, M3).
 ghost use mathlib.Core.Path.{_≡_};
 ghost use Rattle.xorshift.specs.Xorshift.{stepOf};
 ghost use Rattle.xorshift.specs.Seeds.{seedOf, flutterSeedOf};

@@ -16,4 +16,6 @@ returns c =
     (answered (a .max-rate) (a .rate) (a .quality) (now (a .sets)) (now (a .source)) (a .count) (a .position))
 
 pub sample-spec : {M : Type 1} → statement M
-sample-spec = tie.close (tie.spec (λ c κs. search needs) (λ c κs. search needs) (λ c κs. search needs) (λ c κs. search needs) returns)
+sample-spec =
+    tie.close (tie.spec (λ c κs. search needs) (λ c κs. search needs) (λ c κs. search needs)
+    (λ c κs. search needs) returns)

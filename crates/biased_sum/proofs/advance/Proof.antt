@@ -17,13 +17,19 @@ returns c =
       refl,
       (
         all-taken (a .low) (a .high) (a .sum) (a .p) (a .q) (a .s) (a .t)
-            (b1 .both .result) (b2 .both2 .result) (b3 .both3 .result) (b4 .both4 .result) (b5 .both5 .result) (b6 .both6 .result) (c .both7 .result)
-            (b1 .both .ensures) (b2 .both2 .ensures) (b3 .both3 .ensures) (b4 .both4 .ensures) (b5 .both5 .ensures) (b6 .both6 .ensures) (c .both7 .ensures),
+            (b1 .both .result) (b2 .both2 .result) (b3 .both3 .result) (b4 .both4 .result) (b5 .both5 .result)
+            (b6 .both6 .result) (c .both7 .result)
+            (b1 .both .ensures) (b2 .both2 .ensures) (b3 .both3 .ensures) (b4 .both4 .ensures) (b5 .both5 .ensures)
+            (b6 .both6 .ensures) (c .both7 .ensures),
         advanced (a .low) (a .high) (a .sum) (a .p) (a .q) (a .s) (a .t)
-            (b1 .both .result) (b2 .both2 .result) (b3 .both3 .result) (b4 .both4 .result) (b5 .both5 .result) (b6 .both6 .result) (c .both7 .result)
-            (b1 .both .ensures) (b2 .both2 .ensures) (b3 .both3 .ensures) (b4 .both4 .ensures) (b5 .both5 .ensures) (b6 .both6 .ensures) (c .both7 .ensures),
+            (b1 .both .result) (b2 .both2 .result) (b3 .both3 .result) (b4 .both4 .result) (b5 .both5 .result)
+            (b6 .both6 .result) (c .both7 .result)
+            (b1 .both .ensures) (b2 .both2 .ensures) (b3 .both3 .ensures) (b4 .both4 .ensures) (b5 .both5 .ensures)
+            (b6 .both6 .ensures) (c .both7 .ensures),
       ),
     )
 
 pub advance-spec : {M : Type 1} → statement M
-advance-spec = tie.close (tie.spec (λ c κs. search needs) (λ c κs. search needs) (λ c κs. search needs) (λ c κs. search needs) (λ c κs. search needs) (λ c κs. search needs) (λ c κs. search needs) returns)
+advance-spec =
+    tie.close (tie.spec (λ c κs. search needs) (λ c κs. search needs) (λ c κs. search needs) (λ c κs. search needs)
+    (λ c κs. search needs) (λ c κs. search needs) (λ c κs. search needs) returns)

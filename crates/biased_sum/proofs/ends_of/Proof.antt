@@ -20,4 +20,6 @@ returns-2 : tie.Need-returns-2
 returns-2 c = let b = c .before in ends-minus (b .args .h) (b .pre .1) (b .pre .2) (b .pre .0) (c .if1 .left)
 
 pub ends-of-spec : {M : Type 1} → statement M
-ends-of-spec = tie.close (tie.spec (λ c. search needs) (λ c. search needs) (λ c. search needs) float-from-bits-bias (λ c. search needs) float-from-bits-near (λ c. search needs) float-from-bits-far returns returns-2)
+ends-of-spec =
+    tie.close (tie.spec (λ c. search needs) (λ c. search needs) (λ c. search needs) float-from-bits-bias
+    (λ c. search needs) float-from-bits-near (λ c. search needs) float-from-bits-far returns returns-2)

@@ -20,7 +20,11 @@ room : (c : tie.Else1) → toBits binary64 (c .before .args .sum) + 0x0009_5f62_
 room c =
     let x = c .before .args .sum in
     let held = subst T (sym (c .before .good .0 .1)) tt in
-    omega (arith, toBits-lt binary64 x held, no-nan-rest binary64 (toBits binary64 x) (value-bits binary64 x held (number c)))
+    omega (
+      arith,
+      toBits-lt binary64 x held,
+      no-nan-rest binary64 (toBits binary64 x) (value-bits binary64 x held (number c)),
+    )
 
 returns : tie.Need-returns
 returns c = nothing _ _ (nan-without _ (c .before .if1 .taken)) (c .no-bias .ensures)
@@ -44,8 +48,10 @@ returns-4 : tie.Need-returns-4
 returns-4 c =
     let e = c .before .before .before .before in
     let n = e .before .before .before in
-    something (n .before .args .sum) (c .both .result) (e .ends-of .result) (number n) (omega arith) (omega arith) (e .ends-of .ensures) (c .both .ensures)
+    something (n .before .args .sum) (c .both .result) (e .ends-of .result) (number n) (omega arith) (omega arith)
+    (e .ends-of .ensures) (c .both .ensures)
 
 pub with-bias-spec : {M : Type 1} → statement M
 with-bias-spec =
-    tie.close (tie.spec (λ c κs. search needs) returns float-to-bits-h add-h (λ c κs. search needs) returns-2 (λ c κs. search needs) returns-3 ends-of-requires (λ c κs. search needs) returns-4)
+    tie.close (tie.spec (λ c κs. search needs) returns float-to-bits-h add-h (λ c κs. search needs) returns-2
+    (λ c κs. search needs) returns-3 ends-of-requires (λ c κs. search needs) returns-4)

@@ -1,4 +1,5 @@
--- `cubic_farrow_f32::at` meets its contract by `BothWays`: a position in range has a small integer part. Assumes nothing.
+-- `cubic_farrow_f32::at` meets its contract by `BothWays`: a position in range has a small integer part.
+-- Assumes nothing.
 use borrow.Author.Needs.{needs}
 use mathlib.Core.Path.{_≡_, _∙_}
 use Prim.Native.Nat.{_^_, _≤_}
@@ -40,4 +41,5 @@ returns c =
     ways.one-by-one _ _ _ (Z z) (whole z) (n .narrow .result) (n .narrow .ensures) (c .one-by-one .ensures)
 
 pub at-spec : {M : Type 1} → statement M
-at-spec = tie.close (tie.spec (λ c κs. search needs) int-to-float-narrow (λ c κs. search needs) one-by-one-requires returns)
+at-spec =
+    tie.close (tie.spec (λ c κs. search needs) int-to-float-narrow (λ c κs. search needs) one-by-one-requires returns)

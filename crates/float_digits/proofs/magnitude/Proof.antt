@@ -12,7 +12,9 @@ use Rattle.float_digits.proofs.magnitude.Tie as tie
 digits : (c : tie.Else1) → bitAnd (c .before .args .w) 0x7f_ffff_ffff_ffff ≡ c .before .args .w % 2 ^ 55
 digits c = and-mask (c .before .args .w) 55
 
-bit : (c : tie.Else1) → bitAnd (bitAnd (c .before .args .w) 0x7f_ffff_ffff_ffff / 4) 1 ≡ bitAnd (c .before .args .w) 0x7f_ffff_ffff_ffff / 4 % 2 ^ 1
+bit : (c : tie.Else1)
+    → bitAnd (bitAnd (c .before .args .w) 0x7f_ffff_ffff_ffff / 4) 1
+    ≡ bitAnd (c .before .args .w) 0x7f_ffff_ffff_ffff / 4 % 2 ^ 1
 bit c = and-mask (bitAnd (c .before .args .w) 0x7f_ffff_ffff_ffff / 4) 1
 
 returns : tie.Need-returns

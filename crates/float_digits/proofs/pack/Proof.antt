@@ -17,7 +17,8 @@ add-result : tie.Need-add-result
 add-result c = omega (arith, top c)
 
 float-from-bits-result : tie.Need-float-from-bits-result
-float-from-bits-result c = rest-no-nan binary64 (c .before .args .s * 2 ^ 63 % 2 ^ 64 + c .magnitude .result) (omega (arith, top c))
+float-from-bits-result c =
+    rest-no-nan binary64 (c .before .args .s * 2 ^ 63 % 2 ^ 64 + c .magnitude .result) (omega (arith, top c))
 
 returns : tie.Need-returns
 returns c =

@@ -45,8 +45,10 @@ returns : tie.Need-returns
 returns c =
     let z : leadingZeros 64 (D c) - 1 ≡ 63 - size (D c) = omega (arith, zeros c) in
     let e : c .place .result + 64 - leadingZeros 64 (D c) ≡ c .place .result + size (D c) = omega (arith, zeros c) in
-    let whole : D c * 2 ^ (63 - size (D c)) % 2 ^ 64 ≡ D c * 2 ^ (63 - size (D c)) = shl-exact (size (D c)) (63 - size (D c)) 64 (size-lt (D c)) (omega (arith, short c)) in
+    let whole : D c * 2 ^ (63 - size (D c)) % 2 ^ 64 ≡ D c * 2 ^ (63 - size (D c)) =
+    shl-exact (size (D c)) (63 - size (D c)) 64 (size-lt (D c)) (omega (arith, short c)) in
     rw (z, e, whole, is c, c .place .ensures, and-mask (c .before .args .bits) 63)
 
 pub unpack-spec : {M : Type 1} → statement M
-unpack-spec = tie.close (tie.spec (λ c κs. search needs) (λ c. search needs) cast-z sub-t8 shl-t9 add-t10 sub-t11 returns)
+unpack-spec =
+    tie.close (tie.spec (λ c κs. search needs) (λ c. search needs) cast-z sub-t8 shl-t9 add-t10 sub-t11 returns)

@@ -1,4 +1,5 @@
--- `integer_part::truncated` meets its contract: between the ends the library casts, and the laws of `CastEnds` say the rest. Assumes nothing.
+-- `integer_part::truncated` meets its contract: between the ends the library casts, and the laws of `CastEnds` say the
+-- rest. Assumes nothing.
 use borrow.Author.Needs.{needs}
 use denote.Floats.{passes}
 use lib.Ieee.{neg, ofBits}

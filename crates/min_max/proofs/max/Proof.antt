@@ -1,4 +1,5 @@
--- `min_max::max` meets its contract, by the laws of `chosen`: two floats of which one is below the other are numbers. Assumes nothing.
+-- `min_max::max` meets its contract, by the laws of `chosen`: two floats of which one is below the other are numbers.
+-- Assumes nothing.
 use denote.Floats.{passes}
 use Rattle.magnitude.proofs.Comparisons.{lt→le, le-numbers}
 use Rattle.min_max.specs.Choice.{larger}
@@ -9,12 +10,15 @@ use Rattle.min_max.proofs.max.Tie as tie
 returns : tie.Need-returns
 unfolding larger
 returns c =
-    let numbers = le-numbers (c .before .args .least) (c .before .args .x) (lt→le (c .before .args .least) (c .before .args .x) (passes _ (c .if1 .taken))) in
+    let numbers =
+    le-numbers (c .before .args .least) (c .before .args .x)
+    (lt→le (c .before .args .least) (c .before .args .x) (passes _ (c .if1 .taken))) in
     first (c .before .args .x) (c .before .args .least) (c .if1 .taken) (numbers .1) (numbers .0)
 
 returns-2 : tie.Need-returns-2
 unfolding larger
-returns-2 c = second (c .before .before .args .x) (c .before .before .args .least) (c .before .if1 .left) (c .if2 .taken)
+returns-2 c =
+    second (c .before .before .args .x) (c .before .before .args .least) (c .before .if1 .left) (c .if2 .taken)
 
 returns-3 : tie.Need-returns-3
 unfolding larger

@@ -14,7 +14,15 @@ returns-2 : tie.Need-returns-2
 unfolding shapePrimitive triangle
 returns-2 c =
     let s = c .before .before in
-    rw (← s .clamp .ensures, ← s .before .cosine2 .ensures, ← s .before .before .cosine .ensures, ← c .cosine3 .ensures, c .before .if1 .left)
+    rw (
+      ← s .clamp .ensures,
+      ← s .before .cosine2 .ensures,
+      ← s .before .before .cosine .ensures,
+      ← c .cosine3 .ensures,
+      c .before .if1 .left,
+    )
 
 pub shape-primitive-spec : {M : Type 1} → statement M
-shape-primitive-spec = tie.close (tie.spec (λ c κs. search needs) (λ c κs. search needs) (λ c κs. search needs) returns (λ c κs. search needs) returns-2)
+shape-primitive-spec =
+    tie.close (tie.spec (λ c κs. search needs) (λ c κs. search needs) (λ c κs. search needs) returns
+    (λ c κs. search needs) returns-2)

@@ -1,4 +1,5 @@
--- `oscillators::maximum_delay_excursion_samples` meets its contract: test by test it is the definition. Assumes nothing.
+-- `oscillators::maximum_delay_excursion_samples` meets its contract: test by test it is the definition.
+-- Assumes nothing.
 use mathlib.Core.Path.{_≡_, refl}
 use lib.Count.{trailingZeros}
 use lib.Ieee.{binary64, size, span, climb, odd, units, round, div, ofFields, ofBits}
@@ -27,4 +28,6 @@ returns c =
     )
 
 pub maximum-delay-excursion-samples-spec : {M : Type 1} → statement M
-maximum-delay-excursion-samples-spec = tie.close (tie.spec (λ c κs. tt) (λ c κs. tt) (λ c κs. tt) (λ c κs. tt) (λ c κs. tt) (λ c κs. tt) (λ c κs. tt) returns)
+maximum-delay-excursion-samples-spec =
+    tie.close (tie.spec (λ c κs. tt) (λ c κs. tt) (λ c κs. tt) (λ c κs. tt) (λ c κs. tt) (λ c κs. tt)
+    (λ c κs. tt) returns)

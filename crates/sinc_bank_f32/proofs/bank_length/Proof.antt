@@ -11,7 +11,9 @@ mul-result : tie.Need-mul-result
 mul-result c = omega (arith, few (c .before .args .max-rate) (c .steps .result) (c .steps .ensures))
 
 returns : tie.Need-returns
-returns c = let top = c .before .args .max-rate in times (bankOk top) (c .steps .result) (stepsOf top) setLength (c .steps .ensures)
+returns c =
+    let top = c .before .args .max-rate in
+    times (bankOk top) (c .steps .result) (stepsOf top) setLength (c .steps .ensures)
 
 pub bank-length-spec : {M : Type 1} → statement M
 bank-length-spec = tie.close (tie.spec (λ c κs. search needs) mul-result returns)

@@ -32,15 +32,19 @@ below c =
     under (a .args .top) (a .args .x) _ (value (a .args .top) (a .pre)) (c .before .before .if1 .taken) (c .if2 .taken)
 
 -- the floor, as the code holds it
-word : (c : tie.After-floor) → let a = c .before .before .before .before .args in toZ w64 (ofZ w64 (c .floor .result)) ≡ pos (cutTo (a .top) (a .x))
+word : (c : tie.After-floor) → let a = c .before .before .before .before .args in
+    toZ w64 (ofZ w64 (c .floor .result)) ≡ pos (cutTo (a .top) (a .x))
 word c =
     let a = c .before .before .before .before in
-    toZ-ofZ w64 (c .floor .result) (record { sfits = c .floor .ok }) ∙ c .floor .ensures ∙ whole (a .args .top) (a .args .x) (a .pre) (below (c .before))
+    toZ-ofZ w64 (c .floor .result) (record { sfits = c .floor .ok })
+    ∙ c .floor .ensures
+    ∙ whole (a .args .top) (a .args .x) (a .pre) (below (c .before))
 
 cast-result : tie.Need-cast-result
 cast-result c =
     let a = c .before .before .before .before in
-    subst (λ (z : ℤ). T (nonNeg z) × Fits w64 (natAbs z)) (sym (word c)) (tt, record { fits = omega (arith, held (a .args .top) (a .args .x), a .pre) })
+    subst (λ (z : ℤ). T (nonNeg z) × Fits w64 (natAbs z)) (sym (word c))
+    (tt, record { fits = omega (arith, held (a .args .top) (a .args .x), a .pre) })
 
 returns : tie.Need-returns
 returns c = ap natAbs (word c)

@@ -40,7 +40,8 @@ add-k : tie.Need-add-k Inv-loop μ-loop
 add-k c = omega arith
 
 -- the list after one turn
-divided : (c : tie.After-quotient Inv-loop μ-loop) → let l = c .before .before .before in let a = l .before .before .before .args in
+divided : (c : tie.After-quotient Inv-loop μ-loop) → let l = c .before .before .before in
+    let a = l .before .before .before .args in
     set (l .loop .row) (l .loop .k) (c .quotient .result) ≡ halfway (by (a .gain)) (now (a .row)) (l .loop .k + 1)
 divided c =
     let l = c .before .before .before in

@@ -1,4 +1,5 @@
--- `square_root::positive_root` meets its contract: digits that the quick way finds are the root's, and else the restoring steps find them. Assumes nothing.
+-- `square_root::positive_root` meets its contract: digits that the quick way finds are the root's,
+-- and else the restoring steps find them. Assumes nothing.
 use borrow.Author.Needs.{needs}
 use native.Mathlib.Omega.{arith}
 use mathlib.Core.Path.{_≡_, sym, ap, _∙_, subst}
@@ -45,4 +46,5 @@ returns-2 c =
 
 pub positive-root-spec : {M : Type 1} → statement M
 positive-root-spec =
-    tie.close (tie.spec float-to-bits-bits (λ c κs. search needs) (λ c κs. search needs) (λ c. search needs) add-result add-result-2 float-from-bits-result returns-2)
+    tie.close (tie.spec float-to-bits-bits (λ c κs. search needs) (λ c κs. search needs)
+    (λ c. search needs) add-result add-result-2 float-from-bits-result returns-2)

@@ -36,7 +36,8 @@ lent c = fitting _ _ (c .pre .0)
 abbrev begun : tie.In-loop Inv-loop μ-loop → tie.Start Inv-loop μ-loop
 begun c = c .before .before .before .before
 
-inside : (c : tie.In-loop Inv-loop μ-loop) → let s = begun c .args .settings in c .before .loop .phase * s .taps + s .taps ≤ length (now (begun c .args .table))
+inside : (c : tie.In-loop Inv-loop μ-loop) → let s = begun c .args .settings in
+    c .before .loop .phase * s .taps + s .taps ≤ length (now (begun c .args .table))
 inside c = row-inside (lent (begun c)) _ (omega (arith, c .loop-test .taken))
 
 loop-again : tie.Need-loop-again Inv-loop μ-loop
@@ -46,14 +47,22 @@ loop-again c =
     let b = begun i in
     let s = b .args .settings in
     let p = l .loop .phase in
-    let w = length-lent (row s) (s .taps) (s .phases + 1) (l .loop .table) p (l .loop .inv) (omega (arith, i .loop-test .taken)) in
-    filled-more (row s) (s .taps) (s .phases + 1) (l .loop .table) p (l .loop .inv) (omega (arith, i .loop-test .taken)) _
-    (c .before .before .write-row .ensures ∙ row-lent s (now (b .args .window)) (lentRow (s .taps) (l .loop .table) p) p (lent b .settings) (b .pre .1) (omega (arith, i .loop-test .taken)) w)
+    let w =
+    length-lent (row s) (s .taps) (s .phases + 1) (l .loop .table) p (l .loop .inv)
+    (omega (arith, i .loop-test .taken)) in
+    filled-more (row s) (s .taps) (s .phases + 1) (l .loop .table) p (l .loop .inv)
+    (omega (arith, i .loop-test .taken)) _
+    (c .before .before .write-row .ensures
+    ∙ row-lent s (now (b .args .window)) (lentRow (s .taps) (l .loop .table) p) p (lent b .settings) (b .pre .1)
+    (omega (arith, i .loop-test .taken)) w)
     (length-row s (windowOf s) p)
 
 returns : tie.Need-returns Inv-loop μ-loop
 unfolding tableOf
-returns c = let l = c .before in filled _ _ _ (l .loop .table) (l .loop .phase) (l .loop .inv) (omega (arith, c .loop-test .left, l .loop .inv .most))
+returns c =
+    let l = c .before in
+    filled _ _ _ (l .loop .table) (l .loop .phase) (l .loop .inv)
+    (omega (arith, c .loop-test .left, l .loop .inv .most))
 
 pub write-rows-spec : {M : Type 1} → statement M
 write-rows-spec =

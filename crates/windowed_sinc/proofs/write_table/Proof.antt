@@ -1,4 +1,5 @@
--- `windowed_sinc::write_table` meets its contract: the front of the scratch is Kaiser's window, and the rows are written under it. Assumes nothing.
+-- `windowed_sinc::write_table` meets its contract: the front of the scratch is Kaiser's window,
+-- and the rows are written under it. Assumes nothing.
 use borrow.Author.Needs.{needs}
 use native.Mathlib.Omega.{arith}
 use lib.ListN.{length}
@@ -13,11 +14,17 @@ lent : (c : tie.Start) → Fitting (c .args .settings) (length (now (c .args .ta
 lent c = fitting _ _ (c .pre)
 
 part-write-rows-end : tie.Need-part-write-rows-end
-part-write-rows-end c = let w = c .before .before .before in window-fits (lent (w .before .before .before)) _ _ (w .write-window .ensures)
+part-write-rows-end c =
+    let w = c .before .before .before in window-fits (lent (w .before .before .before)) _ _ (w .write-window .ensures)
 
 write-rows-requires : tie.Need-write-rows-requires
-write-rows-requires c κs = let w = c .before .before .before .before in let b = w .before .before .before in (b .pre, window-again (lent b) _ _ (w .write-window .ensures))
+write-rows-requires c κs =
+    let w = c .before .before .before .before in
+    let b = w .before .before .before in
+    (b .pre, window-again (lent b) _ _ (w .write-window .ensures))
 
 pub write-table-spec : {M : Type 1} → statement M
 write-table-spec =
-    tie.close (tie.spec (λ c. search needs) (λ c. search needs) (λ c. omega (arith, most (lent (c .before)) .0)) (λ c κs. search needs) (λ c. search needs) (λ c. search needs) part-write-rows-end write-rows-requires (λ c. search needs) (λ c. search needs))
+    tie.close (tie.spec (λ c. search needs) (λ c. search needs) (λ c. omega (arith, most (lent (c .before)) .0))
+    (λ c κs. search needs) (λ c. search needs) (λ c. search needs) part-write-rows-end write-rows-requires
+    (λ c. search needs) (λ c. search needs))

@@ -37,29 +37,38 @@ lent c = fitting _ _ (c .pre .0)
 abbrev begun : tie.In-loop Inv-loop μ-loop → tie.Start Inv-loop μ-loop
 begun c = c .before .before .before .before
 
-inside : (c : tie.In-loop Inv-loop μ-loop) → let s = begun c .args .settings in c .before .loop .phase * s .taps + s .taps ≤ length (now (begun c .args .table))
+inside : (c : tie.In-loop Inv-loop μ-loop) → let s = begun c .args .settings in
+    c .before .loop .phase * s .taps + s .taps ≤ length (now (begun c .args .table))
 inside c = row-inside (lent (begun c)) _ (omega (arith, c .loop-test .taken))
 
 write-row-requires : tie.Need-write-row-requires Inv-loop μ-loop
 write-row-requires c κs =
     let i = c .before in
     let b = begun i in
-    let l = i .before .loop in
-    (lent b .settings, b .pre .1, omega (arith, i .loop-test .taken), length-lent _ _ _ (l .table) (l .phase) (l .inv) (omega (arith, i .loop-test .taken)))
+    let l = i .before .loop in (
+      lent b .settings,
+      b .pre .1,
+      omega (arith, i .loop-test .taken),
+      length-lent _ _ _ (l .table) (l .phase) (l .inv) (omega (arith, i .loop-test .taken)),
+    )
 
 loop-again : tie.Need-loop-again Inv-loop μ-loop
 loop-again c =
     let i = c .before .before .before .before in
     let l = i .before .loop in
     let s = begun i .args .settings in
-    filled-more _ _ _ (l .table) (l .phase) (l .inv) (omega (arith, i .loop-test .taken)) _ (c .before .before .write-row .ensures) (length-map (rowOf s (windowOf s) (l .phase)) narrowed ∙ length-row s (windowOf s) (l .phase))
+    filled-more _ _ _ (l .table) (l .phase) (l .inv) (omega (arith, i .loop-test .taken)) _
+    (c .before .before .write-row .ensures)
+    (length-map (rowOf s (windowOf s) (l .phase)) narrowed ∙ length-row s (windowOf s) (l .phase))
 
 returns : tie.Need-returns Inv-loop μ-loop
 unfolding tableOf
 returns c =
     let l = c .before in
     let s = l .before .before .before .args .settings in
-    filled _ _ _ (l .loop .table) (l .loop .phase) (l .loop .inv) (omega (arith, c .loop-test .left, l .loop .inv .most)) ∙ sym (map-rows narrowed (rowOf s (windowOf s)) (s .phases + 1))
+    filled _ _ _ (l .loop .table) (l .loop .phase) (l .loop .inv)
+    (omega (arith, c .loop-test .left, l .loop .inv .most))
+    ∙ sym (map-rows narrowed (rowOf s (windowOf s)) (s .phases + 1))
 
 pub write-rows-spec : {M : Type 1} → statement M
 write-rows-spec =

@@ -1,4 +1,5 @@
--- `wrapping_u64::shl` meets its contract: below 64 it is the product with 2^n, which is a word; from 64 on 2^n is a multiple of 2^64. Assumes nothing.
+-- `wrapping_u64::shl` meets its contract: below 64 it is the product with 2^n, which is a word;
+-- from 64 on 2^n is a multiple of 2^64. Assumes nothing.
 use mathlib.Core.Path.{_≡_, _∙_}
 use Prim.Native.Nat.{ℕ, _-_, _*_, _%_, _^_, _≤_, _<_}
 use native.Mathlib.Nat.{mod-eq-of-lt, mul-mod-left, mul-assoc, sub-add-cancel, one-mul}

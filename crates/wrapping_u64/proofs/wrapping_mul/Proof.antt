@@ -1,4 +1,5 @@
--- `wrapping_u64::wrapping_mul` meets its contract: a mask is a remainder, so the body is the law `halves` at the base 2^32. Assumes nothing.
+-- `wrapping_u64::wrapping_mul` meets its contract: a mask is a remainder, so the body is the law `halves` at the base
+-- 2^32. Assumes nothing.
 use mathlib.Core.Path.{_≡_, _∙_}
 use Prim.Native.Nat.{ℕ, _*_, _/_, _%_, _^_}
 use native.Mathlib.Omega.{arith}
@@ -16,7 +17,12 @@ mul-mixed-2 : tie.Need-mul-mixed-2
 mul-mixed-2 c = record { fits = below 32 (shr-lt 32 32 (c .fits .a .fits)) (mask-lt (c .args .b) 32) }
 
 add-mixed : tie.Need-add-mixed
-add-mixed c = omega (arith, mask-lt (bitAnd (c .args .a) 0xffff_ffff * (c .args .b / 2 ^ 32)) 32, mask-lt (c .args .a / 2 ^ 32 * bitAnd (c .args .b) 0xffff_ffff) 32)
+add-mixed c =
+    omega (
+      arith,
+      mask-lt (bitAnd (c .args .a) 0xffff_ffff * (c .args .b / 2 ^ 32)) 32,
+      mask-lt (c .args .a / 2 ^ 32 * bitAnd (c .args .b) 0xffff_ffff) 32,
+    )
 
 mul-wrapping-add-u64 : tie.Need-mul-wrapping-add-u64
 mul-wrapping-add-u64 c = record { fits = below 32 (mask-lt (c .args .a) 32) (mask-lt (c .args .b) 32) }
@@ -28,4 +34,5 @@ returns : tie.Need-returns
 returns c = c .wrapping-add-u64 .ensures ∙ simp lower (halves (c .before .args .a) (c .before .args .b) (2 ^ 32))
 
 pub wrapping-mul-spec : {M : Type 1} → statement M
-wrapping-mul-spec = tie.close (tie.spec mul-mixed mul-mixed-2 add-mixed mul-wrapping-add-u64 (λ c κs. search needs) returns)
+wrapping-mul-spec =
+    tie.close (tie.spec mul-mixed mul-mixed-2 add-mixed mul-wrapping-add-u64 (λ c κs. search needs) returns)

@@ -63,4 +63,7 @@ returns c =
     )
 
 pub one-by-one-spec : {M : Type 1} → statement M
-one-by-one-spec = tie.close (tie.spec sub-tap (λ c κs. search needs) sub-tap-2 (λ c κs. search needs) sub-tap-3 (λ c κs. search needs) (λ c κs. search needs) add-tap (λ c κs. search needs) add-tap-2 (λ c κs. search needs) add-tap-3 (λ c κs. search needs) add-tap-4 (λ c κs. search needs) returns)
+one-by-one-spec =
+    tie.close (tie.spec sub-tap (λ c κs. search needs) sub-tap-2 (λ c κs. search needs) sub-tap-3 (λ c κs. search needs)
+    (λ c κs. search needs) add-tap (λ c κs. search needs) add-tap-2 (λ c κs. search needs) add-tap-3
+    (λ c κs. search needs) add-tap-4 (λ c κs. search needs) returns)

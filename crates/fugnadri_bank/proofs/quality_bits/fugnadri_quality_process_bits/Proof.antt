@@ -10,4 +10,5 @@ returns : tie.Need-returns
 returns c = in-bits binary32 (c .before .before .before .call-through .ensures) (c .bits-of-f32 .ensures)
 
 pub fugnadri-quality-process-bits-spec : {M : Type 1} → statement M
-fugnadri-quality-process-bits-spec = tie.close (tie.spec (λ c κs. search needs) (λ c κs. search needs) (λ c. search needs) returns)
+fugnadri-quality-process-bits-spec =
+    tie.close (tie.spec (λ c κs. search needs) (λ c κs. search needs) (λ c. search needs) returns)

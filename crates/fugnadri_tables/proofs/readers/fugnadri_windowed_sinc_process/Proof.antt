@@ -1,4 +1,5 @@
--- `fugnadri_tables::readers::fugnadri_windowed_sinc_process` meets its contract: what the reader gives, handed out. Assumes nothing.
+-- `fugnadri_tables::readers::fugnadri_windowed_sinc_process` meets its contract: what the reader gives, handed out.
+-- Assumes nothing.
 use borrow.Author.Needs.{needs}
 use Rattle.answer.specs.Answers.{numberOf, valueOf}
 use Rattle.answer_parts.proofs.LeftByExports.{left}

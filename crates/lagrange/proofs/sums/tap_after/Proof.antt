@@ -11,8 +11,10 @@ use Rattle.lagrange.proofs.sums.tap_after.Tie as tie
 returns : tie.Need-returns
 returns c =
     let s = c .before .before in
-    c .tap .ensures ∙ ap (tapOf (now (s .args .source)) (s .args .count)) (plus-is (s .fits .base) (s .args .k) (omega arith))
+    c .tap .ensures
+    ∙ ap (tapOf (now (s .args .source)) (s .args .count)) (plus-is (s .fits .base) (s .args .k) (omega arith))
 
 pub tap-after-spec : {M : Type 1} → statement M
 tap-after-spec =
-    tie.close (tie.spec (λ c. search needs) (λ c. plus-fits (c .before .fits .base) (c .before .args .k) (omega arith)) (λ c κs. search needs) returns)
+    tie.close (tie.spec (λ c. search needs) (λ c. plus-fits (c .before .fits .base) (c .before .args .k) (omega arith))
+    (λ c κs. search needs) returns)

@@ -1,4 +1,5 @@
--- `quality_variable_delay::served::served` meets its contract: the tests that it makes leave no refusal, by `CommonCall`. Assumes nothing.
+-- `quality_variable_delay::served::served` meets its contract: the tests that it makes leave no refusal,
+-- by `CommonCall`. Assumes nothing.
 use borrow.Author.Needs.{needs}
 use mathlib.Core.Path.{sym, _∙_, ap}
 use lib.Ieee.{ofBits}
@@ -36,4 +37,6 @@ returns c =
 
 pub served-spec : {M : Type 1} → statement M
 served-spec =
-    tie.close (tie.spec (λ c κs. search needs) (λ c κs. search needs) (λ c κs. search needs) (λ c κs. search needs) (λ c κs. search needs) (λ c κs. search needs) returns (λ c. led-away) (λ c. led-away) (λ c. led-away) (λ c. led-away) (λ c. led-away) (λ c. led-away) (λ c. led-away))
+    tie.close (tie.spec (λ c κs. search needs) (λ c κs. search needs) (λ c κs. search needs) (λ c κs. search needs)
+    (λ c κs. search needs) (λ c κs. search needs) returns (λ c. led-away) (λ c. led-away) (λ c. led-away)
+    (λ c. led-away) (λ c. led-away) (λ c. led-away) (λ c. led-away))

@@ -1,5 +1,5 @@
--- What stands in the exports' contracts: settings as the plain numbers that another language hands in, and a call of a reader over a lent table.
--- Definitions only.
+-- What the exports' contracts name: settings as the plain numbers that another language hands in, and a call of a
+-- reader over a lent table. Definitions only.
 use Prim.Native.Nat.{ℕ}
 use mathlib.Core.Bool.{_&&_}
 use mathlib.Core.List.{List}
@@ -24,13 +24,16 @@ settingsOf taps phases cutoff beta = record { taps = taps; phases = phases; cuto
 
 -- The refusal that a call is due: the taps and the phases are settings of the table, which must have its length.
 abbrev pub callVerdict : VariableDelay → List Float → Float → Float → List Float → ℕ → ℕ → ℕ
-callVerdict d ring input delay table taps phases = verdict (tapsOk taps && phasesOk phases) (eqb (length table) (tableLength taps phases)) d (length ring) input delay
+callVerdict d ring input delay table taps phases =
+    verdict (tapsOk taps && phasesOk phases) (eqb (length table) (tableLength taps phases)) d (length ring) input delay
 
 abbrev pub called : VariableDelay → List Float → Float → Float → List Float → ℕ → ℕ → Processed
-called d ring input delay table taps phases = processedBy (sincAt table taps phases) (callVerdict d ring input delay table taps phases) d ring input delay
+called d ring input delay table taps phases =
+    processedBy (sincAt table taps phases) (callVerdict d ring input delay table taps phases) d ring input delay
 
 abbrev pub calledF32 : VariableDelay → List Float → Float → Float → List Float → ℕ → ℕ → ProcessedF32
-calledF32 d ring input delay table taps phases = processedF32By (sincF32At table taps phases) (callVerdict d ring input delay table taps phases) d ring input delay
+calledF32 d ring input delay table taps phases =
+    processedF32By (sincF32At table taps phases) (callVerdict d ring input delay table taps phases) d ring input delay
 
 -- What the call leaves.
 abbrev pub leftOf : VariableDelay → List Float → Float → Float → List Float → ℕ → ℕ → Left Float ℕ

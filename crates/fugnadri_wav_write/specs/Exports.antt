@@ -1,6 +1,6 @@
--- W2. What stands in the exports' contracts: a kind by its code, an answer as a number and plain numbers, and all that an
--- export may write as one record, so that one equation gives it. A code above 2 is no kind's: it is refused by 13, and by
--- 1 where that is due for the rate or for broken frames, as its samples have no width. Definitions only.
+-- W2. What the exports' contracts name: a kind by its code, an answer as plain numbers, and all that an export may
+-- write as one record, so that one equation gives it. A code above 2 is no kind's: it is refused by 13, or by 1 if that
+-- is due for the rate or for broken frames, since its samples have no width. Definitions only.
 use Prim.Native.Nat.{ℕ}
 use mathlib.Core.Bool.{cond}
 use mathlib.Core.List.{List}
@@ -14,7 +14,7 @@ use Rattle.wav_write.specs.declared.Written.{Written}
 use Rattle.wav_write.specs.declared.Written.the-variants as answers
 use Rattle.wav_write.specs.Writing.{answerOf, written}
 
--- What writing a file leaves: the refusal's number, which it returns, 0 for none, the file's length, and the lent bytes.
+-- What writing a file leaves: the refusal number that it returns, 0 for none, the file's length, and the lent bytes.
 pub record Left : Type 0 where
   pub refusal : ℕ
   pub size : ℕ
@@ -51,7 +51,8 @@ holds refusal bytes = record { refusal = refusal; bytes = bytes }
 abbrev pub headerLeft : ℕ → ℕ → ℕ → ℕ → List ℕ → Block
 headerLeft code channels rate count old =
     cond (leb code 2)
-    (holds (headerVerdict (kindOf code) channels rate count (length old)) (headerIn (kindOf code) channels rate count old))
+    (holds (headerVerdict (kindOf code) channels rate count (length old))
+    (headerIn (kindOf code) channels rate count old))
     (holds (unlistedVerdict channels rate count) old)
 
 -- A block of samples of an unknown kind has no length that could be wrong: 13.
