@@ -13,13 +13,15 @@ use Rattle.quality_variable_delay.proofs.turns.output.Statement.{statem
 use Rattle.quality_variable_delay.proofs.turns.output.Tie as tie
 
 -- a quality's reading by the choice that was made
-chosen : (s : tie.Start) (q : QualityMode) (h : Choice) → let a = s .args in h ≡ choiceOf (a .max-rate) (a .rate)
+chosen : (s : tie.Start) (q : QualityMode) (h : Choice) → let a = s .args in
+    h ≡ choiceOf (a .max-rate) (a .playback-rate)
     → readOf h q (now (a .sets)) (now (a .source)) (a .count) (a .position)
-    ≡ bankAt (now (a .sets)) (a .max-rate) (a .rate) q (now (a .source)) (a .count) (a .position)
+    ≡ bankAt (now (a .sets)) (a .max-rate) (a .playback-rate) q (now (a .source)) (a .count) (a .position)
 chosen s q h e =
     let a = s .args in
     ap (λ (k : Choice). readOf k q (now (a .sets)) (now (a .source)) (a .count) (a .position)) e
-    ∙ bank-read (a .max-rate) (a .rate) (s .pre .0) q (now (a .sets)) (now (a .source)) (a .count) (a .position)
+    ∙ bank-read (a .max-rate) (a .playback-rate) (s .pre .0) q (now (a .sets)) (now (a .source)) (a .count)
+    (a .position)
     (s .pre .1) (s .pre .2)
 
 returns : tie.Need-returns
@@ -43,7 +45,7 @@ returns-2 c =
     let d = c .before .before in
     let s = d .before .before .before .before .before in
     let a = s .args in
-    let h = choiceOf (a .max-rate) (a .rate) in
+    let h = choiceOf (a .max-rate) (a .playback-rate) in
     rw (d .before .if1 .left)
     (c .read3 .ensures
     ∙ draft-read h (now (a .sets)) (now (a .source)) (a .count) (a .position) (a .turn .to)
