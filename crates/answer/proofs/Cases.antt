@@ -1,4 +1,5 @@
--- An answer by its number: a number that is not 0 is a refusal, and `numberOf` gives back what was put in. Assumes nothing.
+-- An answer by its number: a number that is not 0 is a refusal, and `numberOf` gives back what was put in.
+-- Assumes nothing.
 use mathlib.Core.Path.{_≡_, refl}
 use Prim.Native.Nat.{ℕ, zero, suc}
 use lib.Ieee.{Float}

@@ -16,7 +16,8 @@ pub record Passed (t1 t2 t3 t4 t5 t6 t7 t8 : Bool) : Type 0 where
   pub p8 : T t8
 
 pub passed : (t1 t2 t3 t4 t5 t6 t7 t8 : Bool) → lowestOf t1 t2 t3 t4 t5 t6 t7 t8 ≡ 0 → Passed t1 t2 t3 t4 t5 t6 t7 t8
-passed true true true true true true true true h = record { p1 = tt; p2 = tt; p3 = tt; p4 = tt; p5 = tt; p6 = tt; p7 = tt; p8 = tt }
+passed true true true true true true true true h =
+    record { p1 = tt; p2 = tt; p3 = tt; p4 = tt; p5 = tt; p6 = tt; p7 = tt; p8 = tt }
 passed true true true true true true true false h = absurd (omega arith)
 passed true true true true true true false t8 h = absurd (omega arith)
 passed true true true true true false t7 t8 h = absurd (omega arith)

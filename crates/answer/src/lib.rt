@@ -1,4 +1,4 @@
-// A reader's answer: a sample or a refusal number (01), at both widths, and which number is given where several are due.
+// A reader's answer, a sample or a refusal number, for f64 and f32, and which number is given where several are due.
 ghost use mathlib.Core.Path.{_≡_};
 ghost use Rattle.answer.specs.Answers.{answerOf, answerF32Of};
 ghost use Rattle.answer.specs.Refusals.{lowestOf};

@@ -18,11 +18,12 @@ use Rattle.integer_part.proofs.Floors.{quotient-around}
 use Rattle.sinc_settings.specs.Ranges.{zero-f, one-f}
 use Rattle.bank_choice.specs.Rates.{bankOk, stepsOf, rateOf}
 use Rattle.bank_choice.specs.Choosing.{blendOf}
-use Rattle.bank_choice.proofs.Spans.{in-range, most}
-use Rattle.bank_choice.proofs.Growing.{rate-finite}
-use Rattle.bank_choice.proofs.Coarse.{unit, coarse, exactly, difference-over, difference-within, counted, counted-below}
-use Rattle.bank_choice.proofs.Room.{from-below, from-above, far, near, ordered}
-use Rattle.bank_choice.proofs.Counted.{reachOf, plain-top, finite-top, below, k-small, k-close, last-under}
+use Rattle.bank_choice.proofs.SetCounts.{in-range, most}
+use Rattle.bank_choice.proofs.RatesGrow.{rate-finite}
+use Rattle.bank_choice.proofs.CoarseSteps.{unit, coarse, exactly, difference-over, difference-within, counted}
+use Rattle.bank_choice.proofs.CoarseSteps.{counted-below}
+use Rattle.bank_choice.proofs.StepArithmetic.{from-below, from-above, far, near, ordered}
+use Rattle.bank_choice.proofs.RatesInSteps.{reachOf, plain-top, finite-top, below, k-small, k-close, last-under}
 use Rattle.bank_choice.proofs.NotLast.{shareOf, j-small, j-close, set-under}
 use Rattle.bank_choice.proofs.NearOne.{high, narrow-high, quotient-high}
 
@@ -53,16 +54,23 @@ module _ (top : Float) (ok : bankOk top ≡ true) (more : 1 < stepsOf top) where
   J = shareOf top (n - 1)
 
   low-steps : gain low * unit ≤ (unit + J) * den low
-  low-steps = counted (unit + J) low (omega (arith, j-small top ok (n - 1) some one-less)) (rises (low-in .above) refl) (set-under top ok (n - 1) some one-less)
+  low-steps =
+      counted (unit + J) low (omega (arith, j-small top ok (n - 1) some one-less)) (rises (low-in .above) refl)
+      (set-under top ok (n - 1) some one-less)
 
   own-steps : gain own * unit ≤ (unit + reachOf top) * den own
-  own-steps = counted (unit + reachOf top) own (omega (arith, k-small top ok)) (rises (own-in .above) refl) (last-under top ok)
+  own-steps =
+      counted (unit + reachOf top) own (omega (arith, k-small top ok)) (rises (own-in .above) refl) (last-under top ok)
 
   abbrev Y : ℕ
   Y = gain top * den low - gain low * den top
 
   gap : Y + gain low * den top ≡ gain top * den low
-  gap = omega (arith, ordered (gain top) (den top) (gain low) (den low) J low-steps (j-close top ok (n - 1) some one-less))
+  gap =
+      omega (
+        arith,
+        ordered (gain top) (den top) (gain low) (den low) J low-steps (j-close top ok (n - 1) some one-less),
+      )
 
   part : 0 < den top * den low
   part = mul-pos (den-pos top) (den-pos low)
@@ -74,10 +82,18 @@ module _ (top : Float) (ok : bankOk top ≡ true) (more : 1 < stepsOf top) where
   fits = quotient-around (unit * Y) (den top * den low) part .0
 
   no-more : unit * Y ≤ (a + 1) * (den top * den low)
-  no-more = omega (arith, quotient-around (unit * Y) (den top * den low) part .1, add-mul a 1 (den top * den low), one-mul (den top * den low))
+  no-more =
+      omega (
+        arith,
+        quotient-around (unit * Y) (den top * den low) part .1,
+        add-mul a 1 (den top * den low),
+        one-mul (den top * den low),
+      )
 
   large : 268435456 ≤ a + 1
-  large = far (gain top) (den top) (gain low) (den low) Y a gap fits no-more J part low-steps (j-close top ok (n - 1) some one-less)
+  large =
+      far (gain top) (den top) (gain low) (den low) Y a gap fits no-more J part low-steps
+      (j-close top ok (n - 1) some one-less)
 
   small : a ≤ 2199023255552
   small = near (gain top) (den top) (gain low) (den low) Y a gap fits no-more part (below top ok)
@@ -95,7 +111,9 @@ module _ (top : Float) (ok : bankOk top ≡ true) (more : 1 < stepsOf top) where
   over = record {
     first = exactly a (omega (arith, small)) .number;
     second = over-in .above .second;
-    order = difference-over top low (finite-top top ok) (low-in .above .second) (plain-top top ok) (rises (low-in .above) refl) a
+    order =
+        difference-over top low (finite-top top ok) (low-in .above .second) (plain-top top ok)
+        (rises (low-in .above) refl) a
         (from-below (gain top) (den top) (gain low) (den low) Y a gap fits no-more);
   }
 
@@ -103,8 +121,11 @@ module _ (top : Float) (ok : bankOk top ≡ true) (more : 1 < stepsOf top) where
   within = record {
     first = gap-in .above .second;
     second = exactly (a + 2) (omega (arith, small)) .number;
-    order = difference-within own low (own-in .above .second) (low-in .above .second) (rises (own-in .above) refl) (rises (low-in .above) refl) (a + 2)
-        (from-above (gain top) (den top) (gain low) (den low) Y a gap fits no-more (gain own) (den own) (reachOf top) (den-pos top) own-steps (k-close top ok));
+    order =
+        difference-within own low (own-in .above .second) (low-in .above .second) (rises (own-in .above) refl)
+        (rises (low-in .above) refl) (a + 2)
+        (from-above (gain top) (den top) (gain low) (den low) Y a gap fits no-more (gain own) (den own) (reachOf top)
+        (den-pos top) own-steps (k-close top ok));
   }
 
   pub nearly-one : T (lt zero-f (sub binary64 own low)) → T (le high (blendOf top own low))
@@ -115,5 +136,6 @@ module _ (top : Float) (ok : bankOk top ≡ true) (more : 1 < stepsOf top) where
       let p = rises over (exactly a (omega (arith, small)) .plain) in
       let z = rises (record { first = tt; second = within .first; order = lt→le zero-f y h }) refl in
       narrow-high (div binary64 x y)
-      (quotient-high a x y (over .second) (within .first) p (omega (arith, strictly zero-f y tt (within .first) h)) large
+      (quotient-high a x y (over .second) (within .first) p
+      (omega (arith, strictly zero-f y tt (within .first) h)) large
       (counted-below a x (omega (arith, small)) p over) (counted (a + 2) y (omega (arith, small)) z within))

@@ -15,7 +15,7 @@ use lib.Ieee.Scale.{finite}
 use Rattle.rounding.specs.Operations.{narrowed}
 use Rattle.interval.proofs.Signed.{ring, gain, loss, under}
 use Rattle.interval.proofs.Operations.{Rounds, in-order, divided}
-use Rattle.bank_choice.proofs.Coarse.{unit}
+use Rattle.bank_choice.proofs.CoarseSteps.{unit}
 
 -- 1 less f32's epsilon, from which on the blend counts as 1
 abbrev pub high : Float
@@ -33,7 +33,8 @@ narrow-high (inf s) h = h
 narrow-high (fin true m e) h = absurd (omega (arith, under high (fin true m e) tt tt h, down-pos e))
 narrow-high (fin false m e) h =
     rw (← single)
-    (round-mono binary32 8388607 8388608 (m * up e) (down e) (lit< tt) (down-pos e) (omega (arith, under high (fin false m e) tt tt h)))
+    (round-mono binary32 8388607 8388608 (m * up e) (down e) (lit< tt) (down-pos e)
+    (omega (arith, under high (fin false m e) tt tt h)))
 
 double : Rounds binary64 high 8388607 0 8388608
 unfolding round

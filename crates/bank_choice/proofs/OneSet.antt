@@ -16,11 +16,11 @@ use lib.Ieee.Exact.{HasValue, round-exact}
 use lib.Ieee.Fits.{down-pos, sub-fits}
 use lib.Ieee.Scale.{round-same}
 use Rattle.rounding.proofs.Values.{fits-units}
-use Rattle.rounding.proofs.Own.{round-own}
+use Rattle.rounding.proofs.RoundsToItself.{round-own}
 use Rattle.sinc_settings.specs.Ranges.{one-f}
 use Rattle.bank_choice.specs.Rates.{bankOk, rateOf}
-use Rattle.bank_choice.proofs.Spans.{in-range}
-use Rattle.bank_choice.proofs.Counted.{above, below}
+use Rattle.bank_choice.proofs.SetCounts.{in-range}
+use Rattle.bank_choice.proofs.RatesInSteps.{above, below}
 
 -- ---- x * 1 and x / 1
 times-one : (f : Format) (x : Float) → T (fits f x) → mul f x one-f ≡ x
@@ -28,8 +28,10 @@ unfolding mul
 times-one f nan h = refl
 times-one f (inf true) h = refl
 times-one f (inf false) h = refl
-times-one f (fin true m e) h = round-own f (fin true m e) true _ _ h (mul-pos (down-pos e) (lit< tt)) (refl, simp mul-one)
-times-one f (fin false m e) h = round-own f (fin false m e) false _ _ h (mul-pos (down-pos e) (lit< tt)) (refl, simp mul-one)
+times-one f (fin true m e) h =
+    round-own f (fin true m e) true _ _ h (mul-pos (down-pos e) (lit< tt)) (refl, simp mul-one)
+times-one f (fin false m e) h =
+    round-own f (fin false m e) false _ _ h (mul-pos (down-pos e) (lit< tt)) (refl, simp mul-one)
 
 over-one : (f : Format) (x : Float) → T (fits f x) → div f x one-f ≡ x
 unfolding div
@@ -37,7 +39,8 @@ over-one f nan h = refl
 over-one f (inf true) h = refl
 over-one f (inf false) h = refl
 over-one f (fin true m e) h = round-own f (fin true m e) true _ _ h (mul-pos (lit< tt) (down-pos e)) (refl, omega arith)
-over-one f (fin false m e) h = round-own f (fin false m e) false _ _ h (mul-pos (lit< tt) (down-pos e)) (refl, omega arith)
+over-one f (fin false m e) h =
+    round-own f (fin false m e) false _ _ h (mul-pos (lit< tt) (down-pos e)) (refl, omega arith)
 
 -- ---- max as 1 + q * 2^-52
 abbrev grid : ℕ
@@ -55,17 +58,26 @@ module _ (m : ℕ) (e : ℤ) (ok : bankOk (fin false m e) ≡ true) (held : T (f
       let at-least-1 : down e ≤ m * up e = above (fin false m e) ok in
       let at-most-2 : m * up e ≤ 2 * down e = below (fin false m e) ok in
       let reach : 2 ^ 1074 ≤ m * 2 ^ i =
-      le-of-mul-le-mul-right (le-trans (mul-le-mul-left (2 ^ 1074) at-least-1) (le-of-eq (mul-comm (2 ^ 1074) (m * up e) ∙ w .1))) (down-pos e) in
+      le-of-mul-le-mul-right
+      (le-trans (mul-le-mul-left (2 ^ 1074) at-least-1) (le-of-eq (mul-comm (2 ^ 1074) (m * up e) ∙ w .1)))
+      (down-pos e) in
       let large : 1021 < i =
       lt-of-not-le (λ (p : i ≤ 1021).
-      lt-irrefl (2 ^ 1074) (lt-of-le-of-lt (le-trans reach (mul-le-mul-left m (pow-mono p))) (mul-lt-mul-of-pos-right few (pow-pos 1021)))) in
+      lt-irrefl (2 ^ 1074)
+      (lt-of-le-of-lt (le-trans reach (mul-le-mul-left m (pow-mono p)))
+      (mul-lt-mul-of-pos-right few (pow-pos 1021)))) in
       let back : i ≡ i - 1022 + 1022 = omega arith in
       let M = m * 2 ^ (i - 1022) in
       let whole : m * 2 ^ i ≡ M * 2 ^ 1022 =
-      ap (λ (z : ℕ). m * 2 ^ z) back ∙ ap (λ (z : ℕ). m * z) (pow-add 2 (i - 1022) 1022) ∙ sym (mul-assoc m (2 ^ (i - 1022)) (2 ^ 1022)) in
+      ap (λ (z : ℕ). m * 2 ^ z) back
+      ∙ ap (λ (z : ℕ). m * z) (pow-add 2 (i - 1022) 1022)
+      ∙ sym (mul-assoc m (2 ^ (i - 1022)) (2 ^ 1022)) in
       let is : m * up e * grid ≡ M * down e =
       eq-of-mul-eq-mul-right (2 ^ 1022) (pow-pos 1022) (m * up e * grid) (M * down e)
-      (mul-assoc (m * up e) grid (2 ^ 1022) ∙ w .1 ∙ ap (λ (z : ℕ). z * down e) whole ∙ mul-right-comm M (2 ^ 1022) (down e)) in
+      (mul-assoc (m * up e) grid (2 ^ 1022)
+      ∙ w .1
+      ∙ ap (λ (z : ℕ). z * down e) whole
+      ∙ mul-right-comm M (2 ^ 1022) (down e)) in
       let least : grid ≤ M = le-of-mul-le-mul-right (omega arith) (down-pos e) in
       let most : M ≤ 2 * grid = le-of-mul-le-mul-right (omega arith) (down-pos e) in
       let split : M ≡ grid + (M - grid) = omega arith in
@@ -84,9 +96,11 @@ less-one nan s = absurd (s .value)
 less-one (inf t) s = absurd (s .value)
 less-one (fin true m e) s = absurd (true≢false (s .value .0))
 less-one (fin false m e) s =
-    let l : 1 * 1 * down e ≤ m * up e * 1 = le-of-mul-le-mul-right {k = grid} (omega (arith, s .value .1, add-mul grid (s .q) (down e))) (lit< tt) in
+    let l : 1 * 1 * down e ≤ m * up e * 1 =
+    le-of-mul-le-mul-right {k = grid} (omega (arith, s .value .1, add-mul grid (s .q) (down e))) (lit< tt) in
     rw (le-ltb (m * up e * 1) (1 * 1 * down e) l)
-    (round-same binary64 false (m * up e * 1 - 1 * 1 * down e) (down e * 1) (s .q) grid (mul-pos (down-pos e) (lit< tt)) (lit< tt)
+    (round-same binary64 false (m * up e * 1 - 1 * 1 * down e) (down e * 1) (s .q) grid (mul-pos (down-pos e) (lit< tt))
+    (lit< tt)
     (omega (arith, s .value .1, add-mul grid (s .q) (down e))))
 
 one-more : (d : Float) (q : ℕ) → HasValue d false q grid → add binary64 one-f d ≡ round binary64 false (grid + q) grid
@@ -95,7 +109,8 @@ one-more nan q v = absurd v
 one-more (inf t) q v = absurd v
 one-more (fin true m e) q v = absurd (true≢false (v .0))
 one-more (fin false m e) q v =
-    round-same binary64 false (1 * 1 * down e + m * up e * 1) (1 * down e) (grid + q) grid (mul-pos (lit< tt) (down-pos e)) (lit< tt)
+    round-same binary64 false (1 * 1 * down e + m * up e * 1) (1 * down e) (grid + q) grid
+    (mul-pos (lit< tt) (down-pos e)) (lit< tt)
     (omega (arith, v .1, add-mul grid q (1 * down e)))
 
 pub one-set : (top : Float) → bankOk top ≡ true → T (fits binary64 top) → rateOf top 1 1 ≡ top
@@ -106,7 +121,8 @@ one-set top ok held =
     let exact : HasValue d false (s .q) grid =
     rw (less-one top s)
     (round-exact binary64 false (s .q) grid (s .q) 1022 (lit< tt) (omega (arith, s .few))
-    (lt-of-lt-of-le (mul-lt-mul-of-pos-right {n = 2 ^ 53} (omega (arith, s .few)) (pow-pos 1022)) (lit≤ tt)) (sym (mul-assoc (s .q) (2 ^ 1022) grid))) in
+    (lt-of-lt-of-le (mul-lt-mul-of-pos-right {n = 2 ^ 53} (omega (arith, s .few)) (pow-pos 1022)) (lit≤ tt))
+    (sym (mul-assoc (s .q) (2 ^ 1022) grid))) in
     let h = sub-fits binary64 top one-f in
     ap (add binary64 one-f) (ap (λ (z : Float). div binary64 z one-f) (times-one binary64 d h) ∙ over-one binary64 d h)
     ∙ one-more d (s .q) exact

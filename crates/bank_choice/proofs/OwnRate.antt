@@ -1,5 +1,5 @@
 -- T4. Both sets are sets of the bank. A rate equal to a set's own rate reads the next tighter set, not that one, unless
--- it is the last set (`Last`) or its rate is within f64 epsilon of the rate below it: apart from the rate below, the
+-- it is the last set (`LastSet`) or its rate is within f64 epsilon of the rate below it: apart from the rate below, the
 -- sets before it are slower, and the blend is x / x, which is 1. Assumes nothing.
 use mathlib.Core.Path.{_≡_, refl, sym, _∙_}
 use mathlib.Core.Bool.{Bool, true, false, cond, true≢false}
@@ -14,18 +14,18 @@ use lib.Ieee.Bits.{is-true, is-false}
 use lib.Ieee.Fits.{and-i}
 use lib.Ieee.Scale.{finite}
 use Rattle.rounding.specs.Operations.{narrowed}
-use Rattle.order.specs.Choice.{clamped}
+use Rattle.min_max.specs.Choice.{clamped}
 use Rattle.magnitude.proofs.Comparisons.{lt→le}
 use Rattle.interval.proofs.Signed.{nle→lt, lt→nle, le-le, le-lt}
 use Rattle.interval.proofs.Between.{Between, between, point, difference-between}
 use Rattle.sinc_settings.specs.Ranges.{zero-f, one-f}
 use Rattle.bank_choice.specs.Rates.{bankOk, stepsOf, rateOf}
 use Rattle.bank_choice.specs.Choosing.{slowerOf, partitionOf, lowerOf, closeOf, blendOf, chosenOf}
-use Rattle.bank_choice.proofs.Spans.{in-range, least, most}
-use Rattle.bank_choice.proofs.Growing.{rate-finite, rate-grows, slower-before}
+use Rattle.bank_choice.proofs.SetCounts.{in-range, least, most}
+use Rattle.bank_choice.proofs.RatesGrow.{rate-finite, rate-grows, slower-before}
 use Rattle.bank_choice.proofs.Partition.{found}
 use Rattle.bank_choice.proofs.NotLast.{not-last}
-use Rattle.bank_choice.proofs.Gaps.{over-itself, difference-ge, difference-le}
+use Rattle.bank_choice.proofs.GapFloats.{over-itself, difference-ge, difference-le}
 
 -- ---- both are sets of the bank
 pub safe-inside : (top rate : Float) → chosenOf top rate .safe < stepsOf top
@@ -37,7 +37,8 @@ unfolding chosenOf
 tighter-inside top rate = omega (arith, least top)
 
 -- ---- what lies from 1 to the top is not clamped
-pub inside-stays : (x top : Float) → T (finite x) → T (finite top) → T (le one-f x) → T (le x top) → clamped x one-f top ≡ x
+pub inside-stays : (x top : Float) → T (finite x) → T (finite top) → T (le one-f x) → T (le x top)
+    → clamped x one-f top ≡ x
 unfolding clamped
 inside-stays x top p q h k =
     rw (
@@ -66,9 +67,14 @@ module _ (top : Float) (ok : bankOk top ≡ true) (i : ℕ) (among : i < stepsOf
   unfolding le
   low-is = go (eqb i 0) (eqb-true i 0) (eqb-false i 0)
     where
-      go : (b : Bool) → (b ≡ true → i ≡ 0) → (b ≡ false → i ≡ 0 → ⊥) → let l = cond b one-f (rateOf top (stepsOf top) i) in Between one-f (fin false 51 (pos 0)) l × T (le l own)
+      go : (b : Bool) → (b ≡ true → i ≡ 0) → (b ≡ false → i ≡ 0 → ⊥) → let l =
+          cond b one-f (rateOf top (stepsOf top) i) in
+          Between one-f (fin false 51 (pos 0)) l × T (le l own)
       go true z n = (between tt tt tt tt, own-is .above .order)
-      go false z n = (rate-finite top ok i (omega (arith, most top ok)), rate-grows top ok i (i + 1) (omega arith) (omega (arith, most top ok)) .order)
+      go false z n = (
+        rate-finite top ok i (omega (arith, most top ok)),
+        rate-grows top ok i (i + 1) (omega arith) (omega (arith, most top ok)) .order,
+      )
 
   gap-is : Between (fin true 25 (pos 1)) (fin false 25 (pos 1)) gap
   unfolding sub
@@ -88,15 +94,23 @@ module _ (top : Float) (ok : bankOk top ≡ true) (i : ℕ) (among : i < stepsOf
     unfolding le
     gap-above =
         let not-below = difference-ge own low finite-own finite-low (low-is .1) in
-        let over-epsilon = nle→lt epsilon gap tt finite-gap (not-T (le gap epsilon) (λ t. absurd (true≢false (sym (is-true _ (and-i (le (fin true 1 (negsuc 51)) gap) (le gap epsilon) (le-le (fin true 1 (negsuc 51)) zero-f gap tt tt finite-gap tt not-below) t)) ∙ wide)))) in
+        let over-epsilon =
+        nle→lt epsilon gap tt finite-gap (not-T (le gap epsilon)
+        (λ t. absurd (true≢false (sym (is-true _ (and-i (le (fin true 1 (negsuc 51)) gap) (le gap epsilon)
+        (le-le (fin true 1 (negsuc 51)) zero-f gap tt tt finite-gap tt not-below) t))
+        ∙ wide)))) in
         le-lt zero-f epsilon gap tt tt finite-gap tt over-epsilon
 
     low-slower : lt low own ≡ true
     low-slower =
-        is-true _ (nle→lt low own finite-low finite-own (not-T (le own low) (λ t. T-not (le gap zero-f) (lt→nle zero-f gap tt finite-gap gap-above) (difference-le own low finite-own finite-low t))))
+        is-true _ (nle→lt low own finite-low finite-own (not-T (le own low)
+        (λ t. T-not (le gap zero-f) (lt→nle zero-f gap tt finite-gap gap-above)
+        (difference-le own low finite-own finite-low t))))
 
     not-itself : lt own own ≡ false
-    not-itself = is-false _ (not-T (lt own own) (λ t. T-not (le own own) (lt→nle own own finite-own finite-own t) (point own finite-own .above .order)))
+    not-itself =
+        is-false _ (not-T (lt own own)
+        (λ t. T-not (le own own) (lt→nle own own finite-own finite-own t) (point own finite-own .above .order)))
 
     before : (j : ℕ) → j < i → slowerOf top (stepsOf top) own j ≡ true
     before j l =
@@ -111,17 +125,20 @@ module _ (top : Float) (ok : bankOk top ≡ true) (i : ℕ) (among : i < stepsOf
     unfolding blendOf narrowed round
     whole-blend = rw (over-itself gap finite-gap gap-above)
 
-    -- Set i's own rate, where it is at most the bank's, as it always is unless set i is the last. Where rounding took the
-    -- last set's rate above the bank's, no rate is that one once it is clamped: `Last` says what is read there.
+    -- Set i's own rate, where it is at most the bank's, as it always is unless set i is the last.
+    -- Where rounding took the last set's rate above the bank's, no rate is that one once it is clamped:
+    -- `LastSet` says what is read there.
     pub reads-own : T (le own top)
-        → (chosenOf top own .safe ≡ i) × (chosenOf top own .tighter ≡ min (i + 1) (stepsOf top - 1)) × (chosenOf top own .which ≡ 1)
+        → (chosenOf top own .safe ≡ i) × (chosenOf top own .tighter ≡ min (i + 1) (stepsOf top - 1))
+        × (chosenOf top own .which ≡ 1)
     unfolding chosenOf le
     reads-own h =
         let equal = inside-stays own top finite-own (in-range top ok .above .second) (own-is .above .order) h in
         let s : min i (stepsOf top - 1) ≡ i = min-eq-left (omega arith) in
         rw (equal, place, s, wide, whole-blend) (refl, refl, refl)
 
-    pub reads-next : i + 1 < stepsOf top → (chosenOf top own .safe ≡ i) × (chosenOf top own .tighter ≡ i + 1) × (chosenOf top own .which ≡ 1)
+    pub reads-next : i + 1 < stepsOf top
+        → (chosenOf top own .safe ≡ i) × (chosenOf top own .tighter ≡ i + 1) × (chosenOf top own .which ≡ 1)
     reads-next more =
         let r = reads-own (lt→le own top (not-last top ok (i + 1) (omega arith) more)) in
         (r .0, r .1 ∙ min-eq-left (omega arith), r .2)

@@ -1,4 +1,5 @@
-// T3, T4. 000's SincBankF32 without its tables: how many sets a bank has, their rates, and which two a rate reads.
+// The original's SincBankF32 (000) without its tables: how many sets a bank has, their rates, and which two sets a rate
+// reads (T3, T4).
 mod rates; // how many sets, and the rate of each
 mod search; // how many of them are slower than a rate
 
@@ -9,9 +10,11 @@ ghost use mathlib.Core.Bool.{true, not};
 ghost use lib.Ieee.{isNan};
 ghost use Prim.Native.Nat.{min};
 ghost use Rattle.bank_choice.specs.Rates.{bankOk};
-ghost use Rattle.bank_choice.specs.Choosing.{lowerOf, whichOf, chosenOf, choiceOf, chooseVerdict, selectedOf};
+ghost use Rattle.bank_choice.specs.Choosing.{lowerOf, whichOf, chosenOf, chooseVerdict, selectedOf};
+ghost use Rattle.bank_choice.specs.Inner.{choiceOf};
 
-// Which sets a rate reads, counted from 0: by `which` the safe set alone (0), the tighter alone (1), or both (2), blended.
+// Which sets a rate reads, counted from 0. `which` is 0 for the safe set alone, 1 for the tighter one alone, and 2 for
+// both, mixed by `blend` (T4).
 pub struct Choice {
     pub safe: usize,
     pub tighter: usize,
@@ -65,7 +68,7 @@ fn chosen(max_rate: f64, rate: f64) -> Choice
     ensures { λ r. ⌜ r ≡ chosenOf «max_rate» rate ⌝ }
 {
     let n = steps(max_rate);
-    let r = order::clamp(rate, 1.0, max_rate);
+    let r = min_max::clamp(rate, 1.0, max_rate);
     let safe = at_most(search::among(max_rate, n, r), n - 1);
     let tighter = at_most(safe + 1, n - 1);
     let own = rates::rate(max_rate, n, safe + 1);
@@ -76,12 +79,12 @@ fn chosen(max_rate: f64, rate: f64) -> Choice
         safe: safe,
         tighter: tighter,
         which: which(close, blend <= 1.1920929e-7, blend >= 0.9999999),
-        blend: order::clamp_f32(blend, 0.0, 1.0),
+        blend: min_max::clamp_f32(blend, 0.0, 1.0),
     }
 }
 
-// Which sets a rate reads, for the readers, which have tested both rates. All zero where the bank's rate is out of its
-// range; a NaN gives what the same lines give.
+// Which sets a rate reads, for readers that have tested both rates. All zero if the bank's rate is out of range; a NaN
+// as rate goes through the same arithmetic.
 pub fn choice_or_zero(max_rate: f64, rate: f64) -> Choice
     ensures { λ r. ⌜ r ≡ choiceOf «max_rate» rate ⌝ }
 {

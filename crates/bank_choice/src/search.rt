@@ -1,4 +1,5 @@
-// 000's partition_point over the sets' rates, which are computed and not stored: a guess, then a step or two either way.
+// The original's partition_point over the sets' rates (T4). The rates are computed and not stored, so a guess is made
+// and moved by a step or two either way.
 ghost use mathlib.Core.Path.{_≡_};
 ghost use mathlib.Core.Bool.{true};
 ghost use Prim.Native.Nat.{ℕ, _≤_, _<_};
@@ -14,7 +15,7 @@ fn slower(max_rate: f64, steps: usize, r: f64, k: usize) -> bool
     rates::rate(max_rate, steps, k + 1) < r
 }
 
-// Some set, near the one that is looked for: whichever it is, the walks below end at the right one.
+// Some set near the one that is looked for. Whichever it is, the walks below end at the right one.
 fn guess(max_rate: f64, steps: usize, r: f64) -> usize
     requires { ⌜ 0 < steps ⌝ }
     ensures { λ g. ⌜ g < steps ⌝ }
@@ -64,7 +65,7 @@ fn up(max_rate: f64, steps: usize, r: f64, k: usize) -> usize
     }
 }
 
-// How many sets, counted from the first, are slower than r: a rate near 1 is told by the first set's alone.
+// How many sets, counted from the first, are slower than r. Fast path: for a rate near 1 the first set alone decides.
 pub(crate) fn among(max_rate: f64, steps: usize, r: f64) -> usize
     requires { ⌜ (bankOk «max_rate» ≡ true) × (steps ≡ stepsOf «max_rate») ⌝ }
     ensures { λ e. ⌜ e ≡ partitionOf «max_rate» steps r ⌝ }

@@ -1,4 +1,4 @@
-pub mod Sets
-pub mod Tables
-pub mod Bank
-pub mod Maximum
+pub mod WholeSets
+pub mod QualityTables
+pub mod BankReading
+pub mod AtMaximum

@@ -6,7 +6,8 @@ ghost use lib.ListN.{length};
 ghost use Rattle.ring.specs.Places.{positionOk};
 ghost use Rattle.sinc_bank_f32.specs.Sets.{setLength};
 ghost use Rattle.sinc_bank_f32.specs.Parts.{pickSlice};
-ghost use Rattle.bank_read.specs.Bank.{setAt, tableAt, blended, tablesAt, setsOk};
+ghost use Rattle.bank_read.specs.Bank.{setAt, tableAt, blended, tablesAt};
+ghost use Rattle.bank_read.specs.Inner.{setsOk};
 use bank_choice::Choice;
 use constants::SET_LENGTH;
 use fused_chain::Pair;
@@ -23,7 +24,8 @@ fn table_read<'a>(
     position: f64,
 ) -> f32
     requires { ⌜ (length (now safe) ≡ setLength) × (length (now tighter) ≡ setLength) × (positionOk position ≡ true) ⌝ }
-    ensures { λ r. ⌜ r ≡ tableAt quality (pickSlice tight (now (tighter .entry)) (now (safe .entry))) (now (source .entry)) count position ⌝ }
+    ensures { λ r. ⌜ r ≡ tableAt quality (pickSlice tight (now (tighter .entry)) (now (safe .entry)))
+        (now (source .entry)) count position ⌝ }
 {
     let table = sinc_bank_f32::chosen(safe, tighter, tight, quality);
     let taps = quality_mode::taps(quality);
@@ -63,7 +65,8 @@ fn blend_read<'a>(
     position: f64,
 ) -> f32
     requires { ⌜ (length (now safe) ≡ setLength) × (length (now tighter) ≡ setLength) × (positionOk position ≡ true) ⌝ }
-    ensures { λ r. ⌜ r ≡ blended which blend (tableAt quality (now (safe .entry)) (now (source .entry)) count position) (tableAt quality (now (tighter .entry)) (now (source .entry)) count position) ⌝ }
+    ensures { λ r. ⌜ r ≡ blended which blend (tableAt quality (now (safe .entry)) (now (source .entry)) count position)
+        (tableAt quality (now (tighter .entry)) (now (source .entry)) count position) ⌝ }
 {
     if which == 1 {
         return table_read(safe, tighter, true, quality, source, count, position);

@@ -1,9 +1,10 @@
-// 000's SincBankF32::sample: what a quality reads of a bank of lent sets.
+// The original's SincBankF32::sample (000): what a quality reads of a bank of lent sets.
 mod lent; // one set's table, or two blended
 
 ghost use mathlib.Core.Path.{_≡_};
 ghost use mathlib.Core.Bool.{_&&_};
-ghost use Rattle.bank_read.specs.Bank.{setsOk, readOf, sampleVerdict, sampledOf};
+ghost use Rattle.bank_read.specs.Bank.{sampleVerdict, sampledOf};
+ghost use Rattle.bank_read.specs.Inner.{setsOk, readOf};
 use answer::AnswerF32;
 use bank_choice::Choice;
 use constants::SET_LENGTH;
@@ -21,8 +22,8 @@ fn sets_ok(choice: Choice, len: usize) -> bool
     }
 }
 
-// What a quality reads by a choice of sets, for the readers, which have tested already: zero where the bank has not
-// those sets, and outside the positions' range. Draft looks at no set.
+// What a quality reads by a choice of sets, for readers that have tested everything: 0.0 if the bank has not those sets
+// or the position is out of range. Draft looks at no set.
 pub fn read<'a>(
     sets: &'a [f32],
     choice: Choice,

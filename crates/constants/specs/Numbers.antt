@@ -1,5 +1,5 @@
--- The numbers of 01 that several rooms name, for definitions. A float `fin s m e` is m × 2^e, below zero where s is true;
--- zero, one and two are the same in either format. Definitions only.
+-- The numbers of document 01 that several crates name, for definitions. A float `fin s m e` is m × 2^e, below zero if s
+-- is true; zero, one and two are the same in either format. Definitions only.
 use Prim.Native.Nat.{ℕ, _+_, _^_}
 use mathlib.Core.Bool.{true, false}
 use lib.IntN.{pos}
@@ -15,8 +15,8 @@ one-f = fin false 1 (pos 0)
 abbrev pub two-f : Float
 two-f = fin false 1 (pos 1)
 
--- The same by their f64 patterns, as a literal of the code is read: what the wandering computes is held to these (`same`
--- in proofs/Patterns.antt).
+-- The same by their f64 patterns, as the code's literals are read. `same` in proofs/Patterns.antt shows that both
+-- spellings are one float.
 abbrev pub zero-bits : Float
 zero-bits = ofBits binary64 0
 

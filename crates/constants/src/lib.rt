@@ -1,4 +1,5 @@
-// The numbers of 01 that several rooms name, for code. Their page for definitions is specs/Numbers.antt.
+// The numbers of document 01 that several crates name.
+// Code takes them from here, definitions from specs/Numbers.antt.
 
 // 2^36: as many samples may be accepted, and as far back may a delay reach (01, 'Ranges').
 pub const LIMIT: u64 = 68719476736;

@@ -1,10 +1,10 @@
 pub mod Nodes
 pub mod Sixths
 pub mod Weights
-pub mod Sums
-pub mod Places
+pub mod ErrorBudget
+pub mod ExactPosition
 pub mod Neighbours
 pub mod Accepted
-pub mod Started
+pub mod StartOfRuns
 pub mod Demand
 pub mod ShutOut

@@ -1,5 +1,6 @@
--- The four taps of a reading are the neighbours: after a run from opening and one sample more, a tap of the ring is the sample of its number among those accepted (K8), and
--- so is its whole number; one that is not held reads 0.0. Assumes nothing.
+-- The four taps of a reading are the neighbours: after a run from opening and one sample more,
+-- a tap of the ring is the sample of its number among those accepted (K8), and so is its whole number;
+-- one that is not held reads 0.0. Assumes nothing.
 use mathlib.Core.Path.{_≡_, refl, ap, _∙_}
 use mathlib.Core.Bool.{Bool, true, false, _&&_, cond}
 use mathlib.Core.List.{List, [], _∷_, _++_}
@@ -20,7 +21,8 @@ use Rattle.cubic_bound.specs.Desk.{WholeSample, WholeSamples, none, also
 use Rattle.cubic_bound.proofs.Sixths.{Part}
 
 -- ---- one sample more
-stored-last : (i : ℕ) (xs ss : List Float) (s : Float) → storedFrom i xs (ss ++ s ∷ []) ≡ stored (i + length ss) (storedFrom i xs ss) s
+stored-last : (i : ℕ) (xs ss : List Float) (s : Float)
+    → storedFrom i xs (ss ++ s ∷ []) ≡ stored (i + length ss) (storedFrom i xs ss) s
 unfolding storedFrom
 stored-last i xs [] s = rw (add-zero i)
 stored-last i xs (t ∷ ss) s =
@@ -38,27 +40,34 @@ pub as-many : {xs : List Float} {ss : List ℤ} → WholeSamples xs ss → lengt
 as-many none = refl
 as-many (also x w) = ap suc (as-many w)
 
-with-last : {xs : List Float} {ss : List ℤ} {x : Float} {s : ℤ} → WholeSamples xs ss → WholeSample x s → WholeSamples (xs ++ x ∷ []) (ss ++ s ∷ [])
+with-last : {xs : List Float} {ss : List ℤ} {x : Float} {s : ℤ} → WholeSamples xs ss → WholeSample x s
+    → WholeSamples (xs ++ x ∷ []) (ss ++ s ∷ [])
 with-last none x = also x none
 with-last (also y w) x = also y (with-last w x)
 
-sample-at : {xs : List Float} {ss : List ℤ} (k : ℕ) → WholeSamples xs ss → k < length ss → Part (getD xs k nan) (getD ss k (pos 0)) 23 (2 ^ 23)
+sample-at : {xs : List Float} {ss : List ℤ} (k : ℕ) → WholeSamples xs ss → k < length ss
+    → Part (getD xs k nan) (getD ss k (pos 0)) 23 (2 ^ 23)
 sample-at k none h = absurd (omega arith)
 sample-at zero (also x w) h = sample-part x
 sample-at (suc k) (also x w) h = sample-at k w (omega arith)
 
-numbered-is : (len : ℕ) {xs : List Float} {ss : List ℤ} → WholeSamples xs ss → (z : ℤ) → Part (valueOf (numbered len xs z)) (neighbour len ss z) 23 (2 ^ 23)
+numbered-is : (len : ℕ) {xs : List Float} {ss : List ℤ} → WholeSamples xs ss → (z : ℤ)
+    → Part (valueOf (numbered len xs z)) (neighbour len ss z) 23 (2 ^ 23)
 numbered-is len w (negsuc k) = none-part
 numbered-is len {xs} {ss} w (pos k) = rw (as-many w) (go (ltb k (length ss)) (leb (length ss) (k + len)) refl)
   where
-    go : (a b : Bool) → ltb k (length ss) ≡ a → Part (valueOf (pick a (pick b (held (getD xs k nan)) overwritten) ahead)) (cond (a && b) (getD ss k (pos 0)) (pos 0)) 23 (2 ^ 23)
+    go : (a b : Bool) → ltb k (length ss) ≡ a
+        → Part (valueOf (pick a (pick b (held (getD xs k nan)) overwritten) ahead))
+        (cond (a && b) (getD ss k (pos 0)) (pos 0)) 23 (2 ^ 23)
     go true true e = sample-at k w (ltb-true k (length ss) e)
     go true false e = none-part
     go false b e = none-part
 
 -- ---- the ring that a run from opening left, with one sample more
-pub neighbour-is : (len : ℕ) {xs : List Float} {ss : List ℤ} {x : Float} {s : ℤ} → WholeSamples xs ss → WholeSample x s → (z : ℤ)
+pub neighbour-is : (len : ℕ) {xs : List Float} {ss : List ℤ} {x : Float} {s : ℤ} → WholeSamples xs ss → WholeSample x s
+    → (z : ℤ)
     → Part (tapOf (stored (length xs) (filled len xs) x) (length xs + 1) z) (neighbour len (ss ++ s ∷ []) z) 23 (2 ^ 23)
 neighbour-is len {xs} {x = x} w v z =
-    let ring : filled len (xs ++ x ∷ []) ≡ stored (length xs) (filled len xs) x = stored-last 0 (zeros len) xs x ∙ ap (λ (k : ℕ). stored k (filled len xs) x) (zero-add (length xs)) in
+    let ring : filled len (xs ++ x ∷ []) ≡ stored (length xs) (filled len xs) x =
+    stored-last 0 (zeros len) xs x ∙ ap (λ (k : ℕ). stored k (filled len xs) x) (zero-add (length xs)) in
     rw (← ring, ← length-append xs (x ∷ []), tap-numbered len (xs ++ x ∷ []) z) (numbered-is len (with-last w v) z)

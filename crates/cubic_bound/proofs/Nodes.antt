@@ -1,4 +1,5 @@
--- The exact weights are Lagrange's for the nodes -1, 0, 1 and 2: each is 1, that is 6M^3, at its own node and 0 at the others. Computed. Assumes nothing.
+-- The exact weights are Lagrange's for the nodes -1, 0, 1 and 2: each is 1, that is 6M^3, at its own node and 0 at the
+-- others. Computed. Assumes nothing.
 use mathlib.Core.Path.{_≡_, refl}
 use mathlib.Core.List.{List, [], _∷_, map}
 use Prim.Native.Nat.{_*_, _^_}
@@ -13,5 +14,6 @@ abbrev at : ℤ → List ℤ
 at k = let m = k *ℤ M in weight0 m ∷ weight1 m ∷ weight2 m ∷ weight3 m ∷ []
 
 pub nodes : map at (negℤ (pos 1) ∷ pos 0 ∷ pos 1 ∷ pos 2 ∷ [])
-    ≡ (unit ∷ pos 0 ∷ pos 0 ∷ pos 0 ∷ []) ∷ (pos 0 ∷ unit ∷ pos 0 ∷ pos 0 ∷ []) ∷ (pos 0 ∷ pos 0 ∷ unit ∷ pos 0 ∷ []) ∷ (pos 0 ∷ pos 0 ∷ pos 0 ∷ unit ∷ []) ∷ []
+    ≡ (unit ∷ pos 0 ∷ pos 0 ∷ pos 0 ∷ []) ∷ (pos 0 ∷ unit ∷ pos 0 ∷ pos 0 ∷ []) ∷ (pos 0 ∷ pos 0 ∷ unit ∷ pos 0 ∷ [])
+    ∷ (pos 0 ∷ pos 0 ∷ pos 0 ∷ unit ∷ []) ∷ []
 nodes = refl

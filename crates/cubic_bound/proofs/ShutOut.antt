@@ -1,5 +1,6 @@
--- C2, D3. Demand 3 alone shuts out a reader that always answers the same, whatever it is, one that reads a sample late, one with two weights exchanged, and one with a
--- sixth rounded to an f32. Each fails at the first call on ring 8. Assumes nothing.
+-- C2, D3. Demand 3 alone shuts out a reader that always answers the same, whatever it is, one that reads a sample late,
+-- one with two weights exchanged, and one with a sixth rounded to an f32. Each fails at the first call on ring 8.
+-- Assumes nothing.
 use mathlib.Core.Path.{_≡_, refl, subst}
 use mathlib.Core.Bool.{false, not}
 use mathlib.Core.List.{[]}
@@ -10,8 +11,8 @@ use lib.IntN.{ℤ, pos, negsuc}
 use lib.Ieee.{Float, fin, add, sub, mul, div, neg, ofInt, le, size}
 use Rattle.answer.specs.declared.Answer.{Answer}
 use Rattle.answer.specs.declared.Answer.the-variants.{Sample}
-use Rattle.fraction.specs.Value.{Rounds}
-use Rattle.fraction.proofs.Within.{chain, flip}
+use Rattle.rounding_error.specs.Value.{Rounds}
+use Rattle.rounding_error.proofs.Within.{chain, flip}
 use Rattle.ring.specs.Length.{lengthFor, zeros}
 use Rattle.integer_part.specs.Parts.{floorOf, fractionOf}
 use Rattle.cubic_farrow.specs.Cubic.{cubicAt}
@@ -28,13 +29,16 @@ same-sample : {a : Answer} {v w : Float} → a ≡ Sample v → a ≡ Sample w �
 same-sample p q = cc
 
 -- what a reader that meets Demand 3 answers to a first call
-first : (read : Reading) → Meets read → {x y : Float} {s : ℤ} {d : ℕ} → WholeSample x s → WholeDelay y d → Rounds (2 ^ 50) 1 (read (stored 0 (zeros 8) x) 1 (positionOf 0 y)) (exactAt 8 [] s d)
+first : (read : Reading) → Meets read → {x y : Float} {s : ℤ} {d : ℕ} → WholeSample x s → WholeDelay y d
+    → Rounds (2 ^ 50) 1 (read (stored 0 (zeros 8) x) 1 (positionOf 0 y)) (exactAt 8 [] s d)
 unfolding runOf acceptedOf lengthFor size storedFrom
 first read meets {x} {y} {s} {d} w v =
     let c : Call = bareCall x y in
-    let desk : Desk 0 0 [] c [] s d = record { settings = lit≤ tt; earlier = none; fewer = lit< tt; input = w; delay = v } in
+    let desk : Desk 0 0 [] c [] s d =
+    record { settings = lit≤ tt; earlier = none; fewer = lit< tt; input = w; delay = v } in
     let close = meets (start 0 0) c .close 0 0 [] [] s d desk refl in
-    subst (λ (v : Float). Rounds (2 ^ 50) 1 v (exactAt 8 [] s d)) (same-sample (close .given) (answered desk read)) (close .near)
+    subst (λ (v : Float). Rounds (2 ^ 50) 1 v (exactAt 8 [] s d)) (same-sample (close .given) (answered desk read))
+    (close .near)
 
 -- the samples 0 and 1, the delays 0 and 1.5
 silence : WholeSample (fin false 0 (pos 0)) (pos 0)
@@ -54,7 +58,9 @@ far {a} {b} t h = T-not (leb a b) t (le→leb a b h)
 
 -- 0 and 1 are further apart than two bounds
 pub not-constant : (k : Float) → Meets (constant k) → ⊥
-not-constant k m = far tt (chain (flip (first (constant k) m silence no-delay .near)) (first (constant k) m full no-delay .near) .below)
+not-constant k m =
+    far tt (chain (flip (first (constant k) m silence no-delay .near))
+    (first (constant k) m full no-delay .near) .below)
 
 -- 0 is answered for 1
 pub not-late : Meets late → ⊥

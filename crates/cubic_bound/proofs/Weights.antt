@@ -1,4 +1,5 @@
--- The weights of 000's CubicFarrow at the fraction m / 65536: each is a product of three differences, halved or divided by six. Assumes nothing.
+-- The weights of 000's CubicFarrow at the fraction m / 65536: each is a product of three differences,
+-- halved or divided by six. Assumes nothing.
 use mathlib.Core.Path.{_≡_}
 use Prim.Native.Nat.{ℕ, _+_, _*_, _^_, _≤_}
 use native.Mathlib.Nat.{mul-le-mul}
@@ -6,10 +7,10 @@ use native.Mathlib.Omega.{arith}
 use lib.Dec.{lit≤}
 use lib.IntN.{ℤ, pos, negℤ, _+ℤ_, _-ℤ_, _*ℤ_}
 use lib.Ieee.{Float, binary64, add, sub, neg}
-use Rattle.fraction.specs.Fraction.{zp, zn}
-use Rattle.fraction.proofs.Same.{ring}
-use Rattle.fraction.proofs.Whole.{Rep, rep-own, rep-pos, rep-neg, rep-minus, rep-mul, rep-to}
-use Rattle.fraction.proofs.Integers.{Steps, rep-size, steps-neg, steps-add, steps-sub}
+use Rattle.rounding_error.specs.Fraction.{zp, zn}
+use Rattle.rounding_error.proofs.Same.{ring}
+use Rattle.rounding_error.proofs.WholeDifferences.{Rep, rep-own, rep-pos, rep-neg, rep-minus, rep-mul, rep-to}
+use Rattle.rounding_error.proofs.Integers.{Steps, rep-size, steps-neg, steps-add, steps-sub}
 use Rattle.cubic_farrow.specs.Cubic.{one, two, c0, c1, c2, c3}
 use Rattle.cubic_bound.specs.Exact.{M, weight0, weight1, weight2, weight3}
 use Rattle.cubic_bound.proofs.Sixths.{Part, Weight, triple, sixth, half}
@@ -42,10 +43,14 @@ three-less : (x y z : ℤ) → Rep (negℤ (pos 3) *ℤ (x *ℤ y *ℤ z)) (3 * 
 three-less x y z =
     let r = rep-mul (rep-mul (rep-own x) (rep-own y)) (rep-own z) in
     let s = rep-mul (rep-mul (rep-neg (rep-own x)) (rep-own y)) (rep-own z) in
-    rep-to (rep-mul (rep-neg (rep-pos 3)) r) (go (zp x) (zn x) (zp y) (zn y) (zp z) (zn z) (zp (negℤ x *ℤ y *ℤ z)) (zn (negℤ x *ℤ y *ℤ z)) (s .is))
+    rep-to (rep-mul (rep-neg (rep-pos 3)) r)
+    (go (zp x) (zn x) (zp y) (zn y) (zp z) (zn z) (zp (negℤ x *ℤ y *ℤ z)) (zn (negℤ x *ℤ y *ℤ z)) (s .is))
   where
-    go : (a b c d e f p n : ℕ) → p + ((b * c + a * d) * f + (b * d + a * c) * e) ≡ ((b * c + a * d) * e + (b * d + a * c) * f) + n
-        → (0 * ((a * c + b * d) * e + (a * d + b * c) * f) + 3 * ((a * c + b * d) * f + (a * d + b * c) * e)) + 3 * n ≡ 3 * p + (0 * ((a * c + b * d) * f + (a * d + b * c) * e) + 3 * ((a * c + b * d) * e + (a * d + b * c) * f))
+    go : (a b c d e f p n : ℕ)
+        → p + ((b * c + a * d) * f + (b * d + a * c) * e) ≡ ((b * c + a * d) * e + (b * d + a * c) * f) + n
+        → (0 * ((a * c + b * d) * e + (a * d + b * c) * f) + 3 * ((a * c + b * d) * f + (a * d + b * c) * e)) + 3 * n
+        ≡ 3 * p
+        + (0 * ((a * c + b * d) * f + (a * d + b * c) * e) + 3 * ((a * c + b * d) * e + (a * d + b * c) * f))
     go a b c d e f p n h = simp ring (omega (arith, simp ring at h))
 
 module _ {mu : Float} {m : ℕ} (u : ℕ) (h : m + u ≡ 65536) (is : Steps mu (pos m) 16) where
@@ -54,26 +59,44 @@ module _ {mu : Float} {m : ℕ} (u : ℕ) (h : m + u ≡ 65536) (is : Steps mu (
   itself = record { steps = is; small = omega arith }
 
   less-one : Part (sub binary64 mu one) (pos m -ℤ M) 16 u
-  less-one = let s = rep-size {z = pos m -ℤ M} u (rep-minus (rep-pos m) (rep-pos 65536)) (omega arith) (omega arith) in record { steps = steps-sub binary64 (omega arith) (lit≤ tt) is one-is; small = s }
+  less-one =
+      let s = rep-size {z = pos m -ℤ M} u (rep-minus (rep-pos m) (rep-pos 65536)) (omega arith) (omega arith) in
+      record { steps = steps-sub binary64 (omega arith) (lit≤ tt) is one-is; small = s }
 
   less-two : Part (sub binary64 mu two) (pos m -ℤ pos 2 *ℤ M) 16 (65536 + u)
-  less-two = let s = rep-size {z = pos m -ℤ pos 2 *ℤ M} (65536 + u) (rep-minus (rep-pos m) (rep-pos 131072)) (omega arith) (omega arith) in record { steps = steps-sub binary64 (omega arith) (lit≤ tt) is two-is; small = s }
+  less-two =
+      let s =
+      rep-size {z = pos m -ℤ pos 2 *ℤ M} (65536 + u) (rep-minus (rep-pos m) (rep-pos 131072)) (omega arith)
+      (omega arith) in
+      record { steps = steps-sub binary64 (omega arith) (lit≤ tt) is two-is; small = s }
 
   plus-one : Part (add binary64 mu one) (pos m +ℤ M) 16 (m + 65536)
   plus-one = record { steps = steps-add binary64 (omega arith) (lit≤ tt) is one-is; small = omega arith }
 
   pub first : Weight 1 2 (c0 binary64 mu) (weight0 (pos m))
   first =
-      let minus : Part (neg mu) (negℤ (pos m)) 16 m = record { steps = steps-neg is; small = rep-size m (rep-neg (rep-pos m)) (omega arith) (omega arith) } in
-      sixth (under 65536 65536 131072 (omega arith) (omega arith) (omega arith)) (triple (omega arith) (omega arith) (omega arith) minus less-one less-two)
+      let minus : Part (neg mu) (negℤ (pos m)) 16 m =
+      record { steps = steps-neg is; small = rep-size m (rep-neg (rep-pos m)) (omega arith) (omega arith) } in
+      sixth (under 65536 65536 131072 (omega arith) (omega arith) (omega arith))
+      (triple (omega arith) (omega arith) (omega arith) minus less-one less-two)
 
   pub second : Weight 0 6 (c1 binary64 mu) (weight1 (pos m))
-  second = half (weight1 (pos m)) (flat m u h) (three-more (pos m +ℤ M) (pos m -ℤ M) (pos m -ℤ pos 2 *ℤ M)) (triple (omega arith) (omega arith) (omega arith) plus-one less-one less-two)
+  second =
+      half (weight1 (pos m)) (flat m u h) (three-more (pos m +ℤ M) (pos m -ℤ M) (pos m -ℤ pos 2 *ℤ M))
+      (triple (omega arith) (omega arith) (omega arith) plus-one less-one less-two)
 
   pub third : Weight 0 6 (c2 binary64 mu) (weight2 (pos m))
   third =
-      let minus : Part (neg (add binary64 mu one)) (negℤ (pos m +ℤ M)) 16 (m + 65536) = record { steps = steps-neg (plus-one .steps); small = rep-size (m + 65536) (rep-neg (rep-pos (m + 65536))) (omega arith) (omega arith) } in
-      half (weight2 (pos m)) (omega (arith, flat u m (omega arith))) (three-less (pos m +ℤ M) (pos m) (pos m -ℤ pos 2 *ℤ M)) (triple (omega arith) (omega arith) (omega arith) minus itself less-two)
+      let minus : Part (neg (add binary64 mu one)) (negℤ (pos m +ℤ M)) 16 (m + 65536) =
+      record {
+        steps = steps-neg (plus-one .steps);
+        small = rep-size (m + 65536) (rep-neg (rep-pos (m + 65536))) (omega arith) (omega arith);
+      } in
+      half (weight2 (pos m)) (omega (arith, flat u m (omega arith)))
+      (three-less (pos m +ℤ M) (pos m) (pos m -ℤ pos 2 *ℤ M))
+      (triple (omega arith) (omega arith) (omega arith) minus itself less-two)
 
   pub fourth : Weight 1 2 (c3 binary64 mu) (weight3 (pos m))
-  fourth = sixth (under 131072 65536 65536 (omega arith) (omega arith) (omega arith)) (triple (omega arith) (omega arith) (omega arith) plus-one itself less-one)
+  fourth =
+      sixth (under 131072 65536 65536 (omega arith) (omega arith) (omega arith))
+      (triple (omega arith) (omega arith) (omega arith) plus-one itself less-one)

@@ -7,8 +7,8 @@ use lib.ListN.{length}
 use lib.Ieee.{Float}
 use Rattle.answer.specs.declared.Answer.{Answer}
 use Rattle.answer.specs.declared.Answer.the-variants.{Sample}
-use Rattle.fraction.specs.Fraction.{Frac}
-use Rattle.fraction.specs.Value.{Rounds}
+use Rattle.rounding_error.specs.Fraction.{Frac}
+use Rattle.rounding_error.specs.Value.{Rounds}
 use Rattle.ring.specs.Length.{need, lengthFor}
 use Rattle.variable_delay.specs.Reader.{Reading, processed}
 use Rattle.runs.specs.Runs.{Call, Reader, opened, run, accepted, samples}
@@ -18,7 +18,8 @@ use Rattle.cubic_bound.specs.Desk.{WholeSample, WholeSamples, WholeDelay
 abbrev pub start : ℕ → ℕ → Reader
 start maximum margin = opened maximum margin (lengthFor maximum margin)
 
--- What is supposed: settings in range; the samples accepted in the calls before are the whole numbers ss, fewer than 2^36; the input is s and the delay is d.
+-- What is supposed: the settings are in range, the samples accepted before are the whole numbers ss, fewer than 2^36,
+-- the input is s and the delay is d.
 pub record Desk (maximum margin : ℕ) (before : List Call) (c : Call) (ss : List ℤ) (s : ℤ) (d : ℕ) : Type 0 where
   pub settings : need maximum margin ≤ 2 ^ 24
   pub earlier : WholeSamples (samples (accepted (start maximum margin) before)) ss
@@ -32,7 +33,8 @@ pub record Close (a : Answer) (q : Frac) : Type 0 where
   pub given : a ≡ Sample value
   pub near : Rounds (2 ^ 50) 1 value q
 
--- Demand 3 of the answer a to a call on a reader: whatever run of calls, from opening or the last reset, left the reader so.
+-- Demand 3 of the answer a to a call: it holds after whatever run of calls, from opening or the last reset, led to the
+-- reader.
 pub record Demand3 (r : Reader) (c : Call) (a : Answer) : Type 0 where
   pub close : (maximum margin : ℕ) (before : List Call) (ss : List ℤ) (s : ℤ) (d : ℕ)
       → Desk maximum margin before c ss s d

@@ -1,4 +1,5 @@
--- D3. The desk's whole numbers: its samples and delays, the neighbours of a position, and the exact value of a call. Definitions only.
+-- D3. The desk's whole numbers: samples and delays, the neighbours of a position, and the exact value of a call.
+-- Definitions only.
 use Prim.Native.Nat.{ℕ, _+_, _*_, _/_, _^_, _≤_}
 use mathlib.Core.Bool.{cond, _&&_}
 use mathlib.Core.List.{List, [], _∷_, _++_}
@@ -6,8 +7,8 @@ use lib.Dec.{leb, ltb}
 use lib.IntN.{ℤ, pos, negsuc, natAbs, _+ℤ_, _-ℤ_, _*ℤ_}
 use lib.ListN.{length, getD}
 use lib.Ieee.{Float}
-use Rattle.fraction.specs.Fraction.{Frac, frac, whole}
-use Rattle.fraction.specs.Value.{Is}
+use Rattle.rounding_error.specs.Fraction.{Frac, frac, whole}
+use Rattle.rounding_error.specs.Value.{Is}
 use Rattle.cubic_bound.specs.Exact.{M, exactCubic}
 
 -- A whole sample: x is s / 2^23, from -1 to 1.
@@ -17,14 +18,16 @@ pub record WholeSample (x : Float) (s : ℤ) : Type 0 where
 
 pub data WholeSamples : List Float → List ℤ → Type 0 where
   none : WholeSamples [] []
-  also : {x : Float} {s : ℤ} {xs : List Float} {ss : List ℤ} → WholeSample x s → WholeSamples xs ss → WholeSamples (x ∷ xs) (s ∷ ss)
+  also : {x : Float} {s : ℤ} {xs : List Float} {ss : List ℤ} → WholeSample x s → WholeSamples xs ss
+      → WholeSamples (x ∷ xs) (s ∷ ss)
 
 -- A whole delay: y is d / 65536, from 0 to 2^36.
 pub record WholeDelay (y : Float) (d : ℕ) : Type 0 where
   pub is : Is y (frac d 0 65536)
   pub small : d ≤ 2 ^ 36 * 65536
 
--- The position i - d / 65536, in 65536ths; its integer part, the floor towards minus infinity; and its fraction, position minus integer (K1, K3).
+-- The position i - d / 65536, in 65536ths; its integer part, the floor towards minus infinity; and its fraction, the
+-- position minus the integer part (K1, K3).
 abbrev pub place : ℕ → ℕ → ℤ
 place i d = pos i *ℤ M -ℤ pos d
 
@@ -35,15 +38,17 @@ integer (negsuc a) = negsuc (a / 65536)
 abbrev pub fraction : ℤ → ℤ
 fraction n = n -ℤ integer n *ℤ M
 
--- The neighbour number z among the accepted samples ss, the newest last: a ring of length len holds the last len of them. One that it does not hold, or that is
--- before the first or after the newest, counts as zero (K2, K8).
+-- Neighbour z among the accepted samples ss, the newest last. A ring of length len holds the last len of them; one that
+-- it does not hold, or before the first or after the newest, counts as zero (K2, K8).
 abbrev pub neighbour : ℕ → List ℤ → ℤ → ℤ
 neighbour len ss (negsuc k) = pos 0
 neighbour len ss (pos k) = cond (ltb k (length ss) && leb (length ss) (k + len)) (getD ss k (pos 0)) (pos 0)
 
--- The exact value of a call whose input is s and whose delay is d, after the accepted samples ss: the cubic through the four neighbours of its position.
+-- The exact value of a call with input s and delay d after the accepted samples ss: the cubic through the four
+-- neighbours of its position.
 abbrev pub exactAt : ℕ → List ℤ → ℤ → ℕ → Frac
 exactAt len ss s d =
     let n = place (length ss) d in
     let near = neighbour len (ss ++ s ∷ []) in
-    exactCubic (fraction n) (near (integer n -ℤ pos 1)) (near (integer n)) (near (integer n +ℤ pos 1)) (near (integer n +ℤ pos 2))
+    exactCubic (fraction n) (near (integer n -ℤ pos 1)) (near (integer n)) (near (integer n +ℤ pos 1))
+    (near (integer n +ℤ pos 2))

@@ -7,36 +7,40 @@ use Rattle.integer_part.specs.Parts.{floorOf, fractionOf}
 use Rattle.cubic_farrow.specs.Cubic.{one, two, c0, c1, c2, c3, cubicAt}
 use Rattle.variable_delay.specs.Reader.{Reading}
 
--- one that always answers the same
+-- A reading that always gives the same.
 abbrev pub constant : Float → Reading
 constant k xs count p = k
 
--- one sample late
+-- A reading that is one sample late.
 abbrev pub late : Reading
 late xs count p = cubicAt xs count (sub binary64 p one)
 
--- a cubic reading with other weights
+-- A cubic reading with other weights.
 abbrev pub weighedBy : (Float → Float) → (Float → Float) → (Float → Float) → (Float → Float) → Reading
 weighedBy k0 k1 k2 k3 xs count p =
     let i = floorOf p in
     let mu = fractionOf p in
     add binary64
-    (add binary64 (add binary64 (mul binary64 (tapOf xs count (i -ℤ pos 1)) (k0 mu)) (mul binary64 (tapOf xs count i) (k1 mu))) (mul binary64 (tapOf xs count (i +ℤ pos 1)) (k2 mu)))
+    (add binary64
+    (add binary64 (mul binary64 (tapOf xs count (i -ℤ pos 1)) (k0 mu)) (mul binary64 (tapOf xs count i) (k1 mu)))
+    (mul binary64 (tapOf xs count (i +ℤ pos 1)) (k2 mu)))
     (mul binary64 (tapOf xs count (i +ℤ pos 2)) (k3 mu))
 
--- the first two exchanged
+-- A reading with the first two weights exchanged.
 abbrev pub exchanged : Reading
 exchanged = weighedBy (c1 binary64) (c0 binary64) (c2 binary64) (c3 binary64)
 
--- the division by 6 a product with the f32 nearest to a sixth
+-- A reading whose division by 6 is a product with the f32 nearest to a sixth.
 abbrev pub sixth : Float
 sixth = fin false 11184811 (negsuc 25)
 
 abbrev pub roundedSixth : Reading
 roundedSixth =
-    weighedBy (λ mu. mul binary64 (mul binary64 (mul binary64 (neg mu) (sub binary64 mu one)) (sub binary64 mu two)) sixth) (c1 binary64) (c2 binary64)
+    weighedBy
+    (λ mu. mul binary64 (mul binary64 (mul binary64 (neg mu) (sub binary64 mu one)) (sub binary64 mu two)) sixth)
+    (c1 binary64) (c2 binary64)
     (λ mu. mul binary64 (mul binary64 (mul binary64 (add binary64 mu one) mu) (sub binary64 mu one)) sixth)
 
--- 000's
+-- 000's own reading.
 abbrev pub reading : Reading
 reading = cubicAt

@@ -1,3 +1,3 @@
 pub mod Signs
-pub mod Around
-pub mod Ways
+pub mod FourTaps
+pub mod BothWays

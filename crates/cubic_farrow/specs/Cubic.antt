@@ -1,4 +1,5 @@
--- K3, K4. 000's CubicFarrow: the four weights of Lagrange's basis for the nodes -1, 0, 1, 2, and the sum, in 000's order, each step rounded. Definitions only.
+-- K3, K4. 000's CubicFarrow: the four weights of Lagrange's basis for the nodes -1, 0, 1, 2, and the sum, in 000's
+-- order, each step rounded. Definitions only.
 use Prim.Native.Nat.{ℕ}
 use mathlib.Core.Bool.{false, cond}
 use mathlib.Core.List.{List}
@@ -12,7 +13,7 @@ use Rattle.integer_part.specs.Parts.{floorOf, fractionOf}
 abbrev pub six : Float
 six = fin false 3 (pos 1)
 
--- over the format: 000 has the same lines for f64 and for f32 (Draft)
+-- Over the format, because 000 has the same lines for f64 and for f32 (Draft).
 abbrev pub c0 : Format → Float → Float
 c0 f mu = div f (mul f (mul f (neg mu) (sub f mu one)) (sub f mu two)) six
 
@@ -26,13 +27,15 @@ abbrev pub c3 : Format → Float → Float
 c3 f mu = div f (mul f (mul f (add f mu one) mu) (sub f mu one)) six
 
 abbrev pub weighed : Format → Float → Float → Float → Float → Float → Float
-weighed f mu xm1 x0 x1 x2 = add f (add f (add f (mul f xm1 (c0 f mu)) (mul f x0 (c1 f mu))) (mul f x1 (c2 f mu))) (mul f x2 (c3 f mu))
+weighed f mu xm1 x0 x1 x2 =
+    add f (add f (add f (mul f xm1 (c0 f mu)) (mul f x0 (c1 f mu))) (mul f x1 (c2 f mu))) (mul f x2 (c3 f mu))
 
 -- The reading at a position: integer part i, fraction mu, taps i - 1 to i + 2.
 unfoldable pub cubicAt : List Float → ℕ → Float → Float
 cubicAt xs count p =
     let i = floorOf p in
-    weighed binary64 (fractionOf p) (tapOf xs count (i -ℤ pos 1)) (tapOf xs count i) (tapOf xs count (i +ℤ pos 1)) (tapOf xs count (i +ℤ pos 2))
+    weighed binary64 (fractionOf p) (tapOf xs count (i -ℤ pos 1)) (tapOf xs count i) (tapOf xs count (i +ℤ pos 1))
+    (tapOf xs count (i +ℤ pos 2))
 
 -- G3. Outside the positions' range `read` gives zero, and `sample` refuses by 1.
 abbrev pub readOf : List Float → ℕ → Float → Float

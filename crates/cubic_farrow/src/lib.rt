@@ -1,4 +1,4 @@
-// 000's CubicFarrow, over a slice, a count and a position.
+// The original's CubicFarrow (000): a cubic reading over a slice, a count and a position.
 ghost use mathlib.Core.Path.{_≡_};
 ghost use mathlib.Core.Bool.{true, cond};
 ghost use Prim.Native.Nat.{_+_, _≤_, _^_};
@@ -12,7 +12,8 @@ ghost use Rattle.ring.specs.Places.{positionOk};
 ghost use Rattle.cubic_farrow.specs.Cubic.{weighed, cubicAt, readOf};
 use answer::Answer;
 
-// Lagrange basis for nodes -1, 0, 1, 2. The signs of c0 and c2 stand outside, where they are exact, so that (mu + 1) * mu serves twice and nothing is negated.
+// The Lagrange basis for the nodes -1, 0, 1, 2. The signs of c0 and c2 are moved outside, which is exact, so that (mu +
+// 1) * mu is computed once and nothing is negated.
 pub fn weigh(mu: f64, xm1: f64, x0: f64, x1: f64, x2: f64) -> f64
     ensures { λ r. ⌜ r ≡ weighed binary64 mu xm1 x0 x1 x2 ⌝ }
 {
@@ -27,7 +28,8 @@ pub fn weigh(mu: f64, xm1: f64, x0: f64, x1: f64, x2: f64) -> f64
 // The four taps from a place on, side by side.
 fn side_by_side(source: &[f64], p: usize, mu: f64) -> f64
     requires { ⌜ p + 4 ≤ length (now source) ⌝ }
-    ensures { λ r. ⌜ r ≡ weighed binary64 mu (getD (now (source .entry)) p nan) (getD (now (source .entry)) (p + 1) nan) (getD (now (source .entry)) (p + 2) nan) (getD (now (source .entry)) (p + 3) nan) ⌝ }
+    ensures { λ r. ⌜ r ≡ weighed binary64 mu (getD (now (source .entry)) p nan) (getD (now (source .entry)) (p + 1) nan)
+        (getD (now (source .entry)) (p + 2) nan) (getD (now (source .entry)) (p + 3) nan) ⌝ }
 {
     weigh(mu, source[p], source[p + 1], source[p + 2], source[p + 3])
 }
@@ -35,7 +37,9 @@ fn side_by_side(source: &[f64], p: usize, mu: f64) -> f64
 // The four taps around an index, with a test for each.
 fn one_by_one(source: &[f64], count: u64, i: i64, mu: f64) -> f64
     requires { ⌜ mag i ≤ 2 ^ 36 ⌝ }
-    ensures { λ r. ⌜ r ≡ weighed binary64 mu (tapOf (now (source .entry)) count (i -ℤ pos 1)) (tapOf (now (source .entry)) count i) (tapOf (now (source .entry)) count (i +ℤ pos 1)) (tapOf (now (source .entry)) count (i +ℤ pos 2)) ⌝ }
+    ensures { λ r. ⌜ r ≡ weighed binary64 mu (tapOf (now (source .entry)) count (i -ℤ pos 1))
+        (tapOf (now (source .entry)) count i) (tapOf (now (source .entry)) count (i +ℤ pos 1))
+        (tapOf (now (source .entry)) count (i +ℤ pos 2)) ⌝ }
 {
     let xm1 = ring::tap(source, count, i - 1);
     let x0 = ring::tap(source, count, i);
@@ -54,7 +58,8 @@ fn at(source: &[f64], count: u64, position: f64) -> f64
     one_by_one(source, count, i, mu)
 }
 
-// The reading at a position; zero outside the positions' range. The quick way is a reader's: where the four taps are held side by side they are read without a test each.
+// The reading at a position; 0.0 outside the positions' range. Fast path: if the four taps are held side by side they
+// are read without a test each.
 pub fn read(source: &[f64], count: u64, position: f64) -> f64
     ensures { λ r. ⌜ r ≡ readOf (now (source .entry)) count position ⌝ }
 {

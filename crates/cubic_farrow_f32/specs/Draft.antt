@@ -1,4 +1,5 @@
--- K3, K4. 000's cubic_sample_f32, which Draft reads: the weights of CubicFarrow and their sum in single precision. Definitions only.
+-- K3, K4. 000's cubic_sample_f32, which Draft reads: CubicFarrow's weights and their sum in single precision.
+-- Definitions only.
 use Prim.Native.Nat.{ℕ}
 use mathlib.Core.Bool.{false, cond}
 use mathlib.Core.List.{List}
@@ -15,7 +16,8 @@ use Rattle.cubic_farrow.specs.Cubic.{weighed}
 unfoldable pub draftAt : List Float → ℕ → Float → Float
 draftAt xs count p =
     let i = floorOf p in
-    weighed binary32 (narrowed (fractionOf p)) (tapOf xs count (i -ℤ pos 1)) (tapOf xs count i) (tapOf xs count (i +ℤ pos 1)) (tapOf xs count (i +ℤ pos 2))
+    weighed binary32 (narrowed (fractionOf p)) (tapOf xs count (i -ℤ pos 1)) (tapOf xs count i)
+    (tapOf xs count (i +ℤ pos 1)) (tapOf xs count (i +ℤ pos 2))
 
 -- G3. Outside the positions' range the reading is zero.
 abbrev pub readOf : List Float → ℕ → Float → Float

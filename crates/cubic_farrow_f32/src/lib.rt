@@ -1,4 +1,4 @@
-// 000's cubic_sample_f32, which Draft reads, over a slice, a count and a position.
+// The original's cubic_sample_f32 (000), which the quality Draft reads, over a slice, a count and a position.
 ghost use mathlib.Core.Path.{_≡_};
 ghost use mathlib.Core.Bool.{true};
 ghost use Prim.Native.Nat.{_+_, _≤_, _^_};
@@ -13,7 +13,8 @@ ghost use Rattle.ring.specs.Places.{positionOk};
 ghost use Rattle.cubic_farrow.specs.Cubic.{weighed};
 ghost use Rattle.cubic_farrow_f32.specs.Draft.{draftAt, readOf};
 
-// Lagrange basis for nodes -1, 0, 1, 2, every step rounded to f32. As cubic_farrow's: the signs of c0 and c2 stand outside, where they are exact.
+// The Lagrange basis for the nodes -1, 0, 1, 2, every step rounded to f32. As in `cubic_farrow`, the signs of c0 and c2
+// are moved outside, which is exact.
 fn weigh(mu: f32, xm1: f32, x0: f32, x1: f32, x2: f32) -> f32
     ensures { λ r. ⌜ r ≡ weighed binary32 mu xm1 x0 x1 x2 ⌝ }
 {
@@ -28,7 +29,8 @@ fn weigh(mu: f32, xm1: f32, x0: f32, x1: f32, x2: f32) -> f32
 // The four taps from a place on, side by side.
 fn side_by_side(source: &[f32], p: usize, mu: f32) -> f32
     requires { ⌜ p + 4 ≤ length (now source) ⌝ }
-    ensures { λ r. ⌜ r ≡ weighed binary32 mu (getD (now (source .entry)) p nan) (getD (now (source .entry)) (p + 1) nan) (getD (now (source .entry)) (p + 2) nan) (getD (now (source .entry)) (p + 3) nan) ⌝ }
+    ensures { λ r. ⌜ r ≡ weighed binary32 mu (getD (now (source .entry)) p nan) (getD (now (source .entry)) (p + 1) nan)
+        (getD (now (source .entry)) (p + 2) nan) (getD (now (source .entry)) (p + 3) nan) ⌝ }
 {
     weigh(mu, source[p], source[p + 1], source[p + 2], source[p + 3])
 }
@@ -36,7 +38,9 @@ fn side_by_side(source: &[f32], p: usize, mu: f32) -> f32
 // The four taps around an index, with a test for each.
 fn one_by_one(source: &[f32], count: u64, i: i64, mu: f32) -> f32
     requires { ⌜ mag i ≤ 2 ^ 36 ⌝ }
-    ensures { λ r. ⌜ r ≡ weighed binary32 mu (tapOf (now (source .entry)) count (i -ℤ pos 1)) (tapOf (now (source .entry)) count i) (tapOf (now (source .entry)) count (i +ℤ pos 1)) (tapOf (now (source .entry)) count (i +ℤ pos 2)) ⌝ }
+    ensures { λ r. ⌜ r ≡ weighed binary32 mu (tapOf (now (source .entry)) count (i -ℤ pos 1))
+        (tapOf (now (source .entry)) count i) (tapOf (now (source .entry)) count (i +ℤ pos 1))
+        (tapOf (now (source .entry)) count (i +ℤ pos 2)) ⌝ }
 {
     let xm1 = ring::tap_f32(source, count, i - 1);
     let x0 = ring::tap_f32(source, count, i);
@@ -45,7 +49,8 @@ fn one_by_one(source: &[f32], count: u64, i: i64, mu: f32) -> f32
     weigh(mu, xm1, x0, x1, x2)
 }
 
-// A number as the nearest f32. A fraction is most often a normal f32: its digits are rounded in the pattern, as narrowing does, and no sign is joined.
+// The nearest f32 of a fraction. Fast path: a fraction is not negative and mostly a normal f32, so its pattern is
+// rounded as `narrowing` does, without the sign.
 fn single(x: f64) -> f32
     requires { ⌜ AtMost 1 x ⌝ }
     ensures { λ r. ⌜ r ≡ narrowed x ⌝ }
@@ -70,7 +75,8 @@ fn at(source: &[f32], count: u64, position: f64) -> f32
     one_by_one(source, count, i, mu)
 }
 
-// The reading at a position; zero outside the positions' range. Where the four taps are held side by side they are read without a test each.
+// The reading at a position; 0.0 outside the positions' range. Fast path: if the four taps are held side by side they
+// are read without a test each.
 pub fn read(source: &[f32], count: u64, position: f64) -> f32
     ensures { λ r. ⌜ r ≡ readOf (now (source .entry)) count position ⌝ }
 {

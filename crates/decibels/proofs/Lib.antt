@@ -1,6 +1,6 @@
 pub mod Factors
 pub mod Greatest
 pub mod Meaning
-pub mod Smallest
+pub mod SmallestLevel
 pub mod Reports
-pub mod Figures
+pub mod WorkedLevels

@@ -10,7 +10,7 @@ use lib.Dec.{ltb}
 use Rattle.residual.specs.declared.Report.{Report}
 use Rattle.residual.specs.Report.{sumOf}
 use Rattle.residual.specs.Refusals.{reportOk}
-use Rattle.residual.proofs.Valid.{valid}
+use Rattle.residual.proofs.ValidReport.{valid}
 use Rattle.decibels.specs.Decibels.{tenthsBelow, largest, levelIf, levelOf}
 
 pub report-level : (r : Report) → reportOk r ≡ true

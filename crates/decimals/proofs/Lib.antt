@@ -1,6 +1,6 @@
 pub mod Digits
 pub mod Tenths
-pub mod Back
+pub mod ReadBack
 pub mod Powers
 pub mod Points
 pub mod Examples

@@ -1,5 +1,5 @@
-// Numbers as decimal text, both ways: what the programs' arguments and lines are made of. `text::put_decimal` writes a
-// word; here are the sum of squares in two words (W13d), and reading.
+// Numbers as decimal text, written and read, for the programs' arguments and lines.
+// `text::put_decimal` writes one word; here are numbers of two words, for the sum of squares (W13d), and reading.
 mod fractions; // a sign, digits, a point
 mod reading; // digits alone
 mod writing; // two words

@@ -3,7 +3,7 @@ use mathlib.Core.Bool.{Bool, _&&_}
 use lib.Ieee.{Float, binary64, add, sub, le, ofBits}
 use Rattle.elementary.specs.declared.Answer.{Answer}
 use Rattle.elementary.specs.declared.Answer.the-variants.{Value, Refused}
-use Rattle.order.specs.Choice.{larger}
+use Rattle.min_max.specs.Choice.{larger}
 use Rattle.modulation_params.specs.declared.ModulationParams.{ModulationParams}
 use Rattle.oscillators.specs.Answers.{excursionOf}
 

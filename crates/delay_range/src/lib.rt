@@ -21,8 +21,8 @@ fn excursion(depth: f64, frequency: f64, rate: f64) -> f64
     ensures { λ r. ⌜ r ≡ excursionIn depth frequency rate ⌝ }
 {
     let most = maximum_delay_excursion_samples(
-        order::max(depth, 0.0),
-        order::max(frequency, 0.001),
+        min_max::max(depth, 0.0),
+        min_max::max(frequency, 0.001),
         rate,
     );
     match most {

@@ -19,10 +19,10 @@ struct Given {
 fn taken_apart(d: u64, e: u64) -> Given {
     if e >= 1004 {
         let k = e - 1004;
-        let low = words::shl(d % 0x1_0000_0000, k);
+        let low = wrapping_u64::shl(d % 0x1_0000_0000, k);
         return Given {
             magnitude: Wide {
-                a: plus(words::shl(d / 0x1_0000_0000, k), low / 0x1_0000_0000),
+                a: plus(wrapping_u64::shl(d / 0x1_0000_0000, k), low / 0x1_0000_0000),
                 b: low % 0x1_0000_0000,
             },
             cut: 0,
@@ -35,13 +35,14 @@ fn taken_apart(d: u64, e: u64) -> Given {
             a: w / 0x1_0000_0000,
             b: w % 0x1_0000_0000,
         },
-        cut: if words::shl(w, k) == d { 0 } else { 1 },
+        cut: if wrapping_u64::shl(w, k) == d { 0 } else { 1 },
     }
 }
 
-// How far an answer lies from the exact value, in 1 / (6 * 65536^3 * 2^23): at most 6 more where digits were cut off. The largest word stands for farther than all that.
+// How far an answer lies from the exact value, in units of 1 / (6 * 65536^3 * 2^23); up to 6 units more where digits
+// were cut off. The largest word means that it lies farther than any word can say.
 pub fn distance(v: f64, e: Wide) -> u64 {
-    let bits = patterns::bits_of(v);
+    let bits = bit_patterns::bits_of(v);
     let exponent = bits / 0x10_0000_0000_0000 % 0x800;
     if exponent >= 1026 {
         return u64::MAX;

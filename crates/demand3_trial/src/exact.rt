@@ -21,7 +21,8 @@ fn weight(k: u64, m: u64) -> u64 {
     }
 }
 
-// The sample of number z among the first `count` that were told, 0 where a ring does not hold it. A number below zero is above every count.
+// Sample z of the first `count` samples, 0 if the ring does not hold it. A z below zero has wrapped and so is above
+// every count.
 fn neighbour(told: &[u64], count: u64, z: u64) -> u64 {
     if z >= count {
         return 0;

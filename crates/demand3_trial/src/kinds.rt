@@ -9,7 +9,8 @@ pub fn next(g: u64) -> u64 {
     plus(times(g, 6364136223846793005), 1442695040888963407)
 }
 
-// Whole samples of a kind, in 2^-23: any, the two ends, ends and nearly ends with the signs of the weights, and small ones.
+// Whole samples of a kind, in 2^-23: any, the two ends, ends and near ends with the signs of the weights, or small
+// ones.
 pub fn sample(kind: u64, i: usize, g: u64) -> u64 {
     let at = i % 4;
     let up = at == 1 || at == 2;

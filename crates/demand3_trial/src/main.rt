@@ -1,6 +1,7 @@
-// Tries Demand 3 (docs/DEMAND3.md): runs of random and of worst-looking whole samples and delays through the cubic reader, and beside each answer the exact value in
-// whole numbers, worked out from the samples alone. Writes how many calls were made, how many answers were no samples or lay further than 2^-50 away, and the largest
-// distance seen, in 2^-54. The ring is 64 long.
+// The program that tries the bound of docs/DEMAND3.md on many calls.
+// Random and worst-looking whole samples and delays go through the cubic reader, and beside each answer the exact value
+// is worked out in whole numbers from the samples alone. It writes how many calls were made, how many answers were no
+// samples or lay further than 2^-50 away, and the largest distance seen, in 2^-54. The ring is 64 long.
 mod distance;
 mod exact;
 mod kinds;

@@ -9,7 +9,7 @@ pub fn minus(a: u64, b: u64) -> u64 {
 }
 
 pub fn times(a: u64, b: u64) -> u64 {
-    words::wrapping_mul(a, b)
+    wrapping_u64::wrapping_mul(a, b)
 }
 
 pub fn below_zero(a: u64) -> bool {

@@ -9,7 +9,7 @@ use Rattle.windowed_sinc_f32.proofs.for_max_rate.Reads as for-rate-f32
 use Rattle.sinc_bank_f32.proofs.build_set.Reads as build-set
 use Rattle.sinc_bank_f32.proofs.build.Reads as build
 use Rattle.determined.specs.Determined.{Determined}
-use Rattle.determined.proofs.Given.{agree}
+use Rattle.determined.proofs.ByEquations.{agree}
 
 module _ (κs : Lfts 1) where
   pub windowed-sinc : Determined (new.Learnt κs) (λ e. now (e .1 .0))

@@ -1,5 +1,5 @@
-pub mod Given
+pub mod ByEquations
 pub mod Readers
 pub mod Openings
 pub mod Builders
-pub mod Left
+pub mod FollowsRuns

@@ -9,7 +9,7 @@ use Rattle.variable_delay_f32.proofs.reset.Reads as reset-f32
 use Rattle.quality_variable_delay.proofs.open.Reads as quality-open
 use Rattle.quality_variable_delay.proofs.reset.Reads as quality-reset
 use Rattle.determined.specs.Determined.{Determined}
-use Rattle.determined.proofs.Given.{agree}
+use Rattle.determined.proofs.ByEquations.{agree}
 
 module _ (κs : Lfts 1) where
   pub opened : Determined (plain-open.Learnt κs) (λ e. now (e .1 .1 .0))

@@ -11,7 +11,7 @@ use Rattle.sinc_delay_f32.proofs.process_sample.Reads as sinc-f32
 use Rattle.quality_variable_delay.proofs.process_sample.Reads as quality
 use Rattle.quality_variable_delay.proofs.process_sample_rate_aware.Reads as rate-aware
 use Rattle.determined.specs.Determined.{Determined}
-use Rattle.determined.proofs.Given.{agree}
+use Rattle.determined.proofs.ByEquations.{agree}
 
 -- without a table
 module _ (κs : Lfts 1) where

@@ -29,15 +29,15 @@ sincCall table taps phases input delay = record {
   delay = delay;
 }
 
--- with a bank for the maximum rate `top`
+-- A call with a bank for the maximum rate `max-rate`.
 abbrev pub qualityCall : List Float → Float → Float → Float → QualityMode → Float → quality.Call
-qualityCall sets top input delay q rate = record {
-  bank = bankOk top;
-  lent = eqb (length sets) (stepsOf top * setLength);
+qualityCall sets max-rate input delay q playback-rate = record {
+  bank = bankOk max-rate;
+  lent = eqb (length sets) (stepsOf max-rate * setLength);
   input = input;
   delay = delay;
   quality = q;
-  rate = rate;
+  playback-rate = playback-rate;
 }
 
 -- Whatever meets the contract leaves the reader as a run has it after the call, accepted or refused.

@@ -3,7 +3,7 @@
 use mathlib.Core.Path.{_≡_}
 
 module _ {A R E : Type 0} where
-  -- a candidate that meets every clause of a contract, at every input
+  -- A candidate that meets every clause of a contract, at every input.
   abbrev pub Meets : (A → R → E → Type 0) → (A → R × E) → Type 0
   Meets contract f = (a : A) → contract a (f a .0) (f a .1)
 

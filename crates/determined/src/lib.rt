@@ -1,2 +1,3 @@
-// What the contracts of readers, openings and table builders determine: the whole answer and all that is written (C1).
-// Statements only; there is no code.
+// The proof that the contracts of readers, openings and table builders leave nothing open: they determine the whole
+// answer and all that is written (C1).
+// There is no code.

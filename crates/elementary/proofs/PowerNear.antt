@@ -1,18 +1,19 @@
--- E4. The polynomial of 2 ^ x is within 53 units of 2 ^ -54 of the exponential fraction through the 16th power of L * x, for |x| ≤ 1/2: thirteen steps of
--- Horner's rule, each halving what the terms left out weigh. The fraction lies within 7/10 of 1, so that is 2 ^ -45 of it. Assumes nothing.
+-- E4. The polynomial of 2 ^ x is within 53 units of 2 ^ -54 of the exponential fraction through the 16th power of L *
+-- x, for |x| ≤ 1/2: thirteen steps of Horner's rule, each halving what the terms left out weigh.
+-- The fraction lies within 7/10 of 1, so that is 2 ^ -45 of it. Assumes nothing.
 use mathlib.Core.Path.{_≡_}
 use Prim.Native.Nat.{ℕ, suc, _+_, _*_, _^_, _≤_}
 use native.Mathlib.Nat.{mul-pos}
 use native.Mathlib.Omega.{arith}
 use lib.Dec.{lit≤, lit<}
 use lib.Ieee.{Float, binary64, mul}
-use Rattle.fraction.specs.Fraction.{Frac, frac, nil, times, Same, Within, Mag}
-use Rattle.fraction.specs.Value.{val, Is, Rounds}
-use Rattle.fraction.proofs.Same.{same-refl, same-trans}
-use Rattle.fraction.proofs.Within.{from, to, rescale, beside}
-use Rattle.fraction.proofs.Product.{mag-times}
-use Rattle.fraction.proofs.Value.{is-near}
-use Rattle.fraction.proofs.Near.{mul-approx}
+use Rattle.rounding_error.specs.Fraction.{Frac, frac, nil, times, Same, Within, Mag}
+use Rattle.rounding_error.specs.Value.{val, Is, Rounds}
+use Rattle.rounding_error.proofs.Same.{same-refl, same-trans}
+use Rattle.rounding_error.proofs.Within.{from, to, rescale, beside}
+use Rattle.rounding_error.proofs.ProductErrors.{mag-times}
+use Rattle.rounding_error.proofs.Value.{is-near}
+use Rattle.rounding_error.proofs.OperandErrors.{mul-approx}
 use Rattle.polynomials.specs.Taylor.{factorial, power}
 use Rattle.polynomials.specs.Horner.{ln2, powerSteps, powerNear}
 use Rattle.elementary.specs.Answers.{two, half}
@@ -36,7 +37,13 @@ module _ (x : Float) (X : Frac) (x-is : Is x X) (half : Within 2 1 X nil) where
 
   Y-mag : Within 20 7 Y nil
   unfolding Y
-  Y-mag = record { left = mul-pos (lit< tt) (half .left); right = lit< tt; above = omega (arith, half .above); below = omega (arith, half .below) }
+  Y-mag =
+      record {
+        left = mul-pos (lit< tt) (half .left);
+        right = lit< tt;
+        above = omega (arith, half .above);
+        below = omega (arith, half .below);
+      }
 
   Y-half : Within 2 1 Y nil
   Y-half = rescale (lit< tt) (lit≤ tt) Y-mag
@@ -45,23 +52,31 @@ module _ (x : Float) (X : Frac) (x-is : Is x X) (half : Within 2 1 X nil) where
   unfolding Y
   Y-near =
       let m : Within g g (times (val ln2) X) nil = rescale (lit< tt) (lit≤ tt) Y-mag in
-      mul-approx binary64 1 0 0 tt (record { real = tt; same = omega arith }) one-mag (is-near g x-is) (same-refl (m .left)) m (lit≤ tt)
+      mul-approx binary64 1 0 0 tt (record { real = tt; same = omega arith }) one-mag (is-near g x-is)
+      (same-refl (m .left)) m (lit≤ tt)
     where
       one-mag : Mag 1 (val ln2)
       one-mag = omega arith
 
   fraction-is : Same (nested 1 Y 0 16) (powerFraction X)
   unfolding Y power
-  fraction-is = same-trans (once (nested 1 Y 0 16) (nested-mag 1 2 (lit< tt) one-on (mul binary64 ln2 x) Y Y-half Y-near 0 16 .left)) (rises Y 0 16 (Y-half .left))
+  fraction-is =
+      same-trans
+      (once (nested 1 Y 0 16) (nested-mag 1 2 (lit< tt) one-on (mul binary64 ln2 x) Y Y-half Y-near 0 16 .left))
+      (rises Y 0 16 (Y-half .left))
 
   nest-about : Within 10 7 (nested 1 Y 0 16) (frac 1 0 1)
   unfolding nested factorial
-  nest-about = beside (frac 1 0 1) (lit< tt) (rescale (lit< tt) (lit≤ tt) (mag-times Y-mag (nested-mag 1 2 (lit< tt) one-on (mul binary64 ln2 x) Y Y-half Y-near 1 15)))
+  nest-about =
+      beside (frac 1 0 1) (lit< tt) (rescale (lit< tt) (lit≤ tt)
+      (mag-times Y-mag (nested-mag 1 2 (lit< tt) one-on (mul binary64 ln2 x) Y Y-half Y-near 1 15)))
 
   pub power-tight : Tight (powerNear x) (powerFraction X)
   unfolding powerNear cost last factorial
   power-tight =
-      let w = horner-near 1 2 (lit< tt) one-on (mul binary64 ln2 x) Y Y-half Y-near 0 powerSteps 16 (2 ^ 18) (lit< tt) (lit≤ tt) (lit≤ tt) (lit≤ tt) in
+      let w =
+      horner-near 1 2 (lit< tt) one-on (mul binary64 ln2 x) Y Y-half Y-near 0 powerSteps 16 (2 ^ 18) (lit< tt)
+      (lit≤ tt) (lit≤ tt) (lit≤ tt) in
       record { near = record { real = w .real; near = to fraction-is (w .near) }; about = from fraction-is nest-about }
 
 -- ---- u units are 2 ^ -45 of a fraction that is u / 512 at least; as it is, doubled and halved
@@ -73,16 +88,32 @@ as-it-is t = part 53 (omega (arith, t .about .below)) (t .near)
 
 pub doubled : {v : Float} {f : Frac} → Tight v f → Part (mul binary64 two v) (times (frac 2 0 1) f)
 doubled {f = f} t =
-    let m : Within g (4 * g) (times (frac 2 0 1) f) nil = record { left = omega (arith, t .about .left); right = lit< tt; above = omega (arith, t .about .above); below = omega (arith, t .about .below) } in
-    part 114 (omega (arith, t .about .below)) (mul-approx binary64 8 0 3 tt (record { real = tt; same = omega arith }) mag-two (t .near) (same-refl (m .left)) m (lit≤ tt))
+    let m : Within g (4 * g) (times (frac 2 0 1) f) nil =
+    record {
+      left = omega (arith, t .about .left);
+      right = lit< tt;
+      above = omega (arith, t .about .above);
+      below = omega (arith, t .about .below);
+    } in
+    part 114 (omega (arith, t .about .below))
+    (mul-approx binary64 8 0 3 tt (record { real = tt; same = omega arith }) mag-two (t .near)
+    (same-refl (m .left)) m (lit≤ tt))
   where
     mag-two : Mag 2 (frac 2 0 1)
     mag-two = omega arith
 
 pub halved : {v : Float} {f : Frac} → Tight v f → Part (mul binary64 half v) (times (frac 1 0 2) f)
 halved {f = f} t =
-    let m : Within g g (times (frac 1 0 2) f) nil = record { left = omega (arith, t .about .left); right = lit< tt; above = omega (arith, t .about .above); below = omega (arith, t .about .below) } in
-    part 55 (omega (arith, t .about .below)) (mul-approx binary64 2 0 1 tt (record { real = tt; same = omega arith }) mag-half (t .near) (same-refl (m .left)) m (lit≤ tt))
+    let m : Within g g (times (frac 1 0 2) f) nil =
+    record {
+      left = omega (arith, t .about .left);
+      right = lit< tt;
+      above = omega (arith, t .about .above);
+      below = omega (arith, t .about .below);
+    } in
+    part 55 (omega (arith, t .about .below))
+    (mul-approx binary64 2 0 1 tt (record { real = tt; same = omega arith }) mag-half (t .near)
+    (same-refl (m .left)) m (lit≤ tt))
   where
     mag-half : Mag 1 (frac 1 0 2)
     mag-half = omega arith

@@ -24,7 +24,7 @@ unfoldable pub sineAt : Float → Float
 unfolding sineNear pick fourth turns reduced
 sineAt x = cond (atMost 1 x) (sineNear x) (pick (fourth (turns x)) (reduced x))
 
--- a cosine is the sine one quarter turn on
+-- A cosine is the sine one quarter turn on.
 unfoldable pub cosineAt : Float → Float
 unfolding cosineNear pick fourth turns reduced
 cosineAt x = cond (atMost 1 x) (cosineNear x) (pick ((fourth (turns x) + 1) % 4) (reduced x))

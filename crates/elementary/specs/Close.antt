@@ -5,8 +5,8 @@ use Prim.Native.Nat.{ℕ, zero, suc, _+_, _-_, _*_, _%_, _^_}
 use lib.Dec.{T}
 use lib.Ieee.{Float, neg, lt}
 use lib.Ieee.Scale.{finite}
-use Rattle.fraction.specs.Fraction.{Frac, frac, plus, times, opp, Within}
-use Rattle.fraction.specs.Value.{val, Is, Rounds}
+use Rattle.rounding_error.specs.Fraction.{Frac, frac, plus, times, opp, Within}
+use Rattle.rounding_error.specs.Value.{val, Is, Rounds}
 use Rattle.elementary.specs.declared.Answer.{Answer}
 use Rattle.elementary.specs.declared.Answer.the-variants.{Value}
 use Rattle.polynomials.specs.Taylor.{sineFraction, cosineFraction, expFraction}
@@ -15,14 +15,14 @@ use Rattle.elementary.specs.Reduction.{turns, fourth, remainder, reduced
 use Rattle.polynomials.specs.Range.{atMost}
 use Rattle.elementary.specs.Answers.{half}
 
--- what `pick` picks, of the fractions
+-- What `pick` picks, of the fractions.
 abbrev pub pickFraction : ℕ → Frac → Frac
 pickFraction zero r = sineFraction r
 pickFraction (suc zero) r = cosineFraction r
 pickFraction (suc (suc zero)) r = opp (sineFraction r)
 pickFraction (suc (suc (suc q))) r = opp (cosineFraction r)
 
--- beyond 1: x - k * H lost nothing in its rounding and is at most 1, and v is within 2 ^ -45 of its fraction
+-- Beyond 1: x - k * H lost nothing in its rounding and is at most 1, and v is within 2 ^ -45 of its fraction.
 pub record Far (x : Float) (q : ℕ) (v : Float) : Type 0 where
   pub exact : Is (reduced x) (remainder x)
   pub small : T (atMost 1 (reduced x))
@@ -46,12 +46,12 @@ pub record Part (v : Float) (f : Frac) : Type 0 where
 abbrev pub powerFraction : Frac → Frac
 powerFraction x = expFraction (times (val ln2) x)
 
--- x shifted by 1 towards zero where it is beyond 1/2, and the fraction doubled or halved
+-- x shifted by 1 towards zero where it is beyond 1/2, and the fraction doubled or halved.
 pub record PowerClose (x v : Float) : Type 0 where
   pub middle : T (not (lt half x)) → T (not (lt x (neg half))) → Part v (powerFraction (val x))
   pub above : T (lt half x) → Part v (times (frac 2 0 1) (powerFraction (plus (val x) (frac 0 1 1))))
   pub below : T (lt x (neg half)) → Part v (times (frac 1 0 2) (powerFraction (plus (val x) (frac 1 0 1))))
 
--- an answer's value is so near
+-- P holds of an answer's value, if it has one.
 pub record Each (r : Answer) (P : Float → Type 0) : Type 0 where
   pub each : (v : Float) → r ≡ Value v → P v

@@ -5,8 +5,8 @@ use Prim.Native.Nat.{ℕ, _≤_}
 use lib.IntN.{negsuc}
 use lib.Dec.{T}
 use lib.Ieee.{Float, fin, binary64}
-use Rattle.fraction.specs.Fraction.{Frac, frac, plus, times, opp, Within}
-use Rattle.fraction.specs.Value.{val, Is, nearestTo}
+use Rattle.rounding_error.specs.Fraction.{Frac, frac, plus, times, opp, Within}
+use Rattle.rounding_error.specs.Value.{val, Is, nearestTo}
 use Rattle.elementary.specs.Reduction.{H, turns, remainder, reduced, fourth}
 use Rattle.polynomials.specs.Range.{atMost}
 
@@ -14,7 +14,7 @@ use Rattle.polynomials.specs.Range.{atMost}
 abbrev pub inverse : Float
 inverse = fin false 5734161139222659 (negsuc 52)
 
--- H in two parts of 25 and 24 digits, so that k times either is exact
+-- H in two parts of 25 and 24 digits, so that k times either is exact.
 abbrev pub highPart : Float
 highPart = fin false 26353589 (negsuc 23)
 
@@ -38,12 +38,12 @@ pub record Guess (x : Float) (j : ℕ) : Type 0 where
 abbrev pub left : Float → ℕ → Frac
 left x j = plus (val x) (opp (times (frac j 256 1) H))
 
--- r is that number, and that number rounded once
+-- r is that number, and that number rounded once.
 pub record Rest (x : Float) (j : ℕ) (r : Float) : Type 0 where
   pub is : Is r (left x j)
   pub once : r ≡ nearestTo binary64 (left x j)
 
--- k modulo 4 and x - k * H, which is exact and at most 1
+-- k modulo 4 and x - k * H, which is exact and at most 1.
 pub record Settled (x : Float) (q : ℕ) (r : Float) : Type 0 where
   pub quarter : q ≡ fourth (turns x)
   pub rest : r ≡ reduced x

@@ -1,4 +1,6 @@
-// E1 to E5. Sine, cosine and powers of two, the port's own, without a division: the night job calls the cosine a dozen times a sample. docs/ELEMENTARY.md has the steps.
+// Sine, cosine and powers of two (E1 to E5).
+// They are the port's own and divide nothing, since a rendering asks for a cosine a dozen times a sample.
+// docs/ELEMENTARY.md has the steps.
 mod quarters; // what is left of an argument beyond 1
 mod values; // of arguments in range
 
@@ -59,7 +61,8 @@ pub fn exp2(x: f64) -> Answer
     }
 }
 
-// The cosine as a number, handed back in a register, 0.0 where it is refused: for a caller whose arguments are in range.
+// The cosine as a plain number, 0.0 if refused, so that it comes back in a register; for a caller whose arguments are
+// in range.
 pub fn cosine_or_zero(x: f64) -> f64
     ensures { λ r. ⌜ r ≡ orZero (cosineOf x) ⌝ }
 {

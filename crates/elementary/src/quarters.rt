@@ -9,7 +9,8 @@ pub(crate) struct Turned {
     pub(crate) rest: f64,
 }
 
-// A whole number near x / H + 256: from 2^52 on the next float is the next whole number, so that the sum rounds to one, and its pattern ends in it.
+// A whole number near x / H + 256. From 2^52 on the floats are the whole numbers, so the sum rounds to one, and the
+// sum's pattern ends in it.
 fn guess(x: f64) -> u64
     requires { ⌜ T (atMost 256 x) ⌝ }
     ensures { λ r. ⌜ Guess x r ⌝ }
@@ -27,7 +28,8 @@ fn rest(x: f64, j: u64) -> f64
     x - k * 1.570796310901641845703125 - k * 0.0000000158932547122958567342720925807952880859375
 }
 
-// How many quarter turns x has, modulo 4, and what is left. The guess is one off at most, and then r is not from -H/2 to H/2.
+// How many quarter turns x has, modulo 4, and what is left. The guess is at most one off; then r lies outside -H/2 to
+// H/2.
 pub(crate) fn turn(x: f64) -> Turned
     requires { ⌜ T (not (atMost 1 x)) ⌝ ∗ ⌜ T (atMost 256 x) ⌝ }
     ensures { λ r. ⌜ Settled x (r .quarter) (r .rest) ⌝ }

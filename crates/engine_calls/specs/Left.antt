@@ -10,8 +10,8 @@ use Rattle.modulation_engine.specs.Engine.{numberOf}
 use Rattle.modulation.specs.Step.{nextOf}
 use Rattle.modulation.specs.Step.{numberOf as refusalOf}
 use Rattle.modulation.specs.Runs.{leftBy}
-use Rattle.engine_words.specs.Words.{engineOf, wordsLeft}
-use Rattle.engine_doors.specs.Doors.{leftOf, rightOf}
+use Rattle.packed_engine.specs.Words.{engineOf, wordsLeft}
+use Rattle.engine_answer_parts.specs.Offsets.{leftOf, rightOf}
 
 pub record Renewed : Type 0 where
   pub number : ℕ

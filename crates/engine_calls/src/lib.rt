@@ -1,11 +1,12 @@
-// M1, M2, M5. The engine's calls on its 15 words: the answer is the refusal's number, 0 for none, and a refused call leaves the very words (D1c).
+// The engine's calls (001) on a state of 15 words (M1, M2, M5).
+// Each answers with the refusal's number, 0 for none; a refused call leaves the very same words (D1c).
 ghost use mathlib.Core.Path.{_≡_};
 ghost use Rattle.modulation_engine.specs.Engine.{openedOf, setSampleRateOf, setSeedOf, resetOf};
 ghost use Rattle.engine_calls.specs.Left.{renews, renewedBy, steps, steppedBy};
-use engine_words::engine_of;
-use engine_words::words_left;
 use modulation_engine::ModulationEngine;
 use modulation_params::ModulationParams;
+use packed_engine::engine_of;
+use packed_engine::words_left;
 
 pub fn new(sample_rate: f64, seed: u64, words: &mut [u64; 15]) -> u8
     ensures { λ r. ⌜ renews r (now (words .exit)) ≡
@@ -13,8 +14,8 @@ pub fn new(sample_rate: f64, seed: u64, words: &mut [u64; 15]) -> u8
 {
     let before = engine_of(*words);
     let opened = ModulationEngine::new(sample_rate, seed);
-    let number = engine_doors::number(opened);
-    let after = engine_doors::left_by(opened, before);
+    let number = engine_answer_parts::number(opened);
+    let after = engine_answer_parts::left_by(opened, before);
     *words = words_left(number, after, *words);
     number
 }
@@ -25,8 +26,8 @@ pub fn set_sample_rate(words: &mut [u64; 15], sample_rate: f64) -> u8
 {
     let before = engine_of(*words);
     let opened = before.set_sample_rate(sample_rate);
-    let number = engine_doors::number(opened);
-    let after = engine_doors::left_by(opened, before);
+    let number = engine_answer_parts::number(opened);
+    let after = engine_answer_parts::left_by(opened, before);
     *words = words_left(number, after, *words);
     number
 }
@@ -36,8 +37,8 @@ pub fn set_seed(words: &mut [u64; 15], seed: u64) -> u8
 {
     let before = engine_of(*words);
     let opened = before.set_seed(seed);
-    let number = engine_doors::number(opened);
-    let after = engine_doors::left_by(opened, before);
+    let number = engine_answer_parts::number(opened);
+    let after = engine_answer_parts::left_by(opened, before);
     *words = words_left(number, after, *words);
     number
 }
@@ -47,8 +48,8 @@ pub fn reset(words: &mut [u64; 15]) -> u8
 {
     let before = engine_of(*words);
     let opened = before.reset();
-    let number = engine_doors::number(opened);
-    let after = engine_doors::left_by(opened, before);
+    let number = engine_answer_parts::number(opened);
+    let after = engine_answer_parts::left_by(opened, before);
     *words = words_left(number, after, *words);
     number
 }
@@ -62,9 +63,9 @@ pub fn next(words: &mut [u64; 15], params: ModulationParams, left: &mut f64, rig
     let next = modulation::next(before, params);
     let after = next.engine;
     let offset = next.offset;
-    let number = engine_doors::refusal(offset);
+    let number = engine_answer_parts::refusal(offset);
     *words = words_left(number, after, *words);
-    *left = engine_doors::left_of(offset);
-    *right = engine_doors::right_of(offset);
+    *left = engine_answer_parts::left_of(offset);
+    *right = engine_answer_parts::right_of(offset);
     number
 }

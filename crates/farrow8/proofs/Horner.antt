@@ -1,4 +1,5 @@
--- Horner's rule over the sums of the powers is the polynomial, and what was worked out by floats is taken where it is finite. Assumes nothing.
+-- Horner's rule over the sums of the powers is the polynomial, and what was worked out by floats is taken where it is
+-- finite. Assumes nothing.
 use mathlib.Core.Path.{_≡_, sym, ap, _∙_, subst}
 use mathlib.Core.Bool.{Bool, true}
 use mathlib.Core.List.{List}

@@ -1,2 +1,2 @@
 pub mod Horner
-pub mod Ways
+pub mod BothWays

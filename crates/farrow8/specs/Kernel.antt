@@ -12,24 +12,26 @@ use Rattle.integer_part.specs.Parts.{floorOf, fractionOf}
 use Rattle.farrow8_powers.specs.Sums.{dotOf, powersOf}
 use Rattle.farrow8_powers.specs.declared.Powers.{Powers}
 
--- value = value * mu + the next power's sum, rounded once
+-- One step: value * mu + the next power's sum, rounded once.
 abbrev pub step : Float → Float → Float → Float
 step mu value next = fused binary64 value mu next
 
--- Horner's rule over the sums of the powers, from the seventh down to the sample itself
+-- Horner's rule over the sums of the powers, from the seventh power down to the sample itself.
 abbrev pub horner : Powers → Float → Float
 horner s mu =
-    step mu (step mu (step mu (step mu (step mu (step mu (step mu (s .s7) (s .s6)) (s .s5)) (s .s4)) (s .s3)) (s .s2)) (s .s1))
+    step mu (step mu (step mu (step mu (step mu (step mu (step mu (s .s7) (s .s6)) (s .s5)) (s .s4)) (s .s3)) (s .s2))
+    (s .s1))
     (s .s0)
 
 unfoldable pub polynomialOf : List Float → Float → Float
 unfolding dotOf
 polynomialOf x mu = horner (powersOf x) mu
 
--- the taps integer - 3 to integer + 4
+-- The eight taps, integer - 3 to integer + 4.
 abbrev pub tapsAt : List Float → ℕ → ℤ → List Float
 tapsAt xs count i =
-    tapOf xs count (i -ℤ pos 3) ∷ tapOf xs count (i -ℤ pos 2) ∷ tapOf xs count (i -ℤ pos 1) ∷ tapOf xs count i ∷ tapOf xs count (i +ℤ pos 1)
+    tapOf xs count (i -ℤ pos 3) ∷ tapOf xs count (i -ℤ pos 2) ∷ tapOf xs count (i -ℤ pos 1) ∷ tapOf xs count i
+    ∷ tapOf xs count (i +ℤ pos 1)
     ∷ tapOf xs count (i +ℤ pos 2) ∷ tapOf xs count (i +ℤ pos 3) ∷ tapOf xs count (i +ℤ pos 4) ∷ []
 
 unfoldable pub farrowAt : List Float → ℕ → Float → Float

@@ -1,4 +1,5 @@
-// 000's Farrow8, over a slice, a count and a position: eight-point Lagrange interpolation in fixed Farrow form.
+// The original's Farrow8 (000): eight-point Lagrange interpolation in fixed Farrow form, over a slice, a count and a
+// position.
 mod steps;
 mod taps;
 
@@ -15,8 +16,9 @@ use steps::slow;
 use taps::one_by_one;
 use taps::side_by_side;
 
-// The reading at a position; zero outside the positions' range. Where the eight taps are held side by side they are read without a test each, and `over`'s two ways stand here, since
-// a function that takes the sums copies them where it may hand them on.
+// The reading at a position; 0.0 outside the positions' range. Fast path: if the eight taps are held side by side they
+// are read without a test each. The two ways of `over` are written out here, because a function that takes the sums
+// would copy them before handing them on.
 pub fn read(source: &[f64], count: u64, position: f64) -> f64
     ensures { λ r. ⌜ r ≡ readOf (now (source .entry)) count position ⌝ }
 {

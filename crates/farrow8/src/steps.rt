@@ -5,7 +5,7 @@ ghost use lib.Ieee.Scale.{finite};
 ghost use Rattle.farrow8.specs.Kernel.{horner};
 use farrow8_powers::Powers;
 
-// Horner's rule by floats: where a step is in doubt nothing after it is finite.
+// Horner's rule by floats. If one step is in doubt it gives a NaN, and then so do all that follow.
 pub(crate) fn quick(s: Powers, mu: f64) -> f64
     ensures { λ r. ⌜ (T (finite r) → r ≡ horner s mu) ⌝ }
 {
@@ -18,7 +18,7 @@ pub(crate) fn quick(s: Powers, mu: f64) -> f64
     near_fused::near_fused(p1, mu, s.s0)
 }
 
-// By whole numbers, for every input.
+// The same by whole numbers, for every input.
 pub(crate) fn slow(s: Powers, mu: f64) -> f64
     ensures { λ r. ⌜ r ≡ horner s mu ⌝ }
 {

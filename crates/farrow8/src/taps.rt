@@ -10,7 +10,10 @@ ghost use Rattle.farrow8.specs.Kernel.{tapsAt};
 // From a place on, side by side.
 pub(crate) fn side_by_side(source: &[f64], p: usize) -> [f64; 8]
     requires { ⌜ p + 8 ≤ length (now source) ⌝ }
-    ensures { λ r. ⌜ r ≡ getD (now (source .entry)) p nan ∷ getD (now (source .entry)) (p + 1) nan ∷ getD (now (source .entry)) (p + 2) nan ∷ getD (now (source .entry)) (p + 3) nan ∷ getD (now (source .entry)) (p + 4) nan ∷ getD (now (source .entry)) (p + 5) nan ∷ getD (now (source .entry)) (p + 6) nan ∷ getD (now (source .entry)) (p + 7) nan ∷ [] ⌝ }
+    ensures { λ r. ⌜ r ≡ getD (now (source .entry)) p nan ∷ getD (now (source .entry)) (p + 1) nan
+        ∷ getD (now (source .entry)) (p + 2) nan ∷ getD (now (source .entry)) (p + 3) nan
+        ∷ getD (now (source .entry)) (p + 4) nan ∷ getD (now (source .entry)) (p + 5) nan
+        ∷ getD (now (source .entry)) (p + 6) nan ∷ getD (now (source .entry)) (p + 7) nan ∷ [] ⌝ }
 {
     [
         source[p],

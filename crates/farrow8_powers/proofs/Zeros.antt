@@ -1,5 +1,5 @@
--- Sums and products of finite samples with zeros: a zero added changes no value, a product by 0 is a zero, and one by 1 is
--- the factor. Every value is counted in units of the smallest. Assumes nothing.
+-- Sums and products of finite samples with zeros: a zero added changes no value, a product by 0 is a zero,
+-- and one by 1 is the factor. Every value is counted in units of the smallest. Assumes nothing.
 use mathlib.Core.Path.{_≡_, refl, sym, ap, _∙_, subst}
 use mathlib.Core.Bool.{Bool, true, false, _&&_, and-true, or-true, cond, Bool·beq}
 use Prim.Native.Nat.{ℕ, zero, suc, _+_, _-_, _*_, _^_, _<_}
@@ -13,10 +13,10 @@ use lib.Ieee.Fits.{round-fits}
 use lib.Ieee.Exact.{HasValue}
 use lib.Ieee.Scale.{finite}
 use Rattle.rounding.proofs.Values.{fits-units}
-use Rattle.rounding.proofs.Own.{round-own}
+use Rattle.rounding.proofs.RoundsToItself.{round-own}
 use Rattle.rounding.proofs.Sums.{sum-sign, sum-size, sum-is}
 use Rattle.rounding.proofs.Adding.{add-units}
-use Rattle.rounding.proofs.Mirror.{add-swap}
+use Rattle.rounding.proofs.SumSymmetry.{add-swap}
 use Rattle.rounding.proofs.Products.{mul-value}
 use Rattle.rounding.proofs.Comparing.{eq-units}
 

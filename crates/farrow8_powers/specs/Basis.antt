@@ -9,22 +9,22 @@ use lib.IntN.{ℤ, pos, natAbs, _+ℤ_, _-ℤ_, _*ℤ_}
 use lib.ListN.{length, getD}
 use Rattle.farrow8_powers.specs.Table.{eight, numAt, denAt, roundedAt, quotients, quotientIn}
 
--- the nodes, -3 to 4
+-- The nodes, -3 to 4.
 abbrev pub node : ℕ → ℤ
 node i = pos i -ℤ pos 3
 
--- a polynomial times (x - j), lowest power first; `below` is the polynomial's coefficient one power lower
+-- A polynomial times (x - j), lowest power first; `below` is the polynomial's coefficient one power lower.
 unfoldable pub timesLess : ℤ → ℤ → List ℤ → List ℤ
 timesLess j below [] = below ∷ []
 timesLess j below (a ∷ rest) = (below -ℤ j *ℤ a) ∷ timesLess j a rest
 
--- the product of (x - j) over the first n nodes j but node r
+-- The product of (x - j) over the first n nodes j but node r.
 unfoldable pub product : ℕ → ℕ → List ℤ
 unfolding timesLess
 product r zero = pos 1 ∷ []
 product r (suc i) = cond (eqb i r) (product r i) (timesLess (node i) (pos 0) (product r i))
 
--- the product of (node r - j) over the same nodes
+-- The product of (node r - j) over the same nodes.
 unfoldable pub distances : ℕ → ℕ → ℤ
 distances r zero = pos 1
 distances r (suc i) = cond (eqb i r) (distances r i) (distances r i *ℤ (node r -ℤ node i))
@@ -35,7 +35,7 @@ unfoldable pub valueAt : ℤ → List ℤ → ℤ
 valueAt x [] = pos 0
 valueAt x (a ∷ rest) = a +ℤ x *ℤ valueAt x rest
 
--- the coefficient of x^p in the basis polynomial of node r is coefficient r p / distances r 8
+-- The coefficient of x^p in the basis polynomial of node r is coefficient r p / distances r 8.
 abbrev pub coefficient : ℕ → ℕ → ℤ
 coefficient r p = getD (product r 8) p (pos 0)
 
@@ -47,6 +47,6 @@ pub record Entry (r p : ℕ) : Type 0 where
   pub same : numAt r p *ℤ distances r 8 ≡ coefficient r p *ℤ pos (denAt r p)
   pub rounded : quotientIn quotients r p ≡ roundedAt r p
 
--- eight rows of eight
+-- Eight rows of eight.
 abbrev pub Full : {A : Type 0} → List (List A) → Type 0
 Full t = map length t ≡ eight (λ r. 8)

@@ -6,17 +6,17 @@ use lib.Ieee.{Float, nan, binary64, add, mul}
 use Rattle.farrow8_powers.specs.Table.{quotients, columnIn}
 use Rattle.farrow8_powers.specs.declared.Powers.{Powers}
 
--- one product of 000's `dot!`
+-- One product of 000's `dot!`.
 abbrev pub term : List Float → List Float → ℕ → Float
 term x c k = mul binary64 (getD x k nan) (getD c k nan)
 
--- 000's `dot!`: eight samples by eight quotients, added from the first on
+-- 000's `dot!`: eight samples by eight quotients, added from the first on.
 unfoldable pub dotOf : List Float → List Float → Float
 dotOf x c =
     add binary64 (add binary64 (add binary64 (add binary64 (add binary64 (add binary64 (add binary64
     (term x c 0) (term x c 1)) (term x c 2)) (term x c 3)) (term x c 4)) (term x c 5)) (term x c 6)) (term x c 7)
 
--- the sum of one power
+-- The sum of one power.
 abbrev pub power : List Float → ℕ → Float
 power x p = dotOf x (columnIn quotients p)
 

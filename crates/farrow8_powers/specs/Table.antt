@@ -33,25 +33,25 @@ dens = (1 ∷ 105 ∷ 180 ∷ 90 ∷ 144 ∷ 720 ∷ 720 ∷ 5040 ∷ [])
     ∷ (1 ∷ 15 ∷ 180 ∷ 45 ∷ 144 ∷ 720 ∷ 720 ∷ 720 ∷ [])
     ∷ (1 ∷ 140 ∷ 1 ∷ 720 ∷ 1 ∷ 360 ∷ 1 ∷ 5040 ∷ []) ∷ []
 
--- the fraction of row r and power p
+-- The fraction of row r and power p.
 abbrev pub numAt : ℕ → ℕ → ℤ
 numAt r p = getD (getD nums r []) p (pos 0)
 
 abbrev pub denAt : ℕ → ℕ → ℕ
 denAt r p = getD (getD dens r []) p 0
 
--- it, rounded once
+-- That fraction, rounded once.
 abbrev pub roundedAt : ℕ → ℕ → Float
 roundedAt r p = div binary64 (ofInt binary64 (numAt r p)) (ofInt binary64 (pos (denAt r p)))
 
--- the constant
+-- 000's constant.
 unfoldable pub quotients : List (List Float)
 quotients = eight (λ r. eight (roundedAt r))
 
--- the quotient of row r and power p, in such a table
+-- The quotient of row r and power p, in such a table.
 abbrev pub quotientIn : List (List Float) → ℕ → ℕ → Float
 quotientIn c r p = getD (getD c r []) p nan
 
--- the quotients of power p
+-- The quotients of power p.
 abbrev pub columnIn : List (List Float) → ℕ → List Float
 columnIn c p = eight (λ r. quotientIn c r p)

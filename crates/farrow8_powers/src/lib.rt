@@ -1,4 +1,4 @@
-// K6. Farrow8's constant, which is Lagrange's basis, and the sums of the powers: eight samples by each of its columns.
+// Farrow8's table of constants, which is Lagrange's basis, and the sums of eight samples by each of its columns (K6).
 mod quotients;
 
 ghost use mathlib.Core.Path.{_≡_};

@@ -8,9 +8,9 @@ ghost use Rattle.cubic_farrow.specs.Cubic as cubic;
 ghost use Rattle.lagrange.specs.Kernel as lagranges;
 ghost use Rattle.lagrange.specs.Kernel.{tapsOk};
 ghost use Rattle.farrow8.specs.Kernel as farrow;
-ghost use Rattle.doors.specs.Left.{tells, toldBy, toldInBits};
-use doors::number;
-use doors::value;
+ghost use Rattle.answer_parts.specs.Left.{tells, toldBy, toldInBits};
+use answer_parts::number;
+use answer_parts::value;
 
 #[no_mangle]
 pub extern "C" fn fugnadri_cubic_sample_bits(
@@ -24,7 +24,7 @@ pub extern "C" fn fugnadri_cubic_sample_bits(
         (cubic.readOf (now (source .entry)) count position))) ⌝ }
 {
     let a = cubic_farrow::sample(source, count, position);
-    *sample = patterns::bits_of(value(a));
+    *sample = bit_patterns::bits_of(value(a));
     number(a)
 }
 
@@ -41,7 +41,7 @@ pub extern "C" fn fugnadri_lagrange_sample_bits(
         (lagranges.readOf taps (now (source .entry)) count position))) ⌝ }
 {
     let a = lagrange::sample(source, count, position, taps);
-    *sample = patterns::bits_of(value(a));
+    *sample = bit_patterns::bits_of(value(a));
     number(a)
 }
 
@@ -57,6 +57,6 @@ pub extern "C" fn fugnadri_farrow8_sample_bits(
         (farrow.readOf (now (source .entry)) count position))) ⌝ }
 {
     let a = farrow8::sample(source, count, position);
-    *sample = patterns::bits_of(value(a));
+    *sample = bit_patterns::bits_of(value(a));
     number(a)
 }

@@ -1,5 +1,5 @@
-// G3. The kernels over a lent slice, a count and a position: the refusal's number, 0 for none; the sample, 0.0 where there is none, through a pointer. A plain slice is a
-// ring whose count is its length.
+// The kernels for C, over a lent slice, a count and a position (G3): each returns the refusal number, 0 for none, and
+// writes the sample (0.0 if refused) through a pointer. A plain slice is a ring whose count is its length.
 ghost use mathlib.Core.Path.{_≡_};
 ghost use mathlib.Core.Bool.{_&&_, cond};
 ghost use Rattle.answer.specs.Answers.{answerOf};
@@ -8,9 +8,9 @@ ghost use Rattle.cubic_farrow.specs.Cubic as cubic;
 ghost use Rattle.lagrange.specs.Kernel as lagranges;
 ghost use Rattle.lagrange.specs.Kernel.{tapsOk};
 ghost use Rattle.farrow8.specs.Kernel as farrow;
-ghost use Rattle.doors.specs.Left.{tells, toldBy};
-use doors::number;
-use doors::value;
+ghost use Rattle.answer_parts.specs.Left.{tells, toldBy};
+use answer_parts::number;
+use answer_parts::value;
 
 #[no_mangle]
 pub extern "C" fn fugnadri_cubic_sample(

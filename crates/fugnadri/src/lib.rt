@@ -1,5 +1,6 @@
-// The static library's exports for the f64 kernels and the readers over them: numbers pass as themselves, a slice as a pointer and a length, a `&mut` number as a
-// pointer. No enum, no struct. Each function is total, and its contract is that of the function it calls.
+// The static library of the f64 kernels and the delay readers over them, for C and Rust.
+// Numbers pass as themselves, a slice as a pointer and a length, a `&mut` number as a pointer; there is no enum and no
+// struct. Each function accepts every input, and its contract is that of the function it calls.
 pub mod kernel_bits;
 pub mod kernels;
 pub mod openings;

@@ -1,7 +1,8 @@
-// K1. A reader's ring and count, opened and reset: the refusal's number, 0 for none. The kernel is not named: every reader is opened alike.
+// Opening and reset of a delay reader's ring and count for C (K1): each returns the refusal number, 0 for none. Readers
+// of all kernels are opened alike, so the kernel is not named.
 ghost use mathlib.Core.Path.{_≡_};
-ghost use Rattle.doors.specs.Doors.{stateOf};
-ghost use Rattle.doors.specs.Left.{renews, openedLeft, resetLeft};
+ghost use Rattle.answer_parts.specs.States.{stateOf};
+ghost use Rattle.answer_parts.specs.Left.{renews, openedLeft, resetLeft};
 use variable_delay::VariableDelay;
 
 #[no_mangle]
@@ -16,8 +17,8 @@ pub extern "C" fn fugnadri_open(
 {
     let before = *accepted;
     let o = variable_delay::open(maximum, margin, &mut ring[..]);
-    *accepted = doors::opened_count(before, o);
-    doors::opened_number(o)
+    *accepted = answer_parts::opened_count(before, o);
+    answer_parts::opened_number(o)
 }
 
 #[no_mangle]
@@ -37,6 +38,6 @@ pub extern "C" fn fugnadri_reset(
         accepted: before,
     };
     let o = variable_delay::reset(state, &mut ring[..]);
-    *accepted = doors::opened_count(before, o);
-    doors::opened_number(o)
+    *accepted = answer_parts::opened_count(before, o);
+    answer_parts::opened_number(o)
 }

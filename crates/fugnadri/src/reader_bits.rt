@@ -1,12 +1,13 @@
-// O3. The calls of `readers`, with the sample handed out as a pattern. They go through `readers`, so that each reader is called at one place and is compiled into it.
+// The calls of `readers` with the sample handed out as a bit pattern (O3). They go through `readers`, so that each
+// reader is called at one place only and is compiled into it.
 ghost use mathlib.Core.Path.{_≡_};
 ghost use lib.Ieee.{binary64};
 ghost use Rattle.cubic_farrow.specs.Cubic.{cubicAt};
 ghost use Rattle.lagrange.specs.Kernel.{tapsOk, lagrangeAt};
 ghost use Rattle.farrow8.specs.Kernel.{farrowAt};
-ghost use Rattle.doors.specs.Doors.{stateOf};
-ghost use Rattle.doors.specs.Left.{leaves, inBits};
-ghost use Rattle.fugnadri.specs.Doors.{leftWith, leftOf};
+ghost use Rattle.answer_parts.specs.States.{stateOf};
+ghost use Rattle.answer_parts.specs.Left.{leaves, inBits};
+ghost use Rattle.fugnadri.specs.Exports.{leftWith, leftOf};
 use crate::readers::fugnadri_cubic_process;
 use crate::readers::fugnadri_farrow8_process;
 use crate::readers::fugnadri_lagrange_process;
@@ -35,7 +36,7 @@ pub extern "C" fn fugnadri_cubic_process_bits(
         delay,
         &mut value,
     );
-    *sample = patterns::bits_of(value);
+    *sample = bit_patterns::bits_of(value);
     no
 }
 
@@ -65,7 +66,7 @@ pub extern "C" fn fugnadri_lagrange_process_bits(
         taps,
         &mut value,
     );
-    *sample = patterns::bits_of(value);
+    *sample = bit_patterns::bits_of(value);
     no
 }
 
@@ -93,6 +94,6 @@ pub extern "C" fn fugnadri_farrow8_process_bits(
         delay,
         &mut value,
     );
-    *sample = patterns::bits_of(value);
+    *sample = bit_patterns::bits_of(value);
     no
 }

@@ -1,13 +1,13 @@
-// K1. One call of a delay reader: the state's numbers and the ring go in, the refusal's number comes back, 0 for none; the sample, 0.0 where there is none, and the
-// count through pointers.
+// One call of a delay reader for C (K1): takes the state's numbers and the ring, writes the sample (0.0 if refused) and
+// the count through pointers, and returns the refusal number, 0 for none.
 ghost use mathlib.Core.Path.{_≡_};
 ghost use Rattle.cubic_farrow.specs.Cubic.{cubicAt};
 ghost use Rattle.lagrange.specs.Kernel.{tapsOk, lagrangeAt};
 ghost use Rattle.farrow8.specs.Kernel.{farrowAt};
-ghost use Rattle.doors.specs.Doors.{stateOf};
-ghost use Rattle.doors.specs.Left.{leaves};
-ghost use Rattle.fugnadri.specs.Doors.{leftWith, leftOf};
-use doors::handing::handed;
+ghost use Rattle.answer_parts.specs.States.{stateOf};
+ghost use Rattle.answer_parts.specs.Left.{leaves};
+ghost use Rattle.fugnadri.specs.Exports.{leftWith, leftOf};
+use answer_parts::handing::handed;
 use variable_delay::VariableDelay;
 
 #[no_mangle]

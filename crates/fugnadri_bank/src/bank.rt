@@ -83,7 +83,8 @@ pub extern "C" fn fugnadri_bank_choose(
 #[no_mangle]
 pub extern "C" fn fugnadri_bank_build_set(rate: f64, set: &mut [f32]) -> u8
     ensures { λ r. ⌜ r ≡ setVerdict rate (length (now (set .entry))) ⌝ }
-    ensures { λ r. ⌜ now (set .exit) ≡ tableAfter (setVerdict rate (length (now (set .entry)))) (setOf rate) (now (set .entry)) ⌝ }
+    ensures { λ r. ⌜ now (set .exit) ≡
+        tableAfter (setVerdict rate (length (now (set .entry)))) (setOf rate) (now (set .entry)) ⌝ }
 {
     sinc_bank_f32::build_set(rate, &mut set[..])
 }
@@ -100,7 +101,8 @@ pub(crate) fn number(b: Built) -> u8
 #[no_mangle]
 pub extern "C" fn fugnadri_bank_build(max_rate: f64, sets: &mut [f32]) -> u8
     ensures { λ r. ⌜ r ≡ numberOf (builtBy (bankVerdict «max_rate» (length (now (sets .entry)))) «max_rate») ⌝ }
-    ensures { λ r. ⌜ now (sets .exit) ≡ tableAfter (bankVerdict «max_rate» (length (now (sets .entry)))) (bankOf «max_rate») (now (sets .entry)) ⌝ }
+    ensures { λ r. ⌜ now (sets .exit) ≡
+        tableAfter (bankVerdict «max_rate» (length (now (sets .entry)))) (bankOf «max_rate») (now (sets .entry)) ⌝ }
 {
     number(sinc_bank_f32::build(max_rate, &mut sets[..]))
 }

@@ -1,7 +1,8 @@
-// Q1, Q2. A call of the reader whose quality may change: the state's numbers, the ring and the bank's sets go in, the refusal's number comes back, 0 for none; the sample,
-// 0.0 where there is none, and what of the state a call changes, through pointers.
+// A call of the quality reader for C (Q1, Q2): takes the state's numbers, the ring and the bank's sets, writes the
+// sample (0.0 if refused) and the changed numbers of the state through pointers, and returns the refusal number, 0 for
+// none.
 ghost use mathlib.Core.Path.{_≡_};
-ghost use Rattle.doors.specs.Left.{leaves};
+ghost use Rattle.answer_parts.specs.Left.{leaves};
 ghost use Rattle.quality_codes.specs.Codes.{stateOf};
 ghost use Rattle.quality_codes.specs.Left.{changed, leftBy};
 

@@ -1,8 +1,9 @@
-// O3. The calls of `quality`, with the sample handed out as a pattern. Both go by `call_through`, so that `quality`'s own are
-// called from nowhere else and stay compiled into their exports: Draft's quick way would cost a tenth more.
+// The calls of `quality` with the sample handed out as a bit pattern (O3). Both use `call_through`, so that the
+// functions of `quality` have one caller each and are compiled into their exports: otherwise Draft's fast path costs a
+// tenth more.
 ghost use mathlib.Core.Path.{_≡_};
 ghost use lib.Ieee.{binary32};
-ghost use Rattle.doors.specs.Left.{leaves, inBits};
+ghost use Rattle.answer_parts.specs.Left.{leaves, inBits};
 ghost use Rattle.quality_codes.specs.Codes.{stateOf};
 ghost use Rattle.quality_codes.specs.Left.{changed, leftBy};
 use quality_codes::call_through;
@@ -50,7 +51,7 @@ pub extern "C" fn fugnadri_quality_process_bits<'a>(
         max_rate,
         &mut y,
     );
-    *sample = patterns::bits_of_f32(y);
+    *sample = bit_patterns::bits_of_f32(y);
     no
 }
 
@@ -98,6 +99,6 @@ pub extern "C" fn fugnadri_quality_process_rate_aware_bits<'a>(
         playback_rate,
         &mut y,
     );
-    *sample = patterns::bits_of_f32(y);
+    *sample = bit_patterns::bits_of_f32(y);
     no
 }

@@ -1,6 +1,7 @@
-// Q3. The reader whose quality may change, opened and reset: the refusal's number, 0 for none; the state's numbers through pointers, as they were where it is refused.
+// Opening and reset of the quality reader for C (Q3): each writes the state's numbers through pointers, unchanged if
+// refused, and returns the refusal number, 0 for none.
 ghost use mathlib.Core.Path.{_≡_};
-ghost use Rattle.doors.specs.Left.{renews};
+ghost use Rattle.answer_parts.specs.Left.{renews};
 ghost use Rattle.quality_codes.specs.Codes.{stateOf};
 ghost use Rattle.quality_codes.specs.Left.{changed, openedLeft, resetLeft};
 use quality_codes::Coded;
@@ -31,8 +32,8 @@ pub extern "C" fn fugnadri_quality_open(
         accepted: 0,
         current: quality,
         target: quality,
-        place: crossfade_samples,
-        crossfade: crossfade_samples,
+        crossfade_position: crossfade_samples,
+        crossfade_samples: crossfade_samples,
     };
     let c = quality_codes::renew(quality <= 3, state, &mut ring[..]);
     if c.number != 0 {
@@ -42,7 +43,7 @@ pub extern "C" fn fugnadri_quality_open(
     *accepted = after.accepted;
     *current = after.current;
     *target = after.target;
-    *crossfade_position = after.place;
+    *crossfade_position = after.crossfade_position;
     0
 }
 
@@ -71,14 +72,14 @@ pub extern "C" fn fugnadri_quality_reset(
         accepted: *accepted,
         current: *current,
         target: *target,
-        place: *crossfade_position,
-        crossfade: crossfade_samples,
+        crossfade_position: *crossfade_position,
+        crossfade_samples: crossfade_samples,
     };
     let c = quality_codes::renew(true, state, &mut ring[..]);
     let after = c.state;
     *accepted = after.accepted;
     *current = after.current;
     *target = after.target;
-    *crossfade_position = after.place;
+    *crossfade_position = after.crossfade_position;
     c.number
 }

@@ -1,9 +1,10 @@
-// E2 to E4. Sine, cosine and 2^x: the refusal's number, 0 for none, with the value through a pointer; and the value alone. Where the argument is refused the value is 0.0.
+// Sine, cosine and 2^x for C (E2 to E4): each returns the refusal number, 0 for none, and writes the value (0.0 if
+// refused) through a pointer; and each once more with the value alone.
 ghost use mathlib.Core.Path.{_≡_};
 ghost use Rattle.elementary.specs.Answers.{sineOf, cosineOf, exp2Of, refusalOf};
-ghost use Rattle.doors.specs.Values.{valueOf};
-use doors::values::handed;
-use doors::values::value;
+ghost use Rattle.answer_parts.specs.Values.{valueOf};
+use answer_parts::values::handed;
+use answer_parts::values::value;
 
 #[no_mangle]
 pub extern "C" fn fugnadri_sine(x: f64, result: &mut f64) -> u8

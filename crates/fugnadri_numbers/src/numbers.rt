@@ -1,11 +1,11 @@
-// Floor 1 for a caller in another language. O3: where an argument's NaN could go through as it is, `patterns::one_nan` stands
-// before it; narrowing, the fused steps and the root hand out the constant by themselves.
+// The number functions for C on floats. Where an argument's NaN could come out unchanged, `bit_patterns::one_nan`
+// replaces it (O3); narrowing, the fused steps and the root already give the one NaN.
 ghost use mathlib.Core.Path.{_≡_};
 ghost use Prim.Native.Nat.{_*_, _%_, _^_};
 ghost use lib.Ieee.{binary32, binary64};
 ghost use Rattle.rounding.specs.Operations.{narrowed, fused, root};
 ghost use Rattle.integer_part.specs.Parts.{floorOf, fractionOf};
-ghost use Rattle.order.specs.Choice.{larger, smaller, clamped};
+ghost use Rattle.min_max.specs.Choice.{larger, smaller, clamped};
 
 // K4. Rust's `as f32`.
 #[no_mangle]
@@ -52,7 +52,7 @@ pub extern "C" fn fugnadri_floor(x: f64) -> i64
 pub extern "C" fn fugnadri_fraction(x: f64) -> f64
     ensures { λ r. ⌜ r ≡ fractionOf x ⌝ }
 {
-    patterns::one_nan(integer_part::fraction(x))
+    bit_patterns::one_nan(integer_part::fraction(x))
 }
 
 // Rust's f64::max.
@@ -60,7 +60,7 @@ pub extern "C" fn fugnadri_fraction(x: f64) -> f64
 pub extern "C" fn fugnadri_max(x: f64, least: f64) -> f64
     ensures { λ r. ⌜ r ≡ larger x least ⌝ }
 {
-    patterns::one_nan(order::max(x, least))
+    bit_patterns::one_nan(min_max::max(x, least))
 }
 
 // Rust's f64::min.
@@ -68,7 +68,7 @@ pub extern "C" fn fugnadri_max(x: f64, least: f64) -> f64
 pub extern "C" fn fugnadri_min(x: f64, most: f64) -> f64
     ensures { λ r. ⌜ r ≡ smaller x most ⌝ }
 {
-    patterns::one_nan(order::min(x, most))
+    bit_patterns::one_nan(min_max::min(x, most))
 }
 
 // Rust's f32::min.
@@ -76,7 +76,7 @@ pub extern "C" fn fugnadri_min(x: f64, most: f64) -> f64
 pub extern "C" fn fugnadri_min_f32(a: f32, b: f32) -> f32
     ensures { λ r. ⌜ r ≡ smaller a b ⌝ }
 {
-    patterns::one_nan_f32(order::min_f32(a, b))
+    bit_patterns::one_nan_f32(min_max::min_f32(a, b))
 }
 
 // Rust's f64::clamp.
@@ -84,7 +84,7 @@ pub extern "C" fn fugnadri_min_f32(a: f32, b: f32) -> f32
 pub extern "C" fn fugnadri_clamp(x: f64, low: f64, high: f64) -> f64
     ensures { λ r. ⌜ r ≡ clamped x low high ⌝ }
 {
-    patterns::one_nan(order::clamp(x, low, high))
+    bit_patterns::one_nan(min_max::clamp(x, low, high))
 }
 
 // Rust's f32::clamp.
@@ -92,7 +92,7 @@ pub extern "C" fn fugnadri_clamp(x: f64, low: f64, high: f64) -> f64
 pub extern "C" fn fugnadri_clamp_f32(a: f32, low: f32, high: f32) -> f32
     ensures { λ r. ⌜ r ≡ clamped a low high ⌝ }
 {
-    patterns::one_nan_f32(order::clamp_f32(a, low, high))
+    bit_patterns::one_nan_f32(min_max::clamp_f32(a, low, high))
 }
 
 // M3. Rust's u64::wrapping_mul.
@@ -100,7 +100,7 @@ pub extern "C" fn fugnadri_clamp_f32(a: f32, low: f32, high: f32) -> f32
 pub extern "C" fn fugnadri_wrapping_mul(a: u64, b: u64) -> u64
     ensures { λ r. ⌜ r ≡ a * b % 2 ^ 64 ⌝ }
 {
-    words::wrapping_mul(a, b)
+    wrapping_u64::wrapping_mul(a, b)
 }
 
 // M3. Rust's << of a u64, for every count.
@@ -108,5 +108,5 @@ pub extern "C" fn fugnadri_wrapping_mul(a: u64, b: u64) -> u64
 pub extern "C" fn fugnadri_shl(a: u64, n: u64) -> u64
     ensures { λ r. ⌜ r ≡ a * 2 ^ n % 2 ^ 64 ⌝ }
 {
-    words::shl(a, n)
+    wrapping_u64::shl(a, n)
 }

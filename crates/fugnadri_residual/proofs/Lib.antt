@@ -1,1 +1,1 @@
-pub mod Odd
+pub mod OddPlaced

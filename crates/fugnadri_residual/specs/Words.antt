@@ -51,7 +51,7 @@ abbrev pub indexOr : Place → ℕ → ℕ
 indexOr Nowhere n = n
 indexOr (At k) n = k
 
--- 0 for no refusal
+-- The refusal's number, 0 for none.
 abbrev pub refusalOf : Compared → ℕ
 refusalOf (compared.Carried r) = 0
 refusalOf (compared.Refused k) = k

@@ -1,5 +1,6 @@
-// W13. The static library's export of the residual: numbers pass through pointers, a slice as a pointer and a length.
-// No enum, no struct. It is total, and its contract is that of `residual::compare`.
+// The static library of the residual, for C and Rust (W13).
+// Numbers pass through pointers, a slice as a pointer and a length; there is no enum and no struct. The function
+// accepts every input, and its contract is that of `residual::compare`.
 ghost use mathlib.Core.Path.{_≡_};
 ghost use Rattle.fugnadri_residual.specs.Words.{placeFrom, placedOf, indexOr, numbers, leaves, leftFrom};
 use residual::Compared;

@@ -2,7 +2,7 @@
 // refused by 1.
 ghost use mathlib.Core.Path.{_≡_};
 ghost use Rattle.fugnadri_tables.specs.Building.{makes, madeIn, madeF32In, coded, newOf, forRateOf};
-ghost use Rattle.fugnadri_tables.specs.Doors.{settingsOf};
+ghost use Rattle.fugnadri_tables.specs.Exports.{settingsOf};
 use crate::tables::number;
 use crate::tables::number_f32;
 use bessel::known;

@@ -1,7 +1,7 @@
 // K1. An f32 reader's ring and count, opened and reset: the refusal's number, 0 for none.
 ghost use mathlib.Core.Path.{_≡_};
-ghost use Rattle.doors.specs.Doors.{stateOf};
-ghost use Rattle.doors.specs.Left.{renews, openedLeft, resetLeft};
+ghost use Rattle.answer_parts.specs.States.{stateOf};
+ghost use Rattle.answer_parts.specs.Left.{renews, openedLeft, resetLeft};
 use variable_delay::VariableDelay;
 
 #[no_mangle]
@@ -16,8 +16,8 @@ pub extern "C" fn fugnadri_open_f32(
 {
     let before = *accepted;
     let o = variable_delay_f32::open(maximum, margin, &mut ring[..]);
-    *accepted = doors::opened_count(before, o);
-    doors::opened_number(o)
+    *accepted = answer_parts::opened_count(before, o);
+    answer_parts::opened_number(o)
 }
 
 #[no_mangle]
@@ -37,6 +37,6 @@ pub extern "C" fn fugnadri_reset_f32(
         accepted: before,
     };
     let o = variable_delay_f32::reset(state, &mut ring[..]);
-    *accepted = doors::opened_count(before, o);
-    doors::opened_number(o)
+    *accepted = answer_parts::opened_count(before, o);
+    answer_parts::opened_number(o)
 }

@@ -1,10 +1,10 @@
 // K1. The calls of `readers` for samples and tables of single precision.
 ghost use mathlib.Core.Path.{_≡_};
 ghost use lib.Ieee.{binary32};
-ghost use Rattle.fugnadri_tables.specs.Doors.{leftF32Of};
-ghost use Rattle.doors.specs.Doors.{stateOf};
-ghost use Rattle.doors.specs.Left.{leaves, inBits};
-use doors::handing::handed_f32;
+ghost use Rattle.fugnadri_tables.specs.Exports.{leftF32Of};
+ghost use Rattle.answer_parts.specs.States.{stateOf};
+ghost use Rattle.answer_parts.specs.Left.{leaves, inBits};
+use answer_parts::handing::handed_f32;
 use variable_delay::VariableDelay;
 
 #[no_mangle]
@@ -65,6 +65,6 @@ pub extern "C" fn fugnadri_windowed_sinc_f32_process_bits<'a>(
         phases,
         &mut y,
     );
-    *sample = patterns::bits_of_f32(y);
+    *sample = bit_patterns::bits_of_f32(y);
     no
 }

@@ -1,16 +1,16 @@
-// K3. A table's reading of a lent slice at a position: the refusal's number, 0 for none; the sample, 0.0 where there is none, through a pointer. `_bits` hands it out as
-// a pattern (O3).
+// A table's reading of a lent slice at a position for C (K3): returns the refusal number, 0 for none, and writes the
+// sample (0.0 if refused) through a pointer. A name that ends in `_bits` hands it out as a bit pattern (O3).
 ghost use mathlib.Core.Path.{_≡_};
 ghost use lib.ListN.{length};
 ghost use lib.Ieee.{binary32, binary64};
 ghost use Rattle.answer.specs.Answers.{answerOf, answerF32Of};
 ghost use Rattle.sinc_read.specs.Reading.{sampleVerdict, readOf};
 ghost use Rattle.sinc_read_f32.specs.Reading as single;
-ghost use Rattle.doors.specs.Left.{tells, toldBy, toldF32By, toldInBits};
-use doors::number;
-use doors::number_f32;
-use doors::value;
-use doors::value_f32;
+ghost use Rattle.answer_parts.specs.Left.{tells, toldBy, toldF32By, toldInBits};
+use answer_parts::number;
+use answer_parts::number_f32;
+use answer_parts::value;
+use answer_parts::value_f32;
 
 #[no_mangle]
 pub extern "C" fn fugnadri_windowed_sinc_sample<'a>(
@@ -46,7 +46,7 @@ pub extern "C" fn fugnadri_windowed_sinc_sample_bits<'a>(
         (readOf (now (table .entry)) taps phases (now (source .entry)) count position))) ⌝ }
 {
     let a = sinc_read::sample(table, taps, phases, source, count, position);
-    *sample = patterns::bits_of(value(a));
+    *sample = bit_patterns::bits_of(value(a));
     number(a)
 }
 
@@ -84,6 +84,6 @@ pub extern "C" fn fugnadri_windowed_sinc_f32_sample_bits<'a>(
         (single.readOf (now (table .entry)) taps phases (now (source .entry)) count position))) ⌝ }
 {
     let a = sinc_read_f32::sample(table, taps, phases, source, count, position);
-    *sample = patterns::bits_of_f32(value_f32(a));
+    *sample = bit_patterns::bits_of_f32(value_f32(a));
     number_f32(a)
 }

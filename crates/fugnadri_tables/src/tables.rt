@@ -3,7 +3,7 @@ ghost use mathlib.Core.Path.{_≡_};
 ghost use Rattle.windowed_sinc.specs.Table.{numberOf};
 ghost use Rattle.windowed_sinc_f32.specs.Table as single;
 ghost use Rattle.fugnadri_tables.specs.Building.{makes, madeBy, madeF32By, newOf, forRateOf};
-ghost use Rattle.fugnadri_tables.specs.Doors.{settingsOf};
+ghost use Rattle.fugnadri_tables.specs.Exports.{settingsOf};
 use sinc_settings::Settings;
 
 pub(crate) fn number(b: windowed_sinc::Built) -> u8

@@ -1,9 +1,11 @@
-// M4, M5, G4, G7. What stands outside 001's engine: the refusal's number, 0 for none; the value, 0.0 where it is refused, through a pointer.
+// The oscillator functions for C (M4, M5, G4, G7): each returns the refusal number, 0 for none, and writes the value
+// (0.0 if refused) through a pointer.
 ghost use mathlib.Core.Path.{_≡_};
 ghost use Rattle.elementary.specs.Answers.{refusalOf};
-ghost use Rattle.oscillators.specs.Answers.{speedDeltaOf, advancePhaseOf, shapePrimitiveOf, oscillatorDelayOf, excursionOf, rateDeltaOf};
-ghost use Rattle.doors.specs.Values.{valueOf};
-use doors::values::handed;
+ghost use Rattle.oscillators.specs.Answers.{speedDeltaOf, advancePhaseOf, shapePrimitiveOf, oscillatorDelayOf};
+ghost use Rattle.oscillators.specs.Answers.{excursionOf, rateDeltaOf};
+ghost use Rattle.answer_parts.specs.Values.{valueOf};
+use answer_parts::values::handed;
 
 #[no_mangle]
 pub extern "C" fn fugnadri_speed_delta(depth_cents: f64, result: &mut f64) -> u8
@@ -47,7 +49,8 @@ pub extern "C" fn fugnadri_oscillator_delay(
     result: &mut f64,
 ) -> u8
     ensures { λ r. ⌜ r ≡ refusalOf (oscillatorDelayOf phase «rate_hz» «depth_cents» shape «sample_rate») ⌝ }
-    ensures { λ r. ⌜ now (result .exit) ≡ valueOf (oscillatorDelayOf phase «rate_hz» «depth_cents» shape «sample_rate») ⌝ }
+    ensures { λ r. ⌜ now (result .exit) ≡
+        valueOf (oscillatorDelayOf phase «rate_hz» «depth_cents» shape «sample_rate») ⌝ }
 {
     handed(
         oscillators::oscillator_delay(phase, rate_hz, depth_cents, shape, sample_rate),

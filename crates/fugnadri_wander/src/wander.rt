@@ -1,8 +1,9 @@
-// M1, M2, M5. 001's engine: its state goes in and out as 15 words (crates/engine_words, crates/engine_calls), the settings as eight floats. The answer is the refusal's number, 0 for
-// none; a refused call leaves the very words (D1c).
+// The engine for C (M1, M2, M5): its state goes in and out as 15 words (crates/packed_engine, crates/engine_calls), the
+// settings as eight floats. Each call returns the refusal number, 0 for none; a refused call leaves the words unchanged
+// (D1c).
 ghost use mathlib.Core.Path.{_≡_};
 ghost use Rattle.modulation_engine.specs.Engine.{openedOf, setSampleRateOf, setSeedOf, resetOf};
-ghost use Rattle.engine_words.specs.Words.{paramsOf};
+ghost use Rattle.packed_engine.specs.Words.{paramsOf};
 ghost use Rattle.engine_calls.specs.Left.{renews, renewedBy, steps, steppedBy};
 
 #[no_mangle]
@@ -54,7 +55,7 @@ pub extern "C" fn fugnadri_engine_next(
         ≡ steppedBy (paramsOf «wow_rate_hz» «wow_depth_cents» «wow_shape» «flutter_rate_hz» «flutter_depth_cents»
         «flutter_shape» «drift_amount» «stereo_amount») (now (words .entry)) ⌝ }
 {
-    let params = engine_words::settings_of(
+    let params = packed_engine::settings_of(
         wow_rate_hz,
         wow_depth_cents,
         wow_shape,

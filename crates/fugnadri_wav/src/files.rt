@@ -2,7 +2,7 @@
 // tells, refused or not, is for who explains a refusal.
 ghost use mathlib.Core.Path.{_≡_};
 ghost use Rattle.wav.specs.Wave.{foundIn, foundWrapped, toldIn};
-ghost use Rattle.fugnadri_wav.specs.Doors.{numberOf, waveOf, leaves, leftBy, tells};
+ghost use Rattle.fugnadri_wav.specs.Exports.{numberOf, waveOf, leaves, leftBy, tells};
 use sample_kind::SampleKind;
 use sample_kind::code;
 use wav::Found;

@@ -4,7 +4,7 @@ ghost use lib.ListN.{length};
 ghost use lib.Ieee.{binary32, binary64};
 ghost use Rattle.wav_samples.specs.Filling.{verdict, filled, wholeVerdict, filledWhole};
 ghost use Rattle.sample_kind.specs.Kinds.{kindOf};
-ghost use Rattle.fugnadri_wav.specs.Doors.{channelsOf};
+ghost use Rattle.fugnadri_wav.specs.Exports.{channelsOf};
 use sample_kind::of_code;
 use wav_samples::filling;
 

@@ -1,6 +1,6 @@
 // W2. A whole file into a lent buffer: the refusal's number, 0 for none, and the file's length, 0 where it is refused.
 ghost use mathlib.Core.Path.{_≡_};
-ghost use Rattle.fugnadri_wav_write.specs.Doors.{leaves, fileLeft, numberOf, sizeOf, lengthOf};
+ghost use Rattle.fugnadri_wav_write.specs.Exports.{leaves, fileLeft, numberOf, sizeOf, lengthOf};
 use crate::codes::known;
 use sample_kind::of_code;
 use wav_header::refusal_unlisted;

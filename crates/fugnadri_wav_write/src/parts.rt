@@ -1,6 +1,6 @@
 // W2. A file's header and its samples apart, for who writes a file piece by piece: the refusal's number, 0 for none.
 ghost use mathlib.Core.Path.{_≡_};
-ghost use Rattle.fugnadri_wav_write.specs.Doors.{holds, headerLeft, blockLeft};
+ghost use Rattle.fugnadri_wav_write.specs.Exports.{holds, headerLeft, blockLeft};
 use crate::codes::known;
 use sample_kind::of_code;
 use wav_header::refusal_unlisted;

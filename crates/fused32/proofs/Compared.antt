@@ -1,4 +1,5 @@
--- How s - x compares with y tells how s, which is G units, compares with x + y: s - x is exact. x and s are not below zero, and y has either sign. Assumes nothing.
+-- How s - x compares with y tells how s, which is G units, compares with x + y: s - x is exact.
+-- x and s are not below zero, and y has either sign. Assumes nothing.
 use mathlib.Core.Path.{_≡_, refl, sym, ap, _∙_, subst}
 use mathlib.Core.Logic.{inl, inr}
 use mathlib.Core.Bool.{Bool, true, false}
@@ -13,7 +14,7 @@ use borrow.Author.Tests.{le-ltb}
 use Rattle.fused32.proofs.Remainder.{Few}
 use Rattle.rounding.proofs.Adding.{minus, add-units}
 use Rattle.rounding.proofs.Comparing.{eq-units, lt-units}
-use Rattle.rounding.proofs.Orders.{and-true, eqb-iff, ltb-iff}
+use Rattle.rounding.proofs.NumberOrders.{and-true, eqb-iff, ltb-iff}
 use Rattle.rounding.proofs.Sums.{sum-level, sum-over}
 use Rattle.rounding.proofs.Values.{neg-value}
 
@@ -30,16 +31,22 @@ unfolding ofBits
 zero-value = (refl, refl)
 
 exact : (t : Bool) (D : ℕ) → Few D → D < 2 ^ (1074 + 1024) → HasValue (round binary64 t D L) t D L
-exact t D (q, i, e, few) b = round-exact binary64 t D L q i (pow-pos 1074) few (lt-of-le-of-lt (le-of-eq (sym e)) b) (ap (λ (z : ℕ). z * L) e)
+exact t D (q, i, e, few) b =
+    round-exact binary64 t D L q i (pow-pos 1074) few (lt-of-le-of-lt (le-of-eq (sym e)) b) (ap (λ (z : ℕ). z * L) e)
 
-module _ (s x y : Float) (G X Y : ℕ) (fine : G < 2 ^ (1074 + 1024)) (bound : X < 2 ^ (1074 + 1024)) (g : HasValue s false G L) (h : HasValue x false X L) where
+module _ (s x y : Float) (G X Y : ℕ) (fine : G < 2 ^ (1074 + 1024)) (bound : X < 2 ^ (1074 + 1024))
+    (g : HasValue s false G L) (h : HasValue x false X L) where
   -- y above zero
   module _ (k : HasValue y false Y L) (o : X ≤ G) (few : Few (G - X)) where
     over-value : HasValue (sub binary64 s x) false (G - X) L
-    over-value = subst (λ (v : Float). HasValue v false (G - X) L) (sym (minus binary64 s x G X L (pow-pos 1074) o g h)) (exact false (G - X) few (lt-of-le-of-lt (sub-le G X) fine))
+    over-value =
+        subst (λ (v : Float). HasValue v false (G - X) L) (sym (minus binary64 s x G X L (pow-pos 1074) o g h))
+        (exact false (G - X) few (lt-of-le-of-lt (sub-le G X) fine))
 
     lt-plus : lt (sub binary64 s x) y ≡ ltb G (X + Y)
-    lt-plus = lt-units (sub binary64 s x) y false false (G - X) Y L (pow-pos 1074) over-value k ∙ ltb-iff (G - X) Y G (X + Y) (λ a. omega arith) (λ a. omega arith)
+    lt-plus =
+        lt-units (sub binary64 s x) y false false (G - X) Y L (pow-pos 1074) over-value k
+        ∙ ltb-iff (G - X) Y G (X + Y) (λ a. omega arith) (λ a. omega arith)
 
     eq-plus : eq (sub binary64 s x) y ≡ eqb G (X + Y)
     eq-plus =
@@ -58,20 +65,27 @@ module _ (s x y : Float) (G X Y : ℕ) (fine : G < 2 ^ (1074 + 1024)) (bound : X
 
     under-value : G < X → HasValue (sub binary64 s x) true (X - G) L
     under-value l =
-        subst (λ (v : Float). HasValue v true (X - G) L) (sym (difference ∙ sum-over binary64 false true G X L refl l)) (exact true (X - G) few (lt-of-le-of-lt (sub-le X G) bound))
+        subst (λ (v : Float). HasValue v true (X - G) L) (sym (difference ∙ sum-over binary64 false true G X L refl l))
+        (exact true (X - G) few (lt-of-le-of-lt (sub-le X G) bound))
 
     none-value : G ≡ X → HasValue (sub binary64 s x) false 0 L
-    none-value e = subst (λ (v : Float). HasValue v false 0 L) (sym (difference ∙ sum-level binary64 false true G X L (pow-pos 1074) refl e)) zero-value
+    none-value e =
+        subst (λ (v : Float). HasValue v false 0 L)
+        (sym (difference ∙ sum-level binary64 false true G X L (pow-pos 1074) refl e)) zero-value
 
     lt-minus : lt (sub binary64 s x) y ≡ ltb G (X - Y)
     lt-minus = elim (eq-or-lt-of-le o) [
-      | inl e ↦ lt-units (sub binary64 s x) y false true 0 Y L (pow-pos 1074) (none-value e) k ∙ sym (le-ltb G (X - Y) (omega arith))
-      | inr l ↦ lt-units (sub binary64 s x) y true true (X - G) Y L (pow-pos 1074) (under-value l) k ∙ ltb-iff Y (X - G) G (X - Y) (λ a. omega arith) (λ a. omega arith)
+      | inl e ↦ lt-units (sub binary64 s x) y false true 0 Y L (pow-pos 1074) (none-value e) k
+          ∙ sym (le-ltb G (X - Y) (omega arith))
+      | inr l ↦ lt-units (sub binary64 s x) y true true (X - G) Y L (pow-pos 1074) (under-value l) k
+          ∙ ltb-iff Y (X - G) G (X - Y) (λ a. omega arith) (λ a. omega arith)
     ]
 
     eq-minus : eq (sub binary64 s x) y ≡ eqb G (X - Y)
     eq-minus = elim (eq-or-lt-of-le o) [
-      | inl e ↦ eq-units (sub binary64 s x) y false true 0 Y L (pow-pos 1074) (none-value e) k ∙ and-true (eqb 0 Y) ∙ eqb-iff 0 Y G (X - Y) (λ a. omega arith) (λ a. omega arith)
+      | inl e ↦ eq-units (sub binary64 s x) y false true 0 Y L (pow-pos 1074) (none-value e) k
+          ∙ and-true (eqb 0 Y)
+          ∙ eqb-iff 0 Y G (X - Y) (λ a. omega arith) (λ a. omega arith)
       | inr l ↦
           eq-units (sub binary64 s x) y true true (X - G) Y L (pow-pos 1074) (under-value l) k
           ∙ and-true (eqb (X - G) Y)

@@ -1,4 +1,5 @@
--- The cases of `odd_sum`: what it tests tells where s, x + y as an f64, lies beside x + y, and so which f64 rounds to an f32 as x + y does. Assumes nothing.
+-- The cases of `odd_sum`: what it tests tells where s, x + y as an f64, lies beside x + y, and so which f64 rounds to
+-- an f32 as x + y does. Assumes nothing.
 use mathlib.Core.Path.{_≡_, sym, ap, _∙_, subst}
 use mathlib.Core.Logic.{inl, inr}
 use mathlib.Core.Bool.{Bool, true, false, not}
@@ -18,11 +19,11 @@ use Rattle.rounding.specs.Operations.{narrowed}
 use Rattle.fused32.proofs.Compared.{Tests}
 use Rattle.fused32.proofs.Infinite.{under-top}
 use Rattle.fused32.proofs.Neighbours.{as-down, as-exact, as-odd, as-up, bits, j-le, rounds}
-use Rattle.fused32.proofs.Totals.{sum-total, tests, total}
+use Rattle.fused32.proofs.ExactSums.{sum-total, tests, total}
 use Rattle.rounding.proofs.Adding.{add-units}
-use Rattle.rounding.proofs.Orders.{bit, clash, pow-lt-back}
+use Rattle.rounding.proofs.NumberOrders.{bit, clash, pow-lt-back}
 use Rattle.rounding.proofs.Values.{value-no-nan}
-use Rattle.rounding.proofs.Whole.{near, near-le, places}
+use Rattle.rounding.proofs.WholeUnits.{near, near-le, places}
 
 module _ (x y s : Float) (O : Ordered x y) (E : SumOf x y s) where
   abbrev p : Short x
@@ -44,7 +45,9 @@ module _ (x y s : Float) (O : Ordered x y) (E : SumOf x y s) where
   x-value = subst (λ (b : Bool). HasValue x b (amount p) (2 ^ 1074)) (O .plus) (p .value)
 
   sum-is-total : (f : Format) → add f x y ≡ round f false w (2 ^ 1074)
-  sum-is-total f = add-units f x y false (q .sign) (amount p) (amount q) (2 ^ 1074) (pow-pos 1074) x-value (q .value) ∙ sum-total f (q .sign) (amount p) (amount q) (2 ^ 1074) (O .order)
+  sum-is-total f =
+      add-units f x y false (q .sign) (amount p) (amount q) (2 ^ 1074) (pow-pos 1074) x-value (q .value)
+      ∙ sum-total f (q .sign) (amount p) (amount q) (2 ^ 1074) (O .order)
 
   s-is : s ≡ round binary64 false w (2 ^ 1074)
   s-is = E .is ∙ sum-is-total binary64
@@ -63,7 +66,10 @@ module _ (x y s : Float) (O : Ordered x y) (E : SumOf x y s) where
 
   -- ---- what is returned
   pub same-code : eq (sub binary64 s x) y ≡ true → narrowed s ≡ add binary32 x y
-  same-code e = ap narrowed s-is ∙ as-exact w fine false (eqb-true (Q * 2 ^ j) w (sym (known .same) ∙ e)) ∙ sym (sum-is-total binary32)
+  same-code e =
+      ap narrowed s-is
+      ∙ as-exact w fine false (eqb-true (Q * 2 ^ j) w (sym (known .same) ∙ e))
+      ∙ sym (sum-is-total binary32)
 
   last : bitAnd (toBits binary64 s) 1 ≡ Q % 2
   last = ap (λ (z : ℕ). bitAnd z 1) n-is ∙ and-mask (j * 2 ^ 52 + Q) 1 ∙ even-part j Q
@@ -77,17 +83,24 @@ module _ (x y s : Float) (O : Ordered x y) (E : SumOf x y s) where
   even : (bitAnd (toBits binary64 s) 1 ≡ 1 → ⊥) → Q % 2 ≡ 0
   even n = elim (bit Q) [ inl e ↦ e | inr e ↦ absurd (n (last ∙ e)) ]
 
-  pub up-code : (bitAnd (toBits binary64 s) 1 ≡ 1 → ⊥) → lt (sub binary64 s x) y ≡ true → narrowed (ofBits binary64 (toBits binary64 s + 1)) ≡ add binary32 x y
+  pub up-code : (bitAnd (toBits binary64 s) 1 ≡ 1 → ⊥) → lt (sub binary64 s x) y ≡ true
+      → narrowed (ofBits binary64 (toBits binary64 s + 1)) ≡ add binary32 x y
   up-code n l =
       ap (λ (z : ℕ). narrowed (ofBits binary64 (z + 1))) n-is
       ∙ as-up w fine (even n) (ltb-true (Q * 2 ^ j) w (sym (known .less) ∙ l))
       ∙ sym (sum-is-total binary32)
 
   beyond : eq (sub binary64 s x) y ≡ false → lt (sub binary64 s x) y ≡ false → w < Q * 2 ^ j
-  beyond e l = lt-of-le-ne (ltb-false (Q * 2 ^ j) w (sym (known .less) ∙ l)) (λ d. eqb-false (Q * 2 ^ j) w (sym (known .same) ∙ e) (sym d))
+  beyond e l =
+      lt-of-le-ne (ltb-false (Q * 2 ^ j) w (sym (known .less) ∙ l))
+      (λ d. eqb-false (Q * 2 ^ j) w (sym (known .same) ∙ e) (sym d))
 
-  pub down-code : (bitAnd (toBits binary64 s) 1 ≡ 1 → ⊥) → eq (sub binary64 s x) y ≡ false → lt (sub binary64 s x) y ≡ false → narrowed (ofBits binary64 (toBits binary64 s - 1)) ≡ add binary32 x y
-  down-code n e l = ap (λ (z : ℕ). narrowed (ofBits binary64 (z - 1))) n-is ∙ as-down w fine (even n) (beyond e l) ∙ sym (sum-is-total binary32)
+  pub down-code : (bitAnd (toBits binary64 s) 1 ≡ 1 → ⊥) → eq (sub binary64 s x) y ≡ false
+      → lt (sub binary64 s x) y ≡ false → narrowed (ofBits binary64 (toBits binary64 s - 1)) ≡ add binary32 x y
+  down-code n e l =
+      ap (λ (z : ℕ). narrowed (ofBits binary64 (z - 1))) n-is
+      ∙ as-down w fine (even n) (beyond e l)
+      ∙ sym (sum-is-total binary32)
 
   -- ---- what the steps ask
   pub s-no-nan : T (not (isNan s))
@@ -95,12 +108,17 @@ module _ (x y s : Float) (O : Ordered x y) (E : SumOf x y s) where
 
   pub s-bits : toBits binary64 s < 0x7ff0_0000_0000_0000
   s-bits = elim (eq-or-lt-of-le (near-le binary64 w)) [
-    | inl e ↦ omega (arith, n-is, pow-lt-back (53 + j) 2098 (lt-of-le-of-lt (le-of-eq (pow-add 2 53 j ∙ ap (λ (z : ℕ). z * 2 ^ j) (sym e))) fine))
+    | inl e ↦ omega (
+      arith,
+      n-is,
+      pow-lt-back (53 + j) 2098 (lt-of-le-of-lt (le-of-eq (pow-add 2 53 j ∙ ap (λ (z : ℕ). z * 2 ^ j) (sym e))) fine),
+    )
     | inr l ↦ omega (arith, n-is, j-le w fine)
   ]
 
   pub some-bits : eq (sub binary64 s x) y ≡ false → lt (sub binary64 s x) y ≡ false → 1 ≤ toBits binary64 s
   some-bits e l = elim (eq-zero-or-pos Q) [
-    | inl z ↦ absurd (clash w 0 (lt-of-lt-of-le (beyond e l) (le-of-eq (ap (λ (q : ℕ). q * 2 ^ j) z ∙ zero-mul (2 ^ j)))) zero-le)
+    | inl z ↦ absurd (clash w 0
+        (lt-of-lt-of-le (beyond e l) (le-of-eq (ap (λ (q : ℕ). q * 2 ^ j) z ∙ zero-mul (2 ^ j)))) zero-le)
     | inr h ↦ omega (arith, n-is)
   ]

@@ -2,7 +2,8 @@
 use mathlib.Core.Path.{_≡_, refl, sym, ap, _∙_, subst}
 use mathlib.Core.Bool.{Bool}
 use Prim.Native.Nat.{ℕ, _+_, _*_, _^_, _<_}
-use native.Mathlib.Nat.{le-trans, le-of-eq, le-of-lt, lt-of-lt-of-le, lt-of-le-of-lt, mul-assoc, mul-le-mul-right, mul-le-mul-left, mul-lt-mul-of-pos-right, mul-mul-mul-comm, mul-le-mul}
+use native.Mathlib.Nat.{le-trans, le-of-eq, le-of-lt, lt-of-lt-of-le, lt-of-le-of-lt, mul-assoc, mul-le-mul-right}
+use native.Mathlib.Nat.{mul-le-mul-left, mul-lt-mul-of-pos-right, mul-mul-mul-comm, mul-le-mul}
 use lib.IntN.{ℤ}
 use lib.Dec.{T, lit≤, lit<}
 use lib.Pow.{pow-add, pow-pos}
@@ -22,7 +23,8 @@ short (fin s m e) h f =
     record { sign = s; digits = m; places = i; few = few; bounded = lt-of-lt-of-le b (lit≤ tt); value = v }
 
 -- ---- the product: as many units of 2 ^ -298 as the product of both counts
-module _ (s : Bool) (m : ℕ) (e : ℤ) (t : Bool) (n : ℕ) (d : ℤ) (h : T (fits binary32 (fin s m e))) (k : T (fits binary32 (fin t n d))) where
+module _ (s : Bool) (m : ℕ) (e : ℤ) (t : Bool) (n : ℕ) (d : ℤ) (h : T (fits binary32 (fin s m e)))
+    (k : T (fits binary32 (fin t n d))) where
   abbrev i : ℕ
   i = fits-units binary32 s m e h .0
 
@@ -36,22 +38,28 @@ module _ (s : Bool) (m : ℕ) (e : ℤ) (t : Bool) (n : ℕ) (d : ℤ) (h : T (f
   count = mul-mul-mul-comm m (2 ^ i) n (2 ^ j) ∙ ap (λ (z : ℕ). m * n * z) (sym (pow-add 2 i j))
 
   few : m * n < 2 ^ 48
-  few = lt-of-le-of-lt (mul-le-mul-left m (le-of-lt (fits-units binary32 t n d k .2))) (mul-lt-mul-of-pos-right (fits-units binary32 s m e h .2) (pow-pos 24))
+  few =
+      lt-of-le-of-lt (mul-le-mul-left m (le-of-lt (fits-units binary32 t n d k .2)))
+      (mul-lt-mul-of-pos-right (fits-units binary32 s m e h .2) (pow-pos 24))
 
   bounded : m * n * 2 ^ (i + j) * 2 ^ 776 < 2 ^ 1400
   bounded =
-      lt-of-le-of-lt (mul-le-mul-right (2 ^ 776) (le-trans (le-of-eq (sym count)) (mul-le-mul (le-of-lt (fits-units binary32 s m e h .3)) (le-of-lt (fits-units binary32 t n d k .3)))))
+      lt-of-le-of-lt (mul-le-mul-right (2 ^ 776) (le-trans (le-of-eq (sym count))
+      (mul-le-mul (le-of-lt (fits-units binary32 s m e h .3)) (le-of-lt (fits-units binary32 t n d k .3)))))
       (lit< tt)
 
   exact : HasValue p (unlike s t) (m * n * 2 ^ (i + j)) (2 ^ 298)
   exact =
       let E = m * n * 2 ^ (i + j) in
-      let a : m * n * 2 ^ (i + j + 776) ≡ E * 2 ^ 776 = ap (λ (z : ℕ). m * n * z) (pow-add 2 (i + j) 776) ∙ sym (mul-assoc (m * n) (2 ^ (i + j)) (2 ^ 776)) in
+      let a : m * n * 2 ^ (i + j + 776) ≡ E * 2 ^ 776 =
+      ap (λ (z : ℕ). m * n * z) (pow-add 2 (i + j) 776) ∙ sym (mul-assoc (m * n) (2 ^ (i + j)) (2 ^ 776)) in
       subst (λ (x : Float). HasValue x (unlike s t) E (2 ^ 298))
       (sym
-      (mul-value binary64 (fin s m e) (fin t n d) s t (m * 2 ^ i) (n * 2 ^ j) (2 ^ 149) (2 ^ 149) (pow-pos 149) (pow-pos 149) (fits-units binary32 s m e h .1) (fits-units binary32 t n d k .1)
+      (mul-value binary64 (fin s m e) (fin t n d) s t (m * 2 ^ i) (n * 2 ^ j) (2 ^ 149) (2 ^ 149) (pow-pos 149)
+      (pow-pos 149) (fits-units binary32 s m e h .1) (fits-units binary32 t n d k .1)
       ∙ ap (λ (z : ℕ). round binary64 (unlike s t) z (2 ^ 298)) count))
-      (round-exact binary64 (unlike s t) E (2 ^ 298) (m * n) (i + j + 776) (pow-pos 298) (lt-of-lt-of-le few (lit≤ tt)) (lt-of-le-of-lt (le-of-eq a) (lt-of-lt-of-le bounded (lit≤ tt)))
+      (round-exact binary64 (unlike s t) E (2 ^ 298) (m * n) (i + j + 776) (pow-pos 298) (lt-of-lt-of-le few (lit≤ tt))
+      (lt-of-le-of-lt (le-of-eq a) (lt-of-lt-of-le bounded (lit≤ tt)))
       (sym (mul-assoc E (2 ^ 776) (2 ^ 298)) ∙ ap (λ (z : ℕ). z * 2 ^ 298) (sym a)))
 
   product-value : HasValue p (unlike s t) (m * up e * (n * up d)) (down e * down d)
@@ -66,7 +74,8 @@ module _ (s : Bool) (m : ℕ) (e : ℤ) (t : Bool) (n : ℕ) (d : ℤ) (h : T (f
       exact
 
 -- ---- `fused` is the exact product, added
-pub fused-is : (a b c : Float) → T (fits binary32 a) → T (fits binary32 b) → add binary32 (mul binary64 a b) c ≡ fused binary32 a b c
+pub fused-is : (a b c : Float) → T (fits binary32 a) → T (fits binary32 b)
+    → add binary32 (mul binary64 a b) c ≡ fused binary32 a b c
 unfolding fused
 fused-is nan b c h k = refl
 fused-is (inf s) nan c h k = refl
@@ -74,4 +83,5 @@ fused-is (inf s) (inf t) c h k = refl
 fused-is (inf s) (fin t n d) c h k = refl
 fused-is (fin s m e) nan c h k = refl
 fused-is (fin s m e) (inf t) c h k = refl
-fused-is (fin s m e) (fin t n d) c h k = exact-product binary32 (mul binary64 (fin s m e) (fin t n d)) s m e t n d c (product-value s m e t n d h k)
+fused-is (fin s m e) (fin t n d) c h k =
+    exact-product binary32 (mul binary64 (fin s m e) (fin t n d)) s m e t n d c (product-value s m e t n d h k)

@@ -1,20 +1,22 @@
--- The sum of two f64 as an f64, less the larger of them, has no more digits than an f64, so that it is exact. Either nothing was rounded, and the smaller is left; or the
--- unit that was rounded to, or half of it, divides the larger, and so what is left, which is no more than the smaller and half that unit. Assumes nothing.
+-- The sum of two f64 as an f64, less the larger of them, has no more digits than an f64, so that it is exact.
+-- Either nothing was rounded, and the smaller is left; or the unit that was rounded to, or half of it,
+-- divides the larger, and so what is left, which is no more than the smaller and half that unit. Assumes nothing.
 use mathlib.Core.Path.{_≡_, sym, ap, _∙_}
 use mathlib.Core.Logic.{_⊎_, inl, inr}
 use Prim.Native.Nat.{ℕ, suc, _+_, _-_, _*_, _^_, _≤_, _<_}
-use native.Mathlib.Nat.{le-trans, le-of-eq, mul-add, mul-le-mul-left, mul-le-mul-right, mul-lt-mul-of-pos-right, lt-of-mul-lt-mul-right, le-of-mul-le-mul-right, eq-or-lt-of-le}
+use native.Mathlib.Nat.{le-trans, le-of-eq, mul-add, mul-le-mul-left, mul-le-mul-right, mul-lt-mul-of-pos-right}
+use native.Mathlib.Nat.{lt-of-mul-lt-mul-right, le-of-mul-le-mul-right, eq-or-lt-of-le}
 use native.Mathlib.Omega.{arith}
 use lib.Dec.{lit<}
 use lib.Pow.{pow-pos, pow-mono}
 use lib.Ieee.{Float, binary64}
 use Rattle.fused32.specs.Parts.{Short, amount}
-use Rattle.fused32.proofs.Unit.{Divides, room, twice, which}
-use Rattle.rounding.proofs.Closest.{closest-ge}
-use Rattle.rounding.proofs.Orders.{sub-mul}
+use Rattle.fused32.proofs.SumUnit.{Divides, room, twice, which}
+use Rattle.rounding.proofs.NearestWhole.{closest-ge}
+use Rattle.rounding.proofs.NumberOrders.{sub-mul}
 use Rattle.rounding.proofs.Units.{up-hid}
-use Rattle.rounding.proofs.Whole.{near, places}
-use Rattle.rounding.proofs.Within.{closest-most, closest-near}
+use Rattle.rounding.proofs.WholeUnits.{near, places}
+use Rattle.rounding.proofs.WithinHalfDivisor.{closest-most, closest-near}
 
 -- D has no more digits than an f64
 abbrev pub Few : ℕ → Type 0
@@ -60,7 +62,8 @@ module _ {x y : Float} (p : Short x) (q : Short y) (o : amount q ≤ amount p) w
     rest : (D d : ℕ) → q .places < j → D ≡ d * u → D * 2 ≤ Y * 2 + u → Few D
     rest D d l e h =
         let a : Y < 2 ^ 53 * 2 ^ q .places = mul-lt-mul-of-pos-right (q .few) (pow-pos (q .places)) in
-        let b : 2 ^ 53 * 2 ^ q .places ≤ 2 ^ 52 * u = le-trans (le-of-eq (sym (up-hid binary64 (q .places)))) (mul-le-mul-left (2 ^ 52) (pow-mono l)) in
+        let b : 2 ^ 53 * 2 ^ q .places ≤ 2 ^ 52 * u =
+        le-trans (le-of-eq (sym (up-hid binary64 (q .places)))) (mul-le-mul-left (2 ^ 52) (pow-mono l)) in
         (d, j, e, lt-of-mul-lt-mul-right u (small D (d * u) Y (2 ^ 53 * 2 ^ q .places) u e h a b (pow-pos j)))
       where
         small : (D E Y Z u : ℕ) → D ≡ E → D * 2 ≤ Y * 2 + u → Y < Z → Z ≤ 2 ^ 52 * u → 0 < u → E < 2 ^ 53 * u
@@ -85,8 +88,11 @@ module _ {x y : Float} (p : Short x) (q : Short y) (o : amount q ≤ amount p) w
             let (d, c) = twice p q v le mult i in
             let g : G ≡ n * 2 * t = ap (λ (z : ℕ). n * z) d ∙ mul-add n t t ∙ omega arith in
             let f : G - X ≡ (n * 2 - p .digits) * t = ap (λ (z : ℕ). z - X) g ∙ sym (sub-mul (n * 2) (p .digits) t) in
-            let b : (n * 2 - p .digits) * t ≤ 2 ^ 53 * t = le-trans (le-of-eq (sym f)) (omega (arith, room p q, near-lo)) in
-            (omega (arith, near-hi), few-of (G - X) (n * 2 - p .digits) (p .places) f (le-of-mul-le-mul-right b (pow-pos (p .places))))
+            let b : (n * 2 - p .digits) * t ≤ 2 ^ 53 * t =
+            le-trans (le-of-eq (sym f)) (omega (arith, room p q, near-lo)) in (
+              omega (arith, near-hi),
+              few-of (G - X) (n * 2 - p .digits) (p .places) f (le-of-mul-le-mul-right b (pow-pos (p .places))),
+            )
 
     pub left-of-difference : v ≡ X - Y → (G ≤ X) × Few (X - G)
     left-of-difference e = go (which p q v le mult)

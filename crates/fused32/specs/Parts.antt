@@ -40,7 +40,8 @@ pub record Above (p c s : Float) : Type 0 where
 
 -- s has at least the size of the smallest normal f32, 2 ^ -126, and is no midpoint of two f32; or it is not finite.
 abbrev pub Clear : Float → Type 0
-Clear s = T (finite s) → (0x3810_0000_0000_0000 ≤ toBits binary64 s % 2 ^ 63) × (toBits binary64 s % 2 ^ 29 ≡ 2 ^ 28 → ⊥)
+Clear s =
+    T (finite s) → (0x3810_0000_0000_0000 ≤ toBits binary64 s % 2 ^ 63) × (toBits binary64 s % 2 ^ 29 ≡ 2 ^ 28 → ⊥)
 
 -- What a test for that finds: a sum that is not clear is finite.
 pub record Tested (s : Float) (r : Bool) : Type 0 where

@@ -1,13 +1,14 @@
-// fusedMultiplyAdd for f32: the product of two f32 is an f64 exactly, so that all lies in the sum of two f64.
+// The fused multiply-add of f32, rounded once (K4).
+// The product of two f32 is exact as an f64, so that only the sum of two f64 has to be rounded with care.
 ghost use mathlib.Core.Path.{_≡_};
 ghost use lib.Ieee.{binary32, add};
 ghost use Rattle.rounding.specs.Operations.{fused};
 ghost use Rattle.fused32.specs.Parts.{SumOf, Ordered, Above, Tested};
 use narrowing::narrow;
 
-// x + y rounded once, where x is not below zero, y is no larger in size, and s is x + y as an f64.
-// s - x is exact, so that it tells on which side of x + y s lies. Where s is not x + y, and its last digit is even, it gives way
-// to its neighbour towards x + y: an odd last digit is neither an f32's nor a midpoint's, and rounds as x + y does.
+// x + y rounded once, where x is not below zero, y is no larger in size, and s is x + y as an f64. s - x is exact, so
+// it tells on which side of x + y s lies. If s is not exact and its last digit is even, its neighbour towards x + y is
+// taken: an odd last digit is neither an f32's nor a midpoint's, so it rounds to f32 as x + y does.
 fn odd_sum(x: f64, y: f64, s: f64) -> f32
     requires { ⌜ Ordered x y ⌝ ∗ ⌜ SumOf x y s ⌝ }
     ensures { λ r. ⌜ r ≡ add binary32 x y ⌝ }
@@ -37,8 +38,8 @@ fn positive_sum(p: f64, c: f64, s: f64) -> f32
     odd_sum(p, c, s)
 }
 
-// Whether s rounds to an f32 as any number does that it is nearest to: it has at least the size of a normal f32, and is no midpoint
-// of two (its lower 29 digits are no half), or is not finite.
+// Whether s rounds to the same f32 as every number whose nearest f64 is s: s is not finite, or at least as large as the
+// smallest normal f32 and no midpoint of two f32 (its lower 29 digits are not one half).
 fn is_clear(s: f64) -> bool
     ensures { λ r. ⌜ Tested s r ⌝ }
 {

@@ -1,11 +1,12 @@
-// The fused step of three values from 2^-255 to 2^257 in one word: the product is cut to a word and the addend put beside it, where it loses nothing. Every answer is a pattern, or 0 where another way has to be taken.
+// The fused step of three values from 2^-255 to 2^257 in one word: the product is cut to a word, and the addend is
+// added at its place without losing a digit. Every answer is a pattern, or 0 where another way has to be taken.
 ghost use mathlib.Core.Path.{_≡_};
 ghost use mathlib.Core.Bool.{true};
 ghost use Prim.Native.Nat.{ℕ, _+_, _*_, _/_, _%_, _^_, _≤_, _<_};
 ghost use Rattle.fused64.specs.Word.{Heads, Headed, Tells, Cutoff, Placed, Joined, Beside, Quick};
 use crate::products::columns;
 
-// Sign and field, the field less 768: of all that are in reach, below 512.
+// The sign and the exponent field less 768, which is below 512 for every value in reach.
 fn head(bits: u64) -> u64
     ensures { λ r. ⌜ (r + 768) % 2 ^ 64 ≡ bits / 2 ^ 52 ⌝ }
 {
@@ -25,16 +26,18 @@ fn digits_of(bits: u64) -> u64
     (bits & 0xf_ffff_ffff_ffff) | 0x10_0000_0000_0000
 }
 
-// What is left of a number of two words without its lowest 64 + d digits, made odd where that is not exact: rest tells whether there is anything in the lower word.
+// A number of two words without its lowest 64 + d digits, made odd if any of them was set; `rest` says whether the
+// lower word has one.
 fn without(hi: u64, rest: u64, d: u64) -> u64
     requires { ⌜ d < 64 ⌝ ∗ ⌜ hi < 2 ^ 62 ⌝ }
     ensures { λ r. ⌜ ((lo : ℕ) → Tells rest lo → Cutoff hi lo d r) ⌝ }
 {
     let t: u64 = hi >> d;
-    digits::sticky(t, (hi - (t << d)) | rest)
+    float_digits::sticky(t, (hi - (t << d)) | rest)
 }
 
-// The number n at g's place, rounded once, with g's sign. It has 56 digits or more, for the last one may stand for what was cut off.
+// The number n at g's place, rounded once, with g's sign. It has at least 56 digits, because its last digit may stand
+// for digits that were cut off.
 fn placed(n: u64, g: u64) -> u64
     requires { ⌜ Headed n g ⌝ }
     ensures { λ r. ⌜ (0 < r → Placed n g r) ⌝ }
@@ -62,8 +65,9 @@ fn joined(s: u64, p: u64, t: u64, z: u64, e: u64) -> u64
     placed(p - z, e + s)
 }
 
-// i and j are the places of the product's higher word and of the addend, counted so that a number with l leading zeros at the place e gets the field e - l.
-// The addend ends in eight zeros. Of those fewer than eight are dropped: it stays exact, and even, so that a cut product beside it still ends in a 1.
+// i and j are the places of the product's higher word and of the addend, counted so that a number with l leading zeros
+// at place e gets the exponent field e - l. The addend ends in eight zeros and loses fewer than eight digits: it stays
+// exact and even, so a cut product added to it still ends in a 1.
 pub(crate) fn quick(a: u64, b: u64, c: u64) -> u64
     ensures { λ r. ⌜ (0 < r → Quick a b c r) ⌝ }
 {

@@ -1,4 +1,4 @@
-pub mod Carrying
-pub mod Four
+pub mod ChainParts
+pub mod FourBiasedTurns
 pub mod Finite
-pub mod Nearby
+pub mod FourTurnsByPatterns

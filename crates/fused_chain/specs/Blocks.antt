@@ -1,4 +1,5 @@
--- What the parts of a run of taps ask of each other: a run from one turn to another, and four turns at once. Definitions only.
+-- What the parts of a run of taps promise each other: a run from one turn to another, and four turns at once.
+-- Definitions only.
 use mathlib.Core.Path.{_≡_}
 use mathlib.Core.List.{List}
 use Prim.Native.Nat.{ℕ, _+_, _≤_}
@@ -22,7 +23,8 @@ pub record Carries (xs row0 row1 : List Float) (blend : Float) (from to : ℕ) (
   pub is : (a : Float) → sum ≡ chainOf xs row0 row1 blend a from → r ≡ chainOf xs row0 row1 blend a to
 
 -- A run that may stop early, at k.
-pub record Runs (xs row0 row1 : List Float) (blend : Float) (from to : ℕ) (sum : Float) (k : ℕ) (r : Float) : Type 0 where
+pub record Runs (xs row0 row1 : List Float) (blend : Float) (from to : ℕ) (sum : Float) (k : ℕ)
+    (r : Float) : Type 0 where
   pub first : from ≤ k
   pub last : k ≤ to
   pub carried : Carries xs row0 row1 blend from k sum r

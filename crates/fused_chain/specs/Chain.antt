@@ -3,7 +3,7 @@ use Prim.Native.Nat.{ℕ, min}
 use mathlib.Core.List.{List}
 use lib.ListN.{getD}
 use lib.Ieee.{Float, nan, binary32, add, sub, mul}
-use Rattle.loops.specs.Loops.{fold}
+use Rattle.loop_laws.specs.Loops.{fold}
 use Rattle.rounding.specs.Operations.{fused}
 
 -- `row0[k] + blend * (row1[k] - row0[k])`
@@ -12,9 +12,10 @@ coefficientOf blend a b = add binary32 a (mul binary32 blend (sub binary32 b a))
 
 -- `sum = x[k].mul_add(coefficient, sum)`
 abbrev pub turnOf : List Float → List Float → List Float → Float → ℕ → Float → Float
-turnOf xs row0 row1 blend k sum = fused binary32 (getD xs k nan) (coefficientOf blend (getD row0 k nan) (getD row1 k nan)) sum
+turnOf xs row0 row1 blend k sum =
+    fused binary32 (getD xs k nan) (coefficientOf blend (getD row0 k nan) (getD row1 k nan)) sum
 
--- n turns, from a sum on
+-- The sum after n turns, from a given sum on.
 abbrev pub chainOf : List Float → List Float → List Float → Float → Float → ℕ → Float
 chainOf xs row0 row1 blend sum n = fold (turnOf xs row0 row1 blend) sum n
 

@@ -1,9 +1,10 @@
-// Runs of taps of two chains over the same samples, four of each at a time: neither waits for the other. They stop where either does.
+// Runs of taps of two chains over the same samples, four of each at a time, so that neither waits for the other. They
+// stop where either one does.
 ghost use Rattle.fused_chain.specs.Blocks.{Ready, Runs};
 use crate::before::four_rounded;
 use crate::taps::multiplied;
-use biased::advance;
-use biased::with_bias;
+use biased_sum::advance;
+use biased_sum::with_bias;
 use refusal_order::both;
 
 // How far both runs came, and their sums there.

@@ -1,4 +1,5 @@
-// A run of taps whose sums are rounded by their patterns, four at a time: for taps before the middle, where the sum changes its size at most turns.
+// A run of taps whose sums are rounded on their bit patterns, four at a time. It serves the taps before the middle,
+// where the sum changes its exponent at most steps.
 ghost use mathlib.Core.Path.{_≡_};
 ghost use mathlib.Core.Bool.{true};
 ghost use lib.Dec.{T};
@@ -60,7 +61,8 @@ pub(crate) fn plain_run<'a>(
     sum: f64,
 ) -> Run
     requires { ⌜ Ready (now xs) (now row0) (now row1) from to sum ⌝ }
-    ensures { λ r. ⌜ Runs (now (xs .entry)) (now (row0 .entry)) (now (row1 .entry)) blend from to sum (r .k) (r .sum) ⌝ }
+    ensures { λ r. ⌜ Runs (now (xs .entry)) (now (row0 .entry)) (now (row1 .entry)) blend from to sum (r .k)
+        (r .sum) ⌝ }
 {
     if sum - sum != 0.0 {
         return Run { k: from, sum: sum };

@@ -1,9 +1,10 @@
-// A run of taps with its sum kept biased: nothing but one addition a tap waits for another. It is for taps behind the middle, where the sum keeps its size.
+// A run of taps with its sum kept biased, so that each tap waits for one addition only. It serves the taps behind the
+// middle, where the sum keeps its exponent.
 ghost use Rattle.fused_chain.specs.Blocks.{Ready, Runs};
 use crate::Run;
 use crate::taps::multiplied;
-use biased::advance;
-use biased::with_bias;
+use biased_sum::advance;
+use biased_sum::with_bias;
 use refusal_order::both;
 
 // The turns from `from` on, four at a time, up to `to` at most, as far as the sum keeps its size and its sign.
@@ -17,7 +18,8 @@ pub(crate) fn biased_run<'a>(
     sum: f64,
 ) -> Run
     requires { ⌜ Ready (now xs) (now row0) (now row1) from to sum ⌝ }
-    ensures { λ r. ⌜ Runs (now (xs .entry)) (now (row0 .entry)) (now (row1 .entry)) blend from to sum (r .k) (r .sum) ⌝ }
+    ensures { λ r. ⌜ Runs (now (xs .entry)) (now (row0 .entry)) (now (row1 .entry)) blend from to sum (r .k)
+        (r .sum) ⌝ }
 {
     let t = with_bias(sum);
     if !t.fine {

@@ -1,4 +1,4 @@
-// 000's f32 loop over a run of taps: a chain of fused steps, each rounded once, one behind the other.
+// The original's f32 loop over a run of taps: a chain of fused steps, each rounded once (K4).
 mod abreast; // two runs at once
 mod before; // before the run's middle
 mod behind; // behind it

@@ -1,4 +1,5 @@
-// Two chains over the same samples, as a blend of two tables wants them (T4, T5): at once, so that the time that one waits is the other's.
+// Two chains over the same samples, as a blend of two tables needs them (T4, T5). They run side by side, so that one
+// works while the other waits.
 ghost use mathlib.Core.Path.{_≡_};
 ghost use Prim.Native.Nat.{_≤_};
 ghost use lib.ListN.{length};
@@ -31,7 +32,8 @@ fn together<'a>(
     b: f32,
     n: usize,
 ) -> Pair
-    requires { ⌜ (n ≤ length (now xs)) × (n ≤ length (now a0)) × (n ≤ length (now a1)) × (n ≤ length (now b0)) × (n ≤ length (now b1)) ⌝ }
+    requires { ⌜ (n ≤ length (now xs)) × (n ≤ length (now a0)) × (n ≤ length (now a1)) × (n ≤ length (now b0))
+        × (n ≤ length (now b1)) ⌝ }
     ensures { λ r. ⌜ r .a ≡ chainOf (now (xs .entry)) (now (a0 .entry)) (now (a1 .entry)) blend a n ⌝ }
     ensures { λ r. ⌜ r .b ≡ chainOf (now (xs .entry)) (now (b0 .entry)) (now (b1 .entry)) blend b n ⌝ }
 {
@@ -66,8 +68,10 @@ pub fn chains<'a>(
     a: f32,
     b: f32,
 ) -> Pair
-    ensures { λ r. ⌜ r .a ≡ chainOf (now (xs .entry)) (now (a0 .entry)) (now (a1 .entry)) blend a (runLength (length (now (xs .entry))) (length (now (a0 .entry))) (length (now (a1 .entry)))) ⌝ }
-    ensures { λ r. ⌜ r .b ≡ chainOf (now (xs .entry)) (now (b0 .entry)) (now (b1 .entry)) blend b (runLength (length (now (xs .entry))) (length (now (b0 .entry))) (length (now (b1 .entry)))) ⌝ }
+    ensures { λ r. ⌜ r .a ≡ chainOf (now (xs .entry)) (now (a0 .entry)) (now (a1 .entry)) blend a
+        (runLength (length (now (xs .entry))) (length (now (a0 .entry))) (length (now (a1 .entry)))) ⌝ }
+    ensures { λ r. ⌜ r .b ≡ chainOf (now (xs .entry)) (now (b0 .entry)) (now (b1 .entry)) blend b
+        (runLength (length (now (xs .entry))) (length (now (b0 .entry))) (length (now (b1 .entry)))) ⌝ }
 {
     let n = least(xs.len(), least(a0.len(), a1.len()));
     if n == least(xs.len(), least(b0.len(), b1.len())) {

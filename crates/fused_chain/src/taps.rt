@@ -39,7 +39,8 @@ pub(crate) fn tap_at<'a>(
     k: usize,
 ) -> Tap
     requires { ⌜ (k < length (now xs)) × (k < length (now row0)) × (k < length (now row1)) ⌝ }
-    ensures { λ r. ⌜ (r .x ≡ getD (now (xs .entry)) k nan) × (r .c ≡ coefficientOf blend (getD (now (row0 .entry)) k nan) (getD (now (row1 .entry)) k nan)) ⌝ }
+    ensures { λ r. ⌜ (r .x ≡ getD (now (xs .entry)) k nan)
+        × (r .c ≡ coefficientOf blend (getD (now (row0 .entry)) k nan) (getD (now (row1 .entry)) k nan)) ⌝ }
 {
     let a = row0[k];
     let c = a + blend * (row1[k] - a);
@@ -62,7 +63,8 @@ pub(crate) fn multiplied<'a>(
     k: usize,
 ) -> Products
     requires { ⌜ (k + 4 ≤ length (now xs)) × (k + 4 ≤ length (now row0)) × (k + 4 ≤ length (now row1)) ⌝ }
-    ensures { λ r. ⌜ (r .fine ≡ true → Multiplied (now (xs .entry)) (now (row0 .entry)) (now (row1 .entry)) blend k (r .a) (r .b) (r .c) (r .d)) ⌝ }
+    ensures { λ r. ⌜ (r .fine ≡ true
+        → Multiplied (now (xs .entry)) (now (row0 .entry)) (now (row1 .entry)) blend k (r .a) (r .b) (r .c) (r .d)) ⌝ }
 {
     let s = tap_at(xs, row0, row1, blend, k);
     let t = tap_at(xs, row0, row1, blend, k + 1);

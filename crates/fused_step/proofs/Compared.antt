@@ -1,4 +1,5 @@
--- A comparison that holds is one of two numbers: a NaN stands in no order. A number that is an f32 is an f64. Assumes nothing.
+-- A comparison that holds is one of two numbers: a NaN stands in no order. A number that is an f32 is an f64.
+-- Assumes nothing.
 use mathlib.Core.Path.{_≡_, refl, sym, _∙_}
 use mathlib.Core.Bool.{Bool, true, false, not, _&&_, true≢false}
 use lib.Dec.{T}
@@ -6,7 +7,8 @@ use lib.Ieee.{Float, nan, inf, fin, binary32, binary64, fits, isNan, lt, le, eq}
 use lib.Ieee.Fits.{and-i, fits-widens}
 use Rattle.fused_step.specs.Steps.{Numbers}
 
-module _ (holds : Float → Float → Bool) (left : (y : Float) → holds nan y ≡ false) (right : (x : Float) → holds x nan ≡ false) where
+module _ (holds : Float → Float → Bool) (left : (y : Float) → holds nan y ≡ false)
+    (right : (x : Float) → holds x nan ≡ false) where
   numbers : (x y : Float) → holds x y ≡ true → Numbers x y
   unfolding isNan
   numbers nan y h = absurd (true≢false (sym h ∙ left y))
@@ -35,7 +37,8 @@ less-numbers = numbers lt (λ y. refl) less-nan
 
 pub at-most-numbers : (x y : Float) → le y x ≡ true → Numbers x y
 unfolding lt eq le
-at-most-numbers x y h = let n = numbers le (λ z. refl) at-most-nan y x h in record { first = n .second; second = n .first }
+at-most-numbers x y h =
+    let n = numbers le (λ z. refl) at-most-nan y x h in record { first = n .second; second = n .first }
 
 -- what a cast to f64 asks of an f32
 pub widens : (x : Float) → T (fits binary32 x) → T (not (isNan x)) → T (fits binary64 x && not (isNan x))

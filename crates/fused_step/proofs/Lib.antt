@@ -1,4 +1,4 @@
 pub mod Compared
-pub mod Halves
-pub mod Cut
+pub mod HalfUnitAdded
+pub mod QuickPattern
 pub mod Steps

@@ -14,11 +14,16 @@ pub record Numbers (x c : Float) : Type 0 where
   pub first : T (not (isNan x))
   pub second : T (not (isNan c))
 
--- Whether n is, with half of an f32's last digit added, the pattern of an f64 that is rounded to an f32 by cutting that pattern off.
+-- Whether n, which has half of an f32's last digit added, is the pattern of an f64 that is rounded to an f32 by cutting
+-- the pattern off.
 abbrev pub plain : ℕ → Bool
-plain n = not (eqb (bitAnd n 0x1fff_ffff) 0) && (not (ltb (bitAnd n 0x7fff_ffff_ffff_ffff) 0x3810_0000_1000_0000) && ltb (bitAnd n 0x7fff_ffff_ffff_ffff) 0x47e0_0000_1000_0000)
+plain n =
+    not (eqb (bitAnd n 0x1fff_ffff) 0)
+    && (not (ltb (bitAnd n 0x7fff_ffff_ffff_ffff) 0x3810_0000_1000_0000)
+    && ltb (bitAnd n 0x7fff_ffff_ffff_ffff) 0x47e0_0000_1000_0000)
 
--- n is, with 2 ^ 28 added, the pattern of an f64 of either sign, from 2 ^ -126 to below 2 ^ 127 in size, that is no midpoint of two f32.
+-- n is, with 2 ^ 28 added, the pattern of an f64 of either sign, from 2 ^ -126 to below 2 ^ 127 in size, that is no
+-- midpoint of two f32.
 pub record Plain (n : ℕ) : Type 0 where
   pub normal : 0x3810_0000_1000_0000 ≤ n % 2 ^ 63
   pub small : n % 2 ^ 63 < 0x47e0_0000_1000_0000

@@ -1,4 +1,5 @@
-// K4. One tap of 000's f32 loop: a fused step from an f64 to an f64 that is an f32, quick where the f64 sum is plain.
+// One tap of the original's f32 loop: a fused step whose sum is held as an f64 that is an f32 (K4).
+// It is quick where the f64 sum is plain.
 ghost use mathlib.Core.Path.{_≡_};
 ghost use mathlib.Core.Bool.{true};
 ghost use lib.Ieee.{binary32, binary64, add, mul};
@@ -14,8 +15,8 @@ pub fn are_numbers(x: f32, c: f32) -> bool
     if x < c { true } else { x >= c }
 }
 
-// From an f64's pattern with half an f32's last digit added: whether the f64 has an exponent's field of 897 to 1149, so that its size is a normal f32's, and was no
-// midpoint of two f32.
+// `n` is an f64's pattern with half of an f32's last digit added. True if the f64's exponent field was 897 to 1149, so
+// that it is as large as a normal f32, and the f64 was no midpoint of two f32.
 pub fn is_plain(n: u64) -> bool
     ensures { λ r. ⌜ r ≡ plain n ⌝ }
     ensures { λ r. ⌜ (r ≡ true → Plain n) ⌝ }
@@ -50,10 +51,10 @@ fn rare_step(x: f32, c: f32, sum: f64, s: f64) -> f64
     any_step(x, c, sum)
 }
 
-// x * c + sum rounded once to an f32, for any f64 sum. The chain's sums are f32 all along, held as f64, so that no step
-// widens or narrows them. The product is exact in f64. Where the f64 sum is plain, half of the last digit that an f32 keeps
-// is added to its pattern and what an f32 lacks is cut off: a carry moves up into the exponent's field. No tie is met
-// there, so this is the nearest.
+// x * c + sum rounded once to an f32, for any f64 sum. The chain keeps its f32 sums as f64, so no step widens or
+// narrows them. The product is exact in f64. If the f64 sum is plain, half of the last digit that an f32 keeps is added
+// to its pattern and the digits that an f32 lacks are cut off; a carry goes up into the exponent field. No tie is
+// possible there, so the result is the nearest f32.
 pub fn step(x: f32, c: f32, sum: f64) -> f64
     ensures { λ r. ⌜ r ≡ fused binary32 x c sum ⌝ }
 {

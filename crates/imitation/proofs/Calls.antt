@@ -20,10 +20,12 @@ use Rattle.imitation.specs.Reading.{callOf}
 abbrev pub due : List Float → VariableDelay → List Float → Float → Float → ℕ
 due table d ring x y = verdict (tapsOk 32 && phasesOk 64) (eqb (length table) (tableLength 32 64)) d (length ring) x y
 
-pub calls : (table : List Float) (d : VariableDelay) (ring : List Float) (x y : Float) {q : ProcessedF32} {left : List Float} {n : ℕ} {v : Float}
+pub calls : (table : List Float) (d : VariableDelay) (ring : List Float) (x y : Float) {q : ProcessedF32}
+    {left : List Float} {n : ℕ} {v : Float}
     → q ≡ processedF32By (sincF32At table 32 64) (due table d ring x y) d ring x y
     → left ≡ ringAfter (due table d ring x y) d ring x → n ≡ numberF32Of (q .answer) → v ≡ valueF32Of (q .answer)
-    → (q .state ≡ callOf table d ring x y .state) × ((n ≡ callOf table d ring x y .number) × ((v ≡ callOf table d ring x y .sample)
+    → (q .state ≡ callOf table d ring x y .state)
+    × ((n ≡ callOf table d ring x y .number) × ((v ≡ callOf table d ring x y .sample)
     × (left ≡ callOf table d ring x y .ring)))
 unfolding callOf
 calls table d ring x y e1 e2 e3 e4 = rw (e4, e3, e2, e1) (refl, (refl, (refl, refl)))

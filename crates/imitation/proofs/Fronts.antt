@@ -7,8 +7,8 @@ use native.Mathlib.Omega.{arith}
 use lib.ListN.{length, take, drop, set, length-set, take-append-drop}
 use lib.Seq.{drop-drop, drop-set-lt}
 use lib.Ieee.{Float}
-use Rattle.loops.specs.Loops.{listOf}
-use Rattle.loops.proofs.Lists.{nothing, written}
+use Rattle.loop_laws.specs.Loops.{listOf}
+use Rattle.loop_laws.proofs.Lists.{nothing, written}
 
 pub record Front (f : ℕ → Float) (lent xs : List Float) (k : ℕ) : Type 0 where
   pub long : length xs ≡ length lent

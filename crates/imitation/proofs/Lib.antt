@@ -1,4 +1,4 @@
 pub mod Fronts
 pub mod Calls
-pub mod Turning
-pub mod Rendered
+pub mod EngineTurns
+pub mod LikeRender

@@ -2,7 +2,7 @@
 use Prim.Native.Nat.{ℕ, zero, suc}
 use mathlib.Core.List.{List}
 use lib.Ieee.{Float, nan, binary64, add}
-use Rattle.loops.specs.Loops.{listOf}
+use Rattle.loop_laws.specs.Loops.{listOf}
 use Rattle.modulation.specs.Step.{nextOf}
 use Rattle.modulation_params.specs.declared.ModulationParams.{ModulationParams}
 use Rattle.modulation_engine.specs.declared.ModulationEngine.{ModulationEngine}

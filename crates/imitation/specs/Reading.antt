@@ -1,4 +1,4 @@
--- One channel of a transfer, read by a WindowedSincF32 of 32 taps and 64 phases, each sample at its own delay: the single
+-- One channel of a transfer read by a WindowedSincF32 of 32 taps and 64 phases, each sample at its own delay: single
 -- calls in order, up to the first that is refused. Definitions only.
 use Prim.Native.Nat.{ℕ}
 use mathlib.Core.Bool.{true}

@@ -24,7 +24,8 @@ pub fn wander(
     right: &mut [f64],
 ) -> Wandered
     ensures { λ r. ⌜ r .frames ≡ min (length (now (left .entry))) (length (now (right .entry))) ⌝ }
-    ensures { λ r. ⌜ r .engine ≡ turnedBy params engine (min (length (now (left .entry))) (length (now (right .entry)))) ⌝ }
+    ensures { λ r. ⌜ r .engine ≡
+        turnedBy params engine (min (length (now (left .entry))) (length (now (right .entry)))) ⌝ }
     ensures { λ r. ⌜ now (left .exit)
         ≡ leftDelays params middle engine (min (length (now (left .entry))) (length (now (right .entry))))
         ++ drop (min (length (now (left .entry))) (length (now (right .entry)))) (now (left .entry)) ⌝ }

@@ -1,5 +1,6 @@
-// What a stretch of a transfer becomes when it is read back at a wandering delay: the delays of its frames, which an engine
-// gives, and one channel's samples read at them by a windowed sinc of 32 taps and 64 phases.
+// What a stretch of a transfer becomes when it is read back at a wandering delay.
+// An engine gives the delays of the frames, and one channel's samples are read at them by a windowed sinc of 32 taps
+// and 64 phases.
 mod delays; // the engine, frame by frame
 mod reading; // a channel, sample by sample
 

@@ -80,7 +80,7 @@ fn hear<'a>(
     let after = p.state;
     Heard {
         state: after,
-        number: doors::number_f32(answer),
-        sample: doors::value_f32(answer),
+        number: answer_parts::number_f32(answer),
+        sample: answer_parts::value_f32(answer),
     }
 }

@@ -1,9 +1,11 @@
--- The floor of a number of magnitude at most b, for any b inside the range of an `i64`: it is the quotient, or below zero the quotient rounded up, with
--- its sign, so it is at most the number and the number is below the next, and its own magnitude is at most b. Assumes nothing.
+-- The floor of a number of magnitude at most b, for any b inside the range of an `i64`: it is the quotient,
+-- or below zero the quotient rounded up, with its sign, so it is at most the number and the number is below the next,
+-- and its own magnitude is at most b. Assumes nothing.
 use mathlib.Core.Path.{_≡_, ap}
 use mathlib.Core.Bool.{true, false}
 use Prim.Native.Nat.{ℕ, zero, suc, _+_, _-_, _*_, _/_, _^_, _≤_, _<_}
-use native.Mathlib.Nat.{le-trans, le-of-suc-le-suc, min-eq-left, mod-lt, div-lt-iff-lt-mul, div-mul-le-self, div-add-mod', suc-mul, add-mul, lt-of-mul-lt-mul-right, le-antisymm}
+use native.Mathlib.Nat.{le-trans, le-of-suc-le-suc, min-eq-left, mod-lt, div-lt-iff-lt-mul, div-mul-le-self}
+use native.Mathlib.Nat.{div-add-mod', suc-mul, add-mul, lt-of-mul-lt-mul-right, le-antisymm}
 use native.Mathlib.Omega.{arith}
 use lib.IntN.{ℤ, pos, negsuc, negℤ, natAbs}
 use lib.Signed.{mag}
@@ -12,7 +14,7 @@ use lib.Ieee.Fits.{down-pos}
 use lib.Ieee.Positive.{den}
 use Rattle.interval.proofs.Signed.{gain, loss}
 use Rattle.magnitude.specs.Bounds.{AtMost}
-use Rattle.integer_part.proofs.Signed.{natAbs-neg, mag-le}
+use Rattle.integer_part.proofs.IntegerSizes.{natAbs-neg, mag-le}
 use Rattle.integer_part.specs.Parts.{floorOf}
 
 -- ---- a / d, and a / d rounded up
@@ -32,20 +34,28 @@ ceiling-around a d D =
     (omega arith, omega arith)
 
 -- ---- the floor does not saturate
-pub floor-not-negative : (b m : ℕ) (e : ℤ) → b < 2 ^ 63 → AtMost b (fin false m e) → floorOf (fin false m e) ≡ pos (m * up e / down e)
+pub floor-not-negative : (b m : ℕ) (e : ℤ) → b < 2 ^ 63 → AtMost b (fin false m e)
+    → floorOf (fin false m e) ≡ pos (m * up e / down e)
 unfolding floorOf
-floor-not-negative b m e B h = ap pos (min-eq-left (le-trans (quotient-at-most (m * up e) (down e) b (down-pos e) h) (omega arith)))
+floor-not-negative b m e B h =
+    ap pos (min-eq-left (le-trans (quotient-at-most (m * up e) (down e) b (down-pos e) h) (omega arith)))
 
-pub floor-negative : (b m : ℕ) (e : ℤ) → b < 2 ^ 63 → AtMost b (fin true m e) → floorOf (fin true m e) ≡ negℤ (pos ((m * up e + (down e - 1)) / down e))
+pub floor-negative : (b m : ℕ) (e : ℤ) → b < 2 ^ 63 → AtMost b (fin true m e)
+    → floorOf (fin true m e) ≡ negℤ (pos ((m * up e + (down e - 1)) / down e))
 unfolding floorOf
-floor-negative b m e B h = ap (λ (z : ℕ). negℤ (pos z)) (min-eq-left (le-trans (ceiling-at-most (m * up e) (down e) b (down-pos e) h) (omega arith)))
+floor-negative b m e B h =
+    ap (λ (z : ℕ). negℤ (pos z))
+    (min-eq-left (le-trans (ceiling-at-most (m * up e) (down e) b (down-pos e) h) (omega arith)))
 
 -- ---- its magnitude
 pub floor-at-most : (b : ℕ) (x : Float) → b < 2 ^ 63 → AtMost b x → natAbs (floorOf x) ≤ b
 floor-at-most b nan B h = absurd h
 floor-at-most b (inf s) B h = absurd h
-floor-at-most b (fin false m e) B h = rw (floor-not-negative b m e B h) (quotient-at-most (m * up e) (down e) b (down-pos e) h)
-floor-at-most b (fin true m e) B h = rw (floor-negative b m e B h, natAbs-neg ((m * up e + (down e - 1)) / down e)) (ceiling-at-most (m * up e) (down e) b (down-pos e) h)
+floor-at-most b (fin false m e) B h =
+    rw (floor-not-negative b m e B h) (quotient-at-most (m * up e) (down e) b (down-pos e) h)
+floor-at-most b (fin true m e) B h =
+    rw (floor-negative b m e B h, natAbs-neg ((m * up e + (down e - 1)) / down e))
+    (ceiling-at-most (m * up e) (down e) b (down-pos e) h)
 
 pub floor-mag : (b : ℕ) (x : Float) → b < 2 ^ 63 → AtMost b x → mag (floorOf x) ≤ b
 floor-mag b x B h = le-trans (mag-le (floorOf x)) (floor-at-most b x B h)
@@ -60,9 +70,12 @@ negPart (pos n) = 0
 negPart (negsuc n) = suc n
 
 abbrev pub Around : ℤ → Float → Type 0
-Around z x = (posPart z * den x + loss x ≤ negPart z * den x + gain x) × (negPart z * den x + gain x < suc (posPart z) * den x + loss x)
+Around z x =
+    (posPart z * den x + loss x ≤ negPart z * den x + gain x)
+    × (negPart z * den x + gain x < suc (posPart z) * den x + loss x)
 
-negated : (c m : ℕ) (e : ℤ) → m * up e ≤ c * down e → c * down e < m * up e + down e → Around (negℤ (pos c)) (fin true m e)
+negated : (c m : ℕ) (e : ℤ) → m * up e ≤ c * down e → c * down e < m * up e + down e
+    → Around (negℤ (pos c)) (fin true m e)
 negated zero m e l r = (omega arith, omega arith)
 negated (suc c) m e l r = (omega arith, omega arith)
 
@@ -89,4 +102,6 @@ meets z w x a b =
     (simp (suc-mul, add-mul) (omega (arith, a .0, simp suc-mul at (b .1)))))
 
 pub floor-unique : (b : ℕ) (x : Float) (z : ℤ) → b < 2 ^ 63 → AtMost b x → Around z x → z ≡ floorOf x
-floor-unique b x z B h a = let f = floor-around b x B h in equal z (floorOf x) (le-antisymm (meets z (floorOf x) x a f) (meets (floorOf x) z x f a))
+floor-unique b x z B h a =
+    let f = floor-around b x B h in
+    equal z (floorOf x) (le-antisymm (meets z (floorOf x) x a f) (meets (floorOf x) z x f a))

@@ -1,10 +1,10 @@
-pub mod Signed
-pub mod Shifted
+pub mod IntegerSizes
+pub mod SumsInRange
 pub mod Floors
-pub mod Ends
-pub mod Outside
-pub mod Step
-pub mod Beside
-pub mod Nearby
+pub mod CastEnds
+pub mod FloorOfLarge
+pub mod FloorInside
+pub mod WholeThroughFloat
+pub mod FloorByOneSum
 pub mod Fractions
 pub mod Worked

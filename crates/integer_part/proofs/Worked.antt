@@ -1,4 +1,5 @@
--- P8, and the place of K3 whose fraction is exactly 1, computed from the definitions that the contracts cite. Assumes nothing.
+-- P8, and the place of K3 whose fraction is exactly 1, computed from the definitions that the contracts cite.
+-- Assumes nothing.
 use mathlib.Core.Path.{_≡_, refl}
 use lib.IntN.{negsuc}
 use lib.Ieee.{Float, binary64, sub, ofInt, ofBits, toBits}

@@ -1,10 +1,12 @@
--- K3. The integer part of a place is the floor towards minus infinity, and the fraction is the place minus the integer, rounded. Definitions only.
+-- K3. The integer part of a position is its floor towards minus infinity; the fraction is the position minus it,
+-- rounded. Definitions only.
 use Prim.Native.Nat.{_+_, _-_, _*_, _/_, _^_, min}
 use mathlib.Core.Bool.{true, false, cond}
 use lib.IntN.{ℤ, pos, negℤ}
 use lib.Ieee.{Float, nan, inf, fin, binary64, up, down, sub, ofInt}
 
--- Rust's `x.floor() as i64`: below zero the quotient is rounded away from zero. Past an end of the range it is that end, and at a NaN 0.
+-- Rust's `x.floor() as i64`: below zero the quotient is rounded away from zero. Past an end of the range it is that
+-- end, at a NaN 0.
 unfoldable pub floorOf : Float → ℤ
 floorOf nan = pos 0
 floorOf (inf s) = cond s (negℤ (pos (2 ^ 63))) (pos (2 ^ 63 - 1))

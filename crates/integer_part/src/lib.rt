@@ -1,4 +1,4 @@
-// K3. The integer part of a place and the fraction that is left.
+// The integer part of a position and the fraction that is left (K3).
 ghost use mathlib.Core.Path.{_≡_};
 ghost use Prim.Native.Nat.{_^_};
 ghost use lib.Ieee as Ieee;
@@ -40,8 +40,8 @@ fn beyond(x: f64) -> i64
     }
 }
 
-// The floor as a float, by no cast. Between 2^52 and 2^53 the floats are the whole numbers, so 3 * 2^51 added to x rounds to one of the two about x, and it is one too many
-// where it lies above.
+// The floor as a float, without a cast. Between 2^52 and 2^53 the floats are the whole numbers, so adding 3 * 2^51
+// rounds x to a neighbouring whole number, which is one too many if it lies above x.
 fn floored(x: f64) -> f64
     requires { ⌜ AtMost (2 ^ 36) x ⌝ }
     ensures { λ r. ⌜ r ≡ Ieee.ofInt binary64 (floorOf x) ⌝ }
@@ -51,7 +51,8 @@ fn floored(x: f64) -> f64
     t - step - 6755399441055744.0
 }
 
-// Rust's `x.floor() as i64`. The quick way serves 01's positions, by `ring::position_ok`'s own test, which a compiler then makes once.
+// Rust's `x.floor() as i64` (K3). The fast path covers all positions of a reader; its test is the one of
+// `ring::position_ok`, so that the compiler makes it once.
 pub fn floor(x: f64) -> i64
     ensures { λ r. ⌜ r ≡ floorOf x ⌝ }
 {

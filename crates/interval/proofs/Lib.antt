@@ -1,7 +1,7 @@
 pub mod Signed
 pub mod Rounded
 pub mod Operations
-pub mod Grows
+pub mod MonotoneOperations
 pub mod Between
 pub mod Products
 pub mod Pieces

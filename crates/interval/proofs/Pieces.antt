@@ -1,5 +1,6 @@
--- A fact of every float between two ends, piece by piece: the pieces' ends are a list that goes up, each float lies in one of them, and a test of the
--- two ends of each piece, computed, gives the fact there. Assumes nothing.
+-- A fact of every float between two ends, piece by piece: the pieces' ends are a list that goes up,
+-- each float lies in one of them, and a test of the two ends of each piece, computed, gives the fact there.
+-- Assumes nothing.
 use mathlib.Core.Bool.{Bool, true, false, not, _&&_}
 use mathlib.Core.List.{List, [], _∷_}
 use lib.Dec.{T}
@@ -47,4 +48,5 @@ pieces P test law a b (c ∷ cs) x h u =
     let tests = and-r (finite b) (test a b && passed test b c cs) h in
     total x b (u .above .second) B
     (λ t. law a b x (and-l (test a b) (passed test b c cs) tests) (between (u .above .first) B (u .above .order) t))
-    (λ t. pieces P test law b c cs x (and-r (test a b) (passed test b c cs) tests) (between B (u .below .second) t (u .below .order)))
+    (λ t. pieces P test law b c cs x (and-r (test a b) (passed test b c cs) tests)
+    (between B (u .below .second) t (u .below .order)))

@@ -1,5 +1,5 @@
--- A product whose first factor is not negative lies between products of ends, which ones by the signs of the other's ends; a quotient of floats that are
--- not negative, by one above zero, between quotients of ends. Assumes nothing.
+-- A product whose first factor is not negative lies between products of ends, which ones by the signs of the other's
+-- ends; a quotient of floats that are not negative, by one above zero, between quotients of ends. Assumes nothing.
 use mathlib.Core.Path.{_≡_, refl}
 use mathlib.Core.Bool.{Bool, true, false, not, cond}
 use Prim.Native.Nat.{_+_, _*_, _≤_, _<_}
@@ -13,7 +13,7 @@ use lib.Ieee.Scale.{finite}
 use Rattle.magnitude.proofs.Comparisons.{lt→le}
 use Rattle.interval.proofs.Signed.{gain, loss, under, strictly, nle→lt, Ordered, bound}
 use Rattle.interval.proofs.Rounded.{none}
-use Rattle.interval.proofs.Grows.{product-grows, product-shrinks, quotient-grows}
+use Rattle.interval.proofs.MonotoneOperations.{product-grows, product-shrinks, quotient-grows}
 use Rattle.interval.proofs.Between.{Between, between}
 
 abbrev pub zero : Float
@@ -53,7 +53,8 @@ falls {x} {y} o n = go x (o .first) (rw n at (bound o))
 pub rises-above : {x y : Float} → Ordered x y → loss x ≡ 0 → 0 < gain x → 0 < gain y
 rises-above {x} {y} o n g = first-pos (gain y) (den x) (omega (arith, mul-pos g (den-pos y), rw n at (bound o)))
 
--- The ends of a product whose first factor lies in [a, b] and is not negative: where the other begins at c, and where it ends at d.
+-- The ends of a product whose first factor lies in [a, b] and is not negative: where the other begins at c,
+-- and where it ends at d.
 abbrev pub least : Format → Float → Float → Float → Float
 least f a b c = mul f (cond (le zero c) a b) c
 
@@ -70,23 +71,34 @@ module _ (f : Format) {a b x c d y : Float} (z : T (le zero a)) (u : Between a b
   nb : loss b ≡ 0
   nb = rises (u .below) nx
 
-  low : (t : Bool) → (T t → T (le zero c)) → (T (not t) → T (not (le zero c))) → T (le (mul f (cond t a b) c) (mul f x y))
-  low true j k = product-grows f (u .above) (v .above) na nx (rises (v .above) (not-negative c (v .above .first) (j tt)))
-  low false j k = product-shrinks f (u .below) (v .above) nx nb (not-positive c (v .above .first) (lt→le c zero (nle→lt c zero (v .above .first) tt (k tt))))
+  low : (t : Bool) → (T t → T (le zero c)) → (T (not t) → T (not (le zero c)))
+      → T (le (mul f (cond t a b) c) (mul f x y))
+  low true j k =
+      product-grows f (u .above) (v .above) na nx (rises (v .above) (not-negative c (v .above .first) (j tt)))
+  low false j k =
+      product-shrinks f (u .below) (v .above) nx nb
+      (not-positive c (v .above .first) (lt→le c zero (nle→lt c zero (v .above .first) tt (k tt))))
 
-  high : (t : Bool) → (T t → T (le zero d)) → (T (not t) → T (not (le zero d))) → T (le (mul f x y) (mul f (cond t b a) d))
+  high : (t : Bool) → (T t → T (le zero d)) → (T (not t) → T (not (le zero d)))
+      → T (le (mul f x y) (mul f (cond t b a) d))
   high true j k = product-grows f (u .below) (v .below) nx nb (not-negative d (v .below .second) (j tt))
-  high false j k = product-shrinks f (u .above) (v .below) na nx (falls (v .below) (not-positive d (v .below .second) (lt→le d zero (nle→lt d zero (v .below .second) tt (k tt)))))
+  high false j k =
+      product-shrinks f (u .above) (v .below) na nx
+      (falls (v .below) (not-positive d (v .below .second) (lt→le d zero (nle→lt d zero (v .below .second) tt (k tt)))))
 
-  pub product-between : {l h : Float} → least f a b c ≡ l → most f a b d ≡ h → T (finite l) → T (finite h) → Between l h (mul f x y)
-  product-between el eh p q = between p q (rw el at (low (le zero c) (λ t. t) (λ t. t))) (rw eh at (high (le zero d) (λ t. t) (λ t. t)))
+  pub product-between : {l h : Float} → least f a b c ≡ l → most f a b d ≡ h → T (finite l) → T (finite h)
+      → Between l h (mul f x y)
+  product-between el eh p q =
+      between p q (rw el at (low (le zero c) (λ t. t) (λ t. t))) (rw eh at (high (le zero d) (λ t. t) (λ t. t)))
 
-  pub quotient-between : {l h : Float} → T (lt zero c) → div f a d ≡ l → div f b c ≡ h → T (finite l) → T (finite h) → Between l h (div f x y)
+  pub quotient-between : {l h : Float} → T (lt zero c) → div f a d ≡ l → div f b c ≡ h → T (finite l) → T (finite h)
+      → Between l h (div f x y)
   quotient-between s el eh p q =
       let lc = not-negative c (v .above .first) (lt→le zero c s) in
       let ly = rises (v .above) lc in
       let gc : 0 < gain c = omega (arith, strictly zero c tt (v .above .first) s) in
       let gy = rises-above (v .above) lc gc in
       between p q
-      (rw el at (quotient-grows f (u .above) (v .below) na nx ly (rises (v .below) ly) gy (rises-above (v .below) ly gy)))
+      (rw el at (quotient-grows f (u .above) (v .below) na nx ly (rises (v .below) ly) gy
+      (rises-above (v .below) ly gy)))
       (rw eh at (quotient-grows f (u .below) (v .above) nx nb lc ly gc gy))

@@ -1,8 +1,9 @@
--- The order of finite floats as one of whole numbers. A float is (gain - loss) / den, one of gain and loss being 0, so that no sign is left
--- and `omega` reads the rest. Assumes nothing.
+-- The order of finite floats as one of whole numbers. A float is (gain - loss) / den, one of gain and loss being 0,
+-- so that no sign is left and `omega` reads the rest. Assumes nothing.
 use mathlib.Core.Bool.{Bool, true, false, not, cond}
 use Prim.Native.Nat.{ℕ, _+_, _*_, _≤_, _<_}
-use native.Mathlib.Nat.{lt-of-not-le, lt-of-mul-lt-mul-right, le-of-mul-le-mul-right, mul-le-mul-right, mul-lt-mul-of-pos-right, mul-assoc, mul-comm, mul-left-comm, add-mul, mul-add}
+use native.Mathlib.Nat.{lt-of-not-le, lt-of-mul-lt-mul-right, le-of-mul-le-mul-right, mul-le-mul-right}
+use native.Mathlib.Nat.{mul-lt-mul-of-pos-right, mul-assoc, mul-comm, mul-left-comm, add-mul, mul-add}
 use native.Mathlib.Omega.{arith}
 use lib.Dec.{T, T-not, not-T, eqb, ltb→lt, lt→ltb, eqb→eq}
 use lib.Arith.{le→nltb}
@@ -58,10 +59,13 @@ of-under nan y p q h = absurd p
 of-under (inf s) y p q h = absurd p
 of-under (fin s m e) nan p q h = absurd q
 of-under (fin s m e) (inf t) p q h = absurd q
-of-under (fin false m e) (fin false n d) p q h = nlt→le (fin false m e) (fin false n d) tt tt (le→nltb (n * up d * down e) (m * up e * down d) (omega arith))
-of-under (fin true m e) (fin true n d) p q h = nlt→le (fin true m e) (fin true n d) tt tt (le→nltb (m * up e * down d) (n * up d * down e) (omega arith))
+of-under (fin false m e) (fin false n d) p q h =
+    nlt→le (fin false m e) (fin false n d) tt tt (le→nltb (n * up d * down e) (m * up e * down d) (omega arith))
+of-under (fin true m e) (fin true n d) p q h =
+    nlt→le (fin true m e) (fin true n d) tt tt (le→nltb (m * up e * down d) (n * up d * down e) (omega arith))
 of-under (fin true m e) (fin false n d) p q h = nlt→le (fin true m e) (fin false n d) tt tt tt
-of-under (fin false m e) (fin true n d) p q h = nlt→le (fin false m e) (fin true n d) tt tt (le→nltb 0 (n * up d * down e + m * up e * down d) (omega arith))
+of-under (fin false m e) (fin true n d) p q h =
+    nlt→le (fin false m e) (fin true n d) tt tt (le→nltb 0 (n * up d * down e + m * up e * down d) (omega arith))
 
 -- ---- the same of the strict order
 pub strictly : (x y : Float) → T (finite x) → T (finite y) → T (lt x y) → left x y < right x y
@@ -87,7 +91,8 @@ of-strictly (fin true m e) (fin false n d) p q h = lt→ltb 0 (m * up e * down d
 of-strictly (fin false m e) (fin true n d) p q h = absurd (omega arith)
 
 pub nle→lt : (x y : Float) → T (finite x) → T (finite y) → T (not (le y x)) → T (lt x y)
-nle→lt x y p q h = of-strictly x y p q (lt-of-not-le (λ (k : right x y ≤ left x y). T-not (le y x) h (of-under y x q p k)))
+nle→lt x y p q h =
+    of-strictly x y p q (lt-of-not-le (λ (k : right x y ≤ left x y). T-not (le y x) h (of-under y x q p k)))
 
 pub lt→nle : (x y : Float) → T (finite x) → T (finite y) → T (lt x y) → T (not (le y x))
 lt→nle x y p q h = not-T (le y x) (λ t. omega (arith, strictly x y p q h, under y x q p t))
@@ -96,13 +101,21 @@ pub le-le : (x y z : Float) → T (finite x) → T (finite y) → T (finite z) �
 le-le x y z p q r h k =
     of-under x z p r
     (le-of-mul-le-mul-right
-    (simp ring (omega (arith, simp ring at (mul-le-mul-right (den z) (under x y p q h)), simp ring at (mul-le-mul-right (den x) (under y z q r k))))) (den-pos y))
+    (simp ring (omega (
+      arith,
+      simp ring at (mul-le-mul-right (den z) (under x y p q h)),
+      simp ring at (mul-le-mul-right (den x) (under y z q r k)),
+    ))) (den-pos y))
 
 pub le-lt : (x y z : Float) → T (finite x) → T (finite y) → T (finite z) → T (le x y) → T (lt y z) → T (lt x z)
 le-lt x y z p q r h k =
     of-strictly x z p r
     (lt-of-mul-lt-mul-right (den y)
-    (simp ring (omega (arith, simp ring at (mul-le-mul-right (den z) (under x y p q h)), simp ring at (mul-lt-mul-of-pos-right (strictly y z q r k) (den-pos x))))))
+    (simp ring (omega (
+      arith,
+      simp ring at (mul-le-mul-right (den z) (under x y p q h)),
+      simp ring at (mul-lt-mul-of-pos-right (strictly y z q r k) (den-pos x)),
+    ))))
 
 -- Two finite floats in order.
 pub record Ordered (x y : Float) : Type 0 where

@@ -1,1 +1,2 @@
-// What lies between two floats stays between two floats: laws (proofs/) that carry the order through one rounding. No code of its own.
+// Laws about order: what lies between two floats stays between two floats through one rounding.
+// There is no code.

@@ -1,3 +1,3 @@
 pub mod Ranges
-pub mod Eights
+pub mod EightLanes
 pub mod Blocks

@@ -1,4 +1,5 @@
--- Eight nodes side by side, and what the code holds of them while it multiplies the factors of their weights. Definitions only.
+-- Eight nodes side by side, and what the code holds of them while it multiplies the factors of their weights: for the
+-- quick way alone. Definitions only.
 use mathlib.Core.Path.{_≡_}
 use mathlib.Core.List.{List}
 use Prim.Native.Nat.{ℕ, _+_, _<_, _≤_}
@@ -8,19 +9,19 @@ use lib.Ieee.{Float, nan, binary64, add, mul}
 use Rattle.ring.specs.Taps.{tapOf}
 use Rattle.lagrange.specs.Kernel.{num, weightOf}
 
--- the nodes from `first` on, as floats
+-- The nodes from `first` on, as floats.
 pub record Nodes (first : ℕ) (own : List Float) : Type 0 where
   pub node : (k : ℕ) → k < 8 → getD own k nan ≡ num (first + k)
 
--- their weights after the factors of the nodes below n
+-- Their weights after the factors of the nodes below n.
 pub record Weights (local : Float) (first n : ℕ) (w : List Float) : Type 0 where
   pub weight : (k : ℕ) → k < 8 → getD w k nan ≡ weightOf n local (first + k)
 
--- `sum += source.at(base + k) * weight`, x the sample of tap k
+-- `sum += source.at(base + k) * weight`, x the sample of tap k.
 abbrev pub tapTurn : (ℕ → Float) → List Float → ℕ → Float → Float
 tapTurn x w k sum = add binary64 sum (mul binary64 (x k) (getD w k nan))
 
--- all taps stand side by side, the first at a place
+-- All taps stand side by side, the first at a place.
 pub record SideBySide (xs : List Float) (count : ℕ) (base : ℤ) (taps place : ℕ) : Type 0 where
   pub fits : place + taps ≤ length xs
   pub tap : (k : ℕ) → k < taps → getD xs (place + k) nan ≡ tapOf xs count (base +ℤ pos k)

@@ -1,4 +1,5 @@
--- K4, K7. 000's Lagrange<TAPS>: its two loops, each step rounded, in 000's order. The taps come as a number. Definitions only.
+-- K4, K7. 000's Lagrange<TAPS>: its two loops in 000's order, each step rounded. The taps are a number. Definitions
+-- only.
 use Prim.Native.Nat.{ℕ, _-_, _/_, _%_}
 use mathlib.Core.Bool.{Bool, true, false, _&&_, cond}
 use mathlib.Core.List.{List}
@@ -6,7 +7,7 @@ use lib.Dec.{eqb, leb}
 use lib.IntN.{ℤ, pos, _+ℤ_, _-ℤ_}
 use lib.Ieee.{Float, fin, binary64, add, sub, mul, ofInt}
 pub use Rattle.constants.specs.Numbers.{zero-f}
-use Rattle.loops.specs.Loops.{fold}
+use Rattle.loop_laws.specs.Loops.{fold}
 use Rattle.lagrange_factors.specs.Weight.{weight, floats}
 use Rattle.ring.specs.Taps.{tapOf}
 use Rattle.ring.specs.Places.{positionOk}
@@ -25,7 +26,8 @@ weightOf taps local k = weight floats local k taps
 
 -- `sum += source.at(base + k) * weight`
 abbrev pub turnOf : List Float → ℕ → ℤ → Float → ℕ → ℕ → Float → Float
-turnOf xs count base local taps k sum = add binary64 sum (mul binary64 (tapOf xs count (base +ℤ pos k)) (weightOf taps local k))
+turnOf xs count base local taps k sum =
+    add binary64 sum (mul binary64 (tapOf xs count (base +ℤ pos k)) (weightOf taps local k))
 
 -- The first tap stands taps / 2 - 1 before the integer part; `local` is the position from there.
 abbrev pub baseOf : Float → ℕ → ℤ

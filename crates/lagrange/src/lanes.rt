@@ -67,7 +67,8 @@ fn nodes_before(own: [f64; 8], f: u64, local: f64) -> [f64; 8]
 
 // The factors of the pairs behind the eight, if there are any.
 fn nodes_behind(w: [f64; 8], own: [f64; 8], f: u64, local: f64, pairs: u64) -> [f64; 8]
-    requires { ⌜ (f ≤ 8) × (pairs ≤ 8) × (f < pairs) × Nodes (2 * f) own × Weights local (2 * f) (2 * min (f + 4) pairs) w ⌝ }
+    requires { ⌜ (f ≤ 8) × (pairs ≤ 8) × (f < pairs) × Nodes (2 * f) own
+        × Weights local (2 * f) (2 * min (f + 4) pairs) w ⌝ }
     ensures { λ r. ⌜ Weights local (2 * f) (2 * pairs) r ⌝ }
 {
     let mut w = w;

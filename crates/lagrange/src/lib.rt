@@ -1,4 +1,4 @@
-// 000's Lagrange<TAPS>, over a slice, a count, a position and the taps as a number.
+// The original's Lagrange<TAPS> (000) over a slice, a count and a position, with the taps as a number.
 mod lanes; // the weights, eight at a time
 mod sums; // the sum over the taps
 
@@ -46,7 +46,8 @@ pub fn read(source: &[f64], count: u64, position: f64, taps: u64) -> f64
 
 // The reading of a lent slice: refusal 1 where the taps or the position are out of range.
 pub fn sample(source: &[f64], count: u64, position: f64, taps: u64) -> Answer
-    ensures { λ r. ⌜ r ≡ answerOf (cond (tapsOk taps && positionOk position) 0 1) (readOf taps (now (source .entry)) count position) ⌝ }
+    ensures { λ r. ⌜ r ≡
+        answerOf (cond (tapsOk taps && positionOk position) 0 1) (readOf taps (now (source .entry)) count position) ⌝ }
 {
     if in_range(position, taps) {
         answer::answered(0, read(source, count, position, taps))

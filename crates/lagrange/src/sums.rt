@@ -6,7 +6,7 @@ ghost use lib.IntN.{pos, _+ℤ_};
 ghost use lib.ListN.{length, getD};
 ghost use lib.Signed.{mag};
 ghost use lib.Ieee.{nan};
-ghost use Rattle.loops.specs.Loops.{fold};
+ghost use Rattle.loop_laws.specs.Loops.{fold};
 ghost use Rattle.ring.specs.Taps.{tapOf};
 ghost use Rattle.lagrange.specs.Kernel.{turnOf, zero-f};
 ghost use Rattle.lagrange.specs.Eights.{tapTurn, SideBySide};
@@ -91,8 +91,11 @@ fn block(
     f: u64,
     sum: f64,
 ) -> f64
-    requires { ⌜ (mag base ≤ 2 ^ 37) × (f < pairs) × (pairs ≤ 8) × (s .held ≡ true → SideBySide (now source) count base (2 * pairs) (s .place)) × (sum ≡ fold (turnOf (now source) count base local (2 * pairs)) zero-f (2 * f)) ⌝ }
-    ensures { λ r. ⌜ r ≡ fold (turnOf (now (source .entry)) count base local (2 * pairs)) zero-f (2 * min (f + 4) pairs) ⌝ }
+    requires { ⌜ (mag base ≤ 2 ^ 37) × (f < pairs) × (pairs ≤ 8)
+        × (s .held ≡ true → SideBySide (now source) count base (2 * pairs) (s .place))
+        × (sum ≡ fold (turnOf (now source) count base local (2 * pairs)) zero-f (2 * f)) ⌝ }
+    ensures { λ r. ⌜ r ≡
+        fold (turnOf (now (source .entry)) count base local (2 * pairs)) zero-f (2 * min (f + 4) pairs) ⌝ }
 {
     let w = weights(f, local, pairs);
     let n = 2 * at_most(pairs - f, 4);

@@ -1,4 +1,5 @@
-// 000's VariableDelay<Lagrange<TAPS>>::process_sample: refuses by number, or stores the sample and reads behind it. The taps are a setting that is handed in.
+// The delay reader over the Lagrange kernel: it refuses by number, or stores the sample and reads behind it (000).
+// The taps are a setting that is handed in at every call.
 ghost use mathlib.Core.Path.{_≡_};
 ghost use mathlib.Core.Bool.{true};
 ghost use lib.ListN.{length};
@@ -14,8 +15,11 @@ pub fn process_sample(
     delay: f64,
     taps: u64,
 ) -> Processed
-    ensures { λ r. ⌜ r ≡ processedBy (lagrangeAt taps) (verdict (tapsOk taps) true state (length (now (ring .entry))) input delay) state (now (ring .entry)) input delay ⌝ }
-    ensures { λ r. ⌜ now (ring .exit) ≡ ringAfter (verdict (tapsOk taps) true state (length (now (ring .entry))) input delay) state (now (ring .entry)) input ⌝ }
+    ensures { λ r. ⌜ r ≡ processedBy (lagrangeAt taps)
+        (verdict (tapsOk taps) true state (length (now (ring .entry))) input delay) state
+        (now (ring .entry)) input delay ⌝ }
+    ensures { λ r. ⌜ now (ring .exit) ≡ ringAfter
+        (verdict (tapsOk taps) true state (length (now (ring .entry))) input delay) state (now (ring .entry)) input ⌝ }
 {
     let own = lagrange::taps_ok(taps);
     // No table is lent, so its test passes.

@@ -8,7 +8,7 @@ use lib.IntN.{ℤ, pos, natAbs, _-ℤ_, _*ℤ_}
 use lib.Ieee.{Float, fin, binary64, sub, mul, div, ofInt}
 use Rattle.constants.specs.Numbers.{one-f}
 
--- what the loop does with numbers
+-- What the loop does with numbers.
 pub record Arithmetic (A : Type 0) : Type 0 where
   pub one : A
   pub number : ℕ → A
@@ -21,7 +21,7 @@ abbrev pub factor : {A : Type 0} → Arithmetic A → A → ℕ → ℕ → A �
 factor a local k j w =
     cond (eqb j k) w (a .times w (a .over (a .less local (a .number j)) (a .less (a .number k) (a .number j))))
 
--- the weight of node k after the factors of the nodes below n
+-- The weight of node k after the factors of the nodes below n.
 unfoldable pub weight : {A : Type 0} → Arithmetic A → A → ℕ → ℕ → A
 weight a local k zero = a .one
 weight a local k (suc j) = factor a local k j (weight a local k j)
@@ -37,7 +37,7 @@ floats =
       over = div binary64;
     }
 
--- a numerator and a denominator; it has a value where the denominator is not zero
+-- A numerator and a denominator; it has a value where the denominator is not zero.
 pub record Fraction : Type 0 where
   pub top : ℤ
   pub bottom : ℤ

@@ -1,4 +1,4 @@
-// A level as text, as a residual's report shows it: `-63.2 dB`, `0.0 dB`, `+6.0 dB`, or `no difference`.
+// A residual's level as text, as a report shows it: `-63.2 dB`, `0.0 dB`, `+6.0 dB`, or `no difference`.
 ghost use mathlib.Core.Path.{_≡_};
 ghost use lib.ListN.{length};
 ghost use Rattle.text.specs.Text.{putAt, placeAfter};

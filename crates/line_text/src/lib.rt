@@ -1,5 +1,5 @@
-// What the programs' lines are made of beside words and numbers, which `text` and `decimals` put: blanks, columns,
-// digits with zeros in front, tenths, and a length in time. Where the slice ends a text is cut off there.
+// Parts of the programs' lines: blanks, columns, digits with zeros in front, tenths, and a length in time.
+// Words and numbers are put by `text` and `decimals`. A text that does not fit is cut off where the slice ends.
 ghost use mathlib.Core.Path.{_≡_};
 ghost use Prim.Native.Nat.{_-_};
 ghost use lib.ListN.{length};

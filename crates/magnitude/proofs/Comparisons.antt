@@ -1,4 +1,5 @@
--- The order of floats: total but for a NaN, and what it says of two numbers' magnitudes, each times the other's denominator. Assumes nothing.
+-- The order of floats: total but for a NaN, and what it says of two numbers' magnitudes, each times the other's
+-- denominator. Assumes nothing.
 use mathlib.Core.Path.{_≡_, sym}
 use mathlib.Core.Bool.{Bool, true, false, not, _&&_, _||_}
 use mathlib.Core.Logic.{inl, inr}
@@ -27,18 +28,24 @@ either false b f g t = g t
 
 -- ---- ±a ≤ ±b
 not-negative : (t : Bool) (a b : ℕ) → T (below false a t b || level false a t b) → a ≤ b
-not-negative false a b h = either (ltb a b) (eqb a b && true) (λ l. le-of-lt (ltb→lt a b l)) (λ q. le-of-eq (eqb→eq a b (and-l (eqb a b) true q))) h
+not-negative false a b h =
+    either (ltb a b) (eqb a b && true) (λ l. le-of-lt (ltb→lt a b l))
+    (λ q. le-of-eq (eqb→eq a b (and-l (eqb a b) true q))) h
 not-negative true a b h = le-of-eq (eqb→eq a b (and-l (eqb a b) (eqb a 0) h))
 
 negative : (s : Bool) (a b : ℕ) → T (below s a true b || level s a true b) → b ≤ a
 negative false a b h = le-of-eq (sym (eqb→eq a b (and-l (eqb a b) (eqb a 0) h)))
-negative true a b h = either (ltb b a) (eqb a b && true) (λ l. le-of-lt (ltb→lt b a l)) (λ q. le-of-eq (sym (eqb→eq a b (and-l (eqb a b) true q)))) h
+negative true a b h =
+    either (ltb b a) (eqb a b && true) (λ l. le-of-lt (ltb→lt b a l))
+    (λ q. le-of-eq (sym (eqb→eq a b (and-l (eqb a b) true q)))) h
 
-pub le-not-negative : (m : ℕ) (e : ℤ) (t : Bool) (n : ℕ) (d : ℤ) → T (le (fin false m e) (fin t n d)) → m * up e * down d ≤ n * up d * down e
+pub le-not-negative : (m : ℕ) (e : ℤ) (t : Bool) (n : ℕ) (d : ℤ) → T (le (fin false m e) (fin t n d))
+    → m * up e * down d ≤ n * up d * down e
 unfolding le
 le-not-negative m e t n d = not-negative t (m * up e * down d) (n * up d * down e)
 
-pub le-negative : (s : Bool) (m : ℕ) (e : ℤ) (n : ℕ) (d : ℤ) → T (le (fin s m e) (fin true n d)) → n * up d * down e ≤ m * up e * down d
+pub le-negative : (s : Bool) (m : ℕ) (e : ℤ) (n : ℕ) (d : ℤ) → T (le (fin s m e) (fin true n d))
+    → n * up d * down e ≤ m * up e * down d
 unfolding le
 le-negative s m e n d = negative s (m * up e * down d) (n * up d * down e)
 
@@ -85,8 +92,12 @@ unfolding lt isNan
 le-itself nan p = absurd p
 le-itself (inf true) p = nlt→le (inf true) (inf true) p p tt
 le-itself (inf false) p = nlt→le (inf false) (inf false) p p tt
-le-itself (fin true m e) p = nlt→le (fin true m e) (fin true m e) p p (le→nltb (m * up e * down e) (m * up e * down e) (le-refl (m * up e * down e)))
-le-itself (fin false m e) p = nlt→le (fin false m e) (fin false m e) p p (le→nltb (m * up e * down e) (m * up e * down e) (le-refl (m * up e * down e)))
+le-itself (fin true m e) p =
+    nlt→le (fin true m e) (fin true m e) p p
+    (le→nltb (m * up e * down e) (m * up e * down e) (le-refl (m * up e * down e)))
+le-itself (fin false m e) p =
+    nlt→le (fin false m e) (fin false m e) p p
+    (le→nltb (m * up e * down e) (m * up e * down e) (le-refl (m * up e * down e)))
 
 pub lt→le : (x y : Float) → T (lt x y) → T (le x y)
 unfolding le

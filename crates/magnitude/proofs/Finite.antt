@@ -1,4 +1,5 @@
--- `finite` by one subtraction and one test: a number less itself is zero, so not below zero, and an infinity or a NaN less itself is a NaN. Assumes nothing.
+-- `finite` by one subtraction and one test: a number less itself is zero, so not below zero,
+-- and an infinity or a NaN less itself is a NaN. Assumes nothing.
 use mathlib.Core.Path.{_≡_, refl, sym}
 use mathlib.Core.Bool.{Bool, true, false, not}
 use Prim.Native.Nat.{ℕ, _*_, _<_}
@@ -16,8 +17,10 @@ zero-is binary64 = refl
 
 nothing-left : (f : Format) (s : Bool) (a c : ℕ) → 0 < c → sum f s a (not s) a c ≡ round f false 0 1
 unfolding sum
-nothing-left f false a c C = rw (le-ltb a a (le-refl a), sub-self a) (round-same f false 0 c 0 1 C (lit< tt) (sym (zero-mul c)))
-nothing-left f true a c C = rw (le-ltb a a (le-refl a), sub-self a) (round-same f false 0 c 0 1 C (lit< tt) (sym (zero-mul c)))
+nothing-left f false a c C =
+    rw (le-ltb a a (le-refl a), sub-self a) (round-same f false 0 c 0 1 C (lit< tt) (sym (zero-mul c)))
+nothing-left f true a c C =
+    rw (le-ltb a a (le-refl a), sub-self a) (round-same f false 0 c 0 1 C (lit< tt) (sym (zero-mul c)))
 
 -- nothing compares with a NaN
 unordered : (f : Format) → le (ofBits f 0) nan ≡ false
@@ -30,4 +33,5 @@ unfolding sub
 less-itself f nan = unordered f
 less-itself f (inf true) = unordered f
 less-itself f (inf false) = unordered f
-less-itself f (fin s m e) = rw (nothing-left f s (m * up e * down e) (down e * down e) (mul-pos (down-pos e) (down-pos e))) (zero-is f)
+less-itself f (fin s m e) =
+    rw (nothing-left f s (m * up e * down e) (down e * down e) (mul-pos (down-pos e) (down-pos e))) (zero-is f)

@@ -1,6 +1,6 @@
 pub mod Comparisons
-pub mod Between
+pub mod OrderAndBounds
 pub mod Rounded
 pub mod Operations
-pub mod Whole
+pub mod WholeFloats
 pub mod Finite

@@ -4,7 +4,8 @@ ghost use mathlib.Core.Bool.{_&&_};
 ghost use lib.Ieee as Ieee;
 ghost use lib.Ieee.Scale.{finite};
 
-// Rust's f64::is_finite: a number less itself is zero, an infinity or a NaN less itself is a NaN. `>=` is one jump, where `==` is two.
+// Rust's f64::is_finite: a number minus itself is zero, an infinity or a NaN minus itself is a NaN. `>=` compiles to
+// one jump, `==` to two.
 pub fn is_finite(x: f64) -> bool
     ensures { λ r. ⌜ r ≡ finite x ⌝ }
 {

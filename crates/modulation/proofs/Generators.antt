@@ -1,17 +1,18 @@
--- G8. What a generator in range holds, words of 64 digits included: `Steady`. A seed gives it, and reset, another seed and a step keep it. Assumes nothing.
+-- G8. What a generator in range holds, words of 64 digits included: `Steady`. A seed gives it, and reset,
+-- another seed and a step keep it. Assumes nothing.
 use mathlib.Core.Path.{sym, subst}
 use mathlib.Core.Bool.{Bool, true, false, cond}
 use Prim.Native.Nat.{ℕ, _^_, _<_}
 use lib.Dec.{T, eqb}
 use lib.Ieee.{Float}
-use Rattle.words.proofs.Digitwise.{xor-below}
+use Rattle.wrapping_u64.proofs.Digitwise.{xor-below}
 use Rattle.xorshift.specs.Seeds.{seedOf, flutterSeedOf}
 use Rattle.smooth_random.specs.Ranges.{validOf}
 use Rattle.smooth_random.specs.Drift as drift
 use Rattle.smooth_random.specs.declared.SmoothRandom.{SmoothRandom}
 use Rattle.xorshift.proofs.Generator.{step-word}
-use Rattle.smooth_random.proofs.Starts.{seed-word, new-valid, reset-valid}
-use Rattle.smooth_random.proofs.Settles.{next-valid, next-kept}
+use Rattle.smooth_random.proofs.ValidSeeds.{seed-word, new-valid, reset-valid}
+use Rattle.smooth_random.proofs.LoopEnds.{next-valid, next-kept}
 
 pub record Steady (r : SmoothRandom) : Type 0 where
   pub valid : T (validOf r)
@@ -33,10 +34,15 @@ set-seed-steady r seed w h = go (eqb (seedOf seed) (r .«initial_seed»))
     go true = h
     go false = new-steady seed w
 
-pub next-steady : (r : SmoothRandom) (pace sample-rate : Float) → Steady r → Steady (drift.nextOf r pace sample-rate .random)
+pub next-steady : (r : SmoothRandom) (pace sample-rate : Float) → Steady r
+    → Steady (drift.nextOf r pace sample-rate .random)
 next-steady r pace sample-rate h =
     let kept = next-kept r pace sample-rate (h .state) in
-    record { valid = next-valid r pace sample-rate (h .state) (h .valid); state = kept .0; seed = subst (λ (s : ℕ). s < 2 ^ 64) (sym (kept .1)) (h .seed) }
+    record {
+      valid = next-valid r pace sample-rate (h .state) (h .valid);
+      state = kept .0;
+      seed = subst (λ (s : ℕ). s < 2 ^ 64) (sym (kept .1)) (h .seed);
+    }
 
 pub flutter-word : (seed : ℕ) → flutterSeedOf seed < 2 ^ 64
 flutter-word seed = seed-word _ (xor-below 64 _ _)

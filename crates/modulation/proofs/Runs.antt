@@ -1,5 +1,7 @@
--- M1, M2, M5 over runs: from its opening on, whatever was called, an engine is sound; two that are opened alike and called alike hand out the same offsets;
--- setting the held seed changes nothing; 0 set after A0761D6478BD642F starts the flutter generator alone anew; and a reset gives the opening state.
+-- M1, M2, M5 over runs: from its opening on, whatever was called, an engine is sound; two that are opened alike and
+-- called alike hand out the same offsets;
+-- setting the held seed changes nothing; 0 set after A0761D6478BD642F starts the flutter generator alone anew;
+-- and a reset gives the opening state.
 -- Assumes nothing.
 use mathlib.Core.Path.{_≡_, sym, ap, _∙_, subst}
 use mathlib.Core.Bool.{true}
@@ -10,18 +12,23 @@ use lib.Ieee.{Float}
 use Rattle.xorshift.specs.Seeds.{flutterSeedOf}
 use Rattle.smooth_random.specs.Drift as drift
 use Rattle.smooth_random.specs.declared.SmoothRandom.{SmoothRandom}
-use Rattle.smooth_random.proofs.Starts.{set-held, set-zero, flutter-differs}
+use Rattle.smooth_random.proofs.ValidSeeds.{set-held, set-zero, flutter-differs}
 use Rattle.oscillator_ranges.specs.Ranges.{sampleRateOk}
 use Rattle.modulation_engine.specs.Engine.{openedOf, fresh, setSeedOf, resetOf}
 use Rattle.modulation.specs.Runs.{Call, run, offsets, lastRate, lastSeed, Words}
 use Rattle.modulation_engine.specs.declared.ModulationEngine.{ModulationEngine}
 use Rattle.modulation_engine.specs.declared.Opened.the-variants.{Engine}
-use Rattle.modulation.proofs.Kept.{Sound}
-use Rattle.modulation.proofs.Running.{Running, sound-verdict, flutter-twice, fresh-running, running}
+use Rattle.modulation.proofs.EngineInRange.{Sound}
+use Rattle.modulation.proofs.RunInvariant.{Running, sound-verdict, flutter-twice, fresh-running, running}
 
 module _ {sample-rate : Float} {s : ℕ} {e : ModulationEngine} (h : Running sample-rate s e) where
   sets-nothing : setSeedOf e s ≡ Engine e
-  sets-nothing = rw (sound-verdict (h .sound) true, set-held (e .«wow_drift») s (sym (h .wow-seed)), set-held (e .«flutter_drift») (flutterSeedOf s) (flutter-twice s ∙ sym (h .flutter-seed)))
+  sets-nothing =
+      rw (
+        sound-verdict (h .sound) true,
+        set-held (e .«wow_drift») s (sym (h .wow-seed)),
+        set-held (e .«flutter_drift») (flutterSeedOf s) (flutter-twice s ∙ sym (h .flutter-seed)),
+      )
 
   opens : resetOf e ≡ Engine (fresh sample-rate s)
   opens = rw (sound-verdict (h .sound) true, h .rated-at, h .wow-seed, h .flutter-seed, flutter-twice s)
@@ -36,14 +43,24 @@ fluttering e r = record {
   «flutter_drift» = r;
 }
 
-flutter-alone : {sample-rate : Float} {e : ModulationEngine} → Running sample-rate 0xA076_1D64_78BD_642F e → setSeedOf e 0 ≡ Engine (fluttering e (drift.newOf (flutterSeedOf 0)))
-flutter-alone {e = e} h = rw (sound-verdict (h .sound) true, set-zero (e .«wow_drift») (h .wow-seed), flutter-twice 0, h .flutter-seed, flutter-differs)
+flutter-alone : {sample-rate : Float} {e : ModulationEngine} → Running sample-rate 0xA076_1D64_78BD_642F e
+    → setSeedOf e 0 ≡ Engine (fluttering e (drift.newOf (flutterSeedOf 0)))
+flutter-alone {e = e} h =
+    rw (
+      sound-verdict (h .sound) true,
+      set-zero (e .«wow_drift») (h .wow-seed),
+      flutter-twice 0,
+      h .flutter-seed,
+      flutter-differs,
+    )
 
 -- ---- over runs
-pub same-offsets : (sample-rate : Float) (s : ℕ) (a b : ModulationEngine) → openedOf sample-rate s ≡ Engine a → openedOf sample-rate s ≡ Engine b → (cs : List Call) → offsets a cs ≡ offsets b cs
+pub same-offsets : (sample-rate : Float) (s : ℕ) (a b : ModulationEngine) → openedOf sample-rate s ≡ Engine a
+    → openedOf sample-rate s ≡ Engine b → (cs : List Call) → offsets a cs ≡ offsets b cs
 same-offsets sample-rate s a b p q cs = let same : a ≡ b = cc in ap (λ e. offsets e cs) same
 
-module _ (sample-rate : Float) (s : ℕ) (cs : List Call) (ok : T (sampleRateOk sample-rate)) (word : s < 2 ^ 64) (words : Words cs) where
+module _ (sample-rate : Float) (s : ℕ) (cs : List Call) (ok : T (sampleRateOk sample-rate)) (word : s < 2 ^ 64)
+    (words : Words cs) where
   abbrev left : ModulationEngine
   left = run (fresh sample-rate s) cs
 
@@ -56,7 +73,8 @@ module _ (sample-rate : Float) (s : ℕ) (cs : List Call) (ok : T (sampleRateOk 
   pub held-seed : setSeedOf left (lastSeed s cs) ≡ Engine left
   held-seed = sets-nothing all
 
-  pub zero-after : lastSeed s cs ≡ 0xA076_1D64_78BD_642F → setSeedOf left 0 ≡ Engine (fluttering left (drift.newOf (flutterSeedOf 0)))
+  pub zero-after : lastSeed s cs ≡ 0xA076_1D64_78BD_642F
+      → setSeedOf left 0 ≡ Engine (fluttering left (drift.newOf (flutterSeedOf 0)))
   zero-after h = flutter-alone (subst (λ (t : ℕ). Running (lastRate sample-rate cs) t left) h all)
 
   pub reset-opens : resetOf left ≡ Engine (fresh (lastRate sample-rate cs) (lastSeed s cs))

@@ -12,7 +12,7 @@ use Rattle.modulation_engine.specs.declared.Opened.{Opened}
 use Rattle.modulation_engine.specs.declared.Opened.the-variants.{Engine, Refused}
 use Rattle.modulation_sample.specs.declared.Offset.{Offset}
 
--- next, set_sample_rate, set_seed and reset
+-- `next`, `set_sample_rate`, `set_seed` and `reset`.
 pub data Call : Type 0 where
   step : ModulationParams → Call
   rate : Float → Call

@@ -1,7 +1,7 @@
 -- M5. One step of 001's engine, operation by operation in its order. Definitions only.
 use Prim.Native.Nat.{ℕ, zero, suc}
 use lib.Ieee.{Float, binary64, ofBits, mul}
-use Rattle.order.specs.Choice.{clamped}
+use Rattle.min_max.specs.Choice.{clamped}
 use Rattle.smooth_random.specs.Drift as drift
 use Rattle.smooth_random.specs.declared.Next as random
 use Rattle.modulation_params.specs.Settings.{paramsOk}
@@ -13,13 +13,15 @@ use Rattle.modulation_sample.specs.declared.Offset.{Offset}
 use Rattle.modulation_sample.specs.declared.Offset.the-variants.{Delay, Refused}
 use Rattle.modulation_sample.specs.declared.Next.{Next}
 
--- FLUTTER_DRIFT_TARGETS_PER_CYCLE, 0.1
+-- FLUTTER_DRIFT_TARGETS_PER_CYCLE, 0.1.
 abbrev pub tenth : Float
 tenth = ofBits binary64 0x3fb9_9999_9999_999a
 
 -- `(params.wow_rate_hz * WOW_DRIFT_TARGETS_PER_CYCLE).clamp(0.025, 2.0)`
 abbrev pub wowPace : ModulationParams → Float
-wowPace p = clamped (mul binary64 (p .«wow_rate_hz») half) (ofBits binary64 0x3f99_9999_9999_999a) (ofBits binary64 0x4000_0000_0000_0000)
+wowPace p =
+    clamped (mul binary64 (p .«wow_rate_hz») half) (ofBits binary64 0x3f99_9999_9999_999a)
+    (ofBits binary64 0x4000_0000_0000_0000)
 
 -- `(params.flutter_rate_hz * FLUTTER_DRIFT_TARGETS_PER_CYCLE).clamp(0.5, 3.0)`
 abbrev pub flutterPace : ModulationParams → Float

@@ -1,5 +1,6 @@
-// 001's ModulationEngine::next: two oscillators whose rates wander. M5. One sample, in 001's order: the drifts are drawn, the offsets rendered, then the phases advance.
-// What cannot be served is refused by 01's number, and nothing has changed then.
+// The original's ModulationEngine::next (001): one step of two oscillators whose rates wander (M5).
+// The drifts are drawn, the offsets rendered, then the phases advance, in the original's order. What cannot be served
+// is refused by its number, and then nothing has changed.
 ghost use mathlib.Core.Path.{_≡_};
 ghost use mathlib.Core.Bool.{_&&_};
 ghost use Rattle.modulation.specs.Step.{nextOf};
@@ -22,11 +23,11 @@ pub fn next(engine: ModulationEngine, params: ModulationParams) -> Next
         let wow = engine.wow_drift;
         let flutter = engine.flutter_drift;
         let wow = wow.next(
-            order::clamp(params.wow_rate_hz * 0.5, 0.025, 2.0),
+            min_max::clamp(params.wow_rate_hz * 0.5, 0.025, 2.0),
             engine.sample_rate,
         );
         let flutter = flutter.next(
-            order::clamp(params.flutter_rate_hz * 0.1, 0.5, 3.0),
+            min_max::clamp(params.flutter_rate_hz * 0.1, 0.5, 3.0),
             engine.sample_rate,
         );
         let drifts = both(wow.refusal == 0, flutter.refusal == 0);

@@ -16,13 +16,17 @@ module _ (e : ModulationEngine) (with : SmoothRandom → SmoothRandom → Modula
   abbrev handed : Bool → SmoothRandom → SmoothRandom → Renewed
   handed b r after = cond b (record { random = after; refusal = 0 }) (record { random = r; refusal = 3 })
 
-  pub both-renewed : openedBy (verdict true e) (with (renewed (e .«wow_drift») w .random) (renewed (e .«flutter_drift») f .random))
+  pub both-renewed : openedBy (verdict true e)
+      (with (renewed (e .«wow_drift») w .random) (renewed (e .«flutter_drift») f .random))
       ≡ openedBy (verdict true e) (with w f)
   unfolding verdict validEngine
-  both-renewed = go (sampleRateOk (e .«sample_rate») && true) (phasesOk e) (validOf (e .«wow_drift»)) (validOf (e .«flutter_drift»))
+  both-renewed =
+      go (sampleRateOk (e .«sample_rate») && true) (phasesOk e) (validOf (e .«wow_drift»))
+      (validOf (e .«flutter_drift»))
     where
       go : (s p a b : Bool) → let v : ℕ = cond s (cond (p && (a && b)) 0 3) 1 in
-          openedBy v (with (handed a (e .«wow_drift») w .random) (handed b (e .«flutter_drift») f .random)) ≡ openedBy v (with w f)
+          openedBy v (with (handed a (e .«wow_drift») w .random) (handed b (e .«flutter_drift») f .random))
+          ≡ openedBy v (with w f)
       go true true true true = refl
       go true true true false = refl
       go true true false b = refl

@@ -20,7 +20,8 @@ phasesOk e = cycleOk (e .«wow_phase») && cycleOk (e .«flutter_phase»)
 unfoldable pub validEngine : ModulationEngine → Bool
 validEngine e = phasesOk e && (ranges.validOf (e .«wow_drift») && ranges.validOf (e .«flutter_drift»))
 
--- N1, N3, N9. The refusal that is due where a state is handed in, 0 for none: 1 for the sample rate that it keeps or an argument beside it, 3 for any other field.
+-- N1, N3, N9. The refusal that is due for a state that is handed in, 0 for none: 1 for its sample rate or an argument
+-- beside it, 3 for any other field.
 unfoldable pub verdict : Bool → ModulationEngine → ℕ
 verdict arguments e = firstOf (1 unless (sampleRateOk (e .«sample_rate») && arguments) ∷ 3 unless validEngine e ∷ [])
 

@@ -1,5 +1,6 @@
-// M1, M2. 001's ModulationEngine: two phases, each with a generator of its own, opened, its sample rate, its seed or its whole course set anew.
-// A state goes in by value and comes back; each method refuses a state that is out of range, and nothing has changed then.
+// The original's ModulationEngine (001) except for its step: opening, and setting its sample rate, its seed or its
+// whole course anew (M1, M2).
+// The state goes in by value and comes back. A state that is out of range is refused, and then nothing has changed.
 mod state; // which states are valid, and the refusal that is due
 
 ghost use mathlib.Core.Path.{_≡_};

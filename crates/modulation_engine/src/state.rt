@@ -26,7 +26,8 @@ impl ModulationEngine {
         both(self.phases_ok(), both(wow.valid(), flutter.valid()))
     }
 
-    // N1, N3, N9. 0, or the number of the lowest refusal that is due, where `arguments` says whether what was handed in with the state is in range.
+    // The lowest refusal that is due, or 0 (N1, N3, N9). `arguments` says whether what was handed in with the state is
+    // in range.
     pub(crate) fn refusal(self, arguments: bool) -> u8
         ensures { λ r. ⌜ r ≡ verdict arguments self ⌝ }
     {

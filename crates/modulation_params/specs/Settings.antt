@@ -22,5 +22,7 @@ defaultParams = record {
 -- All finite; rates -1000 to 1000, depths -1200 to 1200. Shape, drift and stereo are clamped as in 001, not refused.
 unfoldable pub paramsOk : ModulationParams → Bool
 paramsOk p =
-    ((rateOk (p .«wow_rate_hz») && depthOk (p .«wow_depth_cents»)) && (rateOk (p .«flutter_rate_hz») && depthOk (p .«flutter_depth_cents»)))
-    && ((finite (p .«wow_shape») && finite (p .«flutter_shape»)) && (finite (p .«drift_amount») && finite (p .«stereo_amount»)))
+    ((rateOk (p .«wow_rate_hz») && depthOk (p .«wow_depth_cents»))
+    && (rateOk (p .«flutter_rate_hz») && depthOk (p .«flutter_depth_cents»)))
+    && ((finite (p .«wow_shape») && finite (p .«flutter_shape»))
+    && (finite (p .«drift_amount») && finite (p .«stereo_amount»)))

@@ -1,13 +1,14 @@
-// M5. What a sample of 001's engine is made of: the offsets that it renders, and the phases that it advances. The settings and the state are tested before (`modulation`).
+// What one step of the engine is made of: the offsets that it renders and the phases that it advances (001, M5).
+// Settings and state have been tested before, in `modulation`.
 ghost use mathlib.Core.Path.{_≡_};
 ghost use mathlib.Core.Bool.{_&&_};
 ghost use lib.Dec.{eqb};
 ghost use lib.Ieee as Ieee;
 ghost use lib.Ieee.{binary64};
 ghost use Rattle.modulation_sample.specs.Sample.{defaultOffset, multiplierOf, offsetOf, steppedBy};
+use bit_patterns::bits_of;
 use modulation_engine::ModulationEngine;
 use modulation_params::ModulationParams;
-use patterns::bits_of;
 use smooth_random::Next as Drift;
 
 pub struct StereoDelayOffset {
@@ -41,8 +42,8 @@ pub fn default_offset() -> StereoDelayOffset
 fn multiplier(drift_amount: f64, value: f64) -> f64
     ensures { λ r. ⌜ r ≡ multiplierOf «drift_amount» value ⌝ }
 {
-    let drift = order::clamp(drift_amount, 0.0, 1.0);
-    waves::power_of_two(0.5 * drift * value)
+    let drift = min_max::clamp(drift_amount, 0.0, 1.0);
+    oscillator_arithmetic::power_of_two(0.5 * drift * value)
 }
 
 // Whether two floats are one, by their patterns; most that are not differ as numbers.
@@ -58,22 +59,24 @@ fn same(a: f64, b: f64) -> bool
 
 // Whether neither pair differs.
 fn pairs(a: f64, b: f64, c: f64, d: f64) -> bool
-    ensures { λ r. ⌜ r ≡ ((Ieee.eq a b && eqb (Ieee.toBits binary64 a) (Ieee.toBits binary64 b)) && (Ieee.eq c d && eqb (Ieee.toBits binary64 c) (Ieee.toBits binary64 d))) ⌝ }
+    ensures { λ r. ⌜ r ≡ ((Ieee.eq a b && eqb (Ieee.toBits binary64 a) (Ieee.toBits binary64 b))
+        && (Ieee.eq c d && eqb (Ieee.toBits binary64 c) (Ieee.toBits binary64 d))) ⌝ }
 {
     if same(a, b) { same(c, d) } else { false }
 }
 
-// 001 renders each side by oscillator_delay; what that multiplies the shapes by is the same on both, and so is all where no side is displaced: that is rendered once.
+// The original calls oscillator_delay for each side (001). The factors of the shapes are the same on both sides, and
+// with no stereo amount so is everything else: that is rendered once.
 pub fn render(engine: ModulationEngine, params: ModulationParams) -> StereoDelayOffset
     ensures { λ r. ⌜ r ≡ offsetOf engine params ⌝ }
 {
-    let side = order::clamp(params.stereo_amount, 0.0, 1.0) * 1.5707963267948966;
-    let wow = waves::amplitude(
+    let side = min_max::clamp(params.stereo_amount, 0.0, 1.0) * 1.5707963267948966;
+    let wow = oscillator_arithmetic::amplitude(
         params.wow_rate_hz,
         params.wow_depth_cents,
         engine.sample_rate,
     );
-    let flutter = waves::amplitude(
+    let flutter = oscillator_arithmetic::amplitude(
         params.flutter_rate_hz,
         params.flutter_depth_cents,
         engine.sample_rate,
@@ -82,13 +85,13 @@ pub fn render(engine: ModulationEngine, params: ModulationParams) -> StereoDelay
     let wow_right = engine.wow_phase + side;
     let flutter_left = engine.flutter_phase + (-side);
     let flutter_right = engine.flutter_phase + side;
-    let left = wow * waves::shape_primitive(wow_left, params.wow_shape)
-        + flutter * waves::shape_primitive(flutter_left, params.flutter_shape);
+    let left = wow * oscillator_arithmetic::shape_primitive(wow_left, params.wow_shape)
+        + flutter * oscillator_arithmetic::shape_primitive(flutter_left, params.flutter_shape);
     if pairs(wow_left, wow_right, flutter_left, flutter_right) {
         return StereoDelayOffset { left, right: left };
     }
-    let right = wow * waves::shape_primitive(wow_right, params.wow_shape)
-        + flutter * waves::shape_primitive(flutter_right, params.flutter_shape);
+    let right = wow * oscillator_arithmetic::shape_primitive(wow_right, params.wow_shape)
+        + flutter * oscillator_arithmetic::shape_primitive(flutter_right, params.flutter_shape);
     StereoDelayOffset { left, right }
 }
 
@@ -105,8 +108,12 @@ pub fn stepped(
     let flutter_rate = params.flutter_rate_hz * multiplier(params.drift_amount, flutter.value);
     let wow_random = wow.random;
     let flutter_random = flutter.random;
-    engine.wow_phase = waves::advance_phase(engine.wow_phase, wow_rate, engine.sample_rate);
-    engine.flutter_phase = waves::advance_phase(
+    engine.wow_phase = oscillator_arithmetic::advance_phase(
+        engine.wow_phase,
+        wow_rate,
+        engine.sample_rate,
+    );
+    engine.flutter_phase = oscillator_arithmetic::advance_phase(
         engine.flutter_phase,
         flutter_rate,
         engine.sample_rate,

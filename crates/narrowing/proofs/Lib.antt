@@ -1,4 +1,4 @@
 pub mod Narrowed
 pub mod Patterns
 pub mod Subnormal
-pub mod Signed
+pub mod SignBit

@@ -1,8 +1,10 @@
--- The third case of `magnitude`: an f64 below 2 ^ -126 as units of 2 ^ -149, which are the last digits of its sum with 2 ^ -97. Assumes nothing.
+-- The third case of `magnitude`: an f64 below 2 ^ -126 as units of 2 ^ -149, which are the last digits of its sum with
+-- 2 ^ -97. Assumes nothing.
 use mathlib.Core.Path.{_≡_, refl, sym, ap, _∙_, subst}
 use mathlib.Core.Bool.{false, not, cond}
 use Prim.Native.Nat.{ℕ, _+_, _-_, _*_, _^_, _≤_, _<_}
-use native.Mathlib.Nat.{le-refl, le-trans, lt-of-lt-of-le, lt-of-le-of-lt, mul-le-mul-right, mul-le-mul-left, mul-lt-mul-of-pos-right, lt-irrefl, zero-add, add-comm, le-add-right, add-lt-add-of-le-of-lt}
+use native.Mathlib.Nat.{le-refl, le-trans, lt-of-lt-of-le, lt-of-le-of-lt, mul-le-mul-right, mul-le-mul-left}
+use native.Mathlib.Nat.{mul-lt-mul-of-pos-right, lt-irrefl, zero-add, add-comm, le-add-right, add-lt-add-of-le-of-lt}
 use native.Mathlib.Omega.{arith}
 use lib.Dec.{T, lit≤, lit<}
 use lib.Pow.{pow-pos, pow-mono}
@@ -13,8 +15,8 @@ use Rattle.narrowing.specs.Nearest.{Rounds}
 use Rattle.narrowing.proofs.Narrowed.{low-units}
 use Rattle.narrowing.proofs.Patterns.{under, count, exponent, narrows, value}
 use Rattle.rounding.proofs.Adding.{plus}
-use Rattle.rounding.proofs.Closest.{closest-le, closest-shift}
-use Rattle.rounding.proofs.Dropped.{round-finer}
+use Rattle.rounding.proofs.NearestWhole.{closest-le, closest-shift}
+use Rattle.rounding.proofs.DroppedDigits.{round-finer}
 use Rattle.rounding.proofs.Pack.{pack}
 use Rattle.rounding.proofs.Units.{bits-units}
 use Rattle.rounding.proofs.Values.{value-no-nan}
@@ -34,7 +36,8 @@ module _ (b : ℕ) (hi : b < 0x3810_0000_0000_0000) where
   v-lt : v < 2 ^ 948
   v-lt =
       let e : exponent b ≤ 895 = omega arith in
-      lt-of-lt-of-le (mul-lt-mul-of-pos-right (under b fine) (pow-pos (exponent b))) (le-trans (mul-le-mul-left (2 ^ 53) (pow-mono e)) (lit≤ tt))
+      lt-of-lt-of-le (mul-lt-mul-of-pos-right (under b fine) (pow-pos (exponent b)))
+      (le-trans (mul-le-mul-left (2 ^ 53) (pow-mono e)) (lit≤ tt))
 
   low-le : closest v (2 ^ 925) ≤ 2 ^ 23
   low-le = closest-le v (2 ^ 925) (2 ^ 23) (pow-pos 925) v-lt
@@ -56,11 +59,14 @@ module _ (b : ℕ) (hi : b < 0x3810_0000_0000_0000) where
   sum-value =
       let h : v < 2 ^ 977 = lt-of-lt-of-le v-lt (lit≤ tt) in
       let is : sum ≡ units binary64 false q 925 =
-      plus binary64 (ofBits binary64 b) (ofBits binary64 0x39e0_0000_0000_0000) v (2 ^ 977) (2 ^ 1074) (pow-pos 1074) own half
+      plus binary64 (ofBits binary64 b) (ofBits binary64 0x39e0_0000_0000_0000) v (2 ^ 977) (2 ^ 1074)
+      (pow-pos 1074) own half
       ∙ ap (λ (z : ℕ). round binary64 false z (2 ^ 1074)) (add-comm v (2 ^ 977))
-      ∙ round-finer binary64 false (2 ^ 977 + v) 0 925 (λ _. le-add-right (2 ^ 977) v) (add-lt-add-of-le-of-lt (le-refl (2 ^ 977)) h)
+      ∙ round-finer binary64 false (2 ^ 977 + v) 0 925 (λ _. le-add-right (2 ^ 977) v)
+      (add-lt-add-of-le-of-lt (le-refl (2 ^ 977)) h)
       ∙ ap (λ (z : ℕ). units binary64 false z 925) (closest-shift (2 ^ 51) v (2 ^ 925) (pow-pos 925)) in
-      subst (λ (x : Float). HasValue x false (q * 2 ^ 925) (2 ^ 1074)) (sym is) (units-val binary64 false q 925 (lt-of-le-of-lt (mul-le-mul-right (2 ^ 925) q-le) (lit< tt)))
+      subst (λ (x : Float). HasValue x false (q * 2 ^ 925) (2 ^ 1074)) (sym is)
+      (units-val binary64 false q 925 (lt-of-le-of-lt (mul-le-mul-right (2 ^ 925) q-le) (lit< tt)))
 
   pub sum-no-nan : T (not (isNan sum))
   sum-no-nan = value-no-nan sum false (q * 2 ^ 925) (2 ^ 1074) sum-value

@@ -8,4 +8,5 @@ use Rattle.rounding.specs.Operations.{narrowed}
 -- With either sign, r is the pattern of the f32 nearest to the f64 of the pattern b.
 pub record Rounds (b r : ℕ) : Type 0 where
   pub small : r ≤ 0x7f80_0000
-  pub reads : (s : Bool) → ofBits binary32 (cond s 0x8000_0000 0 + r) ≡ narrowed (ofBits binary64 (cond s 0x8000_0000_0000_0000 0 + b))
+  pub reads : (s : Bool)
+      → ofBits binary32 (cond s 0x8000_0000 0 + r) ≡ narrowed (ofBits binary64 (cond s 0x8000_0000_0000_0000 0 + b))

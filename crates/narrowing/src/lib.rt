@@ -1,4 +1,4 @@
-// An f64 as the nearest f32, by its pattern: Rust's `x as f32`.
+// The nearest f32 of an f64, worked out on bit patterns: Rust's `x as f32`.
 ghost use mathlib.Core.Path.{_≡_};
 ghost use Prim.Native.Nat.{_≤_};
 ghost use Rattle.rounding.specs.Operations.{narrowed};
@@ -18,8 +18,8 @@ fn magnitude(b: u64) -> u64
         // is added, and one more where the last digit that stays is odd. A carry moves up into the field.
         return (b - 0x3800_0000_0000_0000 + (0x0fff_ffff + ((b >> 29) & 1))) >> 29;
     }
-    // Below 2^-126 an f32 counts units of 2^-149. Those are the last digits of a sum with 2^-97, so that the sum rounds to them,
-    // and a tie goes to the even one in both: 2^-97 is an even number of them.
+    // Below 2^-126 an f32 counts units of 2^-149. These are the last digits of a sum with 2^-97, so the sum rounds to
+    // them. A tie goes to the even one in both, because 2^-97 is an even number of units.
     f64::to_bits(f64::from_bits(b) + f64::from_bits(0x39e0_0000_0000_0000)) - 0x39e0_0000_0000_0000
 }
 

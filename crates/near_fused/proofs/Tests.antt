@@ -9,10 +9,10 @@ use lib.Ieee.{Float, nan, inf, fin, binary64, fits, ofBits, toBits, nanBits, isN
 use lib.Ieee.Bits.{toBits-lt}
 use lib.Ieee.Scale.{finite}
 use Rattle.rounding.proofs.Patterns.{rest-is, sign-rest, no-nan-rest, rest-no-nan, value-bits}
-use Rattle.fraction.specs.Fraction.{Within, nil}
-use Rattle.fraction.specs.Value.{val}
-use Rattle.fraction.proofs.Compare.{side, le-is}
-use Rattle.fraction.proofs.Value.{val-pos}
+use Rattle.rounding_error.specs.Fraction.{Within, nil}
+use Rattle.rounding_error.specs.Value.{val}
+use Rattle.rounding_error.proofs.Compare.{side, le-is}
+use Rattle.rounding_error.proofs.Value.{val-pos}
 use Rattle.near_fused.specs.Parts.{lower, top}
 use Rattle.near_fused.specs.Step.{insideOf, orderedOf}
 
@@ -26,7 +26,8 @@ pub record Inside (mu : Float) : Type 0 where
   pub low : le (ofBits binary64 0) mu ≡ true
   pub high : le mu top ≡ true
 
-moved : (n r : ℕ) (b : Bool) → n ≡ cond b (2 ^ 63) 0 + r → n / 2 ^ lower * 2 ^ lower ≡ cond b (2 ^ 63) 0 + r / 2 ^ lower * 2 ^ lower
+moved : (n r : ℕ) (b : Bool) → n ≡ cond b (2 ^ 63) 0 + r
+    → n / 2 ^ lower * 2 ^ lower ≡ cond b (2 ^ 63) 0 + r / 2 ^ lower * 2 ^ lower
 moved n r true w = omega arith
 moved n r false w = omega arith
 
@@ -44,13 +45,17 @@ module _ (x : Float) (h : T (fits binary64 x)) (k : T (not (isNan x))) where
   cut-word = let w = word in omega arith
 
   pub cut-no-nan : T (not (nanBits binary64 (n / 2 ^ lower * 2 ^ lower % 2 ^ 64)))
-  cut-no-nan = rest-no-nan binary64 (n / 2 ^ lower * 2 ^ lower % 2 ^ 64) (rw cut-word (beneath n (n % 2 ^ 63) (leb (2 ^ 63) n) (sign-rest binary64 n word) rest))
+  cut-no-nan =
+      rest-no-nan binary64 (n / 2 ^ lower * 2 ^ lower % 2 ^ 64)
+      (rw cut-word (beneath n (n % 2 ^ 63) (leb (2 ^ 63) n) (sign-rest binary64 n word) rest))
     where
-      beneath : (n r : ℕ) (b : Bool) → n ≡ cond b (2 ^ 63) 0 + r → r ≤ 0x7ff0_0000_0000_0000 → n / 2 ^ lower * 2 ^ lower % 2 ^ 63 ≤ 0x7ff0_0000_0000_0000
+      beneath : (n r : ℕ) (b : Bool) → n ≡ cond b (2 ^ 63) 0 + r → r ≤ 0x7ff0_0000_0000_0000
+          → n / 2 ^ lower * 2 ^ lower % 2 ^ 63 ≤ 0x7ff0_0000_0000_0000
       beneath n r b w h =
           let t = r / 2 ^ lower * 2 ^ lower in
           let k : t ≤ r = omega arith in
-          le-trans (le-of-eq (ap (λ (z : ℕ). z % 2 ^ 63) (moved n r b w) ∙ rest-is binary64 b t (omega arith))) (omega arith)
+          le-trans (le-of-eq (ap (λ (z : ℕ). z % 2 ^ 63) (moved n r b w) ∙ rest-is binary64 b t (omega arith)))
+          (omega arith)
 
   pub size-no-nan : T (not (nanBits binary64 (n % 2 ^ 63)))
   size-no-nan = let w = word in let r = rest in rest-no-nan binary64 (n % 2 ^ 63) (omega arith)
@@ -97,6 +102,10 @@ pub inside-size : (x : Float) → T (finite x) → Inside x → Within 1 1 (val 
 unfolding ofBits
 inside-size x f h =
     let zero = ofBits binary64 0 in
-    let a = leb→le (side (val x) (val top)) (side (val top) (val x)) (subst T (sym (sym (le-is x top f tt) ∙ h .high)) tt) in
-    let b = leb→le (side (val zero) (val x)) (side (val x) (val zero)) (subst T (sym (sym (le-is zero x tt f) ∙ h .low)) tt) in
+    let a =
+    leb→le (side (val x) (val top)) (side (val top) (val x))
+    (subst T (sym (sym (le-is x top f tt) ∙ h .high)) tt) in
+    let b =
+    leb→le (side (val zero) (val x)) (side (val x) (val zero))
+    (subst T (sym (sym (le-is zero x tt f) ∙ h .low)) tt) in
     record { left = val-pos x; right = lit< tt; above = omega (arith, val-pos x); below = omega (arith, val-pos x) }

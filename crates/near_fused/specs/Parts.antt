@@ -6,23 +6,23 @@ use lib.Ieee.{Float, binary64, ofBits, toBits}
 use lib.Ieee.Scale.{finite}
 use Rattle.rounding.specs.Operations.{fused}
 
--- how many digits an upper part leaves
+-- How many digits an upper part leaves.
 abbrev pub lower : ℕ
 lower = 27
 
--- without these
+-- Without these.
 abbrev pub high : Float → Float
 high x = ofBits binary64 (toBits binary64 x / 2 ^ lower * 2 ^ lower)
 
--- without its sign
+-- Without its sign.
 abbrev pub sized : Float → Float
 sized x = ofBits binary64 (toBits binary64 x % 2 ^ 63)
 
--- the greatest factor, 1
+-- The greatest factor, 1.
 abbrev pub top : Float
 top = ofBits binary64 0x3ff0_0000_0000_0000
 
--- r is not finite, or a * b + c rounded once, for a finite a
+-- r is not finite, or a * b + c rounded once, for a finite a.
 pub record Sure (a b c r : Float) : Type 0 where
   pub factor : T (finite r) → T (finite a)
   pub is : T (finite r) → r ≡ fused binary64 a b c

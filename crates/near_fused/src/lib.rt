@@ -1,4 +1,6 @@
-// K4. The fused multiply and add of f64 by floats, for a factor from 0 to 1: two ends, the exact sum between them, rounded. Where they round alike, that is the answer; else there is none.
+// The fused multiply-add of f64 by ordinary float operations, for a factor from 0 to 1 (K4).
+// It computes a number below and a number above the exact sum. Where both round alike, that is the answer; otherwise it
+// has none, and the caller goes the slow way.
 ghost use mathlib.Core.Path.{_≡_};
 ghost use mathlib.Core.Bool.{not};
 ghost use lib.Dec.{T};
@@ -40,8 +42,9 @@ fn none() -> f64
     0.0 / 0.0
 }
 
-// v * mu + c, rounded once, or a NaN. p and s are the greater parts of the product and of the sum; what s lost of p + c is told exactly (a two-sum), the rest of the product nearly;
-// and a 2^70th part of the terms is more than all errors together.
+// v * mu + c, rounded once, or a NaN. p and s are the upper parts of the product and of the sum. What s lost of p + c
+// is computed exactly (a two-sum), the rest of the product nearly; a 2^70th of the terms is more than all errors
+// together.
 pub fn near_fused(v: f64, mu: f64, c: f64) -> f64
     ensures { λ r. ⌜ r ≡ nearOf v mu c ⌝ }
     ensures { λ r. ⌜ Sure v mu c r ⌝ }

@@ -1,4 +1,5 @@
--- The numbers of 001, each by its bit pattern, and beside it as 001 writes it. A quotient of two literals is rounded once. Definitions only.
+-- The numbers of 001, each by its bit pattern and beside it as 001 writes it. A quotient of two literals is rounded
+-- once. Definitions only.
 use lib.Ieee.{Float, binary64, ofBits, div}
 pub use Rattle.constants.specs.Numbers.{zero-bits as zero, one-bits as one}
 
@@ -10,7 +11,7 @@ tau = ofBits binary64 0x4019_21fb_5444_2d18
 abbrev pub sqrt2 : Float
 sqrt2 = ofBits binary64 0x3ff6_a09e_667f_3bcd
 
--- 3.0 and 5.0
+-- 3.0 and 5.0.
 abbrev pub three : Float
 three = ofBits binary64 0x4008_0000_0000_0000
 

@@ -1,4 +1,5 @@
--- A list of depths gone through from the front: what is left of it gives, from the sum so far, what the whole gives. Assumes nothing.
+-- A list of depths gone through from the front: what is left of it gives, from the sum so far, what the whole gives.
+-- Assumes nothing.
 use mathlib.Core.Path.{_≡_, ap, _∙_}
 use mathlib.Core.Bool.{true, false}
 use mathlib.Core.List.{List, _∷_}
@@ -8,14 +9,17 @@ use lib.ListN.{length, drop, getD}
 use lib.Seq.{drop-cons}
 use lib.Ieee.{Float, nan, binary64, add, mul}
 use Rattle.oscillator_ranges.specs.Ranges.{depthOk}
-use Rattle.waves.specs.Waves.{speedDelta, squaresFrom}
+use Rattle.oscillator_arithmetic.specs.Arithmetic.{speedDelta, squaresFrom}
 use Rattle.oscillators.specs.Answers.{depthsOk}
 
 module _ (xs : List Float) (i : ℕ) (h : i < length xs) where
   front : drop i xs ≡ getD xs i nan ∷ drop (i + 1) xs
   front = rw (add-one i) (drop-cons xs i nan h)
 
-  pub one-more : (sum : Float) → squaresFrom sum (drop i xs) ≡ squaresFrom (add binary64 sum (mul binary64 (speedDelta (getD xs i nan)) (speedDelta (getD xs i nan)))) (drop (i + 1) xs)
+  pub one-more : (sum : Float)
+      → squaresFrom sum (drop i xs)
+      ≡ squaresFrom (add binary64 sum (mul binary64 (speedDelta (getD xs i nan)) (speedDelta (getD xs i nan))))
+      (drop (i + 1) xs)
   unfolding squaresFrom
   one-more sum = ap (squaresFrom sum) front
 

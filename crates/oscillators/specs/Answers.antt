@@ -1,4 +1,5 @@
--- G4, G6, G7, N1. 001's functions with 01's ranges: a value, or refusal 1 where an argument is outside its range. Definitions only.
+-- G4, G6, G7, N1. 001's functions with 01's ranges: a value, or refusal 1 if an argument is out of range. Definitions
+-- only.
 use mathlib.Core.Bool.{Bool, true, _&&_, cond}
 use mathlib.Core.List.{List, [], _∷_}
 use lib.Ieee.{Float}
@@ -6,7 +7,8 @@ use lib.Ieee.Scale.{finite}
 use Rattle.elementary.specs.declared.Answer.{Answer}
 use Rattle.elementary.specs.declared.Answer.the-variants.{Value, Refused}
 use Rattle.oscillator_ranges.specs.Ranges.{rateOk, depthOk, phaseOk, cycleOk, sampleRateOk, minimumRateOk}
-use Rattle.waves.specs.Waves.{speedDelta, advancePhase, shapePrimitive, oscillatorDelay, excursion, rateDelta}
+use Rattle.oscillator_arithmetic.specs.Arithmetic.{speedDelta, advancePhase, shapePrimitive, oscillatorDelay, excursion}
+use Rattle.oscillator_arithmetic.specs.Arithmetic.{rateDelta}
 
 -- The value, or refusal 1 where what was asked is out of range.
 unfoldable pub answeredBy : Bool → Float → Answer
@@ -16,7 +18,8 @@ abbrev pub speedDeltaOf : Float → Answer
 speedDeltaOf depth-cents = answeredBy (depthOk depth-cents) (speedDelta depth-cents)
 
 abbrev pub advancePhaseOf : Float → Float → Float → Answer
-advancePhaseOf phase rate-hz sample-rate = answeredBy (cycleOk phase && (rateOk rate-hz && sampleRateOk sample-rate)) (advancePhase phase rate-hz sample-rate)
+advancePhaseOf phase rate-hz sample-rate =
+    answeredBy (cycleOk phase && (rateOk rate-hz && sampleRateOk sample-rate)) (advancePhase phase rate-hz sample-rate)
 
 -- Shape is clamped, so that only a NaN or an infinity is refused.
 abbrev pub shapePrimitiveOf : Float → Float → Answer
@@ -24,11 +27,14 @@ shapePrimitiveOf phase shape = answeredBy (phaseOk phase && finite shape) (shape
 
 abbrev pub oscillatorDelayOf : Float → Float → Float → Float → Float → Answer
 oscillatorDelayOf phase rate-hz depth-cents shape sample-rate =
-    answeredBy ((phaseOk phase && finite shape) && ((rateOk rate-hz && depthOk depth-cents) && sampleRateOk sample-rate)) (oscillatorDelay phase rate-hz depth-cents shape sample-rate)
+    answeredBy
+    ((phaseOk phase && finite shape) && ((rateOk rate-hz && depthOk depth-cents) && sampleRateOk sample-rate))
+    (oscillatorDelay phase rate-hz depth-cents shape sample-rate)
 
 abbrev pub excursionOf : Float → Float → Float → Answer
 excursionOf max-depth-cents min-rate-hz sample-rate =
-    answeredBy (depthOk max-depth-cents && (minimumRateOk min-rate-hz && sampleRateOk sample-rate)) (excursion max-depth-cents min-rate-hz sample-rate)
+    answeredBy (depthOk max-depth-cents && (minimumRateOk min-rate-hz && sampleRateOk sample-rate))
+    (excursion max-depth-cents min-rate-hz sample-rate)
 
 -- Every depth is in its range.
 unfoldable pub depthsOk : List Float → Bool

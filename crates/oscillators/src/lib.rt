@@ -1,8 +1,10 @@
-// 001's oscillators: what stands outside its engine, each function total. Where an argument is outside 01's range (`oscillator_ranges`) the answer is refusal 1,
-// else what the arithmetic gives (`waves`).
+// The original's oscillator functions (001), each with its refusal.
+// An argument outside its range (`oscillator_ranges`) is refused by 1; otherwise the answer is what
+// `oscillator_arithmetic` computes.
 ghost use mathlib.Core.Path.{_≡_};
 ghost use mathlib.Core.Bool.{_&&_};
-ghost use Rattle.oscillators.specs.Answers.{answeredBy, speedDeltaOf, advancePhaseOf, shapePrimitiveOf, oscillatorDelayOf, excursionOf, rateDeltaOf};
+ghost use Rattle.oscillators.specs.Answers.{answeredBy, speedDeltaOf, advancePhaseOf, shapePrimitiveOf};
+ghost use Rattle.oscillators.specs.Answers.{oscillatorDelayOf, excursionOf, rateDeltaOf};
 use elementary::Answer;
 use oscillator_ranges as ranges;
 use oscillator_ranges::TAU;
@@ -28,7 +30,7 @@ pub fn speed_delta(depth_cents: f64) -> Answer
 {
     answered(
         ranges::depth_ok(depth_cents),
-        waves::speed_delta(depth_cents),
+        oscillator_arithmetic::speed_delta(depth_cents),
     )
 }
 
@@ -41,7 +43,7 @@ pub fn advance_phase(phase: f64, rate_hz: f64, sample_rate: f64) -> Answer
     );
     answered(
         both(ranges::cycle_ok(phase), rates),
-        waves::advance_phase(phase, rate_hz, sample_rate),
+        oscillator_arithmetic::advance_phase(phase, rate_hz, sample_rate),
     )
 }
 
@@ -51,7 +53,7 @@ pub fn shape_primitive(phase: f64, shape: f64) -> Answer
 {
     answered(
         both(ranges::phase_ok(phase), magnitude::is_finite(shape)),
-        waves::shape_primitive(phase, shape),
+        oscillator_arithmetic::shape_primitive(phase, shape),
     )
 }
 
@@ -66,10 +68,10 @@ pub fn oscillator_delay(
 {
     let wave = both(ranges::phase_ok(phase), magnitude::is_finite(shape));
     let swing = both(ranges::rate_ok(rate_hz), ranges::depth_ok(depth_cents));
-    let amplitude = waves::amplitude(rate_hz, depth_cents, sample_rate);
+    let amplitude = oscillator_arithmetic::amplitude(rate_hz, depth_cents, sample_rate);
     answered(
         both(wave, both(swing, ranges::sample_rate_ok(sample_rate))),
-        amplitude * waves::shape_primitive(phase, shape),
+        amplitude * oscillator_arithmetic::shape_primitive(phase, shape),
     )
 }
 
@@ -85,7 +87,7 @@ pub fn maximum_delay_excursion_samples(
         ranges::minimum_rate_ok(min_rate_hz),
         ranges::sample_rate_ok(sample_rate),
     );
-    let delta = waves::speed_delta(max_depth_cents);
+    let delta = oscillator_arithmetic::speed_delta(max_depth_cents);
     answered(
         both(ranges::depth_ok(max_depth_cents), rates),
         delta * sample_rate * MAX_SHAPE_PRIMITIVE / (TAU * min_rate_hz),
@@ -101,7 +103,7 @@ pub fn maximum_rate_delta(depths_cents: &[f64]) -> Answer
     while i < depths_cents.len() {
         let depth = depths_cents[i];
         if ranges::depth_ok(depth) {
-            let delta = waves::speed_delta(depth);
+            let delta = oscillator_arithmetic::speed_delta(depth);
             sum = sum + delta * delta;
             i += 1;
         } else {

@@ -7,7 +7,7 @@ use native.Mathlib.Omega.{arith}
 use borrow.Author.Tests.{ne-eqb}
 use lib.Ieee.{size}
 use lib.Ieee.Digits.{size-lt, size-reaches, size-le}
-use Rattle.digits.proofs.Lengths.{size-some}
+use Rattle.float_digits.proofs.Lengths.{size-some}
 use Rattle.picture.specs.Bars.{bitsOf, edge}
 
 -- 2^(b - 1) ≤ n < 2^b for the b binary digits of a number above 0

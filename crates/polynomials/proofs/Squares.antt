@@ -1,4 +1,5 @@
--- z = -(x * x) for |x| ≤ 1: at most 1, and one rounding off. The factorials two apart grow by 2 at least, so Horner's law holds for z. Assumes nothing.
+-- z = -(x * x) for |x| ≤ 1: at most 1, and one rounding off. The factorials two apart grow by 2 at least,
+-- so Horner's law holds for z. Assumes nothing.
 use mathlib.Core.Path.{_≡_}
 use mathlib.Core.Bool.{true, false}
 use Prim.Native.Nat.{ℕ, suc, _+_, _*_, _^_, _≤_, _<_}
@@ -6,13 +7,13 @@ use native.Mathlib.Omega.{arith}
 use lib.Dec.{T, leb→le, lit≤, lit<}
 use lib.Ieee.{Float, nan, inf, fin, binary64, up, down, neg, mul}
 use lib.Ieee.Scale.{finite}
-use Rattle.fraction.specs.Fraction.{Frac, nil, times, opp, Within, Mag}
-use Rattle.fraction.specs.Value.{val, Rounds}
-use Rattle.fraction.proofs.Same.{same-refl}
-use Rattle.fraction.proofs.Within.{rescale, within-opp}
-use Rattle.fraction.proofs.Product.{mag-times}
-use Rattle.fraction.proofs.Value.{val-pos, is-val, is-near, neg-near}
-use Rattle.fraction.proofs.Near.{mul-approx}
+use Rattle.rounding_error.specs.Fraction.{Frac, nil, times, opp, Within, Mag}
+use Rattle.rounding_error.specs.Value.{val, Rounds}
+use Rattle.rounding_error.proofs.Same.{same-refl}
+use Rattle.rounding_error.proofs.Within.{rescale, within-opp}
+use Rattle.rounding_error.proofs.ProductErrors.{mag-times}
+use Rattle.rounding_error.proofs.Value.{val-pos, is-val, is-near, neg-near}
+use Rattle.rounding_error.proofs.OperandErrors.{mul-approx}
 use Rattle.polynomials.specs.Taylor.{factorial}
 use Rattle.polynomials.specs.Horner.{horner}
 use Rattle.polynomials.specs.Range.{atMost}
@@ -61,8 +62,10 @@ module _ (x : Float) (h : T (atMost 1 x)) where
       neg-near (mul-approx binary64 1 0 0 tt i m (is-near g i) (same-refl (s .left)) s (lit≤ tt))
 
   -- Horner's law in z, and how large the exact nest is
-  pub in-square : (n k m e : ℕ) → k < m → 2 * g ≤ e * (factorial (2 + last 2 n k) * 1) → e + 11 * k ≤ 2 ^ 48 → Rounds g (cost 1 (1 + e) k) (horner 2 (square x) n k) (nested 2 (squared x) n m)
-  in-square n k m e l t b = horner-near 2 1 (lit< tt) two-on (square x) (squared x) square-mag square-near n k m e l (lit≤ tt) t b
+  pub in-square : (n k m e : ℕ) → k < m → 2 * g ≤ e * (factorial (2 + last 2 n k) * 1) → e + 11 * k ≤ 2 ^ 48
+      → Rounds g (cost 1 (1 + e) k) (horner 2 (square x) n k) (nested 2 (squared x) n m)
+  in-square n k m e l t b =
+      horner-near 2 1 (lit< tt) two-on (square x) (squared x) square-mag square-near n k m e l (lit≤ tt) t b
 
   pub in-square-mag : (n k : ℕ) → Within (factorial n) 2 (nested 2 (squared x) n k) nil
   in-square-mag n k = nested-mag 2 1 (lit< tt) two-on (square x) (squared x) square-mag square-near n k

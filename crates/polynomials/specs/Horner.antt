@@ -1,4 +1,5 @@
--- E5. The polynomials in f64: Horner's rule with the reciprocals 1 / n!, each rounded once; a step is one product and one sum. Definitions only.
+-- E5. The polynomials in f64: Horner's rule with the reciprocals 1 / n!, each rounded once; a step is one product and
+-- one sum. Definitions only.
 use mathlib.Core.Bool.{false}
 use Prim.Native.Nat.{ℕ, zero, suc, _+_}
 use lib.IntN.{negsuc}
@@ -16,7 +17,7 @@ unfolding reciprocal
 horner d z n zero = reciprocal n
 horner d z n (suc k) = add binary64 (reciprocal n) (mul binary64 z (horner d z (d + n) k))
 
--- through x ^ 17, x ^ 18 and y ^ 13: the terms of Taylor's fractions that are left out lie below the last digit
+-- Through x ^ 17, x ^ 18 and y ^ 13: the terms of Taylor's fractions that are left out lie below the last digit.
 abbrev pub sineSteps : ℕ
 sineSteps = 8
 

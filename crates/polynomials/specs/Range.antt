@@ -4,7 +4,7 @@ use Prim.Native.Nat.{ℕ, _*_}
 use lib.Dec.{leb}
 use lib.Ieee.{Float, nan, inf, fin, up, down}
 
--- a number of magnitude at most b
+-- A number of magnitude at most b.
 abbrev pub atMost : ℕ → Float → Bool
 atMost b nan = false
 atMost b (inf s) = false

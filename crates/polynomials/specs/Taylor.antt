@@ -1,6 +1,6 @@
 -- E1, E4. Taylor's fractions with their factorials, over exact whole numbers. Definitions only.
 use Prim.Native.Nat.{ℕ, zero, suc, _*_}
-use Rattle.fraction.specs.Fraction.{Frac, frac, plus, times, opp}
+use Rattle.rounding_error.specs.Fraction.{Frac, frac, plus, times, opp}
 
 unfoldable pub factorial : ℕ → ℕ
 factorial zero = 1
@@ -15,13 +15,13 @@ unfoldable pub term : Frac → ℕ → Frac
 unfolding factorial power
 term x n = frac (power x n .p) (power x n .n) (power x n .d * factorial n)
 
--- x ^ n / n! - x ^ (n + 2) / (n + 2)! + .., with k terms after the first
+-- x ^ n / n! - x ^ (n + 2) / (n + 2)! + .., with k terms after the first.
 unfoldable pub alternating : Frac → ℕ → ℕ → Frac
 unfolding term
 alternating x n zero = term x n
 alternating x n (suc k) = plus (term x n) (opp (alternating x (suc (suc n)) k))
 
--- x ^ n / n! + x ^ (n + 1) / (n + 1)! + .., with k terms after the first
+-- x ^ n / n! + x ^ (n + 1) / (n + 1)! + .., with k terms after the first.
 unfoldable pub rising : Frac → ℕ → ℕ → Frac
 unfolding term
 rising x n zero = term x n

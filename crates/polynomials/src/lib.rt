@@ -1,4 +1,4 @@
-// E5. The polynomials near zero that the elementary functions are made of, by Horner's rule, without a division.
+// The polynomials near zero that the elementary functions are made of, by Horner's rule without a division (E5).
 ghost use mathlib.Core.Path.{_≡_};
 ghost use Rattle.polynomials.specs.Horner.{sineNear, cosineNear, powerNear};
 

@@ -1,3 +1,3 @@
-pub mod Told
-pub mod Drafted
-pub mod Sets
+pub mod NamedQualities
+pub mod DraftCalls
+pub mod SetsByTwoTests

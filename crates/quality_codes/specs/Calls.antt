@@ -1,4 +1,5 @@
--- A quality reader's call, opening and reset on plain numbers: quality_variable_delay's where every number names a quality, else refused with nothing changed. Definitions only.
+-- A quality reader's call, opening and reset on plain numbers: quality_variable_delay's if every number names a
+-- quality, otherwise refused with nothing changed. Definitions only.
 use Prim.Native.Nat.{ℕ}
 use mathlib.Core.Bool.{Bool, true, false, _&&_}
 use mathlib.Core.List.{List}
@@ -28,26 +29,40 @@ refusedBy number s = record { state = s; number = number; sample = zero-f }
 abbrev pub takenApart : ProcessedQ → Called
 takenApart p = record { state = coded (p .state); number = numberF32Of (p .answer); sample = valueF32Of (p .answer) }
 
--- process_sample_rate_aware
+-- What process_sample_rate_aware gives.
 abbrev pub calledOf : List Float → Float → Coded → List Float → Float → Float → ℕ → Float → Called
-calledOf sets top s xs x y q rate =
-    pickCalled (codeOk q && fieldsOk s) (takenApart (processed sets top (decoded s) xs x y (modeOf q) rate))
-    (refusedBy (oddNumber (codeOk q) (dueOf (length sets) top (decoded s) (length xs) x y rate)) s)
+calledOf sets max-rate s xs x y q playback-rate =
+    pickCalled (codeOk q && fieldsOk s)
+    (takenApart (processed sets max-rate (decoded s) xs x y (modeOf q) playback-rate))
+    (refusedBy (oddNumber (codeOk q) (dueOf (length sets) max-rate (decoded s) (length xs) x y playback-rate)) s)
 
 abbrev pub ringCalled : List Float → Float → Coded → List Float → Float → Float → ℕ → Float → List Float
-ringCalled sets top s xs x y q rate = pickRing (codeOk q && fieldsOk s) (ringLeft sets top (decoded s) xs x y rate) xs
+ringCalled sets max-rate s xs x y q playback-rate =
+    pickRing (codeOk q && fieldsOk s) (ringLeft sets max-rate (decoded s) xs x y playback-rate) xs
 
--- reset, which asks for no quality; opening resets a state that has accepted nothing and holds its one quality, whose number is an argument
+-- A reset asks for no quality. Opening resets a state that has accepted nothing and holds its one quality, whose number
+-- is an argument.
 abbrev pub openedApart : Coded → Opened → Called
 openedApart s (Reader d) = record { state = coded d; number = 0; sample = zero-f }
 openedApart s (Refused k) = record { state = s; number = k; sample = zero-f }
 
 abbrev pub renewedOf : Bool → Coded → ℕ → Called
-renewedOf asked s len = pickCalled (asked && fieldsOk s) (openedApart s (resetOf (decoded s) len)) (refusedBy (oddNumber asked (resetVerdict (decoded s) len)) s)
+renewedOf asked s len =
+    pickCalled (asked && fieldsOk s) (openedApart s (resetOf (decoded s) len))
+    (refusedBy (oddNumber asked (resetVerdict (decoded s) len)) s)
 
 abbrev pub ringRenewed : Bool → Coded → List Float → List Float
 ringRenewed asked s xs = pickRing (asked && fieldsOk s) (ringReset (decoded s) xs) xs
 
 -- Opening: a state that has accepted nothing and holds its one quality.
 abbrev pub freshOf : ℕ → ℕ → ℕ → ℕ → Coded
-freshOf maximum margin quality crossfade = record { maximum = maximum; margin = margin; accepted = 0; current = quality; target = quality; place = crossfade; crossfade = crossfade }
+freshOf maximum margin quality crossfade-samples =
+    record {
+      maximum = maximum;
+      margin = margin;
+      accepted = 0;
+      current = quality;
+      target = quality;
+      «crossfade_position» = crossfade-samples;
+      «crossfade_samples» = crossfade-samples;
+    }

@@ -1,5 +1,6 @@
--- N1, N3. A quality as its number, and a reader's state as plain numbers. A number above 3 names no quality: one that is asked for is an argument, refused by 1; one
--- of a state is a field, refused by 3, after 1 and 2. Definitions only.
+-- N1, N3. A quality as its number, and a reader's state as plain numbers. A number above 3 names no quality: as the
+-- requested one it is an argument, refused by 1; in a state it is a field, refused by 3, after 1 and 2. Definitions
+-- only.
 use Prim.Native.Nat.{ℕ}
 use mathlib.Core.Bool.{Bool, true, false, _&&_, cond}
 use lib.Dec.{leb}
@@ -26,8 +27,8 @@ decoded s = record {
   accepted = s .accepted;
   «current_quality» = modeOf (s .current);
   «target_quality» = modeOf (s .target);
-  «crossfade_position» = s .place;
-  «crossfade_samples» = s .crossfade;
+  «crossfade_position» = s .«crossfade_position»;
+  «crossfade_samples» = s .«crossfade_samples»;
 }
 
 abbrev pub coded : QualityVariableDelayF32 → Coded
@@ -37,16 +38,26 @@ coded d = record {
   accepted = d .accepted;
   current = codeOf (d .«current_quality»);
   target = codeOf (d .«target_quality»);
-  place = d .«crossfade_position»;
-  crossfade = d .«crossfade_samples»;
+  «crossfade_position» = d .«crossfade_position»;
+  «crossfade_samples» = d .«crossfade_samples»;
 }
 
 abbrev pub stateOf : ℕ → ℕ → ℕ → ℕ → ℕ → ℕ → ℕ → Coded
-stateOf maximum margin accepted current target place crossfade = record { maximum = maximum; margin = margin; accepted = accepted; current = current; target = target; place = place; crossfade = crossfade }
+stateOf maximum margin accepted current target crossfade-position crossfade-samples =
+    record {
+      maximum = maximum;
+      margin = margin;
+      accepted = accepted;
+      current = current;
+      target = target;
+      «crossfade_position» = crossfade-position;
+      «crossfade_samples» = crossfade-samples;
+    }
 
 abbrev pub fieldsOk : Coded → Bool
 fieldsOk s = codeOk (s .current) && codeOk (s .target)
 
--- the refusal where some number names no quality; v is the one that is due else
+-- The refusal when a quality number is above 3: 1 if it is the requested one; otherwise 3, unless v, the refusal due
+-- without it, is already 1 or 2.
 abbrev pub oddNumber : Bool → ℕ → ℕ
 oddNumber asked v = cond asked (cond (leb 1 v && leb v 2) v 3) 1

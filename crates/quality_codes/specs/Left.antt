@@ -5,7 +5,7 @@ use mathlib.Core.Bool.{true}
 use mathlib.Core.List.{List}
 use lib.ListN.{length}
 use lib.Ieee.{Float}
-use Rattle.doors.specs.Left.{Left, leaves, Renewed, renews}
+use Rattle.answer_parts.specs.Left.{Left, leaves, Renewed, renews}
 use Rattle.quality_codes.specs.declared.Coded.{Coded}
 use Rattle.quality_codes.specs.Codes.{codeOk}
 use Rattle.quality_codes.specs.Calls.{calledOf, ringCalled, renewedOf, ringRenewed, freshOf}
@@ -14,26 +14,26 @@ pub record Changed : Type 0 where
   pub accepted : ℕ
   pub current : ℕ
   pub target : ℕ
-  pub place : ℕ
+  pub «crossfade_position» : ℕ
 
 abbrev pub changed : ℕ → ℕ → ℕ → ℕ → Changed
-changed accepted current target place = record {
+changed accepted current target crossfade-position = record {
   accepted = accepted;
   current = current;
   target = target;
-  place = place;
+  «crossfade_position» = crossfade-position;
 }
 
 abbrev pub changedOf : Coded → Changed
-changedOf s = changed (s .accepted) (s .current) (s .target) (s .place)
+changedOf s = changed (s .accepted) (s .current) (s .target) (s .«crossfade_position»)
 
--- process_sample_rate_aware
+-- What process_sample_rate_aware gives.
 abbrev pub leftBy : List Float → Float → Coded → List Float → Float → Float → ℕ → Float → Left Float Changed
-leftBy sets top s xs x y q rate =
-    let c = calledOf sets top s xs x y q rate in
-    leaves (c .number) (c .sample) (changedOf (c .state)) (ringCalled sets top s xs x y q rate)
+leftBy sets max-rate s xs x y q playback-rate =
+    let c = calledOf sets max-rate s xs x y q playback-rate in
+    leaves (c .number) (c .sample) (changedOf (c .state)) (ringCalled sets max-rate s xs x y q playback-rate)
 
--- reset, which asks for no quality
+-- Reset, which asks for no quality.
 abbrev pub resetLeft : Coded → List Float → Renewed Changed
 resetLeft s xs =
     let c = renewedOf true s (length xs) in
@@ -45,7 +45,7 @@ unlessRefused zero before after = after
 unlessRefused (suc k) before after = before
 
 abbrev pub openedLeft : Changed → ℕ → ℕ → ℕ → ℕ → List Float → Renewed Changed
-openedLeft before maximum margin quality crossfade xs =
-    let s = freshOf maximum margin quality crossfade in
+openedLeft before maximum margin quality crossfade-samples xs =
+    let s = freshOf maximum margin quality crossfade-samples in
     let c = renewedOf (codeOk quality) s (length xs) in
     renews (c .number) (unlessRefused (c .number) before (changedOf (c .state))) (ringRenewed (codeOk quality) s xs)

@@ -18,8 +18,8 @@ fn apart(p: ProcessedQ) -> Called
     let a = p.answer;
     Called {
         state: encode(d),
-        number: doors::number_f32(a),
-        sample: doors::value_f32(a),
+        number: answer_parts::number_f32(a),
+        sample: answer_parts::value_f32(a),
     }
 }
 
@@ -27,14 +27,16 @@ pub fn call<'a>(
     state: Coded,
     ring: &mut [f32],
     sets: &'a [f32],
-    top: f64,
+    max_rate: f64,
     input: f32,
     delay: f64,
     quality: u8,
-    rate: f64,
+    playback_rate: f64,
 ) -> Called
-    ensures { λ r. ⌜ r ≡ calledOf (now (sets .entry)) top state (now (ring .entry)) input delay quality rate ⌝ }
-    ensures { λ r. ⌜ now (ring .exit) ≡ ringCalled (now (sets .entry)) top state (now (ring .entry)) input delay quality rate ⌝ }
+    ensures { λ r. ⌜ r ≡
+        calledOf (now (sets .entry)) «max_rate» state (now (ring .entry)) input delay quality «playback_rate» ⌝ }
+    ensures { λ r. ⌜ now (ring .exit) ≡
+        ringCalled (now (sets .entry)) «max_rate» state (now (ring .entry)) input delay quality «playback_rate» ⌝ }
 {
     let d = decode(state);
     let asked = quality <= 3;
@@ -44,15 +46,23 @@ pub fn call<'a>(
             d,
             &mut ring[..],
             sets,
-            top,
+            max_rate,
             input,
             delay,
             q,
-            rate,
+            playback_rate,
         );
         return apart(p);
     }
-    let v = quality_variable_delay::due(d, sets.len(), top, ring.len(), input, delay, rate);
+    let v = quality_variable_delay::due(
+        d,
+        sets.len(),
+        max_rate,
+        ring.len(),
+        input,
+        delay,
+        playback_rate,
+    );
     Called {
         state: state,
         number: odd(asked, v),

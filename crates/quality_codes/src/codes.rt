@@ -29,8 +29,8 @@ pub fn decode(s: Coded) -> QualityVariableDelayF32
         accepted: s.accepted,
         current_quality: current,
         target_quality: target,
-        crossfade_position: s.place,
-        crossfade_samples: s.crossfade,
+        crossfade_position: s.crossfade_position,
+        crossfade_samples: s.crossfade_samples,
     }
 }
 
@@ -45,8 +45,8 @@ pub fn encode(d: QualityVariableDelayF32) -> Coded
         accepted: d.accepted,
         current: quality_mode::code(current),
         target: quality_mode::code(target),
-        place: d.crossfade_position,
-        crossfade: d.crossfade_samples,
+        crossfade_position: d.crossfade_position,
+        crossfade_samples: d.crossfade_samples,
     }
 }
 
@@ -62,7 +62,8 @@ fn number(test: bool, a: u8, b: u8) -> u8
     if test { a } else { b }
 }
 
-// The refusal where a number is above 3: 1 if it is the quality asked for; else 3, unless `v`, due else, is 1 or 2.
+// The refusal when a quality number is above 3: 1 if it is the requested one; otherwise 3, unless `v`, the refusal due
+// without it, is already 1 or 2.
 pub(crate) fn odd(asked: bool, v: u8) -> u8
     ensures { λ r. ⌜ r ≡ oddNumber asked v ⌝ }
 {

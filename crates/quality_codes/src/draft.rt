@@ -1,4 +1,5 @@
-// Q2. The same for a common call that is plain in Draft, at once: no state is made, and of the state only the count is written.
+// Fast path for a call in which all qualities are Draft and nothing is due (Q2): no state is made, and only the count
+// is written.
 ghost use mathlib.Core.Path.{_≡_};
 ghost use mathlib.Core.Bool.{true};
 ghost use Prim.Native.Nat.{_+_, _-_, _%_, _^_, _<_};
@@ -7,16 +8,17 @@ ghost use lib.ListN.{length};
 ghost use Rattle.ring.specs.Places.{positionOk};
 ghost use Rattle.cubic_farrow_f32.specs.Draft.{draftAt};
 ghost use Rattle.variable_delay.specs.Reader.{stored, positionOf};
-ghost use Rattle.doors.specs.Left.{leaves};
+ghost use Rattle.answer_parts.specs.Left.{leaves};
 ghost use Rattle.quality_codes.specs.Codes.{stateOf};
 ghost use Rattle.quality_codes.specs.Left.{changed, leftBy};
 use super::plainly;
 use super::through::call_through;
-use doors::handing::put_f32;
+use answer_parts::handing::put_f32;
 
-// K1. Stores sample i, at the place that a mask of the ring's length gives, and reads behind it.
+// Stores sample i at its place, which a mask of the ring's length gives, and reads behind it (K1).
 fn read(i: u64, ring: &mut [f32], input: f32, delay: f64) -> f32
-    requires { ⌜ (i < 2 ^ 36) × (0 < length (now ring)) × (bitAnd i (length (now ring) - 1) ≡ i % length (now ring)) × (positionOk (positionOf i delay) ≡ true) ⌝ }
+    requires { ⌜ (i < 2 ^ 36) × (0 < length (now ring)) × (bitAnd i (length (now ring) - 1) ≡ i % length (now ring))
+        × (positionOk (positionOf i delay) ≡ true) ⌝ }
     ensures { λ r. ⌜ r ≡ draftAt (stored i (now (ring .entry)) input) (i + 1) (positionOf i delay) ⌝ }
     ensures { λ r. ⌜ now (ring .exit) ≡ stored i (now (ring .entry)) input ⌝ }
 {
@@ -31,24 +33,24 @@ pub fn call_at_once<'a>(
     accepted: &mut u64,
     current: &mut u8,
     target: &mut u8,
-    place: &mut u32,
-    crossfade: u32,
+    crossfade_position: &mut u32,
+    crossfade_samples: u32,
     ring: &mut [f32],
     sets: &'a [f32],
-    top: f64,
+    max_rate: f64,
     input: f32,
     delay: f64,
     quality: u8,
-    rate: f64,
+    playback_rate: f64,
     sample: &mut f32,
 ) -> u8
     ensures { λ r. ⌜ leaves r (now (sample .exit))
-        (changed (now (accepted .exit)) (now (current .exit)) (now (target .exit)) (now (place .exit)))
+        (changed (now (accepted .exit)) (now (current .exit)) (now (target .exit)) (now («crossfade_position» .exit)))
         (now (ring .exit))
-        ≡ leftBy (now (sets .entry)) top
+        ≡ leftBy (now (sets .entry)) «max_rate»
         (stateOf maximum margin (now (accepted .entry)) (now (current .entry)) (now (target .entry))
-        (now (place .entry)) crossfade)
-        (now (ring .entry)) input delay quality rate ⌝ }
+        (now («crossfade_position» .entry)) «crossfade_samples»)
+        (now (ring .entry)) input delay quality «playback_rate» ⌝ }
 {
     let i = *accepted;
     if plainly::plain(
@@ -57,15 +59,15 @@ pub fn call_at_once<'a>(
         i,
         *current,
         *target,
-        *place,
-        crossfade,
+        *crossfade_position,
+        crossfade_samples,
         ring.len(),
         sets.len(),
-        top,
+        max_rate,
         input,
         delay,
         quality,
-        rate,
+        playback_rate,
     ) {
         let y = read(i, &mut ring[..], input, delay);
         put_f32(y, i + 1, accepted, sample);
@@ -77,15 +79,15 @@ pub fn call_at_once<'a>(
         accepted,
         current,
         target,
-        place,
-        crossfade,
+        crossfade_position,
+        crossfade_samples,
         &mut ring[..],
         &sets[..],
-        top,
+        max_rate,
         input,
         delay,
         quality,
-        rate,
+        playback_rate,
         sample,
     )
 }

@@ -1,4 +1,5 @@
-// Whether a bank has as many f32 as its sets need, with one division of a whole number by a constant and none of its ceiling worked out.
+// Whether a bank has the length that its sets need. One division of a whole number by a constant is enough; the ceiling
+// need not be computed.
 ghost use mathlib.Core.Path.{_≡_};
 ghost use mathlib.Core.Bool.{true};
 ghost use Prim.Native.Nat.{_*_, _^_, _<_, max};
@@ -29,13 +30,13 @@ fn counted(x: f64, n: u64) -> bool
     false
 }
 
-pub(crate) fn fits(top: f64, lent: usize) -> bool
-    ensures { λ r. ⌜ (r ≡ true → (bankOk top ≡ true) × (eqb lent (stepsOf top * setLength) ≡ true)) ⌝ }
+pub(crate) fn fits(max_rate: f64, lent: usize) -> bool
+    ensures { λ r. ⌜ (r ≡ true → (bankOk «max_rate» ≡ true) × (eqb lent (stepsOf «max_rate» * setLength) ≡ true)) ⌝ }
 {
     let n = lent / SET_LENGTH;
     if n * SET_LENGTH == lent {
-        if magnitude::within(top, 1.0, 2.0) {
-            return counted((top - 1.0) / 0.02, n as u64);
+        if magnitude::within(max_rate, 1.0, 2.0) {
+            return counted((max_rate - 1.0) / 0.02, n as u64);
         }
     }
     false

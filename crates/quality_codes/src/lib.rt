@@ -1,5 +1,5 @@
-// A quality reader's call, opening and reset on plain numbers: a quality is its place in 000's list, from 0, and a
-// number above 3 names none.
+// The quality reader's call, opening and reset on plain numbers.
+// A quality is its place in the original's list, from 0; a number above 3 names none.
 mod calls; // a call
 mod codes; // a quality and a state as numbers
 mod draft; // a call that is plain in Draft
@@ -13,18 +13,18 @@ pub use draft::call_at_once;
 pub use renewing::renew;
 pub use through::call_through;
 
-// A quality reader's state: `place` and `crossfade` are 000's crossfade_position and crossfade_samples.
+// A quality reader's state in plain numbers; the names are the original's (000), the qualities are their numbers.
 pub struct Coded {
     pub maximum: usize,
     pub margin: usize,
     pub accepted: u64,
     pub current: u8,
     pub target: u8,
-    pub place: u32,
-    pub crossfade: u32,
+    pub crossfade_position: u32,
+    pub crossfade_samples: u32,
 }
 
-// What a call hands back: the refusal's number is 0 for none, and the sample 0.0 where there is none.
+// What a call gives: the refusal number is 0 for none, and the sample is 0.0 if refused.
 pub struct Called {
     pub state: Coded,
     pub number: u8,

@@ -1,4 +1,5 @@
-// The tests of a common call that is plain in Draft: each leads away at once, and none of them picks a number.
+// Fast path: true only if all qualities are Draft and no refusal is due. Returns at the first failing test; `due` works
+// out the number.
 ghost use mathlib.Core.Path.{_≡_};
 ghost use mathlib.Core.Bool.{true, false, not};
 ghost use Prim.Native.Nat.{_*_, _^_, _<_, _≤_};
@@ -16,14 +17,22 @@ use constants::LIMIT;
 use constants::LIMIT_F64;
 
 // Whether all three qualities are Draft and the fade's numbers in range.
-fn draft(current: u8, target: u8, quality: u8, place: u32, crossfade: u32) -> bool
-    ensures { λ r. ⌜ (r ≡ true → (current ≡ 0) × (target ≡ 0) × (quality ≡ 0) × (crossfade ≤ 16777216) × (place ≤ crossfade)) ⌝ }
+fn draft(
+    current: u8,
+    target: u8,
+    quality: u8,
+    crossfade_position: u32,
+    crossfade_samples: u32,
+) -> bool
+    ensures { λ r. ⌜ (r ≡ true
+        → (current ≡ 0) × (target ≡ 0) × (quality ≡ 0) × («crossfade_samples» ≤ 16777216)
+        × («crossfade_position» ≤ «crossfade_samples»)) ⌝ }
 {
     if current == 0 {
         if target == 0 {
             if quality == 0 {
-                if crossfade <= 16777216 {
-                    return place <= crossfade;
+                if crossfade_samples <= 16777216 {
+                    return crossfade_position <= crossfade_samples;
                 }
             }
         }
@@ -31,15 +40,18 @@ fn draft(current: u8, target: u8, quality: u8, place: u32, crossfade: u32) -> bo
     false
 }
 
-// Whether there is room and the call's three floats are in range. A delay between two finite numbers is finite; only a NaN differs from itself.
-fn in_range(accepted: u64, input: f32, delay: f64, rate: f64) -> bool
-    ensures { λ r. ⌜ (r ≡ true → (accepted < 2 ^ 36) × (le (fin false 0 (pos 0)) delay ≡ true) × (le delay (fin false 1 (pos 36)) ≡ true) × (finite input ≡ true) × (not (isNan rate) ≡ true)) ⌝ }
+// Whether there is room and the call's three floats are in range. A delay between two finite numbers is finite; only a
+// NaN differs from itself.
+fn in_range(accepted: u64, input: f32, delay: f64, playback_rate: f64) -> bool
+    ensures { λ r. ⌜ (r ≡ true
+        → (accepted < 2 ^ 36) × (le (fin false 0 (pos 0)) delay ≡ true) × (le delay (fin false 1 (pos 36)) ≡ true)
+        × (finite input ≡ true) × (not (isNan «playback_rate») ≡ true)) ⌝ }
 {
     if accepted < LIMIT {
         if delay >= 0.0 {
             if delay <= LIMIT_F64 {
                 if magnitude::is_finite_f32(input) {
-                    return rate == rate;
+                    return playback_rate == playback_rate;
                 }
             }
         }
@@ -47,40 +59,53 @@ fn in_range(accepted: u64, input: f32, delay: f64, rate: f64) -> bool
     false
 }
 
-// Whether a ring of `len` and a bank of `lent` f32 have the lengths that their settings need. What is empty has no settings.
-fn filled(maximum: usize, margin: usize, len: usize, top: f64, lent: usize) -> bool
-    ensures { λ r. ⌜ (r ≡ true → (settingsOk maximum margin ≡ true) × (eqb len (lengthFor maximum margin) ≡ true) × (bankOk top ≡ true) × (eqb lent (stepsOf top * setLength) ≡ true)) ⌝ }
+// Whether a ring of `len` and a bank of `lent` f32 have the lengths that their settings need; an empty one never has.
+fn filled(maximum: usize, margin: usize, len: usize, max_rate: f64, lent: usize) -> bool
+    ensures { λ r. ⌜ (r ≡ true
+        → (settingsOk maximum margin ≡ true) × (eqb len (lengthFor maximum margin) ≡ true)
+        × (bankOk «max_rate» ≡ true) × (eqb lent (stepsOf «max_rate» * setLength) ≡ true)) ⌝ }
 {
     if len != 0 {
         if len == ring::length_for(maximum, margin) {
-            return lent::fits(top, lent);
+            return lent::fits(max_rate, lent);
         }
     }
     false
 }
 
-// Whether the call is plain in Draft and nothing of it is to be refused.
+// Whether the call is plain in Draft and no refusal is due.
 pub(crate) fn plain(
     maximum: usize,
     margin: usize,
     accepted: u64,
     current: u8,
     target: u8,
-    place: u32,
-    crossfade: u32,
+    crossfade_position: u32,
+    crossfade_samples: u32,
     len: usize,
     lent: usize,
-    top: f64,
+    max_rate: f64,
     input: f32,
     delay: f64,
     quality: u8,
-    rate: f64,
+    playback_rate: f64,
 ) -> bool
-    ensures { λ r. ⌜ (r ≡ true → (current ≡ 0) × (target ≡ 0) × (quality ≡ 0) × (dueOf lent top (decoded (stateOf maximum margin accepted current target place crossfade)) len input delay rate ≡ 0)) ⌝ }
+    ensures { λ r. ⌜ (r ≡ true
+        → (current ≡ 0) × (target ≡ 0) × (quality ≡ 0)
+        × (dueOf lent «max_rate»
+        (decoded (stateOf maximum margin accepted current target «crossfade_position» «crossfade_samples»)) len
+        input delay «playback_rate»
+        ≡ 0)) ⌝ }
 {
-    if draft(current, target, quality, place, crossfade) {
-        if in_range(accepted, input, delay, rate) {
-            return filled(maximum, margin, len, top, lent);
+    if draft(
+        current,
+        target,
+        quality,
+        crossfade_position,
+        crossfade_samples,
+    ) {
+        if in_range(accepted, input, delay, playback_rate) {
+            return filled(maximum, margin, len, max_rate, lent);
         }
     }
     false

@@ -1,6 +1,7 @@
-// A call whose state comes and goes through pointers: what it leaves of the state is written, the sample, 0.0 where there is none, too, and the refusal's number handed back.
+// `call` for C: writes the new state and the sample (0.0 if refused) through pointers; returns the refusal number, 0
+// for none.
 ghost use mathlib.Core.Path.{_≡_};
-ghost use Rattle.doors.specs.Left.{leaves};
+ghost use Rattle.answer_parts.specs.Left.{leaves};
 ghost use Rattle.quality_codes.specs.Codes.{stateOf};
 ghost use Rattle.quality_codes.specs.Left.{changed, leftBy};
 use super::Coded;
@@ -12,24 +13,24 @@ pub fn call_through<'a>(
     accepted: &mut u64,
     current: &mut u8,
     target: &mut u8,
-    place: &mut u32,
-    crossfade: u32,
+    crossfade_position: &mut u32,
+    crossfade_samples: u32,
     ring: &mut [f32],
     sets: &'a [f32],
-    top: f64,
+    max_rate: f64,
     input: f32,
     delay: f64,
     quality: u8,
-    rate: f64,
+    playback_rate: f64,
     sample: &mut f32,
 ) -> u8
     ensures { λ r. ⌜ leaves r (now (sample .exit))
-        (changed (now (accepted .exit)) (now (current .exit)) (now (target .exit)) (now (place .exit)))
+        (changed (now (accepted .exit)) (now (current .exit)) (now (target .exit)) (now («crossfade_position» .exit)))
         (now (ring .exit))
-        ≡ leftBy (now (sets .entry)) top
+        ≡ leftBy (now (sets .entry)) «max_rate»
         (stateOf maximum margin (now (accepted .entry)) (now (current .entry)) (now (target .entry))
-        (now (place .entry)) crossfade)
-        (now (ring .entry)) input delay quality rate ⌝ }
+        (now («crossfade_position» .entry)) «crossfade_samples»)
+        (now (ring .entry)) input delay quality «playback_rate» ⌝ }
 {
     let state = Coded {
         maximum: maximum,
@@ -37,15 +38,24 @@ pub fn call_through<'a>(
         accepted: *accepted,
         current: *current,
         target: *target,
-        place: *place,
-        crossfade: crossfade,
+        crossfade_position: *crossfade_position,
+        crossfade_samples: crossfade_samples,
     };
-    let c = call(state, &mut ring[..], sets, top, input, delay, quality, rate);
+    let c = call(
+        state,
+        &mut ring[..],
+        sets,
+        max_rate,
+        input,
+        delay,
+        quality,
+        playback_rate,
+    );
     let after = c.state;
     *accepted = after.accepted;
     *current = after.current;
     *target = after.target;
-    *place = after.place;
+    *crossfade_position = after.crossfade_position;
     *sample = c.sample;
     c.number
 }

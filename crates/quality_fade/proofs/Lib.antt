@@ -1,4 +1,4 @@
-pub mod Kept
-pub mod Calls
-pub mod Fading
-pub mod Left
+pub mod StaysInRange
+pub mod OneCall
+pub mod FadeToEnd
+pub mod AfterCalls

@@ -1,5 +1,5 @@
--- G2, Q3. What a reader holds of its qualities (01, 'Changing quality'): current and target, fade place and fade length; their ranges, and how opening and reset
--- leave them. Definitions only.
+-- G2, Q3. What a reader holds of its qualities (01, 'Changing quality'): current and target, the crossfade's position
+-- and its length in samples; their ranges, and how opening and reset leave them. Definitions only.
 use Prim.Native.Nat.{ℕ}
 use mathlib.Core.Bool.{Bool, _&&_, cond}
 use lib.Dec.{leb, ltb}
@@ -8,23 +8,31 @@ use Rattle.quality_mode.specs.Quality.{sameQ}
 use Rattle.quality_fade.specs.declared.Fade.{Fade}
 
 abbrev pub fadeOf : QualityMode → QualityMode → ℕ → ℕ → Fade
-fadeOf current target place n = record { current = current; target = target; place = place; length = n }
+fadeOf current target crossfade-position crossfade-samples =
+    record {
+      current = current;
+      target = target;
+      «crossfade_position» = crossfade-position;
+      «crossfade_samples» = crossfade-samples;
+    }
 
 -- G2. The crossfade is 0 to 16777216 calls long.
 abbrev pub lengthOk : ℕ → Bool
-lengthOk n = leb n 16777216
+lengthOk crossfade-samples = leb crossfade-samples 16777216
 
 -- G2. The place is 0 to the length; where current and target differ, below it.
 unfoldable pub placeOk : Fade → Bool
-placeOk s = cond (sameQ (s .current) (s .target)) (leb (s .place) (s .length)) (ltb (s .place) (s .length))
+placeOk s =
+    cond (sameQ (s .current) (s .target)) (leb (s .«crossfade_position») (s .«crossfade_samples»))
+    (ltb (s .«crossfade_position») (s .«crossfade_samples»))
 
 abbrev pub validOf : Fade → Bool
-validOf s = lengthOk (s .length) && placeOk s
+validOf s = lengthOk (s .«crossfade_samples») && placeOk s
 
 -- Q3. Opening: its one quality is current and target, and the place is the length.
 abbrev pub openOf : QualityMode → ℕ → Fade
-openOf q n = fadeOf q q n n
+openOf q crossfade-samples = fadeOf q q crossfade-samples crossfade-samples
 
 -- Q3. A reset makes the target current and sets the place to the length.
 abbrev pub resetOf : Fade → Fade
-resetOf s = openOf (s .target) (s .length)
+resetOf s = openOf (s .target) (s .«crossfade_samples»)

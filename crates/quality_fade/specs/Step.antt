@@ -10,24 +10,34 @@ use Rattle.quality_fade.specs.Fade.{fadeOf, validOf}
 
 -- A quality other than the target becomes the target, and the fade starts again from the current one.
 abbrev pub askedOf : Fade → QualityMode → Fade
-askedOf s q = cond (sameQ q (s .target)) s (fadeOf (s .current) q 0 (s .length))
+askedOf s q = cond (sameQ q (s .target)) s (fadeOf (s .current) q 0 (s .«crossfade_samples»))
 
 -- Nothing is mixed where the current quality is the target, and at length 0.
 abbrev pub plainOf : Fade → Bool
-plainOf s = sameQ (s .current) (s .target) || eqb (s .length) 0
+plainOf s = sameQ (s .current) (s .target) || eqb (s .«crossfade_samples») 0
 
 -- A plain call reads the target, which is the current quality from then on.
 abbrev pub plainTurn : Fade → Turn
-plainTurn s = record { state = fadeOf (s .target) (s .target) (s .place) (s .length); mixed = false; from = s .target; to = s .target; weight = 0 }
+plainTurn s =
+    record {
+      state = fadeOf (s .target) (s .target) (s .«crossfade_position») (s .«crossfade_samples»);
+      mixed = false;
+      from = s .target;
+      to = s .target;
+      weight = 0;
+    }
 
--- A mixed call reads both, the target by its place and 1 over the length; the one that reaches the length makes the target current.
+-- A mixed call reads both qualities; the target's weight is its position plus 1, over the length. The call that reaches
+-- the length makes the target current.
 abbrev pub mixTurn : Fade → Turn
 mixTurn s = record {
-  state = fadeOf (cond (leb (s .length) (s .place + 1)) (s .target) (s .current)) (s .target) (s .place + 1) (s .length);
+  state =
+      fadeOf (cond (leb (s .«crossfade_samples») (s .«crossfade_position» + 1)) (s .target) (s .current)) (s .target)
+      (s .«crossfade_position» + 1) (s .«crossfade_samples»);
   mixed = true;
   from = s .current;
   to = s .target;
-  weight = s .place + 1;
+  weight = s .«crossfade_position» + 1;
 }
 
 abbrev pub turnOf : Fade → Turn

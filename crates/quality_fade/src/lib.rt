@@ -1,4 +1,5 @@
-// The change of quality (01), no samples here: what an accepted call reads and what it leaves of a reader's current and target quality, fade place and fade length.
+// The change of quality, without samples: which qualities an accepted call reads, and what it leaves of the current and
+// target quality, the crossfade's position and its length (Q1 to Q3).
 mod ported; // 000's rule
 
 ghost use mathlib.Core.Path.{_≡_};
@@ -9,12 +10,12 @@ use quality_mode::QualityMode;
 pub struct Fade {
     pub current: QualityMode,
     pub target: QualityMode,
-    pub place: u32,
-    pub length: u32,
+    pub crossfade_position: u32,
+    pub crossfade_samples: u32,
 }
 
-// What an accepted call does: the state it leaves, whether it mixes, the two qualities it reads (one and the same where it does not mix), and the weight of the
-// second, to be taken over the length.
+// What an accepted call does: the state it leaves, whether it mixes, the two qualities it reads (the same one twice if
+// it does not mix), and the weight of the second, in parts of crossfade_samples.
 pub struct Turn {
     pub state: Fade,
     pub mixed: bool,
@@ -24,30 +25,31 @@ pub struct Turn {
 }
 
 // G2. At most 2^24, so that a weight and the length are both f32 values.
-pub fn length_ok(crossfade: u32) -> bool
-    ensures { λ r. ⌜ r ≡ lengthOk crossfade ⌝ }
+pub fn length_ok(crossfade_samples: u32) -> bool
+    ensures { λ r. ⌜ r ≡ lengthOk «crossfade_samples» ⌝ }
 {
-    crossfade <= 16777216
+    crossfade_samples <= 16777216
 }
 
-// G2. At most the length, and below it where a fade runs.
+// The position is at most the length, and below it while a fade runs (G2).
 pub fn place_ok(state: Fade) -> bool
     ensures { λ r. ⌜ r ≡ placeOk state ⌝ }
 {
     let current = state.current;
     let target = state.target;
     if quality_mode::same(current, target) {
-        state.place <= state.length
+        state.crossfade_position <= state.crossfade_samples
     } else {
-        state.place < state.length
+        state.crossfade_position < state.crossfade_samples
     }
 }
 
-// One accepted call that asks for a quality. A state out of range is left as it is: the sum of its place and 1 need not fit.
+// One accepted call that asks for a quality. A state out of range is left as it is, because its position plus 1 might
+// overflow.
 pub fn step(state: Fade, asked: QualityMode) -> Turn
     ensures { λ r. ⌜ r ≡ stepOf state asked ⌝ }
 {
-    if length_ok(state.length) {
+    if length_ok(state.crossfade_samples) {
         if place_ok(state) {
             return ported::turn(ported::ask(state, asked));
         }
@@ -63,21 +65,21 @@ pub fn step(state: Fade, asked: QualityMode) -> Turn
 }
 
 // Q3. Opening, with its one quality.
-pub fn open(quality: QualityMode, crossfade: u32) -> Fade
-    ensures { λ r. ⌜ r ≡ openOf quality crossfade ⌝ }
+pub fn open(quality: QualityMode, crossfade_samples: u32) -> Fade
+    ensures { λ r. ⌜ r ≡ openOf quality «crossfade_samples» ⌝ }
 {
     Fade {
         current: quality,
         target: quality,
-        place: crossfade,
-        length: crossfade,
+        crossfade_position: crossfade_samples,
+        crossfade_samples: crossfade_samples,
     }
 }
 
-// Q3. The target becomes current and nothing is left to fade.
+// A reset makes the target current and leaves nothing to fade (Q3).
 pub fn reset(state: Fade) -> Fade
     ensures { λ r. ⌜ r ≡ resetOf state ⌝ }
 {
     let target = state.target;
-    open(target, state.length)
+    open(target, state.crossfade_samples)
 }

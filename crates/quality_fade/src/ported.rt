@@ -1,4 +1,5 @@
-// 000's rule for a change of quality: what was asked for becomes the target, and a fade to it starts again from the current quality.
+// The original's rule for a change of quality (000, 'Changing quality' in 01): the quality asked for becomes the
+// target, and a fade to it starts again from the current one.
 ghost use mathlib.Core.Path.{_≡_};
 ghost use mathlib.Core.Bool.{false};
 ghost use Prim.Native.Nat.{_<_};
@@ -8,7 +9,7 @@ use super::Fade;
 use super::Turn;
 use quality_mode::QualityMode;
 
-// The state once a quality was asked for.
+// The state after a quality was asked for.
 pub fn ask(state: Fade, asked: QualityMode) -> Fade
     ensures { λ r. ⌜ r ≡ askedOf state asked ⌝ }
 {
@@ -17,7 +18,7 @@ pub fn ask(state: Fade, asked: QualityMode) -> Fade
     if quality_mode::same(asked, target) {
         return state;
     }
-    left(current, asked, 0, state.length)
+    left(current, asked, 0, state.crossfade_samples)
 }
 
 // Whether the call reads one quality only.
@@ -29,46 +30,56 @@ fn plain(state: Fade) -> bool
     if quality_mode::same(current, target) {
         true
     } else {
-        state.length == 0
+        state.crossfade_samples == 0
     }
 }
 
-fn left(current: QualityMode, target: QualityMode, place: u32, crossfade: u32) -> Fade
-    ensures { λ r. ⌜ r ≡ fadeOf current target place crossfade ⌝ }
+fn left(
+    current: QualityMode,
+    target: QualityMode,
+    crossfade_position: u32,
+    crossfade_samples: u32,
+) -> Fade
+    ensures { λ r. ⌜ r ≡ fadeOf current target «crossfade_position» «crossfade_samples» ⌝ }
 {
     Fade {
         current: current,
         target: target,
-        place: place,
-        length: crossfade,
+        crossfade_position: crossfade_position,
+        crossfade_samples: crossfade_samples,
     }
 }
 
-// The call itself, with the state once its quality was asked for.
+// The call itself, on the state after its quality was asked for.
 pub(crate) fn turn(state: Fade) -> Turn
-    requires { ⌜ (plainOf state ≡ false → state .place < state .length) ⌝ }
+    requires { ⌜ (plainOf state ≡ false → state .«crossfade_position» < state .«crossfade_samples») ⌝ }
     ensures { λ r. ⌜ r ≡ turnOf state ⌝ }
 {
     let current = state.current;
     let target = state.target;
     if plain(state) {
         return Turn {
-            state: left(target, target, state.place, state.length),
+            state: left(
+                target,
+                target,
+                state.crossfade_position,
+                state.crossfade_samples,
+            ),
             mixed: false,
             from: target,
             to: target,
             weight: 0,
         };
     }
-    let weight = state.place + 1;
+    let weight = state.crossfade_position + 1;
     // Q1. The last mixed call makes the target current.
-    let next = if state.length <= weight {
+    let next = if state.crossfade_samples <= weight {
         target
     } else {
         current
     };
     Turn {
-        state: left(next, target, weight, state.length),
+        state: left(next, target, weight, state.crossfade_samples),
         mixed: true,
         from: current,
         to: target,

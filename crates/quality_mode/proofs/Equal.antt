@@ -1,4 +1,5 @@
--- `sameQ` says whether two qualities are equal, and a quality is the one of its number: no two qualities share one. Assumes nothing.
+-- `sameQ` says whether two qualities are equal, and a quality is the one of its number: no two qualities share one.
+-- Assumes nothing.
 use mathlib.Core.Path.{_≡_, refl, sym}
 use mathlib.Core.Bool.{true, false}
 use Prim.Native.Nat.{ℕ}

@@ -6,22 +6,22 @@ use lib.Dec.{eqb}
 use Rattle.quality_mode.specs.declared.QualityMode.{QualityMode}
 use Rattle.quality_mode.specs.declared.QualityMode.the-variants.{Draft, Normal, Hq, Ultra}
 
--- the one that 000 marks as its default
+-- The quality that 000 marks as its default.
 abbrev pub defaultQuality : QualityMode
 defaultQuality = Hq
 
--- the place in 000's list, from 0
+-- A quality's number is its place in 000's list, from 0.
 abbrev pub codeOf : QualityMode → ℕ
 codeOf Draft = 0
 codeOf Normal = 1
 codeOf Hq = 2
 codeOf Ultra = 3
 
--- whether two are the same
+-- Whether two qualities are the same.
 abbrev pub sameQ : QualityMode → QualityMode → Bool
 sameQ a b = eqb (codeOf a) (codeOf b)
 
--- 000's SincBankF32::for_max_rate builds a table for each quality but Draft, which reads none
+-- 000's SincBankF32::for_max_rate builds a table for each quality but Draft, which reads none.
 abbrev pub tapsOf : QualityMode → ℕ
 tapsOf Draft = 0
 tapsOf Normal = 80

@@ -1,4 +1,4 @@
-// 000's QualityMode: the four qualities by their numbers, its default, and the taps and phases of each one's table.
+// The original's QualityMode (000): the four qualities by their numbers, the default, and the taps and phases of each.
 ghost use mathlib.Core.Path.{_≡_};
 ghost use Rattle.quality_mode.specs.Quality.{defaultQuality, codeOf, sameQ, tapsOf, phasesOf};
 ghost use Rattle.quality_mode.specs.Names.{namedOf};

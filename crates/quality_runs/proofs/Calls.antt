@@ -10,12 +10,12 @@ use Rattle.variable_delay.specs.Reader.{Reading}
 use Rattle.runs.proofs.Calls as calls
 use Rattle.quality_mode.specs.declared.QualityMode.{QualityMode}
 use Rattle.quality_variable_delay.specs.Reader.{verdict, ringAfter, processedBy}
-use Rattle.quality_variable_delay.proofs.Taken.{taken}
+use Rattle.quality_variable_delay.proofs.AcceptedCall.{taken}
 use Rattle.quality_runs.specs.Runs.{Call, Reader, fit, afterBy, due, after, run, accepted}
 
 -- A reader's call leaves `after`, whatever its qualities read: the state in its answer, and the ring.
 pub leaves : (read : QualityMode → Reading) (r : Reader) (c : Call)
-    → let v = verdict (c .bank) (c .lent) (r .state) (length (r .ring)) (c .input) (c .delay) (c .rate) in
+    → let v = verdict (c .bank) (c .lent) (r .state) (length (r .ring)) (c .input) (c .delay) (c .playback-rate) in
     (processedBy read v (r .state) (r .ring) (c .input) (c .delay) (c .quality) .state ≡ after r c .state)
     × (ringAfter v (r .state) (r .ring) (c .input) ≡ after r c .ring)
 leaves read r c = (refl, refl)
@@ -30,7 +30,7 @@ refused-leave-nothing = calls.refused-leave-nothing due afterBy stays
 
 unfit-due : (r : Reader) (c : Call) → fit c ≡ false → due r c ≡ 0 → ⊥
 unfit-due r c h e =
-    let t = taken (c .bank) (c .lent) (r .state) (length (r .ring)) (c .input) (c .delay) (c .rate) e in
+    let t = taken (c .bank) (c .lent) (r .state) (length (r .ring)) (c .input) (c .delay) (c .playback-rate) e in
     let whole : T (fit c) = rw (t .banked, t .lasting) tt in
     subst T h whole
 

@@ -1,5 +1,5 @@
--- Q1, Q2. Over a run of calls the qualities go as the accepted calls ask, one after the other: so what holds of runs of steps of quality_fade holds of the
--- reader. Assumes nothing.
+-- Q1, Q2. Over a run of calls the qualities go as the accepted calls ask, one after the other:
+-- so what holds of runs of steps of quality_fade holds of the reader. Assumes nothing.
 use mathlib.Core.Path.{_≡_, refl, _∙_, ap}
 use mathlib.Core.Bool.{true, false}
 use mathlib.Core.List.{List, [], _∷_, _++_}
@@ -11,8 +11,8 @@ use Rattle.quality_fade.specs.declared.Turn.{Turn}
 use Rattle.quality_fade.specs.Fade.{validOf, openOf}
 use Rattle.quality_fade.specs.Step.{stepOf}
 use Rattle.quality_fade.specs.Runs.{turnsOf, leftOf, mixesOf}
-use Rattle.quality_fade.proofs.Fading as steps
-use Rattle.quality_fade.proofs.Left as left
+use Rattle.quality_fade.proofs.FadeToEnd as steps
+use Rattle.quality_fade.proofs.AfterCalls as left
 use Rattle.quality_variable_delay.specs.State.{fadePart}
 use Rattle.runs.specs.Calls.{keep, acceptedOf}
 use Rattle.runs.proofs.Calls.{accepted-taken, accepted-refused, by-calls, by-accepted}
@@ -43,20 +43,26 @@ turned =
     (ap (λ (l : List Turn). stepOf (fadePart (r .state)) (c .quality) ∷ l) ih))
     (λ r c cs k e ih. rw (turns-by r c cs (suc k) e, accepted-refused due afterBy stays r c cs k e) ih)
 
--- Q1. Where the accepted calls of a run ask for a quality other than the target and the current, N and k times over, exactly the first N of them are mixed.
+-- Q1. Where the accepted calls of a run ask for a quality other than the target and the current, N and k times over,
+-- exactly the first N of them are mixed.
 pub exactly : (r : Reader) (cs : List Call) (q : QualityMode) (k : ℕ)
     → let s = fadePart (r .state) in
-    validOf s ≡ true → sameQ q (s .target) ≡ false → sameQ q (s .current) ≡ false → 0 < s .length → asked (accepted r cs) ≡ replicate (s .length + k) q
-    → mixesOf (turns r cs) ≡ replicate (s .length) true ++ replicate k false
-exactly r cs q k v ht hc l e = ap mixesOf (turned r cs ∙ ap (turnsOf (fadePart (r .state))) e) ∙ steps.exactly (fadePart (r .state)) q k v ht hc l
+    validOf s ≡ true → sameQ q (s .target) ≡ false → sameQ q (s .current) ≡ false → 0 < s .«crossfade_samples»
+    → asked (accepted r cs) ≡ replicate (s .«crossfade_samples» + k) q
+    → mixesOf (turns r cs) ≡ replicate (s .«crossfade_samples») true ++ replicate k false
+exactly r cs q k v ht hc l e =
+    ap mixesOf (turned r cs ∙ ap (turnsOf (fadePart (r .state))) e) ∙ steps.exactly (fadePart (r .state)) q k v ht hc l
 
 -- Q1. After those N calls the new quality is current, and nothing is left to fade.
 pub ended : (r : Reader) (cs : List Call) (q : QualityMode)
     → let s = fadePart (r .state) in
-    validOf s ≡ true → sameQ q (s .target) ≡ false → sameQ q (s .current) ≡ false → 0 < s .length → asked (accepted r cs) ≡ replicate (s .length) q
-    → fadePart (run r cs .state) ≡ openOf q (s .length)
-ended r cs q v ht hc l e = faded r cs ∙ ap (leftOf (fadePart (r .state))) e ∙ left.ended (fadePart (r .state)) q v ht hc l
+    validOf s ≡ true → sameQ q (s .target) ≡ false → sameQ q (s .current) ≡ false → 0 < s .«crossfade_samples»
+    → asked (accepted r cs) ≡ replicate (s .«crossfade_samples») q
+    → fadePart (run r cs .state) ≡ openOf q (s .«crossfade_samples»)
+ended r cs q v ht hc l e =
+    faded r cs ∙ ap (leftOf (fadePart (r .state))) e ∙ left.ended (fadePart (r .state)) q v ht hc l
 
 -- Q2. At length 0 no call is mixed.
-pub never : (r : Reader) (cs : List Call) → r .state .«crossfade_samples» ≡ 0 → mixesOf (turns r cs) ≡ replicate (length (asked (accepted r cs))) false
+pub never : (r : Reader) (cs : List Call) → r .state .«crossfade_samples» ≡ 0
+    → mixesOf (turns r cs) ≡ replicate (length (asked (accepted r cs))) false
 never r cs e = ap mixesOf (turned r cs) ∙ steps.never (fadePart (r .state)) (asked (accepted r cs)) e

@@ -1,4 +1,4 @@
 pub mod Calls
 pub mod Fading
 pub mod Counted
-pub mod Kept
+pub mod StaysInRange

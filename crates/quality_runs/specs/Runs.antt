@@ -21,9 +21,9 @@ pub record Call : Type 0 where
   pub input : Float
   pub delay : Float
   pub quality : QualityMode
-  pub rate : Float
+  pub playback-rate : Float
 
--- whether its bank is as it must be
+-- Whether the call's bank is as it must be.
 abbrev pub fit : Call → Bool
 fit c = c .bank && c .lent
 
@@ -32,17 +32,18 @@ pub record Reader : Type 0 where
   pub state : QualityVariableDelayF32
   pub ring : List Float
 
--- what a call leaves, by the refusal that is due, 0 for none
+-- What a call leaves, by the refusal that is due, 0 for none.
 abbrev pub afterBy : ℕ → Reader → Call → Reader
-afterBy v r c = record { state = stateAfter v (r .state) (c .quality); ring = ringAfter v (r .state) (r .ring) (c .input) }
+afterBy v r c =
+    record { state = stateAfter v (r .state) (c .quality); ring = ringAfter v (r .state) (r .ring) (c .input) }
 
 abbrev pub due : Reader → Call → ℕ
-due r c = verdict (c .bank) (c .lent) (r .state) (length (r .ring)) (c .input) (c .delay) (c .rate)
+due r c = verdict (c .bank) (c .lent) (r .state) (length (r .ring)) (c .input) (c .delay) (c .playback-rate)
 
 abbrev pub after : Reader → Call → Reader
 after r c = afterBy (due r c) r c
 
--- a run, its calls that are accepted, and the turns that these take
+-- A run, its calls that are accepted, and the turns that these take.
 abbrev pub run : Reader → List Call → Reader
 run = runOf due afterBy
 
@@ -53,11 +54,11 @@ unfoldable pub turns : Reader → List Call → List Turn
 turns r [] = []
 turns r (c ∷ cs) = keep (due r c) (stepOf (fadePart (r .state)) (c .quality)) (turns (after r c) cs)
 
--- what calls ask for
+-- The qualities that calls ask for.
 abbrev pub asked : List Call → List QualityMode
 asked cs = map (λ c. c .quality) cs
 
--- the same reader, and the same call, without the qualities
+-- The same reader, and the same call, without their qualities.
 abbrev pub delayed : Reader → plain.Reader
 delayed r = record { state = delayPart (r .state); ring = r .ring }
 

@@ -1,1 +1,2 @@
-// What holds over many calls of a quality reader: how many are mixed (Q1, Q2), the accepted count and what the ring holds (K8). Statements only; there is no code.
+// What holds over many calls of a quality reader: how many calls are mixed (Q1, Q2), the count and the ring (K8).
+// There is no code.

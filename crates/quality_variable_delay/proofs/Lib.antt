@@ -1,5 +1,5 @@
-pub mod Taken
+pub mod AcceptedCall
 pub mod Refused
-pub mod Lent
+pub mod BankTests
 pub mod Readings
-pub mod Passing
+pub mod CommonCall

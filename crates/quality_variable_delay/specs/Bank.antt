@@ -1,4 +1,5 @@
--- 000's QualityVariableDelayF32 over a bank of lent sets: the reader's call with what each quality reads of the bank. Definitions only.
+-- 000's QualityVariableDelayF32 over a bank of lent sets: the reader's call, with what each quality reads of the bank.
+-- Definitions only.
 use Prim.Native.Nat.{ℕ, _*_}
 use mathlib.Core.List.{List}
 use lib.Dec.{eqb}
@@ -12,14 +13,19 @@ use Rattle.quality_variable_delay.specs.Reader.{verdict, ringAfter, proc
 use Rattle.quality_variable_delay.specs.declared.QualityVariableDelayF32.{QualityVariableDelayF32}
 use Rattle.quality_variable_delay.specs.declared.ProcessedQ.{ProcessedQ}
 
--- The refusal that is due where n f32 are lent as a bank for the maximum rate `top`, 0 for none: the bank's rate is from 1 to 2 (N1, G6), and n is as many as its
--- sets need (N2).
+-- The refusal that is due, 0 for none, if n f32 are lent as a bank for the maximum rate `max-rate`: it must lie from 1
+-- to 2 (N1, G6), and n must be as many as its sets need (N2).
 abbrev pub dueOf : ℕ → Float → QualityVariableDelayF32 → ℕ → Float → Float → Float → ℕ
-dueOf n top d len x y rate = verdict (bankOk top) (eqb n (stepsOf top * setLength)) d len x y rate
+dueOf n max-rate d len x y playback-rate =
+    verdict (bankOk max-rate) (eqb n (stepsOf max-rate * setLength)) d len x y playback-rate
 
--- process_sample_rate_aware, and the ring that it leaves
-abbrev pub processed : List Float → Float → QualityVariableDelayF32 → List Float → Float → Float → QualityMode → Float → ProcessedQ
-processed sets top d xs x y q rate = processedBy (bankAt sets top rate) (dueOf (length sets) top d (length xs) x y rate) d xs x y q
+-- What process_sample_rate_aware answers, and the ring that it leaves.
+abbrev pub processed : List Float → Float → QualityVariableDelayF32 → List Float → Float → Float → QualityMode → Float
+    → ProcessedQ
+processed sets max-rate d xs x y q playback-rate =
+    processedBy (bankAt sets max-rate playback-rate)
+    (dueOf (length sets) max-rate d (length xs) x y playback-rate) d xs x y q
 
 abbrev pub ringLeft : List Float → Float → QualityVariableDelayF32 → List Float → Float → Float → Float → List Float
-ringLeft sets top d xs x y rate = ringAfter (dueOf (length sets) top d (length xs) x y rate) d xs x
+ringLeft sets max-rate d xs x y playback-rate =
+    ringAfter (dueOf (length sets) max-rate d (length xs) x y playback-rate) d xs x

@@ -1,4 +1,5 @@
--- K1, Q3. Opening a quality reader over a lent ring, and resetting one: both zero the ring and the count, and leave nothing to fade. Definitions only.
+-- K1, Q3. Opening a quality reader over a lent ring, and resetting one: both zero the ring and the count, and end any
+-- fade. Definitions only.
 use Prim.Native.Nat.{ℕ, zero, suc, _^_}
 use mathlib.Core.Bool.{true, _&&_}
 use mathlib.Core.List.{List, [], _∷_}
@@ -42,9 +43,9 @@ resetOf d len = openedBy (resetVerdict d len) d
 abbrev pub ringReset : QualityVariableDelayF32 → List Float → List Float
 ringReset d xs = clearedBy (resetVerdict d (length xs)) xs
 
--- Q3. Opening is the reset of a state that has accepted nothing and holds its one quality, so that only 1 and 2 can be due.
+-- Q3. Opening is the reset of a state that has accepted nothing and holds its one quality, so only 1 and 2 can be due.
 abbrev pub fresh : ℕ → ℕ → QualityMode → ℕ → QualityVariableDelayF32
-fresh maximum margin quality crossfade = joined (plain.fresh maximum margin) (openOf quality crossfade)
+fresh maximum margin quality crossfade-samples = joined (plain.fresh maximum margin) (openOf quality crossfade-samples)
 
 -- C4. 01's number for each case, 0 for a reader.
 abbrev pub numberOf : Opened → ℕ

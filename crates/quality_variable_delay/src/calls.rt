@@ -8,7 +8,7 @@ use super::served;
 use super::storing;
 use quality_mode::QualityMode;
 
-// The refusal that is due, with a bank of `lent` f32.
+// The refusal that is due, 0 for none, with a bank of `lent` f32.
 pub fn due(
     state: QualityVariableDelayF32,
     lent: usize,
@@ -32,7 +32,7 @@ pub fn due(
     )
 }
 
-// The same. A common call is told by fewer tests than the order has.
+// The same, faster: most calls are accepted, which fewer tests than the order of refusals has can tell.
 fn tested(
     state: QualityVariableDelayF32,
     lent: usize,
@@ -50,7 +50,8 @@ fn tested(
     due(state, lent, max_rate, len, input, delay, playback_rate)
 }
 
-// 000's process_sample_rate_aware: refuses by number, or stores the sample and reads behind it. A refused call forgets the quality that it asked for.
+// The original's process_sample_rate_aware (000): refuses by number, or stores the sample and reads behind it. A
+// refused call forgets the quality that it asked for.
 pub fn process_sample_rate_aware<'a>(
     state: QualityVariableDelayF32,
     ring: &mut [f32],
@@ -61,8 +62,10 @@ pub fn process_sample_rate_aware<'a>(
     quality: QualityMode,
     playback_rate: f64,
 ) -> ProcessedQ
-    ensures { λ r. ⌜ r ≡ processed (now (sets .entry)) «max_rate» state (now (ring .entry)) input delay quality «playback_rate» ⌝ }
-    ensures { λ r. ⌜ now (ring .exit) ≡ ringLeft (now (sets .entry)) «max_rate» state (now (ring .entry)) input delay «playback_rate» ⌝ }
+    ensures { λ r. ⌜ r ≡
+        processed (now (sets .entry)) «max_rate» state (now (ring .entry)) input delay quality «playback_rate» ⌝ }
+    ensures { λ r. ⌜ now (ring .exit) ≡
+        ringLeft (now (sets .entry)) «max_rate» state (now (ring .entry)) input delay «playback_rate» ⌝ }
 {
     let no = tested(
         state,
@@ -101,8 +104,10 @@ pub fn process_sample<'a>(
     delay: f64,
     quality: QualityMode,
 ) -> ProcessedQ
-    ensures { λ r. ⌜ r ≡ processed (now (sets .entry)) «max_rate» state (now (ring .entry)) input delay quality «max_rate» ⌝ }
-    ensures { λ r. ⌜ now (ring .exit) ≡ ringLeft (now (sets .entry)) «max_rate» state (now (ring .entry)) input delay «max_rate» ⌝ }
+    ensures { λ r. ⌜ r ≡
+        processed (now (sets .entry)) «max_rate» state (now (ring .entry)) input delay quality «max_rate» ⌝ }
+    ensures { λ r. ⌜ now (ring .exit) ≡
+        ringLeft (now (sets .entry)) «max_rate» state (now (ring .entry)) input delay «max_rate» ⌝ }
 {
     process_sample_rate_aware(
         state,

@@ -1,5 +1,5 @@
-// 000's QualityVariableDelayF32: a delay reader over a lent ring of f32 whose quality may change from call to call,
-// with a fade from the old to the new.
+// The original's QualityVariableDelayF32 (000): a delay reader over a ring of f32 whose quality may change from call to
+// call, with a fade from the old quality to the new one.
 mod calls; // process_sample and process_sample_rate_aware
 mod opening; // new and reset
 mod refusing; // the refusal that is due

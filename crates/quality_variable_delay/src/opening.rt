@@ -14,11 +14,12 @@ pub fn open(
     maximum: usize,
     margin: usize,
     quality: QualityMode,
-    crossfade: u32,
+    crossfade_samples: u32,
     ring: &mut [f32],
 ) -> Opened
-    ensures { λ r. ⌜ r ≡ resetOf (fresh maximum margin quality crossfade) (length (now (ring .entry))) ⌝ }
-    ensures { λ r. ⌜ now (ring .exit) ≡ ringReset (fresh maximum margin quality crossfade) (now (ring .entry)) ⌝ }
+    ensures { λ r. ⌜ r ≡ resetOf (fresh maximum margin quality «crossfade_samples») (length (now (ring .entry))) ⌝ }
+    ensures { λ r. ⌜ now (ring .exit) ≡
+        ringReset (fresh maximum margin quality «crossfade_samples») (now (ring .entry)) ⌝ }
 {
     let state = QualityVariableDelayF32 {
         maximum: maximum,
@@ -26,8 +27,8 @@ pub fn open(
         accepted: 0,
         current_quality: quality,
         target_quality: quality,
-        crossfade_position: crossfade,
-        crossfade_samples: crossfade,
+        crossfade_position: crossfade_samples,
+        crossfade_samples: crossfade_samples,
     };
     reset(state, &mut ring[..])
 }
@@ -62,12 +63,13 @@ fn renew(state: QualityVariableDelayF32) -> QualityVariableDelayF32
         accepted: 0,
         current_quality: current,
         target_quality: target,
-        crossfade_position: fade.place,
-        crossfade_samples: fade.length,
+        crossfade_position: fade.crossfade_position,
+        crossfade_samples: fade.crossfade_samples,
     }
 }
 
-// 000's QualityVariableDelayF32::reset: refuses by 1, 2 or 3, or zeroes the ring and the count and leaves nothing to fade.
+// The original's QualityVariableDelayF32::reset (000): refuses by 1, 2 or 3, or zeroes the ring and the count and ends
+// any fade.
 pub fn reset(state: QualityVariableDelayF32, ring: &mut [f32]) -> Opened
     ensures { λ r. ⌜ r ≡ resetOf state (length (now (ring .entry))) ⌝ }
     ensures { λ r. ⌜ now (ring .exit) ≡ ringReset state (now (ring .entry)) ⌝ }

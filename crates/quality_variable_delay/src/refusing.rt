@@ -1,4 +1,4 @@
-// The refusal that is due at a call, told which tests its bank passes.
+// The refusal that is due at a call, when it is known which tests its bank passes.
 ghost use mathlib.Core.Path.{_≡_};
 ghost use mathlib.Core.Bool.{_&&_};
 ghost use Rattle.quality_variable_delay.specs.Reader.{verdict};

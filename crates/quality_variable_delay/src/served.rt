@@ -1,4 +1,4 @@
-// The tests of a common call, which passes them all: each leads away at once, and none of them picks a number.
+// Fast path: true only if no refusal is due. Returns at the first failing test; `due` works out the number.
 ghost use mathlib.Core.Path.{_≡_};
 ghost use mathlib.Core.Bool.{true};
 ghost use Prim.Native.Nat.{_*_};
@@ -12,9 +12,11 @@ use super::state::fading;
 use constants::LIMIT;
 use constants::LIMIT_F64;
 
-// Whether a ring of `len` and a bank of `lent` f32 have the lengths that their settings need. What is empty has no settings.
+// Whether a ring of `len` and a bank of `lent` f32 have the lengths that their settings need; an empty one never has.
 fn filled(maximum: usize, margin: usize, len: usize, max_rate: f64, lent: usize) -> bool
-    ensures { λ r. ⌜ (r ≡ true → (settingsOk maximum margin ≡ true) × (eqb len (lengthFor maximum margin) ≡ true) × (bankOk «max_rate» ≡ true) × (eqb lent (stepsOf «max_rate» * setLength) ≡ true)) ⌝ }
+    ensures { λ r. ⌜ (r ≡ true
+        → (settingsOk maximum margin ≡ true) × (eqb len (lengthFor maximum margin) ≡ true)
+        × (bankOk «max_rate» ≡ true) × (eqb lent (stepsOf «max_rate» * setLength) ≡ true)) ⌝ }
 {
     if len != 0 {
         if lent != 0 {

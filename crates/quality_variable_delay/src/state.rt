@@ -12,7 +12,7 @@ pub(crate) fn fading(state: QualityVariableDelayF32) -> Fade
     Fade {
         current: current,
         target: target,
-        place: state.crossfade_position,
-        length: state.crossfade_samples,
+        crossfade_position: state.crossfade_position,
+        crossfade_samples: state.crossfade_samples,
     }
 }

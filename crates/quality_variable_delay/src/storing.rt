@@ -17,7 +17,8 @@ use quality_mode::QualityMode;
 // F1. The state anew: one sample more, and the qualities as the turn leaves them.
 fn after(state: QualityVariableDelayF32, fade: Fade) -> QualityVariableDelayF32
     requires { ⌜ state .accepted < 2 ^ 36 ⌝ }
-    ensures { λ r. ⌜ r ≡ joined (record { maximum = state .maximum; margin = state .margin; accepted = state .accepted + 1 }) fade ⌝ }
+    ensures { λ r. ⌜ r ≡
+        joined (record { maximum = state .maximum; margin = state .margin; accepted = state .accepted + 1 }) fade ⌝ }
 {
     let current = fade.current;
     let target = fade.target;
@@ -27,8 +28,8 @@ fn after(state: QualityVariableDelayF32, fade: Fade) -> QualityVariableDelayF32
         accepted: state.accepted + 1,
         current_quality: current,
         target_quality: target,
-        crossfade_position: fade.place,
-        crossfade_samples: fade.length,
+        crossfade_position: fade.crossfade_position,
+        crossfade_samples: fade.crossfade_samples,
     }
 }
 
@@ -43,7 +44,7 @@ fn store(i: u64, ring: &mut [f32], input: f32, delay: f64) -> f64
     (i as i64) as f64 - delay
 }
 
-// A call of which nothing is to be refused: stores the sample, then reads behind it.
+// A call that nothing refuses: stores the sample, then reads behind it.
 pub(crate) fn accepted<'a>(
     state: QualityVariableDelayF32,
     ring: &mut [f32],
@@ -55,7 +56,8 @@ pub(crate) fn accepted<'a>(
     playback_rate: f64,
 ) -> ProcessedQ
     requires { ⌜ dueOf (length (now sets)) «max_rate» state (length (now ring)) input delay «playback_rate» ≡ 0 ⌝ }
-    ensures { λ r. ⌜ r ≡ processedBy (bankAt (now (sets .entry)) «max_rate» «playback_rate») 0 state (now (ring .entry)) input delay quality ⌝ }
+    ensures { λ r. ⌜ r ≡ processedBy (bankAt (now (sets .entry)) «max_rate» «playback_rate») 0 state
+        (now (ring .entry)) input delay quality ⌝ }
     ensures { λ r. ⌜ now (ring .exit) ≡ stored (state .accepted) (now (ring .entry)) input ⌝ }
 {
     let i = state.accepted;

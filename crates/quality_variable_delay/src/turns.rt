@@ -12,39 +12,42 @@ use quality_fade::Turn;
 use quality_mode::QualityMode;
 
 // `from + (to - from) * mix.min(1.0)`
-fn mix(from: f32, to: f32, weight: u32, crossfade: u32) -> f32
-    ensures { λ r. ⌜ r ≡ mixedOf from to (weightOf weight crossfade) ⌝ }
+fn mix(from: f32, to: f32, weight: u32, crossfade_samples: u32) -> f32
+    ensures { λ r. ⌜ r ≡ mixedOf from to (weightOf weight «crossfade_samples») ⌝ }
 {
-    let share = std::num::nearest_u32_to_f32(weight) / std::num::nearest_u32_to_f32(crossfade);
-    from + (to - from) * order::min_f32(share, 1.0)
+    let share = std::num::nearest_u32_to_f32(weight)
+        / std::num::nearest_u32_to_f32(crossfade_samples);
+    from + (to - from) * min_max::min_f32(share, 1.0)
 }
 
-// What a turn reads. A mixed call's two readings share the choice of sets; a plain one in Draft makes none, since
-// choosing divides.
+// What a turn reads. The two readings of a mixed call share one choice of sets; a plain call in Draft makes no choice,
+// because choosing divides.
 pub(crate) fn output<'a>(
     turn: Turn,
     sets: &'a [f32],
     max_rate: f64,
-    rate: f64,
+    playback_rate: f64,
     source: &'a [f32],
     count: u64,
     position: f64,
 ) -> f32
-    requires { ⌜ (bankOk «max_rate» ≡ true) × (length (now sets) ≡ stepsOf «max_rate» * setLength) × (positionOk position ≡ true) ⌝ }
-    ensures { λ r. ⌜ r ≡ outputOf (bankAt (now (sets .entry)) «max_rate» rate) turn (now (source .entry)) count position ⌝ }
+    requires { ⌜ (bankOk «max_rate» ≡ true) × (length (now sets) ≡ stepsOf «max_rate» * setLength)
+        × (positionOk position ≡ true) ⌝ }
+    ensures { λ r. ⌜ r ≡
+        outputOf (bankAt (now (sets .entry)) «max_rate» «playback_rate») turn (now (source .entry)) count position ⌝ }
 {
     let from = turn.from;
     let to = turn.to;
     let left = turn.state;
     if turn.mixed {
-        let shared = bank_choice::choice_or_zero(max_rate, rate);
+        let shared = bank_choice::choice_or_zero(max_rate, playback_rate);
         let a = bank_read::read(sets, shared, from, source, count, position);
         let b = bank_read::read(sets, shared, to, source, count, position);
-        return mix(a, b, turn.weight, left.length);
+        return mix(a, b, turn.weight, left.crossfade_samples);
     }
     if quality_mode::same(to, QualityMode::Draft) {
         return cubic_farrow_f32::read(source, count, position);
     }
-    let choice = bank_choice::choice_or_zero(max_rate, rate);
+    let choice = bank_choice::choice_or_zero(max_rate, playback_rate);
     bank_read::read(sets, choice, to, source, count, position)
 }

@@ -1,5 +1,6 @@
--- N9, D1b. The number that is given is that of the first line whose test fails, and none is given exactly where all tests hold: for any table, one in
--- which a number stands twice included. By the lines, one after the other. Assumes nothing.
+-- N9, D1b. The number that is given is that of the first line whose test fails, and none is given exactly where all
+-- tests hold: for any table, one in which a number stands twice included. By the lines, one after the other.
+-- Assumes nothing.
 use mathlib.Core.Path.{_≡_, refl, sym, _∙_}
 use mathlib.Core.Logic.{_↔_}
 use mathlib.Core.Bool.{Bool, true, false, true≢false, _&&_}
@@ -30,7 +31,8 @@ first-given ((n unless true) ∷ ts) zero w = absurd (true≢false (w .fails))
 first-given ((n unless true) ∷ ts) (suc k) w = first-given ts k (sooner n w)
 
 -- A number that is given is that of a line that fails first.
-pub given-first : (ts : List Test) (n : ℕ) → firstOf ts ≡ suc n → (k : ℕ) × (First ts k × numberOf (lineOf ts k) ≡ suc n)
+pub given-first : (ts : List Test) (n : ℕ) → firstOf ts ≡ suc n
+    → (k : ℕ) × (First ts k × numberOf (lineOf ts k) ≡ suc n)
 given-first [] n e = absurd (omega arith)
 given-first ((m unless false) ∷ ts) n e = (0, (record { fails = refl; before = λ j h. absurd (omega arith) }, e))
 given-first ((m unless true) ∷ ts) n e = let w = given-first ts n e in (suc (w .0), (later m (w .1 .0), w .1 .1))
@@ -62,7 +64,8 @@ both-hold false b h = absurd (true≢false (sym h))
 -- Where the numbers are counted from n on, the line that fails first has n and its place.
 counted-number : (n : ℕ) (ts : List Test) → counted n ts ≡ true → (k : ℕ) → First ts k → numberOf (lineOf ts k) ≡ n + k
 counted-number n [] c k w = absurd (true≢false (w .fails))
-counted-number n ((m unless t) ∷ ts) c zero w = omega (arith, eqb-true m n (both-hold (eqb m n) (counted (suc n) ts) c .0))
+counted-number n ((m unless t) ∷ ts) c zero w =
+    omega (arith, eqb-true m n (both-hold (eqb m n) (counted (suc n) ts) c .0))
 counted-number n ((m unless false) ∷ ts) c (suc k) w = absurd (true≢false (sym (w .before 0 (omega arith))))
 counted-number n ((m unless true) ∷ ts) c (suc k) w =
     counted-number (suc n) ts (both-hold (eqb m n) (counted (suc n) ts) c .1) k (sooner m w) ∙ omega arith

@@ -1,7 +1,9 @@
--- Remainders of whole numbers: a factor may be taken out of both, and a remainder may be taken at any step of a product. Assumes nothing.
+-- Remainders of whole numbers: a factor may be taken out of both, and a remainder may be taken at any step of a
+-- product. Assumes nothing.
 use mathlib.Core.Path.{_≡_, sym, ap, _∙_}
 use Prim.Native.Nat.{ℕ, _+_, _-_, _*_, _/_, _%_, _^_, _≤_, _<_}
-use native.Mathlib.Nat.{mul-right-comm, mul-assoc, mul-div-cancel, mul-mod-left, add-mul, add-zero, div-add-mod', mul-add-mod-self-right}
+use native.Mathlib.Nat.{mul-right-comm, mul-assoc, mul-div-cancel, mul-mod-left, add-mul, add-zero, div-add-mod'}
+use native.Mathlib.Nat.{mul-add-mod-self-right}
 use native.Mathlib.Omega.{arith}
 use lib.Arith.{mod-mul}
 use lib.Pow.{pow-add, pow-pos}
@@ -23,4 +25,5 @@ step-mod a b n =
 pub placed : (m n i j : ℕ) → 0 < n → j ≤ i → m * 2 ^ (i - j) % n * 2 ^ j ≡ m * 2 ^ i % (n * 2 ^ j)
 placed m n i j N h =
     sym (scale-mod (m * 2 ^ (i - j)) n (2 ^ j) N (pow-pos j))
-    ∙ ap (λ (z : ℕ). z % (n * 2 ^ j)) (mul-assoc m (2 ^ (i - j)) (2 ^ j) ∙ ap (λ (z : ℕ). m * z) (sym (pow-add 2 (i - j) j) ∙ ap (λ (z : ℕ). 2 ^ z) (omega arith)))
+    ∙ ap (λ (z : ℕ). z % (n * 2 ^ j)) (mul-assoc m (2 ^ (i - j)) (2 ^ j)
+    ∙ ap (λ (z : ℕ). m * z) (sym (pow-add 2 (i - j) j) ∙ ap (λ (z : ℕ). 2 ^ z) (omega arith)))

@@ -1,7 +1,7 @@
 pub mod Division
 pub mod Remainders
-pub mod Below
-pub mod Once
-pub mod Cases
-pub mod Taking
+pub mod AlreadyBelow
+pub mod BelowTwice
+pub mod TestCases
+pub mod DigitsOfPattern
 pub mod Exact

@@ -3,7 +3,7 @@ use lib.Dec.{T}
 use lib.Ieee.{Float, le}
 use lib.Ieee.Positive.{positive}
 
--- two finite numbers above zero, the second not above the first
+-- Two finite numbers above zero, the second not above the first.
 pub record Divided (a b : Float) : Type 0 where
   pub dividend : T (positive a)
   pub divisor : T (positive b)

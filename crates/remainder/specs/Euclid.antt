@@ -1,10 +1,11 @@
--- Rust's rem_euclid of f64 by its `%`, which is `lib.Ieee.rem`: x - n * y, where n is x / y cut to a whole number. Definitions only.
+-- Rust's rem_euclid of f64 by its `%`, which is `lib.Ieee.rem`: x - n * y, where n is x / y cut to a whole number.
+-- Definitions only.
 use mathlib.Core.Bool.{false, cond}
 use lib.IntN.{pos}
 use lib.Ieee.{Float, nan, inf, fin, binary64, add, rem, lt}
 pub use Rattle.constants.specs.Numbers.{zero-f as zero}
 
--- f64::abs
+-- Rust's f64::abs.
 abbrev pub absoluteOf : Float → Float
 absoluteOf nan = nan
 absoluteOf (inf s) = inf false

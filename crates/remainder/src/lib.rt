@@ -1,5 +1,6 @@
-// Rust's `%` and rem_euclid of f64, for every pair of floats. The processor has no such operation and a compiler calls C's fmod for it:
-// here the digits are divided as whole numbers.
+// Rust's `%` and `rem_euclid` of f64, for every pair of floats.
+// The processor has no such operation and a compiler calls C's fmod for it; here the digits are divided as whole
+// numbers.
 ghost use mathlib.Core.Path.{_≡_};
 ghost use mathlib.Core.Bool.{false, not};
 ghost use Prim.Native.Nat.{_-_, _*_, _%_, _^_, _≤_, _<_};
@@ -85,7 +86,8 @@ pub fn remainder(x: f64, y: f64) -> f64
     if x < 0.0 { -above(-x, b) } else { above(x, b) }
 }
 
-// Rust's f64::rem_euclid. A number from 0 to below y is its own remainder, and one below twice y leaves its difference with y.
+// Rust's f64::rem_euclid. Fast paths: a number from 0 to below y is its own remainder, and one below twice y leaves its
+// difference with y.
 pub fn rem_euclid(x: f64, y: f64) -> f64
     ensures { λ r. ⌜ r ≡ remEuclid x y ⌝ }
 {

@@ -1,5 +1,6 @@
-// The program `render` (X2): binary32 samples, low byte first, from standard input are read by a WindowedSincF32 at a wandering delay, and each is answered by a sample on
-// standard output. What is written is proved in the crates render_start, render_samples and render_blocks.
+// The program `render`: reads binary32 samples, low byte first, and writes one for each, read at a wandering delay
+// (X2).
+// What is written is proved in `render_start`, `render_samples` and `render_blocks`.
 use libc::STDERR_FILENO;
 use libc::STDIN_FILENO;
 use libc::STDOUT_FILENO;
@@ -14,7 +15,7 @@ struct Turn {
     more: bool,
 }
 
-// The descriptor that ./run opens for the sign that all went well: there is no exit status to say it by.
+// The descriptor that ./run opens so that the program can say that all went well; a program here has no exit status.
 const SIGN: i32 = 3;
 
 // Whether to go on after a block of n bytes. A read or a write that failed is said on standard error.

@@ -6,16 +6,16 @@ use lib.Ieee.{Float, binary32, ofBits, toBits}
 use Rattle.word_bytes.specs.Bytes.{lowBytes, bytesValue}
 use Rattle.render_samples.specs.Samples.{Held, answersFor, afterSamples}
 
--- the first n samples
+-- The first n samples.
 unfoldable pub samplesOf : ℕ → List ℕ → List Float
 samplesOf zero bytes = []
 samplesOf (suc n) bytes = ofBits binary32 (bytesValue (take 4 bytes)) ∷ samplesOf n (drop 4 bytes)
 
--- a trailing part below 4 bytes is ignored
+-- A trailing part below 4 bytes is ignored.
 abbrev pub samplesIn : List ℕ → List Float
 samplesIn bytes = samplesOf (length bytes / 4) bytes
 
--- a NaN is written as 7FC00000: it is the one pattern that toBits gives
+-- A NaN is written as 7FC00000: it is the one pattern that toBits gives.
 unfoldable pub bytesOf : List Float → List ℕ
 bytesOf [] = []
 bytesOf (y ∷ ys) = lowBytes 4 (toBits binary32 y) ++ bytesOf ys

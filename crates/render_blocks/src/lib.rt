@@ -1,4 +1,4 @@
-// X2. A block of samples, headerless binary32, low byte first, rendered in place.
+// A block of samples rendered in place: headerless binary32, low byte first (X2).
 ghost use mathlib.Core.Path.{_≡_};
 ghost use Prim.Native.Nat.{_*_, _/_};
 ghost use lib.Ieee as Ieee;
@@ -24,9 +24,13 @@ fn put_sample<'a>(
     word: &mut [u8],
 ) -> Rendering
     requires { ⌜ length (now word) ≡ 4 ⌝ }
-    ensures { λ r. ⌜ r ≡ afterSample (now (table .entry)) (heldOf state (now (ring .entry))) (Ieee.ofBits binary32 (bytesValue (now (word .entry)))) .state ⌝ }
-    ensures { λ r. ⌜ now (ring .exit) ≡ afterSample (now (table .entry)) (heldOf state (now (ring .entry))) (Ieee.ofBits binary32 (bytesValue (now (word .entry)))) .ring ⌝ }
-    ensures { λ r. ⌜ now (word .exit) ≡ lowBytes 4 (Ieee.toBits binary32 (sampleFor (now (table .entry)) (heldOf state (now (ring .entry))) (Ieee.ofBits binary32 (bytesValue (now (word .entry)))))) ⌝ }
+    ensures { λ r. ⌜ r ≡ afterSample (now (table .entry)) (heldOf state (now (ring .entry)))
+        (Ieee.ofBits binary32 (bytesValue (now (word .entry)))) .state ⌝ }
+    ensures { λ r. ⌜ now (ring .exit) ≡ afterSample (now (table .entry)) (heldOf state (now (ring .entry)))
+        (Ieee.ofBits binary32 (bytesValue (now (word .entry)))) .ring ⌝ }
+    ensures { λ r. ⌜ now (word .exit) ≡ lowBytes 4 (Ieee.toBits binary32
+        (sampleFor (now (table .entry)) (heldOf state (now (ring .entry)))
+        (Ieee.ofBits binary32 (bytesValue (now (word .entry)))))) ⌝ }
 {
     let r = step(state, ring, table, word_bytes::low_first_u32(word, 0));
     word_bytes::write_bytes(r.bits as u64, word);
@@ -40,10 +44,13 @@ pub fn render_block<'a>(
     table: &'a [f32],
     block: &mut [u8],
 ) -> Written
-    ensures { λ r. ⌜ r .state ≡ afterBlock (now (table .entry)) (heldOf state (now (ring .entry))) (now (block .entry)) .state ⌝ }
+    ensures { λ r. ⌜ r .state ≡
+        afterBlock (now (table .entry)) (heldOf state (now (ring .entry))) (now (block .entry)) .state ⌝ }
     ensures { λ r. ⌜ r .length ≡ length (now (block .entry)) / 4 * 4 ⌝ }
-    ensures { λ r. ⌜ now (ring .exit) ≡ afterBlock (now (table .entry)) (heldOf state (now (ring .entry))) (now (block .entry)) .ring ⌝ }
-    ensures { λ r. ⌜ now (block .exit) ≡ renderedOf (now (table .entry)) (heldOf state (now (ring .entry))) (now (block .entry)) ⌝ }
+    ensures { λ r. ⌜ now (ring .exit) ≡
+        afterBlock (now (table .entry)) (heldOf state (now (ring .entry))) (now (block .entry)) .ring ⌝ }
+    ensures { λ r. ⌜ now (block .exit) ≡
+        renderedOf (now (table .entry)) (heldOf state (now (ring .entry))) (now (block .entry)) ⌝ }
 {
     let mut s = state;
     let mut at: usize = 0;

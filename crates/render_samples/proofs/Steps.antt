@@ -1,4 +1,5 @@
--- One sample, from what the engine and the reader handed back: state, ring and answer are the definition's. Over variables, so that the function's proof cites it once.
+-- One sample, from what the engine and the reader handed back: state, ring and answer are the definition's.
+-- Over variables, so that the function's proof cites it once.
 -- Assumes nothing.
 use mathlib.Core.Path.{_≡_, refl}
 use mathlib.Core.Bool.{_&&_}
@@ -26,9 +27,11 @@ use Rattle.render_samples.specs.Samples.{Held, delayOf, afterSample, sam
 abbrev pub due : List Float → VariableDelay → List Float → Float → Float → ℕ
 due table d ring x y = verdict (tapsOk 32 && phasesOk 64) (eqb (length table) (tableLength 32 64)) d (length ring) x y
 
-pub stepped : (table : List Float) (h : Held) (z : Float) {p : ModulationParams} {n : Next} {x y v : Float} {q : ProcessedF32} {ring : List Float} {w : ℕ}
+pub stepped : (table : List Float) (h : Held) (z : Float) {p : ModulationParams} {n : Next} {x y v : Float}
+    {q : ProcessedF32} {ring : List Float} {w : ℕ}
     → p ≡ defaultParams → n ≡ nextOf (h .state .engine) p → x ≡ z → y ≡ delayOf (n .offset)
-    → q ≡ processedF32By (sincF32At table 32 64) (due table (h .state .reader) (h .ring) x y) (h .state .reader) (h .ring) x y
+    → q ≡ processedF32By (sincF32At table 32 64) (due table (h .state .reader) (h .ring) x y) (h .state .reader)
+    (h .ring) x y
     → ring ≡ ringAfter (due table (h .state .reader) (h .ring) x y) (h .state .reader) (h .ring) x
     → v ≡ valueF32Of (q .answer) → w ≡ toBits binary32 v
     → (_≡_ {A = Rendering} (record { reader = q .state; engine = n .engine }) (afterSample table h z .state))

@@ -19,7 +19,7 @@ use Rattle.variable_delay_f32.specs.Call.{processedF32By}
 use Rattle.sinc_read_f32.specs.Reading.{sincF32At}
 use Rattle.render_samples.specs.declared.Rendering.{Rendering}
 
--- a rendering between two samples: its state, and the ring
+-- A rendering between two samples: its state, and the ring.
 pub record Held : Type 0 where
   pub state : Rendering
   pub ring : List Float
@@ -27,11 +27,12 @@ pub record Held : Type 0 where
 abbrev pub heldOf : Rendering → List Float → Held
 heldOf s ring = record { state = s; ring = ring }
 
--- default modulation: the engine steps at every sample, refused ones too
+-- Default modulation: the engine steps at every sample, refused ones too.
 abbrev pub turned : Held → Next
 turned h = nextOf (h .state .engine) defaultParams
 
--- 512 plus the left offset. A state that the engine refuses has no offset; a NaN is refused by the reader. (None is, from opening on: crates/render_start/proofs/Turning.antt.)
+-- 512 plus the left offset. A state that the engine refuses has no offset, and its NaN is refused by the reader. From
+-- opening on the engine refuses none (crates/render_start/proofs/EngineNeverRefuses.antt).
 abbrev pub delayOf : Offset → Float
 delayOf (Delay d) = add binary64 (fin false 1 (pos 9)) (d .left)
 delayOf (Refused k) = nan
@@ -39,14 +40,16 @@ delayOf (Refused k) = nan
 abbrev pub delayFor : Held → Float
 delayFor h = delayOf (turned h .offset)
 
--- the refusal that is due, 0 for none: 32 taps and 64 phases are in range
+-- The refusal that is due, 0 for none: 32 taps and 64 phases are in range.
 abbrev pub dueFor : List Float → Held → Float → ℕ
-dueFor table h x = verdict true (eqb (length table) (tableLength 32 64)) (h .state .reader) (length (h .ring)) x (delayFor h)
+dueFor table h x =
+    verdict true (eqb (length table) (tableLength 32 64)) (h .state .reader) (length (h .ring)) x (delayFor h)
 
 abbrev pub answerTo : List Float → Held → Float → AnswerF32
-answerTo table h x = processedF32By (sincF32At table 32 64) (dueFor table h x) (h .state .reader) (h .ring) x (delayFor h) .answer
+answerTo table h x =
+    processedF32By (sincF32At table 32 64) (dueFor table h x) (h .state .reader) (h .ring) x (delayFor h) .answer
 
--- what is written for it: a refused sample writes 0.0
+-- What is written for it: a refused sample writes 0.0.
 abbrev pub sampleFor : List Float → Held → Float → Float
 sampleFor table h x = valueF32Of (answerTo table h x)
 
@@ -56,7 +59,7 @@ afterSample table h x = record {
   ring = ringAfter (dueFor table h x) (h .state .reader) (h .ring) x;
 }
 
--- samples one after the other: what is written for them, and the rendering after them
+-- Samples one after the other: what is written for them, and the rendering after them.
 unfoldable pub answersFor : List Float → Held → List Float → List Float
 answersFor table h [] = []
 answersFor table h (x ∷ xs) = sampleFor table h x ∷ answersFor table (afterSample table h x) xs

@@ -1,4 +1,5 @@
-// X2. What the program `render` does with a sample: a WindowedSincF32 of 32 taps and 64 phases reads a ring of 1024, at the delay 512 plus the left offset of an engine
+// What the program `render` does with one sample (X2).
+// A WindowedSincF32 of 32 taps and 64 phases reads a ring of 1024 at the delay 512 plus the left offset of an engine
 // that steps at every sample. Ring and table are lent; the state goes in by value and comes back.
 ghost use mathlib.Core.Path.{_≡_};
 ghost use lib.Ieee as Ieee;
@@ -30,14 +31,17 @@ fn delay_of(offset: Offset) -> f64
 
 // One sample, by its pattern: the engine steps, then the reader is called. A refused sample writes 0.0.
 pub fn step<'a>(state: Rendering, ring: &mut [f32], table: &'a [f32], bits: u32) -> Rendered
-    ensures { λ r. ⌜ r .state ≡ afterSample (now (table .entry)) (heldOf state (now (ring .entry))) (Ieee.ofBits binary32 bits) .state ⌝ }
-    ensures { λ r. ⌜ r .bits ≡ Ieee.toBits binary32 (sampleFor (now (table .entry)) (heldOf state (now (ring .entry))) (Ieee.ofBits binary32 bits)) ⌝ }
-    ensures { λ r. ⌜ now (ring .exit) ≡ afterSample (now (table .entry)) (heldOf state (now (ring .entry))) (Ieee.ofBits binary32 bits) .ring ⌝ }
+    ensures { λ r. ⌜ r .state ≡
+        afterSample (now (table .entry)) (heldOf state (now (ring .entry))) (Ieee.ofBits binary32 bits) .state ⌝ }
+    ensures { λ r. ⌜ r .bits ≡ Ieee.toBits binary32 (sampleFor (now (table .entry)) (heldOf state (now (ring .entry)))
+        (Ieee.ofBits binary32 bits)) ⌝ }
+    ensures { λ r. ⌜ now (ring .exit) ≡
+        afterSample (now (table .entry)) (heldOf state (now (ring .entry))) (Ieee.ofBits binary32 bits) .ring ⌝ }
 {
     let engine = state.engine;
     let n = modulation::next(engine, modulation_params::default_params());
     let offset = n.offset;
-    let x = patterns::float_of_f32(bits);
+    let x = bit_patterns::float_of_f32(bits);
     let reader = state.reader;
     let p = sinc_delay_f32::process_sample(reader, ring, x, delay_of(offset), table, 32, 64);
     let answer = p.answer;
@@ -48,6 +52,6 @@ pub fn step<'a>(state: Rendering, ring: &mut [f32], table: &'a [f32], bits: u32)
             reader: read,
             engine: turned,
         },
-        bits: patterns::bits_of_f32(doors::value_f32(answer)),
+        bits: bit_patterns::bits_of_f32(answer_parts::value_f32(answer)),
     }
 }

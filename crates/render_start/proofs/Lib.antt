@@ -1,2 +1,2 @@
-pub mod Beginning
-pub mod Turning
+pub mod LengthsFit
+pub mod EngineNeverRefuses

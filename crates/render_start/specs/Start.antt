@@ -15,7 +15,7 @@ use Rattle.render_samples.specs.declared.Rendering.{Rendering}
 use Rattle.render_start.specs.declared.Opened.{Opened}
 use Rattle.render_start.specs.declared.Opened.the-variants.{Started, Refused}
 
--- 32 taps, 64 phases, cutoff 1, beta 12
+-- 32 taps, 64 phases, cutoff 1, beta 12.
 abbrev pub settings : Settings
 settings = record { taps = 32; phases = 64; cutoff = fin false 1 (pos 0); beta = fin false 3 (pos 2) }
 

@@ -1,4 +1,4 @@
-// X2. A rendering's beginning: the ring and the table are lent, tested for their lengths before anything is written.
+// The beginning of a rendering: the lent ring and table are tested for their lengths before anything is written (X2).
 ghost use mathlib.Core.Path.{_≡_};
 ghost use lib.ListN.{length};
 ghost use Rattle.render_start.specs.Start.{openedOf, ringOpened, tableOpened};
@@ -12,8 +12,9 @@ pub enum Opened {
     Refused(u8),
 }
 
-// Refuses by 2, or opens the reader over a ring of 1024, writes the table of 65 rows of 32, and makes the engine: seed 1, at 48000 Hz. The maximum delay 1016 and
-// the margin 0 are the largest delay for which the ring has 1024 places (G1). What follows the lengths refuses nothing: the proof shows it.
+// Refuses by 2, or opens the reader over a ring of 1024, writes the table of 65 rows of 32, and makes the engine with
+// seed 1 at 48000 Hz. The maximum delay 1016 and the margin 0 are the largest delay for which the ring has 1024 places
+// (G1). Once the lengths are right nothing else is refused, as the proof shows.
 pub fn open(ring: &mut [f32], table: &mut [f32]) -> Opened
     ensures { λ r. ⌜ r ≡ openedOf (length (now (ring .entry))) (length (now (table .entry))) ⌝ }
     ensures { λ r. ⌜ now (ring .exit) ≡ ringOpened (now (ring .entry)) (length (now (table .entry))) ⌝ }

@@ -16,7 +16,7 @@ fn left(fade: Fade, mixed: u8, weight: u32) -> Turn {
         fade: fade,
         words: Words {
             first: packed(code(current), code(target), mixed),
-            second: fade.place as u64 * 0x1_0000_0000 + weight as u64,
+            second: fade.crossfade_position as u64 * 0x1_0000_0000 + weight as u64,
         },
     }
 }

@@ -1,8 +1,8 @@
 // T3, T4. A bank's sets and the choice among them, each in two words.
 use super::Words;
 use super::packed;
-use patterns::bits_of;
-use patterns::bits_of_f32;
+use bit_patterns::bits_of;
+use bit_patterns::bits_of_f32;
 
 fn small(n: usize) -> u8 {
     (n % 256) as u8

@@ -1,8 +1,8 @@
-// A slice of samples that the lines fill, and Draft's reading of it: nothing lies outside of it, whatever a line brings.
+// A slice of samples that the lines fill, and Draft's reading of it. No line can write or read outside of it.
 use super::Words;
 use super::refused;
-use patterns::bits_of_f32;
-use patterns::float_of_f32;
+use bit_patterns::bits_of_f32;
+use bit_patterns::float_of_f32;
 use replay_lines::within;
 
 // Puts a sample at a place.

@@ -1,8 +1,8 @@
 // A reader of one of the three kernels, and what a line asks of it.
 ghost use Prim.Native.Nat.{_≤_};
 use answer::Answer;
-use patterns::bits_of;
-use patterns::float_of;
+use bit_patterns::bits_of;
+use bit_patterns::float_of;
 use replay_lines::Line;
 use replay_lines::refused;
 use variable_delay::Opened;

@@ -1,6 +1,8 @@
-// O5. Replays a stored list of the original's answers: runs of its VariableDelay. A line of standard input is a letter and three words of sixteen hex digits:
-// `o` opens a reader (its kernel, maximum delay, margin), `p` hands it a sample (the sample, the delay, 0), `r` resets it (0, 0, 0). The line that is written
-// for it has the answer's pattern and the accepted number afterwards. oracle/src/lists/delays.rs makes the list. A trailing part of a line is ignored.
+// The program that replays a stored list of the original's answers: runs of its VariableDelay (O5).
+// A line of standard input is a letter and three words of sixteen hex digits: `o` opens a reader (its kernel, maximum
+// delay, margin), `p` hands it a sample (the sample, the delay, 0), `r` resets it (0, 0, 0). The line that is written
+// has the answer's pattern and the accepted number afterwards. oracle/src/lists/delays.rs makes the list. A trailing
+// part of a line is ignored.
 mod calls; // a reader, and what a line asks of it
 
 use calls::Reader;

@@ -1,9 +1,9 @@
-// W1. Replays a stored list of small and damaged files. A line of standard input is a file: the number of its bytes in
-// four hex digits, a blank, and two digits for each byte. A line is written for each, of 18 numbers: what `wav::read`
-// answers (the refusal's number, 0 for none; the kind's code, channels, rate, start and length, zeros where it is
-// refused), what `wav::read_wrapped` answers, and what `wav::fmt_told` tells. Where `read_wrapped` refuses nothing a
-// line follows for each channel, with its samples (samples.rt). oracle/lists/files.py makes the list, from document
-// 02's text. A trailing part of a line is ignored.
+// The program that replays a stored list of small and damaged WAV files (W1).
+// A line of standard input is a file: the number of its bytes in four hex digits, a blank, and two digits for each
+// byte. A line of 18 numbers is written for each: what `wav::read` answers (the refusal's number, 0 for none; the
+// kind's code, channels, rate, start and length, zeros where it is refused), what `wav::read_wrapped` answers, and what
+// `wav::fmt_told` tells. Where `read_wrapped` refuses nothing a line follows for each channel, with its samples
+// (samples.rt). oracle/lists/files.py makes the list, from document 02's text. A trailing part of a line is ignored.
 mod heard; // a file from standard input
 mod samples; // a channel's samples
 mod said; // numbers on standard output

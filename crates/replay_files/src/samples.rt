@@ -3,8 +3,8 @@
 use crate::said::end_of_line;
 use crate::said::number;
 use crate::said::pattern;
-use patterns::bits_of;
-use patterns::bits_of_f32;
+use bit_patterns::bits_of;
+use bit_patterns::bits_of_f32;
 use replay_lines::within;
 use sample_kind::SampleKind;
 use sample_kind::frame_width;

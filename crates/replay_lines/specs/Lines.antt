@@ -12,12 +12,20 @@ abbrev wordAt : List ℕ → ℕ → ℕ
 wordAt bytes at = hexValue 0 (take 16 (drop at bytes))
 
 abbrev pub lineOf : List ℕ → Line
-lineOf bytes = record { letter = getD bytes 0 0; mark = getD bytes 1 0; a = wordAt bytes 2; b = wordAt bytes 19; c = wordAt bytes 36 }
+lineOf bytes =
+    record {
+      letter = getD bytes 0 0;
+      mark = getD bytes 1 0;
+      a = wordAt bytes 2;
+      b = wordAt bytes 19;
+      c = wordAt bytes 36;
+    }
 
--- n bytes were read into them
+-- n bytes were read into them.
 abbrev pub heardOf : ℕ → List ℕ → Heard
 heardOf n bytes = record { whole = eqb n 53; line = lineOf bytes }
 
--- how much of a room a table takes: a row for each phase from 0 to phases (T1), where taps and phases are not above G5's ranges
+-- How much of a room a table takes: a row for each phase from 0 to phases (T1), if taps and phases are within G5's
+-- ranges.
 abbrev pub tablePart : ℕ → ℕ → ℕ → ℕ
 tablePart taps phases room = cond (leb taps 128 && leb phases 4096) (min ((phases + 1) * taps) room) room

@@ -1,5 +1,6 @@
-// O5. What the programs that replay a stored list share: a line, which is a letter, a mark beside it and three words of sixteen hex digits with a blank before each; the word
-// for a refusal; how much of a room is lent.
+// What the programs that replay a stored list share (O5).
+// A line is a letter, a mark beside it and three words of sixteen hex digits with a blank before each. Here too are the
+// word for a refusal, and how much of a room is lent.
 ghost use mathlib.Core.Path.{_≡_};
 ghost use Prim.Native.Nat.{_+_, _≤_, min};
 ghost use Rattle.replay_lines.specs.Lines.{lineOf, heardOf, tablePart};
@@ -55,7 +56,8 @@ pub fn within(need: usize, room: usize) -> usize
     if need < room { need } else { room }
 }
 
-// How much of a room the table of some taps and phases takes: all of it where they are out of range, so that no product wraps.
+// How much of a room the table of these taps and phases takes; all of it if they are out of range, so that no product
+// wraps.
 pub fn table_part(taps: usize, phases: usize, room: usize) -> usize
     ensures { λ r. ⌜ r ≡ tablePart taps phases room ⌝ }
     ensures { λ r. ⌜ r ≤ room ⌝ }

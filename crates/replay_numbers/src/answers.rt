@@ -1,11 +1,11 @@
 // The function that a letter names, at three words.
+use bit_patterns::bits_of;
+use bit_patterns::bits_of_f32;
+use bit_patterns::float_of;
+use bit_patterns::float_of_f32;
 use magnitude::is_finite;
 use magnitude::is_finite_f32;
 use magnitude::within;
-use patterns::bits_of;
-use patterns::bits_of_f32;
-use patterns::float_of;
-use patterns::float_of_f32;
 
 pub enum Reply {
     Word(u64),
@@ -15,8 +15,8 @@ pub enum Reply {
 // A small letter is a function of f32; a capital one is a function of f64 or of words.
 pub fn answer(letter: u8, a: u64, b: u64, c: u64) -> Reply {
     match letter {
-        b'M' => Reply::Word(words::wrapping_mul(a, b)),
-        b'S' => Reply::Word(words::shl(a, b)),
+        b'M' => Reply::Word(wrapping_u64::wrapping_mul(a, b)),
+        b'S' => Reply::Word(wrapping_u64::shl(a, b)),
         b'a'..=b'z' => single(letter, low_half(a), low_half(b), low_half(c)),
         _ => double(letter, float_of(a), float_of(b), float_of(c)),
     }
@@ -25,12 +25,12 @@ pub fn answer(letter: u8, a: u64, b: u64, c: u64) -> Reply {
 fn double(letter: u8, x: f64, y: f64, z: f64) -> Reply {
     match letter {
         b'B' => Reply::Word(bits_of(x)),
-        b'C' => Reply::Word(bits_of(order::clamp(x, y, z))),
+        b'C' => Reply::Word(bits_of(min_max::clamp(x, y, z))),
         b'E' => Reply::Word(truth(is_finite(x))),
         b'F' => Reply::Word(bits_of(fused64::fused64(x, y, z))),
-        b'G' => Reply::Word(bits_of(order::max(x, y))),
+        b'G' => Reply::Word(bits_of(min_max::max(x, y))),
         b'I' => Reply::Word(truth(within(x, y, z))),
-        b'L' => Reply::Word(bits_of(order::min(x, y))),
+        b'L' => Reply::Word(bits_of(min_max::min(x, y))),
         b'N' => Reply::Word(wide(narrowing::narrow(x))),
         b'P' => Reply::Word(bits_of(integer_part::fraction(x))),
         b'R' => Reply::Word(bits_of(square_root::square_root(x))),
@@ -42,10 +42,10 @@ fn double(letter: u8, x: f64, y: f64, z: f64) -> Reply {
 fn single(letter: u8, x: f32, y: f32, z: f32) -> Reply {
     match letter {
         b'b' => Reply::Word(wide(x)),
-        b'c' => Reply::Word(wide(order::clamp_f32(x, y, z))),
+        b'c' => Reply::Word(wide(min_max::clamp_f32(x, y, z))),
         b'e' => Reply::Word(truth(is_finite_f32(x))),
         b'f' => Reply::Word(wide(fused32::fused32(x, y, z))),
-        b'l' => Reply::Word(wide(order::min_f32(x, y))),
+        b'l' => Reply::Word(wide(min_max::min_f32(x, y))),
         _ => Reply::Unknown,
     }
 }

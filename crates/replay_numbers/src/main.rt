@@ -1,6 +1,8 @@
-// Replays the stored lists of the number functions. A line of standard input is a function's letter and three words of sixteen hex digits, a b c; the
-// line that is written for it has the function's answers at (a, b, c), at (b, c, a) and at (c, a, b), of which it takes as many words as it needs, and
-// `?` for each where no function has the letter. oracle/lists/numbers.py makes the lists, in exact arithmetic. A trailing part of a line is ignored.
+// The program that replays the stored lists of the number functions.
+// A line of standard input is a function's letter and three words of sixteen hex digits, a b c. The line that is
+// written has the function's answers at (a, b, c), at (b, c, a) and at (c, a, b), of which it takes as many words as it
+// needs, and `?` for each where no function has the letter. oracle/lists/numbers.py makes the lists, in exact
+// arithmetic. A trailing part of a line is ignored.
 mod answers; // the function that a letter names
 
 use answers::Reply;

@@ -1,9 +1,9 @@
 // The elements of the tables of both widths, set one by one and written as patterns.
 use crate::lines::say;
-use patterns::bits_of;
-use patterns::bits_of_f32;
-use patterns::float_of;
-use patterns::float_of_f32;
+use bit_patterns::bits_of;
+use bit_patterns::bits_of_f32;
+use bit_patterns::float_of;
+use bit_patterns::float_of_f32;
 use replay_lines::Line;
 
 // A word's pattern of single precision: its lower half.

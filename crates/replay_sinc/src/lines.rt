@@ -1,4 +1,5 @@
-// A line of standard input and one of standard output, which is two words of sixteen hex digits, and what is kept between two lines.
+// A line of standard input, a line of standard output, which is two words of sixteen hex digits, and what is kept
+// between two lines.
 use libc::STDIN_FILENO;
 use libc::STDOUT_FILENO;
 use replay_lines::Heard;

@@ -1,6 +1,7 @@
-// O5. Replays a stored list of the original's answers: tables of its WindowedSinc and WindowedSincF32, and runs of VariableDelay and VariableDelayF32 over them.
-// A line is answered by a line, and after a table is built its elements follow, a line for each (docs/ORACLE.md has the letters); oracle/src/lists/sinc.rs makes the
-// list. A trailing part of a line is ignored.
+// The program that replays a stored list of the original's answers: windowed sinc tables and the readers over them
+// (O5).
+// A line is answered by a line, and after a table is built its elements follow, a line for each (docs/ORACLE.md has the
+// letters). oracle/src/lists/sinc.rs makes the list. A trailing part of a line is ignored.
 mod elements; // the elements of the tables, set and written
 mod lines; // a line that is read, one that is written, and what is kept between
 mod readers; // a reader

@@ -6,7 +6,7 @@ use crate::turns::Turn;
 use crate::turns::answered;
 use crate::turns::pattern;
 use crate::turns::started;
-use patterns::float_of;
+use bit_patterns::float_of;
 use replay_lines::Line;
 use replay_lines::table_part;
 use variable_delay::VariableDelay;
@@ -41,7 +41,8 @@ fn process<'a>(
     }
 }
 
-// `o` opens a reader (maximum delay, margin), `p` hands it a sample (the sample, the delay), any other letter resets it.
+// `o` opens a reader (maximum delay, margin), `p` hands it a sample (the sample, the delay), any other letter resets
+// it.
 fn called<'a>(
     s: VariableDelay,
     shape: Shape,

@@ -7,7 +7,7 @@ use crate::turns::Turn;
 use crate::turns::answered;
 use crate::turns::pattern_f32;
 use crate::turns::started;
-use patterns::float_of;
+use bit_patterns::float_of;
 use replay_lines::Line;
 use replay_lines::table_part;
 use variable_delay::VariableDelay;

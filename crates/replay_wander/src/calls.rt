@@ -1,9 +1,10 @@
-// The engine's calls, each as the engine that it leaves, the number of its refusal, 0 for none, and the offsets that it hands out as patterns, 0 where there are none.
+// The engine's calls. Each gives the engine that it leaves, the refusal number, 0 for none, and the offsets as bit
+// patterns, 0 if there are none.
+use bit_patterns::bits_of;
 use modulation_engine::ModulationEngine;
 use modulation_engine::Opened;
 use modulation_params::ModulationParams;
 use modulation_sample::Offset;
-use patterns::bits_of;
 
 pub struct Turn {
     pub engine: ModulationEngine,
@@ -14,7 +15,7 @@ pub struct Turn {
 
 // What is replayed before the first line.
 pub fn opened_first() -> ModulationEngine {
-    engine_words::engine_of([0; 15])
+    packed_engine::engine_of([0; 15])
 }
 
 pub fn turn_of(before: ModulationEngine, opened: Opened) -> Turn {

@@ -5,9 +5,9 @@ use crate::calls::steps;
 use crate::calls::turn_of;
 use crate::letters::Found;
 use crate::letters::Player;
+use bit_patterns::float_of;
 use modulation_engine::ModulationEngine;
 use modulation_params::ModulationParams;
-use patterns::float_of;
 
 fn called(params: ModulationParams, turn: Turn, agrees: bool) -> Found {
     let engine = turn.engine;
@@ -18,7 +18,8 @@ fn called(params: ModulationParams, turn: Turn, agrees: bool) -> Found {
     }
 }
 
-// `o` opens an engine, `t` sets its sample rate, `d` its seed, `r` resets it: the third word is the number of the refusal, 0 for none.
+// `o` opens an engine, `t` sets its sample rate, `d` its seed, `r` resets it. The third word is the refusal number, 0
+// for none.
 pub fn call(
     e: ModulationEngine,
     p: ModulationParams,

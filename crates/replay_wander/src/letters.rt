@@ -60,7 +60,7 @@ pub fn state(
     b: u64,
     c: u64,
 ) -> Found {
-    let w = engine_words::words_of(e);
+    let w = packed_engine::words_of(e);
     let agrees = if from < 13 {
         w[from] == a && w[from + 1] == b && w[from + 2] == c
     } else {

@@ -5,7 +5,7 @@ use crate::letters::Found;
 use crate::letters::Player;
 use crate::letters::settings;
 use crate::letters::state;
-use patterns::float_of;
+use bit_patterns::float_of;
 use replay_lines::Line;
 
 // What a line leaves; whether it has an answer, and a star; whether what was found is another.

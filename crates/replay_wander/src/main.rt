@@ -1,6 +1,8 @@
-// O5. Replays a stored list of the original's answers: runs of its ModulationEngine. A line of standard input is a letter, a blank and three words of sixteen hex
-// digits, answers among them, which are compared here bit for bit (docs/ORACLE.md has the letters); oracle/src/lists/wander.rs makes the list. Where a star stands
-// for the blank, a bit of the answer was changed on purpose: such a line must differ. A line that differs and has no star is named. A trailing part is ignored.
+// The program that replays a stored list of the original's answers: runs of its ModulationEngine (O5).
+// A line of standard input is a letter, a blank and three words of sixteen hex digits. Answers stand among them and are
+// compared here bit for bit (docs/ORACLE.md has the letters). oracle/src/lists/wander.rs makes the list. Where a star
+// stands for the blank, a bit of the answer was changed on purpose: such a line must differ. A line that differs and
+// has no star is named. A trailing part is ignored.
 mod calls; // the engine's calls, and what each hands out
 mod counts; // how many lines were read, and how many of them differ
 mod engine_letters; // the letters of the engine's calls

@@ -1,4 +1,5 @@
-// A call from standard input: six words of sixteen hex digits, then one for each sample, a blank behind each, the line's end.
+// A call from standard input: six words of sixteen hex digits, then one for each sample, a blank behind each, and the
+// line's end.
 use libc::STDIN_FILENO;
 use replay_lines::within;
 use word_bytes::word_at;

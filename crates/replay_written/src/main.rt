@@ -1,15 +1,16 @@
-// W2. Replays a stored list of files to be written. A line of standard input is a call: the kind's code, channels, rate, the
-// buffer's length, whether the samples are f32s (0 or 1) and their number, then each sample's pattern, all in sixteen hex
-// digits with a blank behind them. A line is written for each: the refusal's number, 0 for none, the length that is
-// answered, 0 where it is refused, what `wav_header::file_length` says, and the buffer's bytes, which were A5 before, two hex
-// digits each. oracle/lists/written.py makes the list, from document 02 alone. A trailing part of a line is ignored.
+// The program that replays a stored list of WAV files to be written (W2).
+// A line of standard input is a call: the kind's code, channels, rate, the buffer's length, whether the samples are
+// f32s (0 or 1) and their number, then each sample's pattern, all in sixteen hex digits with a blank behind them. A
+// line is written for each: the refusal's number, 0 for none, the length that is answered, 0 where it is refused, what
+// `wav_header::file_length` says, and the buffer's bytes, which were A5 before, two hex digits each.
+// oracle/lists/written.py makes the list, from document 02 alone. A trailing part of a line is ignored.
 mod heard; // a call from standard input
 mod said; // what is written to standard output
 
+use bit_patterns::float_of;
+use bit_patterns::float_of_f32;
 use heard::Heard;
 use heard::hear;
-use patterns::float_of;
-use patterns::float_of_f32;
 use replay_lines::within;
 use said::tell;
 use sample_kind::of_code;

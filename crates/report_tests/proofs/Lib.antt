@@ -1,4 +1,4 @@
-pub mod Both
+pub mod BothTests
 pub mod Values
-pub mod Sums
+pub mod WideSums
 pub mod Numbers

@@ -6,7 +6,7 @@ use native.Mathlib.Omega.{arith}
 use borrow.Author.Tests.{leb-true, le-leb, lt-leb}
 use lib.Dec.{leb}
 use Rattle.report_tests.specs.Tests.{sumOk, numbersOk}
-use Rattle.report_tests.proofs.Both.{left-true, right-true, both-true}
+use Rattle.report_tests.proofs.BothTests.{left-true, right-true, both-true}
 
 pub record InRange (n l s : ℕ) : Type 0 where
   pub few : n ≤ 2 ^ 36

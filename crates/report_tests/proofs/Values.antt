@@ -8,7 +8,7 @@ use lib.IntN.{ℤ, pos}
 use lib.ListN.{length, getD, take}
 use lib.Seq.{take-suc}
 use Rattle.report_tests.specs.Tests.{in24, all24}
-use Rattle.report_tests.proofs.Both.{and-true, and-assoc}
+use Rattle.report_tests.proofs.BothTests.{and-true, and-assoc}
 
 all-more : (xs : List ℤ) (x : ℤ) → all24 (xs ++ (x ∷ [])) ≡ (all24 xs && in24 x)
 unfolding all24

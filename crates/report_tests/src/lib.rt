@@ -1,5 +1,5 @@
-// W13g. The tests of a residual's call that ask for numbers alone: the values of a stretch (1), a carried report's
-// numbers (3), and how many samples there are in all (8).
+// The tests of a residual's call that ask for numbers alone (W13g).
+// They are the values of a stretch (1), a carried report's numbers (3), and how many samples there are in all (8).
 ghost use mathlib.Core.Path.{_≡_};
 ghost use Prim.Native.Nat.{_+_, _*_, _^_, _<_, _≤_};
 ghost use lib.Dec.{leb};
@@ -13,7 +13,7 @@ fn in_24(x: i32) -> bool
     both(-8388608 <= x, x <= 8388607)
 }
 
-// 1. Every value is looked at, with no way out between: a compiler takes several at once.
+// Test 1. Every value is looked at without an early exit, so that the compiler takes several at once.
 pub fn all_24(s: &[i32]) -> bool
     ensures { λ r. ⌜ r ≡ all24 (now (s .entry)) ⌝ }
 {

@@ -13,7 +13,7 @@ use Rattle.residual.specs.declared.Place.the-variants.{Nowhere, At}
 use Rattle.residual.specs.Report.{one}
 use Rattle.residual.specs.Refusals.{placeOk}
 use Rattle.residual.specs.Tallies.{indexOf, tallyOf, toldOf, stepOf}
-use Rattle.residual.proofs.Valid.{Valid}
+use Rattle.residual.proofs.ValidReport.{Valid}
 
 -- empty, with no place and nothing largest; or not empty, with a place
 pub data Fit (r : Report) : Type 0 where

@@ -15,7 +15,7 @@ use Rattle.residual.specs.declared.parts.Parts.{Parts}
 use Rattle.residual.specs.Report.{squares}
 use Rattle.residual.specs.Tallies.{tallied, stepOf}
 use Rattle.residual.specs.Blocks.{highPart, lowPart, noParts, partOf, sumOfParts, Space, noneAbove, addedTo}
-use Rattle.report_tests.proofs.Both.{left-true, right-true, and-true, and-assoc}
+use Rattle.report_tests.proofs.BothTests.{left-true, right-true, and-true, and-assoc}
 use Rattle.residual.proofs.Stretches.{Small, none, more}
 
 ruleset ring = (mul-add, add-mul, mul-assoc, mul-comm, mul-left-comm)

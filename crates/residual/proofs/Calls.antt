@@ -12,11 +12,11 @@ use lib.ListN.{length, length-append}
 use Rattle.residual.specs.declared.Report.{Report}
 use Rattle.residual.specs.Report.{differences, one, carried}
 use Rattle.residual.specs.Refusals.{in24, all24, reportOk, verdict, comparedOf}
-use Rattle.report_tests.proofs.Both.{left-true, right-true}
+use Rattle.report_tests.proofs.BothTests.{left-true, right-true}
 use Rattle.residual.proofs.Stretches.{length-differences}
-use Rattle.residual.proofs.Valid.{accepted, valid-ok}
+use Rattle.residual.proofs.ValidReport.{accepted, valid-ok}
 use Rattle.residual.proofs.Cutting.{cut}
-use Rattle.residual.proofs.Staying.{number-one, stays}
+use Rattle.residual.proofs.StaysInRange.{number-one, stays}
 
 -- ---- each test of the second call, and of the one call
 all-behind : (xs us : List ℤ) → all24 xs ≡ true → all24 (xs ++ us) ≡ all24 us

@@ -13,8 +13,8 @@ use Rattle.residual.specs.declared.tally.Tally.{Tally}
 use Rattle.residual.specs.Report.{differences}
 use Rattle.residual.specs.Tallies.{stepOf, Room, Ready}
 use Rattle.residual.specs.Blocks.{addedTo}
-use Rattle.report_tests.proofs.Sums.{square-below}
-use Rattle.residual.proofs.Halves.{high-half, low-half}
+use Rattle.report_tests.proofs.WideSums.{square-below}
+use Rattle.residual.proofs.SumHalves.{high-half, low-half}
 use Rattle.residual.proofs.Stretches.{Small, none, more, small-differences, small-take, length-differences}
 use Rattle.residual.proofs.Pieces.{length-part, alike-part}
 

@@ -11,7 +11,7 @@ use lib.ListN.{length, take, drop, length-take, length-drop}
 use Rattle.residual.specs.Report.{difference, differences}
 use Rattle.residual.specs.Refusals.{in24, all24}
 use Rattle.residual.specs.Tallies.{Alike}
-use Rattle.report_tests.proofs.Both.{left-true, right-true, both-true}
+use Rattle.report_tests.proofs.BothTests.{left-true, right-true, both-true}
 
 none-beside : (xs : List ℤ) → differences xs [] ≡ []
 unfolding differences

@@ -12,9 +12,9 @@ use Rattle.residual.specs.declared.Compared.the-variants as compared
 use Rattle.residual.specs.Report.{differences, emptyReport, sumOf, carried, squares, reportOf}
 use Rattle.residual.specs.Refusals.{all24, reportOk, verdict, comparedOf}
 use Rattle.residual.specs.Runs.{Call, answer, behind, ran, kept, allTaken, firsts, seconds}
-use Rattle.residual.proofs.Valid.{valid, accepted}
+use Rattle.residual.proofs.ValidReport.{valid, accepted}
 use Rattle.residual.proofs.Cutting.{cut}
-use Rattle.residual.proofs.Staying.{stays}
+use Rattle.residual.proofs.StaysInRange.{stays}
 use Rattle.residual.proofs.Meaning.{from-nothing, sum-is}
 use Rattle.residual.proofs.Calls.{number-carried, same-verdict}
 

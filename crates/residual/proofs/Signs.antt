@@ -11,7 +11,7 @@ use lib.Signed.{mag, ltZ, nonNeg}
 use mir.Syntax.{w32}
 use mir.Val.{Fits, SFits}
 use Rattle.residual.specs.Refusals.{in24}
-use Rattle.report_tests.proofs.Both.{left-true}
+use Rattle.report_tests.proofs.BothTests.{left-true}
 
 pub mag-24 : (x : ℤ) → in24 x ≡ true → mag x < 2 ^ 23
 mag-24 (pos n) h = omega (arith, leb-true n 8388607 h)

@@ -14,7 +14,7 @@ use mir.ValLaws.{toZ-ofZ}
 use Rattle.residual.specs.Report.{difference, differences}
 use Rattle.residual.specs.Refusals.{in24, all24}
 use Rattle.residual.specs.Tallies.{Alike}
-use Rattle.report_tests.proofs.Both.{left-true, right-true}
+use Rattle.report_tests.proofs.BothTests.{left-true, right-true}
 use Rattle.residual.proofs.Signs.{below-24, fits-24}
 
 -- ---- every value of a stretch

@@ -46,7 +46,7 @@ unfoldable pub carried : Report → List ℤ → List ℤ → Report
 carried r xs ys = foldl one r (differences xs ys)
 
 -- ---- what a report says, with nothing run: of all differences the number (W13a), the greatest (W13b), the index at
--- which it stands first (W13c), and the sum of the squares (W13d)
+-- which it stands first (W13c), and the sum of the squares (W13d).
 unfoldable pub greatest : List ℕ → ℕ
 greatest [] = 0
 greatest (d ∷ ds) = max d (greatest ds)
@@ -59,7 +59,7 @@ unfoldable pub squares : List ℕ → ℕ
 squares [] = 0
 squares (d ∷ ds) = d * d + squares ds
 
--- no place where nothing was compared
+-- No place where nothing was compared.
 unfoldable pub placeOf : List ℕ → Place
 placeOf [] = Nowhere
 placeOf (d ∷ ds) = At (firstAt (greatest (d ∷ ds)) (d ∷ ds))

@@ -1,5 +1,6 @@
-// W13. The residual of two stretches in whole numbers, over many calls, all exact: how many samples were compared, the
-// largest absolute difference, where it stands first, and the sum of the squared differences.
+// The residual of two stretches of samples in whole numbers, over many calls, all exact (W13).
+// It is how many samples were compared, the largest absolute difference, where that stands first, and the sum of the
+// squared differences.
 mod checks; // which refusal is due
 mod steps; // the counting
 mod parts; // a block's squares, in sums of 32 bits

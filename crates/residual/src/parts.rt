@@ -25,7 +25,7 @@ fn part(p: Parts, d: u32, top: u32) -> Parts
     requires { ⌜ Space p 1 ⌝ }
     ensures { λ r. ⌜ r ≡ partOf top p d ⌝ }
 {
-    // The remainder changes nothing below 2^24: it tells a compiler that the part fits 16 bits.
+    // The remainder changes nothing below 2^24; it tells the compiler that the part fits 16 bits.
     let high = d / 4096 % 4096;
     let low = d % 4096;
     Parts {

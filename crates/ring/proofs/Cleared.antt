@@ -21,11 +21,19 @@ pub record Cleared (ys xs : List Float) (i : ℕ) : Type 0 where
 pub none-yet : (ys : List Float) → Cleared ys ys 0
 none-yet ys = record { long = refl; within = omega arith; front = refl }
 
-pub one-more : (ys xs : List Float) (i : ℕ) → Cleared ys xs i → i < length xs → Cleared ys (set xs i (fin false 0 (pos 0))) (i + 1)
+pub one-more : (ys xs : List Float) (i : ℕ) → Cleared ys xs i → i < length xs
+    → Cleared ys (set xs i (fin false 0 (pos 0))) (i + 1)
 one-more ys xs i c h = record {
   long = length-set xs i (fin false 0 (pos 0)) ∙ c .long;
   within = omega arith;
-  front = rw (add-one i, take-suc-set xs i (fin false 0 (pos 0)) h, c .front, replicate-append-replicate i 1 (fin false 0 (pos 0)), add-one i);
+  front =
+      rw (
+        add-one i,
+        take-suc-set xs i (fin false 0 (pos 0)) h,
+        c .front,
+        replicate-append-replicate i 1 (fin false 0 (pos 0)),
+        add-one i,
+      );
 }
 
 pub all : (ys xs : List Float) (i : ℕ) → Cleared ys xs i → length xs ≤ i → xs ≡ zeros (length ys)

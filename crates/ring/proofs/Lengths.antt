@@ -1,4 +1,5 @@
--- G1. A ring's length is the least power of two that is at least the need, at most 2 ^ 24 exactly where the need is; with 01's three examples.
+-- G1. A ring's length is the least power of two that is at least the need, at most 2 ^ 24 exactly where the need is;
+-- with 01's three examples.
 -- Assumes nothing.
 use mathlib.Core.Path.{_≡_, refl}
 use mathlib.Core.Logic.{_↔_}

@@ -1,7 +1,7 @@
 pub mod Masks
 pub mod Lengths
 pub mod Cleared
-pub mod Held
-pub mod Run
-pub mod One
+pub mod RunStartWays
+pub mod HeldRuns
+pub mod OneTap
 pub mod Positions

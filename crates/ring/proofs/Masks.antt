@@ -1,5 +1,5 @@
--- A length that shares no digit with its predecessor is a power of two, and a mask by the predecessor is then the remainder; and the digits that
--- leading zeros leave are those that `size` counts. Assumes nothing.
+-- A length that shares no digit with its predecessor is a power of two, and a mask by the predecessor is then the
+-- remainder; and the digits that leading zeros leave are those that `size` counts. Assumes nothing.
 use mathlib.Core.Path.{_≡_, sym, _∙_}
 use mathlib.Core.Logic.{⊎-elim}
 use Prim.Native.Nat.{ℕ, suc, _+_, _-_, _*_, _%_, _^_, _≤_, _<_}

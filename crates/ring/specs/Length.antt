@@ -8,17 +8,17 @@ use lib.ListN.{replicate}
 use lib.Ieee.{Float, fin, size}
 use Rattle.constants.specs.Numbers.{zero-f}
 
--- maximum delay + 2 × margin + 8
+-- The sum that 01 names: maximum delay + 2 × margin + 8.
 abbrev pub need : ℕ → ℕ → ℕ
-need delay margin = delay + 2 * margin + 8
+need maximum margin = maximum + 2 * margin + 8
 
--- raised to the next power of two: `size` counts binary digits
+-- A ring's length: that sum raised to the next power of two; `size` counts binary digits.
 unfoldable pub lengthFor : ℕ → ℕ → ℕ
-lengthFor delay margin = 2 ^ size (need delay margin - 1)
+lengthFor maximum margin = 2 ^ size (need maximum margin - 1)
 
--- at most 2^24, which the power is exactly when the sum is
+-- Settings are in range if the sum is at most 2^24, which the power of two is exactly when the sum is.
 abbrev pub settingsOk : ℕ → ℕ → Bool
-settingsOk delay margin = leb (need delay margin) (2 ^ 24)
+settingsOk maximum margin = leb (need maximum margin) (2 ^ 24)
 
 -- K1. Opening zeroes the ring: +0.0 at every place.
 abbrev pub zeros : ℕ → List Float

@@ -1,3 +1,4 @@
 pub mod Length
 pub mod Taps
 pub mod Places
+pub mod Quick

@@ -1,25 +1,8 @@
--- G3, K1. A position's range, and where a run of taps starts in a ring. Definitions only.
-use Prim.Native.Nat.{ℕ, _+_, _%_}
-use mathlib.Core.Bool.{Bool, true, false, _&&_, cond}
-use lib.Dec.{leb, eqb}
-use lib.IntN.{ℤ, pos, negsuc}
-use lib.Ieee.{Float, fin, le}
+-- G3. A position's range. Definitions only.
+use mathlib.Core.Bool.{Bool, _&&_}
+use lib.Ieee.{Float, le}
 use Rattle.constants.specs.Numbers.{limit-f, minus-limit-f}
-use Rattle.ring.specs.declared.Start.{Start}
 
--- finite, from -2^36 to 2^36
+-- A position is finite and lies from -2^36 to 2^36.
 abbrev pub positionOk : Float → Bool
 positionOk p = le minus-limit-f p && le p limit-f
-
--- an index modulo the length, and 0 in an empty ring
-abbrev pub placeOf : ℕ → ℕ → ℕ
-placeOf index len = cond (eqb len 0) 0 (index % len)
-
-abbrev pub pickStart : Bool → Start → Start → Start
-pickStart true a b = a
-pickStart false a b = b
-
--- Whether all of `taps` taps from an index on are held, and the place of the first.
-abbrev pub startOf : ℕ → ℕ → ℤ → ℕ → Start
-startOf len count (negsuc k) taps = record { held = false; place = 0 }
-startOf len count (pos k) taps = pickStart (leb (k + taps) count && leb count (k + len)) (record { held = true; place = placeOf k len }) (record { held = false; place = 0 })

@@ -1,5 +1,5 @@
--- K2. What a tap reads: a ring of any length that has accepted `count` samples, the last of them number count - 1. A plain slice of length n
--- is a ring of length n with the count n (G3). Definitions only.
+-- K2. What a tap reads in a ring of any length that has accepted `count` samples, the last of them number count - 1. A
+-- plain slice of length n is a ring of length n with the count n (G3). Definitions only.
 use Prim.Native.Nat.{ℕ, _+_, _%_}
 use mathlib.Core.Bool.{Bool, true, false}
 use mathlib.Core.List.{List}
@@ -18,10 +18,12 @@ abbrev pub pick : Bool → Tap → Tap → Tap
 pick true a b = a
 pick false a b = b
 
--- below 0: not yet written; from the count on: ahead; more than the ring's length behind the count: overwritten; else at its number modulo the length
+-- Below 0 a tap is not yet written; from the count on it is ahead; more than the ring's length behind the count it is
+-- overwritten; else it is held, at its number modulo the length.
 abbrev pub tapAt : List Float → ℕ → ℤ → Tap
 tapAt xs count (negsuc k) = unwritten
-tapAt xs count (pos k) = pick (ltb k count) (pick (leb count (k + length xs)) (held (getD xs (k % length xs) nan)) overwritten) ahead
+tapAt xs count (pos k) =
+    pick (ltb k count) (pick (leb count (k + length xs)) (held (getD xs (k % length xs) nan)) overwritten) ahead
 
 -- A tap that is not held counts as zero.
 abbrev pub valueOf : Tap → Float

@@ -1,4 +1,5 @@
-// A lent ring of samples: how long it is, where a sample stands in it, and what a tap reads. 000's RingView, RingViewF32 and SliceSource.
+// A lent ring of samples: how long it must be, where a sample stands in it, and what a tap reads.
+// It stands for the original's RingView, RingViewF32 and SliceSource (000).
 mod single; // the same for samples of single precision
 mod taps; // where a tap stands, and what it reads
 
@@ -10,9 +11,11 @@ ghost use mathlib.Core.Path.{_≡_};
 ghost use mathlib.Core.Bool.{false, cond};
 ghost use lib.ListN.{length};
 ghost use Rattle.ring.specs.Length.{settingsOk, lengthFor, zeros};
-ghost use Rattle.ring.specs.Places.{positionOk, placeOf, startOf};
+ghost use Rattle.ring.specs.Places.{positionOk};
+ghost use Rattle.ring.specs.Quick.{placeOf, startOf};
 
-// G1. The length that the settings need, and 0 where they are out of range. No setting wraps: each is tested before it is added.
+// The ring length that the settings need (G1), or 0 if they are out of range. Each setting is tested before it is
+// added, so nothing wraps.
 pub fn length_for(maximum: usize, margin: usize) -> usize
     ensures { λ r. ⌜ r ≡ cond (settingsOk maximum margin) (lengthFor maximum margin) 0 ⌝ }
 {
@@ -41,7 +44,8 @@ pub fn clear(ring: &mut [f64])
     }
 }
 
-// K1. An index modulo the length: a mask where the length is a power of two, as a reader's ring is, and no division in a slice that holds all it was handed.
+// An index modulo the length (K1). A reader's ring has a power of two as its length, so a mask is enough; in a slice
+// that holds all samples so far the index is below the length. Only otherwise is there a division.
 pub fn place(index: u64, len: usize) -> usize
     ensures { λ r. ⌜ r ≡ placeOf index len ⌝ }
 {
@@ -73,7 +77,8 @@ fn absent() -> Start
     }
 }
 
-// Whether all of a run of taps are held, and where the first stands: the kernels' quick way, with no test for each tap.
+// Whether all taps of a run are held, and where the first stands: a kernel's quick way then reads them without a test
+// each.
 pub fn run_start(len: usize, count: u64, index: i64, taps: u64) -> Start
     ensures { λ r. ⌜ r ≡ startOf len count index taps ⌝ }
 {

@@ -1,12 +1,12 @@
 // K2. Where a tap stands, and what it reads.
 ghost use mathlib.Core.Path.{_≡_};
 ghost use Rattle.ring.specs.Taps.{tapOf};
-ghost use Rattle.ring.specs.Places.{startOf};
+ghost use Rattle.ring.specs.Quick.{startOf};
 use crate::Start;
 use crate::absent;
 use crate::place;
 
-// Whether one tap is held, and where it stands: a run of one, with a test fewer.
+// Whether one tap is held, and where it stands: a run of one, with one test fewer.
 pub fn tap_place(len: usize, count: u64, index: i64) -> Start
     ensures { λ r. ⌜ r ≡ startOf len count index 1 ⌝ }
 {

@@ -2,7 +2,7 @@
 // numbers of 24 bits, as the residual compares them.
 ghost use mathlib.Core.Path.{_≡_};
 ghost use lib.ListN.{length};
-ghost use Rattle.loops.specs.Loops.{listOf};
+ghost use Rattle.loop_laws.specs.Loops.{listOf};
 ghost use Rattle.stored_samples.specs.Stored.{fitsIn};
 ghost use Rattle.rounded_samples.specs.Rounded.{misfitIn, roundedOf, roundedAt};
 use sample_kind::SampleKind;

@@ -1,4 +1,5 @@
--- `fused` of three values given by fractions, and where nothing is multiplied or added: a product of zero is exact, and a zero added to a product leaves it. What `fused` gives is a value of the format. Assumes nothing.
+-- `fused` of three values given by fractions, and where nothing is multiplied or added: a product of zero is exact,
+-- and a zero added to a product leaves it. What `fused` gives is a value of the format. Assumes nothing.
 use mathlib.Core.Path.{_≡_, refl, sym, ap, _∙_, subst}
 use mathlib.Core.Bool.{Bool, true, false}
 use Prim.Native.Nat.{ℕ, _*_, _<_}
@@ -27,7 +28,8 @@ cross-addend K x y z G C h =
     let b : G * z * (x * y * C) ≡ G * C * (x * y * z) = simp products in
     a ∙ ap (λ (o : ℕ). o * (x * y * C)) h ∙ b
 
-pub fused-value : (f : Format) (x y z : Float) (s t u : Bool) (A B G C : ℕ) → 0 < C → HasValue x s A C → HasValue y t B C → HasValue z u G C → fused f x y z ≡ sum f (unlike s t) (A * B) u (G * C) (C * C)
+pub fused-value : (f : Format) (x y z : Float) (s t u : Bool) (A B G C : ℕ) → 0 < C → HasValue x s A C
+    → HasValue y t B C → HasValue z u G C → fused f x y z ≡ sum f (unlike s t) (A * B) u (G * C) (C * C)
 unfolding fused
 fused-value f nan y z s t u A B G C P p q r = absurd p
 fused-value f (inf v) y z s t u A B G C P p q r = absurd p
@@ -36,9 +38,11 @@ fused-value f (fin v m e) (inf w) z s t u A B G C P p q r = absurd q
 fused-value f (fin v m e) (fin w n d) nan s t u A B G C P p q r = absurd r
 fused-value f (fin v m e) (fin w n d) (inf h) s t u A B G C P p q r = absurd r
 fused-value f (fin v m e) (fin w n d) (fin h k g) s t u A B G C P p q r =
-    sum-same f (unlike v w) (m * up e * (n * up d) * down g) h (k * up g * (down e * down d)) (down e * down d * down g) (A * B) (G * C) (C * C)
+    sum-same f (unlike v w) (m * up e * (n * up d) * down g) h (k * up g * (down e * down d)) (down e * down d * down g)
+    (A * B) (G * C) (C * C)
     (mul-pos (mul-pos (down-pos e) (down-pos d)) (down-pos g)) (mul-pos P P)
-    (cross-product (m * up e) (n * up d) (down e) (down d) (down g) A B C (p .1) (q .1)) (cross-addend (k * up g) (down e) (down d) (down g) G C (r .1))
+    (cross-product (m * up e) (n * up d) (down e) (down d) (down g) A B C (p .1) (q .1))
+    (cross-addend (k * up g) (down e) (down d) (down g) G C (r .1))
     ∙ ap (λ (b : Bool). sum f (unlike b w) (A * B) h (G * C) (C * C)) (p .0)
     ∙ ap (λ (b : Bool). sum f (unlike s b) (A * B) h (G * C) (C * C)) (q .0)
     ∙ ap (λ (b : Bool). sum f (unlike s t) (A * B) b (G * C) (C * C)) (r .0)
@@ -56,21 +60,28 @@ module _ (f : Format) (s : Bool) (m : ℕ) (e : ℤ) (t : Bool) (n : ℕ) (d : �
   pub no-product : (z : Float) → p ≡ 0 → add f (mul f (fin s m e) (fin t n d)) z ≡ fused f (fin s m e) (fin t n d) z
   unfolding mul
   no-product z h =
-      let is : round f (unlike s t) p c ≡ fin (unlike s t) 0 (pos 0) = ap (λ (x : ℕ). round f (unlike s t) x c) h ∙ round-zero f (unlike s t) c c-pos in
-      exact-product f (round f (unlike s t) p c) s m e t n d z (subst (λ (v : Float). HasValue v (unlike s t) p c) (sym is) (refl, zero-mul c ∙ sym (mul-one p ∙ h)))
+      let is : round f (unlike s t) p c ≡ fin (unlike s t) 0 (pos 0) =
+      ap (λ (x : ℕ). round f (unlike s t) x c) h ∙ round-zero f (unlike s t) c c-pos in
+      exact-product f (round f (unlike s t) p c) s m e t n d z
+      (subst (λ (v : Float). HasValue v (unlike s t) p c) (sym is) (refl, zero-mul c ∙ sym (mul-one p ∙ h)))
 
-  pub no-addend : (u : Bool) (g : ℤ) → 0 < p → mul f (fin s m e) (fin t n d) ≡ fused f (fin s m e) (fin t n d) (fin u 0 g)
+  pub no-addend : (u : Bool) (g : ℤ) → 0 < p
+      → mul f (fin s m e) (fin t n d) ≡ fused f (fin s m e) (fin t n d) (fin u 0 g)
   unfolding mul fused
   no-addend u g P =
-      sym (ap (λ (x : ℕ). sum f (unlike s t) (p * down g) u x (c * down g)) (ap (λ (x : ℕ). x * c) (zero-mul (up g)) ∙ zero-mul c)
+      sym (ap (λ (x : ℕ). sum f (unlike s t) (p * down g) u x (c * down g))
+      (ap (λ (x : ℕ). x * c) (zero-mul (up g)) ∙ zero-mul c)
       ∙ added-nothing (unlike s t) u (p * down g) (c * down g) (mul-pos P (down-pos g))
       ∙ round-same f (unlike s t) (p * down g) (c * down g) p c (mul-pos c-pos (down-pos g)) c-pos (simp products))
     where
       added-nothing : (S R : Bool) (a k : ℕ) → 0 < a → sum f S a R 0 k ≡ round f S a k
       added-nothing true true a k A = sum-like f true true a 0 k refl ∙ ap (λ (x : ℕ). round f true x k) (add-zero a)
-      added-nothing false false a k A = sum-like f false false a 0 k refl ∙ ap (λ (x : ℕ). round f false x k) (add-zero a)
-      added-nothing true false a k A = sum-less f true false a 0 k refl A ∙ ap (λ (x : ℕ). round f true x k) (sub-zero a)
-      added-nothing false true a k A = sum-less f false true a 0 k refl A ∙ ap (λ (x : ℕ). round f false x k) (sub-zero a)
+      added-nothing false false a k A =
+          sum-like f false false a 0 k refl ∙ ap (λ (x : ℕ). round f false x k) (add-zero a)
+      added-nothing true false a k A =
+          sum-less f true false a 0 k refl A ∙ ap (λ (x : ℕ). round f true x k) (sub-zero a)
+      added-nothing false true a k A =
+          sum-less f false true a 0 k refl A ∙ ap (λ (x : ℕ). round f false x k) (sub-zero a)
 
 -- ---- what it gives
 sum-fits : (f : Format) (s : Bool) (a : ℕ) (t : Bool) (b c : ℕ) → T (fits f (sum f s a t b c))
@@ -84,4 +95,5 @@ fused-fits f (fin s m e) nan z = nan-fits f
 fused-fits f (fin s m e) (inf t) z = add-fits f (mul f (fin s m e) (inf t)) z
 fused-fits f (fin s m e) (fin t n d) nan = nan-fits f
 fused-fits f (fin s m e) (fin t n d) (inf u) = inf-fits f u
-fused-fits f (fin s m e) (fin t n d) (fin u k g) = sum-fits f (unlike s t) (m * up e * (n * up d) * down g) u (k * up g * (down e * down d)) (down e * down d * down g)
+fused-fits f (fin s m e) (fin t n d) (fin u k g) =
+    sum-fits f (unlike s t) (m * up e * (n * up d) * down g) u (k * up g * (down e * down d)) (down e * down d * down g)

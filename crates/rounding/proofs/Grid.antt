@@ -1,4 +1,5 @@
--- `round` for either sign, counted in the format's smallest values: `grid` of them, and an infinity from `overflow` on. And a value's count: a number of few digits, at some place.
+-- `round` for either sign, counted in the format's smallest values: `grid` of them, and an infinity from `overflow` on.
+-- And a value's count: a number of few digits, at some place.
 -- Assumes nothing.
 use mathlib.Core.Path.{_≡_, sym, _∙_, subst}
 use mathlib.Core.Logic.{inl, inr}
@@ -12,7 +13,7 @@ use lib.Ieee.Fits.{down-pos, round-is}
 use lib.Ieee.Exact.{HasValue, units-val}
 use lib.Ieee.Order.{drop, kept}
 use lib.Ieee.Scale.{grid, overflow}
-use Rattle.rounding.proofs.Orders.{lt-or-ge}
+use Rattle.rounding.proofs.NumberOrders.{lt-or-ge}
 use Rattle.rounding.proofs.Units.{units-over}
 use Rattle.rounding.proofs.Values.{fits-units}
 
@@ -24,10 +25,12 @@ round-over f s num den h =
     let n = num * 2 ^ low f in
     round-is f s num den ∙ units-over f s (kept (prec f) n den) (drop (prec f) n den) h
 
-pub round-value : (f : Format) (s : Bool) (num den : ℕ) → grid f num den < overflow f → HasValue (round f s num den) s (grid f num den) (2 ^ low f)
+pub round-value : (f : Format) (s : Bool) (num den : ℕ) → grid f num den < overflow f
+    → HasValue (round f s num den) s (grid f num den) (2 ^ low f)
 round-value f s num den h =
     let n = num * 2 ^ low f in
-    subst (λ (x : Float). HasValue x s (grid f num den) (2 ^ low f)) (sym (round-is f s num den)) (units-val f s (kept (prec f) n den) (drop (prec f) n den) h)
+    subst (λ (x : Float). HasValue x s (grid f num den) (2 ^ low f)) (sym (round-is f s num den))
+    (units-val f s (kept (prec f) n den) (drop (prec f) n den) h)
 
 pub value-one : (x : Float) (s t : Bool) (a b c : ℕ) → HasValue x s a c → HasValue x t b c → a ≡ b
 value-one nan s t a b c p q = absurd p
@@ -35,14 +38,16 @@ value-one (inf u) s t a b c p q = absurd p
 value-one (fin u m e) s t a b c p q = eq-of-mul-eq-mul-right (down e) (down-pos e) a b (sym (p .1) ∙ q .1)
 
 -- a finite result
-pub rounded-grid : (f : Format) (s : Bool) (num den R : ℕ) → HasValue (round f s num den) s R (2 ^ low f) → R ≡ grid f num den
+pub rounded-grid : (f : Format) (s : Bool) (num den R : ℕ) → HasValue (round f s num den) s R (2 ^ low f)
+    → R ≡ grid f num den
 rounded-grid f s num den R r = elim (lt-or-ge (grid f num den) (overflow f)) [
   | inl h ↦ value-one (round f s num den) s s R (grid f num den) (2 ^ low f) r (round-value f s num den h)
   | inr h ↦ absurd (subst (λ (x : Float). HasValue x s R (2 ^ low f)) (round-over f s num den h) r)
 ]
 
 -- a value of the format counts a number of at most prec digits, at some place, and less than 2 ^ (emax + 1)
-pub few-digits : (f : Format) (y : Float) (t : Bool) (Y : ℕ) → T (fits f y) → HasValue y t Y (2 ^ low f) → (w : ℕ) × (j : ℕ) × (Y ≡ w * 2 ^ j) × (w < 2 ^ prec f) × (Y < overflow f)
+pub few-digits : (f : Format) (y : Float) (t : Bool) (Y : ℕ) → T (fits f y) → HasValue y t Y (2 ^ low f)
+    → (w : ℕ) × (j : ℕ) × (Y ≡ w * 2 ^ j) × (w < 2 ^ prec f) × (Y < overflow f)
 few-digits f nan t Y h v = absurd v
 few-digits f (inf u) t Y h v = absurd v
 few-digits f (fin u m e) t Y h v =

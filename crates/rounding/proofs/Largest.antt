@@ -1,9 +1,11 @@
--- The largest finite value of a format: it is one, none is larger, and the midpoint above it is half way to 2 ^ (emax + 1), the first number past it. Assumes nothing.
+-- The largest finite value of a format: it is one, none is larger, and the midpoint above it is half way to 2 ^ (emax +
+-- 1), the first number past it. Assumes nothing.
 use mathlib.Core.Path.{_≡_, refl, sym, ap, _∙_}
 use mathlib.Core.Logic.{dite}
 use mathlib.Core.Bool.{Bool, false}
 use Prim.Native.Nat.{ℕ, suc, _+_, _-_, _*_, _^_, _≤_, _<_}
-use native.Mathlib.Nat.{le-trans, le-of-eq, lt-of-lt-of-le, lt-of-le-of-lt, mul-assoc, mul-le-mul-right, mul-le-mul-left, lt-of-mul-lt-mul-right, suc-mul, two-pow-succ}
+use native.Mathlib.Nat.{le-trans, le-of-eq, lt-of-lt-of-le, lt-of-le-of-lt, mul-assoc, mul-le-mul-right}
+use native.Mathlib.Nat.{mul-le-mul-left, lt-of-mul-lt-mul-right, suc-mul, two-pow-succ}
 use native.Mathlib.Decide.{decLe}
 use native.Mathlib.Omega.{arith}
 use lib.IntN.{pos}
@@ -24,7 +26,10 @@ pub above-largest : (f : Format) → largest f + 2 ^ (suc (emax f) - prec f) ≡
 above-largest f =
     let x = suc (emax f) - prec f in
     let r = room f in
-    sym (suc-mul (2 ^ prec f - 1) (2 ^ x)) ∙ ap (λ (z : ℕ). z * 2 ^ x) (suc-ones (prec f)) ∙ sym (pow-add 2 (prec f) x) ∙ ap (λ (z : ℕ). 2 ^ z) (omega arith)
+    sym (suc-mul (2 ^ prec f - 1) (2 ^ x))
+    ∙ ap (λ (z : ℕ). z * 2 ^ x) (suc-ones (prec f))
+    ∙ sym (pow-add 2 (prec f) x)
+    ∙ ap (λ (z : ℕ). 2 ^ z) (omega arith)
 
 half-unit : (f : Format) → 2 ^ (suc (emax f) - prec f) ≡ 2 ^ (emax f - prec f) + 2 ^ (emax f - prec f)
 half-unit f =
@@ -54,7 +59,8 @@ place f = suc (emax f) - prec f + low f
 
 pub largest-units : (f : Format) → largest f * 2 ^ low f ≡ (2 ^ prec f - 1) * 2 ^ place f
 largest-units f =
-    mul-assoc (2 ^ prec f - 1) (2 ^ (suc (emax f) - prec f)) (2 ^ low f) ∙ ap (λ (z : ℕ). (2 ^ prec f - 1) * z) (sym (pow-add 2 (suc (emax f) - prec f) (low f)))
+    mul-assoc (2 ^ prec f - 1) (2 ^ (suc (emax f) - prec f)) (2 ^ low f)
+    ∙ ap (λ (z : ℕ). (2 ^ prec f - 1) * z) (sym (pow-add 2 (suc (emax f) - prec f) (low f)))
 
 few-most : (f : Format) (w j : ℕ) → w < 2 ^ prec f → w * 2 ^ j < overflow f → w * 2 ^ j ≤ largest f * 2 ^ low f
 few-most f w j few fine =
@@ -63,11 +69,16 @@ few-most f w j few fine =
     rw (largest-units f) (dite (decLe j c)
     (λ l. le-trans (mul-le-mul-right (2 ^ j) (le-ones (prec f) few)) (mul-le-mul-left (2 ^ prec f - 1) (pow-mono l)))
     (λ g.
-    let e : w * 2 ^ j ≡ w * 2 ^ (j - c) * 2 ^ c = ap (λ (z : ℕ). w * 2 ^ z) (sym (back j c (omega arith))) ∙ ap (λ (z : ℕ). w * z) (pow-add 2 (j - c) c) ∙ sym (mul-assoc w (2 ^ (j - c)) (2 ^ c)) in
+    let e : w * 2 ^ j ≡ w * 2 ^ (j - c) * 2 ^ c =
+    ap (λ (z : ℕ). w * 2 ^ z) (sym (back j c (omega arith)))
+    ∙ ap (λ (z : ℕ). w * z) (pow-add 2 (j - c) c)
+    ∙ sym (mul-assoc w (2 ^ (j - c)) (2 ^ c)) in
     let o : overflow f ≡ 2 ^ prec f * 2 ^ c = ap (λ (z : ℕ). 2 ^ z) (omega arith) ∙ pow-add 2 (prec f) c in
-    le-trans (le-of-eq e) (mul-le-mul-right (2 ^ c) (le-ones (prec f) (lt-of-mul-lt-mul-right (2 ^ c) (lt-of-le-of-lt (le-of-eq (sym e)) (lt-of-lt-of-le fine (le-of-eq o))))))))
+    le-trans (le-of-eq e) (mul-le-mul-right (2 ^ c) (le-ones (prec f)
+    (lt-of-mul-lt-mul-right (2 ^ c) (lt-of-le-of-lt (le-of-eq (sym e)) (lt-of-lt-of-le fine (le-of-eq o))))))))
 
-pub largest-most : (f : Format) (y : Float) (t : Bool) (Y : ℕ) → T (fits f y) → HasValue y t Y (2 ^ low f) → Y ≤ largest f * 2 ^ low f
+pub largest-most : (f : Format) (y : Float) (t : Bool) (Y : ℕ) → T (fits f y) → HasValue y t Y (2 ^ low f)
+    → Y ≤ largest f * 2 ^ low f
 largest-most f y t Y held v =
     let z = few-digits f y t Y held v in
     le-trans (le-of-eq (z .2)) (few-most f (z .0) (z .1) (z .3) (lt-of-le-of-lt (le-of-eq (sym (z .2))) (z .4)))

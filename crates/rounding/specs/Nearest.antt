@@ -8,19 +8,19 @@ use lib.Dec.{T}
 use lib.Ieee.{Float, nan, inf, fin, Format, prec, emax, low, hid, unlike, up, down, fits}
 use lib.Ieee.Exact.{HasValue}
 
--- how far ±a lies from ±b
+-- How far ±a lies from ±b.
 abbrev pub apart : Bool → ℕ → Bool → ℕ → ℕ
 apart s a t b = cond (Bool·beq s t) (a - b + (b - a)) (a + b)
 
--- how far ±num / den lies from a value that counts Y and has the sign t: in smallest values, and times den
+-- How far ±num / den lies from a value that counts Y and has the sign t: in smallest values, and times den.
 abbrev pub off : Format → Bool → ℕ → ℕ → Bool → ℕ → ℕ
 off f s num den t Y = apart s (num * 2 ^ low f) t (Y * den)
 
--- the largest finite value: as many digits as the format has, each of them 1, of its largest unit
+-- The largest finite value: as many digits as the format has, each of them 1, of its largest unit.
 abbrev pub largest : Format → ℕ
 largest f = (2 ^ prec f - 1) * 2 ^ (suc (emax f) - prec f)
 
--- the midpoint above it, half a unit in the last place more: 2 ^ (emax + 1) - 2 ^ (emax - prec)
+-- The midpoint above it, half a unit in the last place more: 2 ^ (emax + 1) - 2 ^ (emax - prec).
 abbrev pub limit : Format → ℕ
 limit f = largest f + 2 ^ (emax f - prec f)
 

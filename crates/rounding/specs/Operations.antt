@@ -1,4 +1,5 @@
--- K4, K5. The three operations of IEEE 754 that Rattle lacks: each is the exact value, rounded once by `lib.Ieee.round`, over the format. Definitions only.
+-- K4, K5. The three operations of IEEE 754 that Rattle lacks: each is the exact value, rounded once by
+-- `lib.Ieee.round`, for any format. Definitions only.
 use mathlib.Core.Bool.{false, cond}
 use Prim.Native.Nat.{ℕ, zero, suc, _+_, _*_, _/_, _^_}
 use lib.Dec.{leb, eqb}
@@ -10,7 +11,7 @@ narrowed nan = nan
 narrowed (inf s) = inf s
 narrowed (fin s m e) = round binary32 s (m * up e) (down e)
 
--- fusedMultiplyAdd: x * y + z, rounded once. Where an infinity stands nothing is rounded, so `mul` and `add` say what it is;
+-- fusedMultiplyAdd: x * y + z, rounded once. With an infinity nothing is rounded, so `mul` and `add` say what it is;
 -- `sum` says the sign of an exact zero. The laws `fused-once` and `fused-nearest` say in IEEE 754's words what this is.
 unfoldable pub fused : Format → Float → Float → Float → Float
 unfolding sum add mul
@@ -20,7 +21,8 @@ fused f (fin s m e) nan z = nan
 fused f (fin s m e) (inf t) z = add f (mul f (fin s m e) (inf t)) z
 fused f (fin s m e) (fin t n d) nan = nan
 fused f (fin s m e) (fin t n d) (inf u) = inf u
-fused f (fin s m e) (fin t n d) (fin u k g) = sum f (unlike s t) (m * up e * (n * up d) * down g) u (k * up g * (down e * down d)) (down e * down d * down g)
+fused f (fin s m e) (fin t n d) (fin u k g) =
+    sum f (unlike s t) (m * up e * (n * up d) * down g) u (k * up g * (down e * down d)) (down e * down d * down g)
 
 -- The largest s with s * s ≤ n, for an n of at most k digits to the base 4: twice the root of n / 4, or one more.
 unfoldable pub digitsRoot : ℕ → ℕ → ℕ
@@ -35,14 +37,16 @@ wholeRoot n = digitsRoot (size n) n
 abbrev pub more : ℕ → ℕ → ℕ
 more s n = cond (eqb (s * s) n) 0 1
 
--- The value nearest to the square root of n / (4 * 4 ^ low). s counts halves of the format's smallest value: every value of the format, and
--- every midpoint of two, is a whole number of such halves, so a root between s and s + 1 rounds as s + 1 / 2 does.
+-- The value nearest to the square root of n / (4 * 4 ^ low). s counts halves of the format's smallest value: every
+-- value of the format, and every midpoint of two, is a whole number of such halves, so a root between s and s + 1
+-- rounds as s + 1 / 2 does.
 unfoldable pub roundedRoot : Format → ℕ → Float
 unfolding round wholeRoot
 roundedRoot f n = let s = wholeRoot n in round f false (2 * s + more s n) (4 * 2 ^ low f)
 
--- squareRoot: a zero is its own root, sign and all, and below zero there is none. The quotient by down e leaves no remainder in a format's value.
--- `square_root`'s law `root-is-nearest` says in IEEE 754's words what this is: no value of the format lies nearer to the root.
+-- squareRoot: a zero is its own root, sign and all, and below zero there is none. The quotient by down e leaves no
+-- remainder in a format's value. The law `root-is-nearest` of `square_root` says in IEEE 754's words what this is: no
+-- value of the format lies nearer to the root.
 unfoldable pub root : Format → Float → Float
 unfolding roundedRoot
 root f nan = nan

@@ -1,1 +1,2 @@
-// One rounding, for either format: definitions (specs/) and laws (proofs/) that the floors above cite. No code of its own.
+// One rounding to f32 or f64 in IEEE 754's sense: the definitions (specs/) and laws (proofs/) that other crates cite.
+// There is no code.

@@ -1,5 +1,6 @@
--- N9, D1b. Of 01's eight numbers each is given exactly when its test fails and all tests before it pass; and none exactly when all pass. The law over
--- any table of tests stands in `refusal_order`; here it is read at the eight. Assumes nothing.
+-- N9, D1b. Of 01's eight numbers each is given exactly when its test fails and all tests before it pass;
+-- and none exactly when all pass. The law over any table of tests stands in `refusal_order`;
+-- here it is read at the eight. Assumes nothing.
 use mathlib.Core.Path.{_≡_, refl}
 use mathlib.Core.Logic.{_↔_}
 use mathlib.Core.Bool.{Bool, true}

@@ -1,5 +1,6 @@
--- G3. A plain slice is a ring of its own length whose count is its length: every element is read at its place, and zero before the start and past the end. K1. Up to
--- 2^36 a sample's number is held exactly, so that a position is rounded once. Assumes nothing.
+-- G3. A plain slice is a ring of its own length whose count is its length: every element is read at its place,
+-- and zero before the start and past the end. K1. Up to 2^36 a sample's number is held exactly,
+-- so that a position is rounded once. Assumes nothing.
 use mathlib.Core.Path.{_≡_, refl}
 use mathlib.Core.Bool.{false, true}
 use mathlib.Core.List.{List}
@@ -12,7 +13,7 @@ use lib.IntN.{pos, negsuc}
 use lib.ListN.{length, getD}
 use lib.Ieee.{Float, nan, fin, binary64, ofInt}
 use lib.Ieee.Exact.{HasValue}
-use Rattle.magnitude.proofs.Whole.{whole-value}
+use Rattle.magnitude.proofs.WholeFloats.{whole-value}
 use Rattle.ring.specs.Taps.{tapOf}
 
 module _ (xs : List Float) (k : ℕ) where

@@ -1,4 +1,5 @@
--- D1c. Whatever is refused, by the number that is handed out (C4): the state and every lent element are what they were. One line for each kind of public function.
+-- D1c. Whatever is refused, by the number that is handed out (C4): the state and every lent element are what they were.
+-- One line for each kind of public function.
 -- Assumes nothing.
 use mathlib.Core.Path.{_≡_, refl}
 use mathlib.Core.Bool.{Bool, true, false, cond}
@@ -32,46 +33,56 @@ use Rattle.modulation_engine.specs.declared.ModulationEngine.{ModulationEngine}
 use Rattle.modulation_params.specs.declared.ModulationParams.{ModulationParams}
 
 -- ---- the readers, over what their kernels read: `v` is the verdict
-pub reader : (read : Reading) (v : ℕ) (d : VariableDelay) (xs : List Float) (x y : Float) → (numberOf (processedBy read v d xs x y .answer) ≡ 0 → ⊥)
+pub reader : (read : Reading) (v : ℕ) (d : VariableDelay) (xs : List Float) (x y : Float)
+    → (numberOf (processedBy read v d xs x y .answer) ≡ 0 → ⊥)
     → (processedBy read v d xs x y .state ≡ d) × (ringAfter v d xs x ≡ xs)
 reader read zero d xs x y h = absurd (h refl)
 reader read (suc k) d xs x y h = (refl, refl)
 
-pub reader-f32 : (read : Reading) (v : ℕ) (d : VariableDelay) (xs : List Float) (x y : Float) → (numberF32Of (processedF32By read v d xs x y .answer) ≡ 0 → ⊥)
+pub reader-f32 : (read : Reading) (v : ℕ) (d : VariableDelay) (xs : List Float) (x y : Float)
+    → (numberF32Of (processedF32By read v d xs x y .answer) ≡ 0 → ⊥)
     → (processedF32By read v d xs x y .state ≡ d) × (ringAfter v d xs x ≡ xs)
 reader-f32 read zero d xs x y h = absurd (h refl)
 reader-f32 read (suc k) d xs x y h = (refl, refl)
 
 -- the quality that was asked for is forgotten: q does not show in what is left
-pub quality-reader : (read : QualityMode → Reading) (v : ℕ) (d : QualityVariableDelayF32) (xs : List Float) (x y : Float) (q : QualityMode)
-    → (numberF32Of (quality.processedBy read v d xs x y q .answer) ≡ 0 → ⊥) → (quality.processedBy read v d xs x y q .state ≡ d) × (quality.ringAfter v d xs x ≡ xs)
+pub quality-reader : (read : QualityMode → Reading) (v : ℕ) (d : QualityVariableDelayF32) (xs : List Float)
+    (x y : Float) (q : QualityMode)
+    → (numberF32Of (quality.processedBy read v d xs x y q .answer) ≡ 0 → ⊥)
+    → (quality.processedBy read v d xs x y q .state ≡ d) × (quality.ringAfter v d xs x ≡ xs)
 quality-reader read zero d xs x y q h = absurd (h refl)
 quality-reader read (suc k) d xs x y q h = (refl, refl)
 
 -- ---- opening and reset leave the ring
-pub opened : (v : ℕ) (d : VariableDelay) (xs : List Float) → (opening.numberOf (opening.openedBy v d) ≡ 0 → ⊥) → opening.clearedBy v xs ≡ xs
+pub opened : (v : ℕ) (d : VariableDelay) (xs : List Float) → (opening.numberOf (opening.openedBy v d) ≡ 0 → ⊥)
+    → opening.clearedBy v xs ≡ xs
 opened zero d xs h = absurd (h refl)
 opened (suc k) d xs h = refl
 
-pub quality-opened : (v : ℕ) (d : QualityVariableDelayF32) (xs : List Float) → (renewing.numberOf (renewing.openedBy v d) ≡ 0 → ⊥) → opening.clearedBy v xs ≡ xs
+pub quality-opened : (v : ℕ) (d : QualityVariableDelayF32) (xs : List Float)
+    → (renewing.numberOf (renewing.openedBy v d) ≡ 0 → ⊥) → opening.clearedBy v xs ≡ xs
 quality-opened zero d xs h = absurd (h refl)
 quality-opened (suc k) d xs h = refl
 
 -- ---- a builder leaves the lent table, set or bank
-pub built : (v : ℕ) (s : Settings) (made xs : List Float) → (table.numberOf (table.builtBy v s) ≡ 0 → ⊥) → table.tableAfter v made xs ≡ xs
+pub built : (v : ℕ) (s : Settings) (made xs : List Float) → (table.numberOf (table.builtBy v s) ≡ 0 → ⊥)
+    → table.tableAfter v made xs ≡ xs
 built zero s made xs h = absurd (h refl)
 built (suc k) s made xs h = refl
 
-pub built-f32 : (v : ℕ) (s : Settings) (made xs : List Float) → (single.numberOf (single.builtBy v s) ≡ 0 → ⊥) → table.tableAfter v made xs ≡ xs
+pub built-f32 : (v : ℕ) (s : Settings) (made xs : List Float) → (single.numberOf (single.builtBy v s) ≡ 0 → ⊥)
+    → table.tableAfter v made xs ≡ xs
 built-f32 zero s made xs h = absurd (h refl)
 built-f32 (suc k) s made xs h = refl
 
-pub bank-built : (v : ℕ) (top : Float) (made xs : List Float) → (bank.numberOf (bank.builtBy v top) ≡ 0 → ⊥) → table.tableAfter v made xs ≡ xs
+pub bank-built : (v : ℕ) (top : Float) (made xs : List Float) → (bank.numberOf (bank.builtBy v top) ≡ 0 → ⊥)
+    → table.tableAfter v made xs ≡ xs
 bank-built zero top made xs h = absurd (h refl)
 bank-built (suc k) top made xs h = refl
 
 -- ---- 001's engine and its generator
-pub drifted : (v : ℕ) (r : SmoothRandom) (rate-hz sample-rate : Float) → (drift.answer v r rate-hz sample-rate .refusal ≡ 0 → ⊥) → drift.answer v r rate-hz sample-rate .random ≡ r
+pub drifted : (v : ℕ) (r : SmoothRandom) (rate-hz sample-rate : Float)
+    → (drift.answer v r rate-hz sample-rate .refusal ≡ 0 → ⊥) → drift.answer v r rate-hz sample-rate .random ≡ r
 drifted zero r rate-hz sample-rate h = absurd (h refl)
 drifted (suc k) r rate-hz sample-rate h = refl
 
@@ -79,12 +90,14 @@ drifted (suc k) r rate-hz sample-rate h = refl
 pub renewed : (r after : SmoothRandom) → (drift.renewed r after .refusal ≡ 0 → ⊥) → drift.renewed r after .random ≡ r
 renewed r after = go (validOf r)
   where
-    go : (b : Bool) → let a : Renewed = cond b (record { random = after; refusal = 0 }) (record { random = r; refusal = 3 }) in
+    go : (b : Bool) → let a : Renewed =
+        cond b (record { random = after; refusal = 0 }) (record { random = r; refusal = 3 }) in
         (a .refusal ≡ 0 → ⊥) → a .random ≡ r
     go true h = absurd (h refl)
     go false h = refl
 
-pub drawn : (r : SmoothRandom) (d : Drawn) → d .refusal ≡ 0 → (drawing.drawn r d .refusal ≡ 0 → ⊥) → drawing.drawn r d .random ≡ r
+pub drawn : (r : SmoothRandom) (d : Drawn) → d .refusal ≡ 0 → (drawing.drawn r d .refusal ≡ 0 → ⊥)
+    → drawing.drawn r d .random ≡ r
 drawn r d e = go (validOf r)
   where
     go : (b : Bool) → let a : Drawn = cond b d (record { random = r; value = zero-f; refusal = 3 }) in
@@ -92,11 +105,13 @@ drawn r d e = go (validOf r)
     go true h = absurd (h e)
     go false h = refl
 
-pub stepped : (v : ℕ) (e : ModulationEngine) (p : ModulationParams) → (stepping.numberOf (stepping.nextBy v e p .offset) ≡ 0 → ⊥) → stepping.nextBy v e p .engine ≡ e
+pub stepped : (v : ℕ) (e : ModulationEngine) (p : ModulationParams)
+    → (stepping.numberOf (stepping.nextBy v e p .offset) ≡ 0 → ⊥) → stepping.nextBy v e p .engine ≡ e
 stepped zero e p h = absurd (h refl)
 stepped (suc k) e p h = refl
 
 -- set_sample_rate, set_seed and reset: an answer that is a refusal holds no other engine
-pub engine-set : (v : ℕ) (e new : ModulationEngine) → (engine.numberOf (engine.openedBy v new) ≡ 0 → ⊥) → leftBy (engine.openedBy v new) e ≡ e
+pub engine-set : (v : ℕ) (e new : ModulationEngine) → (engine.numberOf (engine.openedBy v new) ≡ 0 → ⊥)
+    → leftBy (engine.openedBy v new) e ≡ e
 engine-set zero e new h = absurd (h refl)
 engine-set (suc k) e new h = refl

@@ -1,2 +1,3 @@
-// Sentences of 01 that say more than a contract's own line, each as a law over the definitions that the contracts cite: which refusal is given, what a refusal
-// leaves, what lies at the ends of the ranges, what a plain slice reads. There is no code.
+// Sentences of document 01 that say more than one contract does, each proved as a law over the contracts' definitions.
+// They say which refusal is given, what a refusal leaves, what holds at the ends of the ranges, and what a plain slice
+// reads. There is no code.

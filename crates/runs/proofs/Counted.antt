@@ -1,4 +1,5 @@
--- K8. Over a run of calls the count is the number of accepted ones, the ring is what storing their samples in turn leaves, and a refused call leaves no trace.
+-- K8. Over a run of calls the count is the number of accepted ones, the ring is what storing their samples in turn
+-- leaves, and a refused call leaves no trace.
 -- By the calls, one after the other. Assumes nothing.
 use mathlib.Core.Path.{_≡_, refl, _∙_, ap}
 use mathlib.Core.List.{List}

@@ -1,5 +1,5 @@
--- What a ring holds after samples were stored in turn from opening: the last `len` of them, each at its number modulo the length, and zeros where none was
--- stored yet. By what holds after every store. Assumes nothing.
+-- What a ring holds after samples were stored in turn from opening: the last `len` of them, each at its number modulo
+-- the length, and zeros where none was stored yet. By what holds after every store. Assumes nothing.
 use mathlib.Core.Path.{_≡_, refl, sym, _∙_, ap, subst}
 use mathlib.Core.Bool.{Bool, true, false}
 use mathlib.Core.List.{List, [], _∷_, _++_, append-assoc, append-nil}
@@ -33,7 +33,12 @@ apart j n len h l e =
     omega (arith, mul-le-mul-right len q)
 
 none : (len : ℕ) → Holds len [] (zeros len)
-none len = record { long = length-replicate len _; last = λ j h l. absurd (omega arith); rest = λ k h l. getD-replicate len k _ nan h }
+none len =
+    record {
+      long = length-replicate len _;
+      last = λ j h l. absurd (omega arith);
+      rest = λ k h l. getD-replicate len k _ nan h;
+    }
 
 more : (len : ℕ) (ss xs : List Float) (s : Float) → Holds len ss xs → Holds len (ss ++ s ∷ []) (stored (length ss) xs s)
 more len ss xs s h =
@@ -43,19 +48,30 @@ more len ss xs s h =
       long = length-set xs _ s ∙ h .long;
       last = λ j l g.
           ⊎-elim
-          (λ (e : j ≡ length ss). rw (e, getD-append-seam ss s [], getD-set-same xs (length ss % len) s nan (rw (h .long) (mod-lt (length ss) {m = len} (omega arith)))))
+          (λ (e : j ≡ length ss). rw (
+            e,
+            getD-append-seam ss s [],
+            getD-set-same xs (length ss % len) s nan (rw (h .long) (mod-lt (length ss) {m = len} (omega arith))),
+          ))
           (λ (q : j < length ss).
-          getD-set-other xs (length ss % len) (j % len) s nan (apart j (length ss) len q (omega arith)) ∙ h .last j q (omega arith) ∙ sym (List·getD-append ss (s ∷ []) nan j q))
+          getD-set-other xs (length ss % len) (j % len) s nan (apart j (length ss) len q (omega arith))
+          ∙ h .last j q (omega arith)
+          ∙ sym (List·getD-append ss (s ∷ []) nan j q))
           (eq-or-lt-of-le {n = j} {m = length ss} (omega arith));
-      rest = λ k l g. getD-set-other xs (length ss % len) k s nan (λ e. omega (arith, mod-eq-of-lt {n = length ss} {m = len} (omega arith))) ∙ h .rest k l (omega arith);
+      rest =
+          λ k l g. getD-set-other xs (length ss % len) k s nan
+          (λ e. omega (arith, mod-eq-of-lt {n = length ss} {m = len} (omega arith)))
+          ∙ h .rest k l (omega arith);
     }
 
 all : (len : ℕ) (ts ss xs : List Float) → Holds len ss xs → Holds len (ss ++ ts) (storedFrom (length ss) xs ts)
 unfolding storedFrom
 all len [] ss xs h = rw (append-nil ss) h
 all len (t ∷ ts) ss xs h =
-    subst (λ (l : List Float). Holds len l (storedFrom (length ss + 1) (stored (length ss) xs t) ts)) (append-assoc ss (t ∷ []) ts)
-    (subst (λ (n : ℕ). Holds len (ss ++ t ∷ [] ++ ts) (storedFrom n (stored (length ss) xs t) ts)) (length-append ss (t ∷ []))
+    subst (λ (l : List Float). Holds len l (storedFrom (length ss + 1) (stored (length ss) xs t) ts))
+    (append-assoc ss (t ∷ []) ts)
+    (subst (λ (n : ℕ). Holds len (ss ++ t ∷ [] ++ ts) (storedFrom n (stored (length ss) xs t) ts))
+    (length-append ss (t ∷ []))
     (all len ts (ss ++ t ∷ []) (stored (length ss) xs t) (more len ss xs t h)))
 
 pub filled-holds : (len : ℕ) (ss : List Float) → Holds len ss (filled len ss)
@@ -63,10 +79,13 @@ filled-holds len ss = all len ss [] (zeros len) (none len)
 
 pub tap-numbered : (len : ℕ) (ss : List Float) (z : ℤ) → tapAt (filled len ss) (length ss) z ≡ numbered len ss z
 tap-numbered len ss (negsuc k) = refl
-tap-numbered len ss (pos k) = rw (filled-holds len ss .long) (go (ltb k (length ss)) (leb (length ss) (k + len)) refl refl)
+tap-numbered len ss (pos k) =
+    rw (filled-holds len ss .long) (go (ltb k (length ss)) (leb (length ss) (k + len)) refl refl)
   where
     go : (a b : Bool) → ltb k (length ss) ≡ a → leb (length ss) (k + len) ≡ b
-        → pick a (pick b (held (getD (filled len ss) (k % len) nan)) overwritten) ahead ≡ pick a (pick b (held (getD ss k nan)) overwritten) ahead
-    go true true p q = ap held (filled-holds len ss .last k (ltb-true k (length ss) p) (leb-true (length ss) (k + len) q))
+        → pick a (pick b (held (getD (filled len ss) (k % len) nan)) overwritten) ahead
+        ≡ pick a (pick b (held (getD ss k nan)) overwritten) ahead
+    go true true p q =
+        ap held (filled-holds len ss .last k (ltb-true k (length ss) p) (leb-true (length ss) (k + len) q))
     go true false p q = refl
     go false b p q = refl

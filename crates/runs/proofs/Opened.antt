@@ -1,4 +1,5 @@
--- K8 since opening or reset: the count is the number of accepted calls, and a tap of the ring is the accepted sample of its number. Assumes nothing.
+-- K8 since opening or reset: the count is the number of accepted calls, and a tap of the ring is the accepted sample of
+-- its number. Assumes nothing.
 use mathlib.Core.Path.{_≡_, sym, _∙_, ap}
 use mathlib.Core.List.{List}
 use Prim.Native.Nat.{ℕ}
@@ -18,7 +19,8 @@ use Rattle.runs.proofs.Filled.{tap-numbered}
 
 -- what a reset that is not refused leaves
 pub reset-leaves : (d : VariableDelay) (xs : List Float) → resetVerdict d (length xs) ≡ 0
-    → (resetOf d (length xs) ≡ Reader (fresh (d .maximum) (d .margin))) × (ringReset d xs ≡ opened (d .maximum) (d .margin) (length xs) .ring)
+    → (resetOf d (length xs) ≡ Reader (fresh (d .maximum) (d .margin)))
+    × (ringReset d xs ≡ opened (d .maximum) (d .margin) (length xs) .ring)
 reset-leaves d xs e = (rw e, rw e)
 
 module _ (maximum margin len : ℕ) (cs : List Call) where
@@ -32,7 +34,8 @@ module _ (maximum margin len : ℕ) (cs : List Call) where
   pub state-is : left .state ≡ withCount (fresh maximum margin) (length since)
   state-is =
       counted (opened maximum margin len) cs
-      ∙ ap (withCount (fresh maximum margin)) (zero-add _ ∙ sym (length-map (accepted (opened maximum margin len) cs) (λ c. c .input)))
+      ∙ ap (withCount (fresh maximum margin))
+      (zero-add _ ∙ sym (length-map (accepted (opened maximum margin len) cs) (λ c. c .input)))
 
   pub ring-is : left .ring ≡ filled len since
   ring-is = ring-of (opened maximum margin len) cs

@@ -6,7 +6,7 @@ use mathlib.Core.List.{List, _∷_, _++_}
 use lib.Dec.{T}
 use lib.ListN.{length}
 use lib.Ieee.Fits.{and-i}
-use Rattle.variable_delay.proofs.Taken.{taken}
+use Rattle.variable_delay.proofs.AcceptedCall.{taken}
 use Rattle.runs.specs.Runs.{Call, Reader, fit, due, afterBy, run, accepted}
 use Rattle.runs.proofs.Calls as calls
 use Rattle.runs.proofs.Counted.{stays}

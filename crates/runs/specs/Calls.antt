@@ -3,7 +3,7 @@
 use Prim.Native.Nat.{ℕ, zero, suc}
 use mathlib.Core.List.{List, [], _∷_}
 
--- an accepted call's is kept, a refused one's is not
+-- What belongs to an accepted call is kept, what belongs to a refused one is not.
 abbrev pub keep : {A : Type 0} → ℕ → A → List A → List A
 keep zero a rest = a ∷ rest
 keep (suc k) a rest = rest
@@ -13,7 +13,7 @@ module _ {S C : Type 0} (due : S → C → ℕ) (afterBy : ℕ → S → C → S
   runOf s [] = s
   runOf s (c ∷ cs) = runOf (afterBy (due s c) s c) cs
 
-  -- the calls that are accepted
+  -- The calls of a run that are accepted.
   unfoldable pub acceptedOf : S → List C → List C
   acceptedOf s [] = []
   acceptedOf s (c ∷ cs) = keep (due s c) c (acceptedOf (afterBy (due s c) s c) cs)

@@ -9,16 +9,17 @@ use Rattle.ring.specs.Length.{zeros}
 use Rattle.ring.specs.Taps.{Tap, held, unwritten, ahead, overwritten, pick}
 use Rattle.variable_delay.specs.Reader.{stored}
 
--- xs after storing the samples from number i on
+-- The ring xs after storing samples, the first of them number i.
 unfoldable pub storedFrom : ℕ → List Float → List Float → List Float
 storedFrom i xs [] = xs
 storedFrom i xs (s ∷ ss) = storedFrom (i + 1) (stored i xs s) ss
 
--- a ring of length len, all of whose samples since opening are ss
+-- A ring of length len in which the samples ss were stored since opening.
 abbrev pub filled : ℕ → List Float → List Float
 filled len ss = storedFrom 0 (zeros len) ss
 
 -- K8. What a tap is, by its number among the samples ss since opening: the last `len` of them are held.
 abbrev pub numbered : ℕ → List Float → ℤ → Tap
 numbered len ss (negsuc k) = unwritten
-numbered len ss (pos k) = pick (ltb k (length ss)) (pick (leb (length ss) (k + len)) (held (getD ss k nan)) overwritten) ahead
+numbered len ss (pos k) =
+    pick (ltb k (length ss)) (pick (leb (length ss) (k + len)) (held (getD ss k nan)) overwritten) ahead

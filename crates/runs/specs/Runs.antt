@@ -20,11 +20,11 @@ pub record Call : Type 0 where
   pub input : Float
   pub delay : Float
 
--- a call of a kernel that has no settings of its own and is lent no table
+-- A call of a kernel that has no settings of its own and is lent no table.
 abbrev pub bareCall : Float → Float → Call
 bareCall input delay = record { own = true; lent = true; input = input; delay = delay }
 
--- whether its settings and its table are as they must be
+-- Whether the call's settings and its table are as they must be.
 abbrev pub fit : Call → Bool
 fit c = c .own && c .lent
 
@@ -33,11 +33,11 @@ pub record Reader : Type 0 where
   pub state : VariableDelay
   pub ring : List Float
 
--- as opening and reset leave it
+-- A reader as opening and reset leave it.
 abbrev pub opened : ℕ → ℕ → ℕ → Reader
 opened maximum margin len = record { state = fresh maximum margin; ring = zeros len }
 
--- what a call leaves, by the refusal that is due, 0 for none
+-- What a call leaves, by the refusal that is due, 0 for none.
 abbrev pub afterBy : ℕ → Reader → Call → Reader
 afterBy v r c = record { state = stateAfter v (r .state); ring = ringAfter v (r .state) (r .ring) (c .input) }
 
@@ -47,7 +47,7 @@ due r c = verdict (c .own) (c .lent) (r .state) (length (r .ring)) (c .input) (c
 abbrev pub after : Reader → Call → Reader
 after r c = afterBy (due r c) r c
 
--- a run, and its calls that are accepted
+-- What a run of calls leaves, and which of its calls are accepted.
 abbrev pub run : Reader → List Call → Reader
 run = runOf due afterBy
 
@@ -57,6 +57,6 @@ accepted = acceptedOf due afterBy
 abbrev pub samples : List Call → List Float
 samples cs = map (λ c. c .input) cs
 
--- a state with another count
+-- The same state with another count.
 abbrev pub withCount : VariableDelay → ℕ → VariableDelay
 withCount d n = record { maximum = d .maximum; margin = d .margin; accepted = n }

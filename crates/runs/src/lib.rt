@@ -1,1 +1,2 @@
-// What holds over many calls of a reader: the accepted count, and what the ring holds (K8). Statements only; there is no code.
+// What holds over many calls of a reader: the accepted count, and what the ring holds (K8).
+// There is no code.

@@ -1,4 +1,4 @@
-// W1. What a stored sample is, how many bytes it has, and its code at the C boundary.
+// The kinds of a stored sample, how many bytes each has, and its code at the C boundary (W1).
 ghost use mathlib.Core.Path.{_≡_};
 ghost use Rattle.sample_kind.specs.Kinds.{widthOf, frameOf, codeOf, kindOf};
 

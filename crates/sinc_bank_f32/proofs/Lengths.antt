@@ -6,7 +6,7 @@ use native.Mathlib.Omega.{arith}
 use lib.ListN.{length, take, drop, length-append, length-map}
 use lib.Seq.{take-at, drop-at, take-all}
 use lib.Ieee.{Float}
-use Rattle.loops.proofs.Rows.{length-rows, row}
+use Rattle.loop_laws.proofs.Rows.{length-rows, row}
 use Rattle.rounding.specs.Operations.{narrowed}
 use Rattle.sinc_settings.specs.declared.Settings.{Settings}
 use Rattle.sinc_settings.specs.Refusals.{tableLength}

@@ -1,5 +1,5 @@
-pub mod Unrefused
+pub mod NothingRefused
 pub mod Sections
 pub mod Lengths
-pub mod Counted
+pub mod SetCount
 pub mod Refused

@@ -1,4 +1,5 @@
--- A slice that is written section by section, each from where the last one ended: what stands before the end. Assumes nothing.
+-- A slice that is written section by section, each from where the last one ended: what stands before the end.
+-- Assumes nothing.
 use mathlib.Core.Path.{_≡_, refl, sym, _∙_, ap}
 use mathlib.Core.List.{List, [], _++_, append-assoc}
 use Prim.Native.Nat.{ℕ, _-_, _≤_}
@@ -8,7 +9,8 @@ use lib.Seq.{take-at, length-take-le, take-all}
 use lib.Ieee.{Float}
 use Rattle.sinc_bank_f32.specs.Sets.{withPart}
 
-module _ (start end : ℕ) (ys xs : List Float) (order : start ≤ end) (fits : end ≤ length xs) (long : length ys ≡ end - start) where
+module _ (start end : ℕ) (ys xs : List Float) (order : start ≤ end) (fits : end ≤ length xs)
+    (long : length ys ≡ end - start) where
   head : length (take start xs) ≡ start
   head = length-take-le start xs (omega arith)
 
@@ -24,7 +26,8 @@ module _ (start end : ℕ) (ys xs : List Float) (order : start ≤ end) (fits : 
       ∙ ap (λ (l : List Float). l ++ ys) e
 
 -- three of them, from 0 to the length
-pub three : (a b c : ℕ) (x y z xs u v w : List Float) → a ≤ b → b ≤ c → length xs ≡ c → length x ≡ a - 0 → length y ≡ b - a → length z ≡ c - b
+pub three : (a b c : ℕ) (x y z xs u v w : List Float) → a ≤ b → b ≤ c → length xs ≡ c → length x ≡ a - 0
+    → length y ≡ b - a → length z ≡ c - b
     → u ≡ withPart 0 a x xs → v ≡ withPart a b y u → w ≡ withPart b c z v → w ≡ x ++ (y ++ z)
 three a b c x y z xs u v w ab bc lxs lx ly lz eu ev ew =
     let lu : length u ≡ c = ap length eu ∙ same-length 0 a x xs (omega arith) (omega arith) lx ∙ lxs in

@@ -9,7 +9,7 @@ use Rattle.quality_mode.specs.declared.QualityMode.{QualityMode}
 use Rattle.quality_mode.specs.declared.QualityMode.the-variants.{Draft, Normal, Hq, Ultra}
 use Rattle.sinc_bank_f32.specs.Sets.{setLength}
 
--- where the part begins and ends
+-- Where a quality's part of a set begins and ends.
 abbrev pub startOf : QualityMode → ℕ
 startOf Draft = 0
 startOf Normal = 0
@@ -32,7 +32,7 @@ abbrev pub pickSlice : Bool → List Float → List Float → List Float
 pickSlice true a b = a
 pickSlice false a b = b
 
--- of one of two lent sets; nothing where it has not a set's length
+-- A quality's part of a lent set; nothing if the slice has not a set's length.
 abbrev pub lentOf : QualityMode → List Float → List Float
 lentOf quality set = pickSlice (eqb (length set) setLength) (partOf quality set) []
 

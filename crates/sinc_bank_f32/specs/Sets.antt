@@ -7,7 +7,7 @@ use lib.IntN.{pos, negsuc}
 use lib.ListN.{take, drop}
 use lib.Ieee.{Float, fin}
 pub use Rattle.constants.specs.Numbers.{setLength}
-use Rattle.loops.specs.Loops.{rows}
+use Rattle.loop_laws.specs.Loops.{rows}
 use Rattle.sinc_settings.specs.declared.Settings.{Settings}
 use Rattle.sinc_settings.specs.Refusals.{forRate}
 use Rattle.bessel.specs.declared.Mode.{Mode}

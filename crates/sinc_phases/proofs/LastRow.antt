@@ -1,5 +1,6 @@
--- K3. Where a fraction is exactly 1 the phase is phases - 1 and the blend 1, for every number of phases: the product, the phase and the difference are whole. Sample 0
--- at the delay 1e-300 reads such a place, just below 0. Assumes nothing.
+-- K3. Where a fraction is exactly 1 the phase is phases - 1 and the blend 1, for every number of phases:
+-- the product, the phase and the difference are whole. Sample 0 at the delay 1e-300 reads such a place, just below 0.
+-- Assumes nothing.
 use mathlib.Core.Path.{_≡_, refl, sym, _∙_, ap}
 use mathlib.Core.Bool.{true, false, true≢false}
 use Prim.Native.Nat.{ℕ, _+_, _-_, _*_, _≤_}
@@ -10,7 +11,7 @@ use lib.Ieee.{Float, nan, inf, fin, binary64, up, sub, ofInt, ofBits}
 use lib.Ieee.Fits.{down-pos}
 use lib.Ieee.Exact.{HasValue}
 use Rattle.integer_part.specs.Parts.{floorOf, fractionOf}
-use Rattle.magnitude.proofs.Whole.{whole-value, whole-product}
+use Rattle.magnitude.proofs.WholeFloats.{whole-value, whole-product}
 use Rattle.sinc_phases.proofs.Blends.{whole-apart}
 use Rattle.sinc_phases.specs.Phases.{num, cutTo, phasePosition, phaseOf, blendOf}
 
@@ -20,14 +21,20 @@ unfolding cutTo
 whole-cut top n nan v h = absurd v
 whole-cut top n (inf s) v h = absurd v
 whole-cut top n (fin true m e) v h = absurd (true≢false (v .0))
-whole-cut top n (fin false m e) v h = rw (sym (mul-one (m * up e)) ∙ v .1, mul-div-cancel n (down-pos e)) (min-eq-right h)
+whole-cut top n (fin false m e) v h =
+    rw (sym (mul-one (m * up e)) ∙ v .1, mul-div-cancel n (down-pos e)) (min-eq-right h)
 
-module _ (p : Float) (phases : ℕ) (some : 1 ≤ phases) (few : phases ≤ 4096) (full : HasValue (fractionOf p) false 1 1) where
+module _ (p : Float) (phases : ℕ) (some : 1 ≤ phases) (few : phases ≤ 4096)
+    (full : HasValue (fractionOf p) false 1 1) where
   position : phasePosition p phases ≡ num phases
-  position = whole-product binary64 (fractionOf p) (num phases) 1 phases full (whole-value binary64 (pos phases) (omega arith)) ∙ ap num (one-mul phases)
+  position =
+      whole-product binary64 (fractionOf p) (num phases) 1 phases full (whole-value binary64 (pos phases) (omega arith))
+      ∙ ap num (one-mul phases)
 
   pub last-phase : phaseOf p phases ≡ phases - 1
-  last-phase = rw position (whole-cut (phases - 1) phases (num phases) (whole-value binary64 (pos phases) (omega arith)) (omega arith))
+  last-phase =
+      rw position (whole-cut (phases - 1) phases (num phases) (whole-value binary64 (pos phases) (omega arith))
+      (omega arith))
 
   pub whole-blend : blendOf p phases ≡ num 1
   whole-blend =

@@ -1,5 +1,5 @@
-pub mod Cuts
-pub mod Between
-pub mod Aimed
+pub mod CutToTop
+pub mod RowsInTable
+pub mod PositionInRange
 pub mod Blends
 pub mod LastRow

@@ -1,4 +1,5 @@
--- K3, K4. Where a position falls between the rows of a table, and the coefficient there: 000's lines for WindowedSinc and for WindowedSincF32. Definitions only.
+-- K3, K4. Where a position falls between the rows of a table, and the coefficient there: 000's lines for WindowedSinc
+-- and WindowedSincF32. Definitions only.
 use Prim.Native.Nat.{ℕ, _+_, _-_, _*_, _/_, min}
 use mathlib.Core.Bool.{_&&_, cond}
 use mathlib.Core.List.{List}
@@ -18,17 +19,17 @@ num n = ofInt binary64 (pos n)
 abbrev pub phasePosition : Float → ℕ → Float
 phasePosition p phases = mul binary64 (fractionOf p) (num phases)
 
--- `(x.floor() as usize).min(top)`: the whole part, at least 0 and at most top; 0 at a NaN
+-- `(x.floor() as usize).min(top)`: the whole part, at least 0 and at most top; 0 at a NaN.
 unfoldable pub cutTo : ℕ → Float → ℕ
 cutTo top nan = 0
 cutTo top (inf s) = cond s 0 top
 cutTo top (fin s m e) = cond s 0 (min (m * up e / down e) top)
 
--- `phase0`: held to phases - 1, so that a fraction of exactly 1 reads the last two rows
+-- `phase0`: held to phases - 1, so that a fraction of exactly 1 reads the last two rows.
 abbrev pub phaseOf : Float → ℕ → ℕ
 phaseOf p phases = cutTo (phases - 1) (phasePosition p phases)
 
--- `phase_position - phase0 as f64`: from row phase0 to the next; it may be exactly 1
+-- `phase_position - phase0 as f64`: from row phase0 to the next; it may be exactly 1.
 abbrev pub blendOf : Float → ℕ → Float
 blendOf p phases = sub binary64 (phasePosition p phases) (num (phaseOf p phases))
 
@@ -42,7 +43,7 @@ phaseAt p phases =
 abbrev pub firstTap : Float → ℕ → ℤ
 firstTap p taps = floorOf p -ℤ pos (taps / 2 - 1)
 
--- `row0[k] + blend * (row1[k] - row0[k])`, each step rounded to the table's width
+-- `row0[k] + blend * (row1[k] - row0[k])`, each step rounded to the table's width.
 abbrev pub coefficientAt : Format → List Float → Float → ℕ → ℕ → ℕ → Float
 coefficientAt f table blend taps phase k =
     let a = getD table (phase * taps + k) nan in

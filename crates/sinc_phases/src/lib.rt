@@ -1,4 +1,5 @@
-// K3. Where a position falls: the first tap, and the place between the rows of a table. Tables of both widths use both.
+// Where a position falls in a sinc table: the first tap, and the place between two rows (K3).
+// Tables of both widths use it.
 ghost use mathlib.Core.Path.{_≡_};
 ghost use mathlib.Core.Bool.{_&&_, cond};
 ghost use Prim.Native.Nat.{_^_, _≤_};
@@ -70,7 +71,8 @@ fn taps_in_range(position: f64, taps: usize) -> bool
     }
 }
 
-// The number of the first tap, taps / 2 - 1 before the integer part; zero where the taps or the position are out of range.
+// The number of the first tap, taps / 2 - 1 before the integer part (K3); 0 if the taps or the position are out of
+// range.
 pub fn first_tap(position: f64, taps: usize) -> i64
     ensures { λ r. ⌜ r ≡ cond (tapsOk taps && positionOk position) (firstTap position taps) (pos 0) ⌝ }
 {

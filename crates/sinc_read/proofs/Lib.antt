@@ -1,4 +1,4 @@
-pub mod Accepted
-pub mod Around
-pub mod Ways
-pub mod Given
+pub mod AcceptedReading
+pub mod RoundTheEnd
+pub mod BothWays
+pub mod AnswerByRefusal

@@ -5,12 +5,15 @@ use lib.ListN.{getD}
 use lib.Ieee.{Float, nan, binary64, add, sub, mul}
 use Rattle.sinc_phases.specs.Phases.{coefficientAt}
 
--- `sum += x * coefficient`, x the sample of tap k
+-- `sum += x * coefficient`, x the sample of tap k.
 abbrev pub tapTurn : (ℕ → Float) → List Float → Float → ℕ → ℕ → ℕ → Float → Float
-tapTurn x table blend taps phase k sum = add binary64 sum (mul binary64 (x k) (coefficientAt binary64 table blend taps phase k))
+tapTurn x table blend taps phase k sum =
+    add binary64 sum (mul binary64 (x k) (coefficientAt binary64 table blend taps phase k))
 
--- the same where the samples and both rows lie side by side: from a place on, and from the elements `row` and `next` of the table on
+-- The same where the samples and both rows lie side by side: from a place on, and from the elements `row` and `next` of
+-- the table on.
 abbrev pub runTurn : List Float → ℕ → ℕ → Float → List Float → ℕ → ℕ → Float → Float
 runTurn table row next blend xs place k sum =
     let a = getD table (row + k) nan in
-    add binary64 sum (mul binary64 (getD xs (place + k) nan) (add binary64 a (mul binary64 blend (sub binary64 (getD table (next + k) nan) a))))
+    add binary64 sum (mul binary64 (getD xs (place + k) nan)
+    (add binary64 a (mul binary64 blend (sub binary64 (getD table (next + k) nan) a))))

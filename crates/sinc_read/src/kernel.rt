@@ -9,7 +9,8 @@ use answer::Answer;
 use sinc_phases::first_tap;
 use sinc_phases::phase_at;
 
-// N1, N2. The refusal that is due, or 0: the taps, the phases and the position in range, then the table's length. Both widths.
+// The refusal that is due, or 0 (N1, N2): first the taps, the phases and the position, then the table's length. Both
+// widths use it.
 pub fn refusal(taps: usize, phases: usize, len: usize, position: f64) -> u8
     ensures { λ r. ⌜ r ≡ sampleVerdict taps phases len position ⌝ }
 {
@@ -20,7 +21,7 @@ pub fn refusal(taps: usize, phases: usize, len: usize, position: f64) -> u8
     }
 }
 
-// The reading at a position in range. Where every tap is held none is tested.
+// The reading at a position in range. Fast path: if every tap is held none is tested.
 fn at<'a>(
     table: &'a [f64],
     taps: usize,
@@ -63,7 +64,8 @@ pub fn read<'a>(
     }
 }
 
-// The reading of a lent slice by a lent table: refusal 1 for a setting or a position out of its range, 2 for a table of another length.
+// The reading of a lent slice by a lent table: refuses by 1 if a setting or the position is out of range, by 2 if the
+// table has another length.
 pub fn sample<'a>(
     table: &'a [f64],
     taps: usize,
@@ -72,7 +74,8 @@ pub fn sample<'a>(
     count: u64,
     position: f64,
 ) -> Answer
-    ensures { λ r. ⌜ r ≡ answerOf (sampleVerdict taps phases (length (now (table .entry))) position) (readOf (now (table .entry)) taps phases (now (source .entry)) count position) ⌝ }
+    ensures { λ r. ⌜ r ≡ answerOf (sampleVerdict taps phases (length (now (table .entry))) position)
+        (readOf (now (table .entry)) taps phases (now (source .entry)) count position) ⌝ }
 {
     let no = refusal(taps, phases, table.len(), position);
     answer::answered(no, read(table, taps, phases, source, count, position))

@@ -1,4 +1,4 @@
-// 000's WindowedSinc as a kernel: a table that a caller lends, read over a slice, a count and a position.
+// The original's WindowedSinc (000) as a kernel: a lent table, read over a slice, a count and a position.
 mod kernel; // what is read and what is refused
 mod sums; // the sum over the taps
 

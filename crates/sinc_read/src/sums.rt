@@ -1,4 +1,4 @@
-// The sum over the taps: those that are all held in runs, those of which some are absent one by one.
+// The sum over the taps: in runs if all are held, one by one if some are absent.
 ghost use mathlib.Core.Path.{_≡_};
 ghost use Prim.Native.Nat.{_+_, _*_, _^_, _≤_, _<_, _%_};
 ghost use lib.IntN.{pos, _+ℤ_};
@@ -6,7 +6,7 @@ ghost use lib.ListN.{length, getD};
 ghost use lib.Signed.{mag};
 ghost use lib.Ieee.{nan};
 ghost use Rattle.answer.specs.Answers.{zero-f};
-ghost use Rattle.loops.specs.Loops.{fold};
+ghost use Rattle.loop_laws.specs.Loops.{fold};
 ghost use Rattle.ring.specs.Taps.{tapOf};
 ghost use Rattle.sinc_read.specs.Sums.{runTurn, tapTurn};
 
@@ -21,7 +21,8 @@ fn run<'a>(
     n: usize,
     sum: f64,
 ) -> f64
-    requires { ⌜ (row + n ≤ length (now table)) × (next + n ≤ length (now table)) × (place + n ≤ length (now source)) ⌝ }
+    requires { ⌜ (row + n ≤ length (now table)) × (next + n ≤ length (now table))
+        × (place + n ≤ length (now source)) ⌝ }
     ensures { λ r. ⌜ r ≡ fold (runTurn (now (table .entry)) row next blend (now (source .entry)) place) sum n ⌝ }
 {
     let mut sum = sum;
@@ -43,8 +44,11 @@ pub(crate) fn held<'a>(
     source: &'a [f64],
     place: usize,
 ) -> f64
-    requires { ⌜ (phase * taps + taps + taps ≤ length (now table)) × (taps ≤ length (now source)) × (place < length (now source)) ⌝ }
-    ensures { λ r. ⌜ r ≡ fold (tapTurn (λ k. getD (now (source .entry)) ((place + k) % length (now (source .entry))) nan) (now (table .entry)) blend taps phase) zero-f taps ⌝ }
+    requires { ⌜ (phase * taps + taps + taps ≤ length (now table)) × (taps ≤ length (now source))
+        × (place < length (now source)) ⌝ }
+    ensures { λ r. ⌜ r ≡ fold
+        (tapTurn (λ k. getD (now (source .entry)) ((place + k) % length (now (source .entry))) nan)
+        (now (table .entry)) blend taps phase) zero-f taps ⌝ }
 {
     let row = phase * taps;
     let next = row + taps;
@@ -84,7 +88,9 @@ pub(crate) fn one_by_one<'a>(
     first: i64,
 ) -> f64
     requires { ⌜ (phase * taps + taps + taps ≤ length (now table)) × (taps ≤ 128) × (mag first ≤ 2 ^ 37) ⌝ }
-    ensures { λ r. ⌜ r ≡ fold (tapTurn (λ k. tapOf (now (source .entry)) count (first +ℤ pos k)) (now (table .entry)) blend taps phase) zero-f taps ⌝ }
+    ensures { λ r. ⌜ r ≡ fold
+        (tapTurn (λ k. tapOf (now (source .entry)) count (first +ℤ pos k)) (now (table .entry)) blend taps phase)
+        zero-f taps ⌝ }
 {
     let row = phase * taps;
     let next = row + taps;

@@ -1,2 +1,2 @@
 pub mod Chains
-pub mod Ways
+pub mod BothWays

@@ -4,7 +4,7 @@ ghost use Prim.Native.Nat.{_+_, _*_, _%_, _≤_, _<_};
 ghost use lib.ListN.{length, getD};
 ghost use lib.Ieee.{nan};
 ghost use Rattle.answer.specs.Answers.{zero-f};
-ghost use Rattle.loops.specs.Loops.{fold};
+ghost use Rattle.loop_laws.specs.Loops.{fold};
 ghost use Rattle.sinc_read_f32.specs.Sums.{tapTurn, runTurn};
 use fused_chain::Pair;
 use fused_chain::chains;
@@ -20,9 +20,12 @@ fn over<'a>(
     a: f32,
     b: f32,
 ) -> Pair
-    requires { ⌜ (row + length (now samples) ≤ length (now one)) × (next + length (now samples) ≤ length (now one)) × (row + length (now samples) ≤ length (now two)) × (next + length (now samples) ≤ length (now two)) ⌝ }
-    ensures { λ r. ⌜ r .a ≡ fold (runTurn (now (samples .entry)) (now (one .entry)) row next blend) a (length (now (samples .entry))) ⌝ }
-    ensures { λ r. ⌜ r .b ≡ fold (runTurn (now (samples .entry)) (now (two .entry)) row next blend) b (length (now (samples .entry))) ⌝ }
+    requires { ⌜ (row + length (now samples) ≤ length (now one)) × (next + length (now samples) ≤ length (now one))
+        × (row + length (now samples) ≤ length (now two)) × (next + length (now samples) ≤ length (now two)) ⌝ }
+    ensures { λ r. ⌜ r .a ≡
+        fold (runTurn (now (samples .entry)) (now (one .entry)) row next blend) a (length (now (samples .entry))) ⌝ }
+    ensures { λ r. ⌜ r .b ≡
+        fold (runTurn (now (samples .entry)) (now (two .entry)) row next blend) b (length (now (samples .entry))) ⌝ }
 {
     chains(
         samples,
@@ -46,9 +49,14 @@ pub(crate) fn held<'a>(
     source: &'a [f32],
     place: usize,
 ) -> Pair
-    requires { ⌜ (phase * taps + taps + taps ≤ length (now one)) × (phase * taps + taps + taps ≤ length (now two)) × (taps ≤ length (now source)) × (place < length (now source)) ⌝ }
-    ensures { λ r. ⌜ r .a ≡ fold (tapTurn (λ k. getD (now (source .entry)) ((place + k) % length (now (source .entry))) nan) (now (one .entry)) blend taps phase) zero-f taps ⌝ }
-    ensures { λ r. ⌜ r .b ≡ fold (tapTurn (λ k. getD (now (source .entry)) ((place + k) % length (now (source .entry))) nan) (now (two .entry)) blend taps phase) zero-f taps ⌝ }
+    requires { ⌜ (phase * taps + taps + taps ≤ length (now one)) × (phase * taps + taps + taps ≤ length (now two))
+        × (taps ≤ length (now source)) × (place < length (now source)) ⌝ }
+    ensures { λ r. ⌜ r .a ≡ fold
+        (tapTurn (λ k. getD (now (source .entry)) ((place + k) % length (now (source .entry))) nan)
+        (now (one .entry)) blend taps phase) zero-f taps ⌝ }
+    ensures { λ r. ⌜ r .b ≡ fold
+        (tapTurn (λ k. getD (now (source .entry)) ((place + k) % length (now (source .entry))) nan)
+        (now (two .entry)) blend taps phase) zero-f taps ⌝ }
 {
     let row = phase * taps;
     let next = row + taps;

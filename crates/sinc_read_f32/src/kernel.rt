@@ -8,7 +8,7 @@ use crate::sums::held;
 use crate::sums::scattered;
 use answer::AnswerF32;
 
-// The reading at a position in range. Where every tap is held none is tested.
+// The reading at a position in range. Fast path: if every tap is held none is tested.
 fn at<'a>(
     table: &'a [f32],
     taps: usize,
@@ -51,7 +51,8 @@ pub fn read<'a>(
     }
 }
 
-// The reading of a lent slice by a lent table: refusal 1 for a setting or a position out of its range, 2 for a table of another length.
+// The reading of a lent slice by a lent table: refuses by 1 if a setting or the position is out of range, by 2 if the
+// table has another length.
 pub fn sample<'a>(
     table: &'a [f32],
     taps: usize,
@@ -60,7 +61,8 @@ pub fn sample<'a>(
     count: u64,
     position: f64,
 ) -> AnswerF32
-    ensures { λ r. ⌜ r ≡ answerF32Of (sampleVerdict taps phases (length (now (table .entry))) position) (readOf (now (table .entry)) taps phases (now (source .entry)) count position) ⌝ }
+    ensures { λ r. ⌜ r ≡ answerF32Of (sampleVerdict taps phases (length (now (table .entry))) position)
+        (readOf (now (table .entry)) taps phases (now (source .entry)) count position) ⌝ }
 {
     let no = sinc_read::refusal(taps, phases, table.len(), position);
     answer::answered_f32(no, read(table, taps, phases, source, count, position))

@@ -1,5 +1,5 @@
-// 000's WindowedSincF32 as a kernel: a table of f32 that a caller lends, read over a slice of f32, a count and
-// a position.
+// The original's WindowedSincF32 (000) as a kernel: a lent table of f32, read over a slice of f32, a count and a
+// position.
 mod abreast; // two chains over taps that are all held
 mod kernel; // what is read and what is refused
 mod pair; // what two tables read at once

@@ -6,7 +6,7 @@ ghost use lib.ListN.{length, getD};
 ghost use lib.Signed.{mag};
 ghost use lib.Ieee.{nan};
 ghost use Rattle.answer.specs.Answers.{zero-f};
-ghost use Rattle.loops.specs.Loops.{fold, listOf};
+ghost use Rattle.loop_laws.specs.Loops.{fold, listOf};
 ghost use Rattle.ring.specs.Taps.{tapOf};
 ghost use Rattle.sinc_read_f32.specs.Sums.{tapTurn, runTurn};
 use fused_chain::chain;
@@ -21,8 +21,10 @@ fn over<'a>(
     blend: f32,
     sum: f32,
 ) -> f32
-    requires { ⌜ (row + length (now samples) ≤ length (now table)) × (next + length (now samples) ≤ length (now table)) ⌝ }
-    ensures { λ r. ⌜ r ≡ fold (runTurn (now (samples .entry)) (now (table .entry)) row next blend) sum (length (now (samples .entry))) ⌝ }
+    requires { ⌜ (row + length (now samples) ≤ length (now table))
+        × (next + length (now samples) ≤ length (now table)) ⌝ }
+    ensures { λ r. ⌜ r ≡ fold (runTurn (now (samples .entry)) (now (table .entry)) row next blend) sum
+        (length (now (samples .entry))) ⌝ }
 {
     chain(samples, &table[row..], &table[next..], blend, sum)
 }
@@ -36,8 +38,11 @@ pub(crate) fn held<'a>(
     source: &'a [f32],
     place: usize,
 ) -> f32
-    requires { ⌜ (phase * taps + taps + taps ≤ length (now table)) × (taps ≤ length (now source)) × (place < length (now source)) ⌝ }
-    ensures { λ r. ⌜ r ≡ fold (tapTurn (λ k. getD (now (source .entry)) ((place + k) % length (now (source .entry))) nan) (now (table .entry)) blend taps phase) zero-f taps ⌝ }
+    requires { ⌜ (phase * taps + taps + taps ≤ length (now table)) × (taps ≤ length (now source))
+        × (place < length (now source)) ⌝ }
+    ensures { λ r. ⌜ r ≡ fold
+        (tapTurn (λ k. getD (now (source .entry)) ((place + k) % length (now (source .entry))) nan)
+        (now (table .entry)) blend taps phase) zero-f taps ⌝ }
 {
     let row = phase * taps;
     let next = row + taps;
@@ -69,7 +74,8 @@ fn tap_after(source: &[f32], count: u64, first: i64, k: usize) -> f32
 // The taps from the first on, zeros for the absent ones.
 fn gather<'a>(samples: &mut [f32], source: &'a [f32], count: u64, first: i64)
     requires { ⌜ (mag first ≤ 2 ^ 37) × (length (now samples) ≤ 128) ⌝ }
-    ensures { λ _. ⌜ now (samples .exit) ≡ listOf (λ k. tapOf (now (source .entry)) count (first +ℤ pos k)) (length (now (samples .entry))) ⌝ }
+    ensures { λ _. ⌜ now (samples .exit) ≡
+        listOf (λ k. tapOf (now (source .entry)) count (first +ℤ pos k)) (length (now (samples .entry))) ⌝ }
 {
     let mut k: usize = 0;
     while k < samples.len() {
@@ -89,7 +95,9 @@ pub(crate) fn scattered<'a>(
     first: i64,
 ) -> f32
     requires { ⌜ (phase * taps + taps + taps ≤ length (now table)) × (taps ≤ 128) × (mag first ≤ 2 ^ 37) ⌝ }
-    ensures { λ r. ⌜ r ≡ fold (tapTurn (λ k. tapOf (now (source .entry)) count (first +ℤ pos k)) (now (table .entry)) blend taps phase) zero-f taps ⌝ }
+    ensures { λ r. ⌜ r ≡ fold
+        (tapTurn (λ k. tapOf (now (source .entry)) count (first +ℤ pos k)) (now (table .entry)) blend taps phase)
+        zero-f taps ⌝ }
 {
     let mut samples: [f32; 128] = [0.0; 128];
     gather(&mut samples[0..taps], source, count, first);

@@ -44,12 +44,12 @@ use denote.Floats.{passes}
 use Rattle.magnitude.specs.Bounds.{AtMost}
 use Rattle.magnitude.proofs.Rounded.{whole-at-most}
 use Rattle.magnitude.proofs.Operations.{sub-at-most, mul-at-most, div-at-most}
-use Rattle.magnitude.proofs.Whole.{whole-value}
+use Rattle.magnitude.proofs.WholeFloats.{whole-value}
 use Rattle.interval.proofs.Signed.{ring, under, of-under}
 use Rattle.interval.proofs.Between.{Between, between, point, difference-between}
 use Rattle.interval.proofs.Products.{product-between, not-negative}
-use Rattle.order.specs.Choice.{larger}
-use Rattle.order.proofs.Choices.{chosen-keeps, larger-ge}
+use Rattle.min_max.specs.Choice.{larger}
+use Rattle.min_max.proofs.Choices.{chosen-keeps, larger-ge}
 use Rattle.rounding.specs.Operations.{wholeRoot, more, roundedRoot, root}
 use Rattle.square_root.proofs.Squares.{whole-root, sq-mono, sq-lt-back}
 use Rattle.bessel.specs.declared.Mode.the-variants.{Full}
@@ -58,7 +58,7 @@ use Rattle.bessel.specs.Modes.{sumIn}
 use Rattle.bessel.proofs.Ending.{tolerance-ends, unlimited}
 use Rattle.sinc_settings.specs.declared.Settings.{Settings}
 use Rattle.sinc_settings.specs.Ranges.{tapsOk, phasesOk, cutoffOk, betaOk, settingsOk, zero-f, one-f, two-f}
-use Rattle.sinc_settings.proofs.Accepted.{Counts, counts, accepted}
+use Rattle.sinc_settings.proofs.SettingsInRange.{Counts, counts, accepted}
 use Rattle.sinc_row.specs.Coefficient.{num, normalizedOf, argumentOf}
 
 abbrev twenty : Float

@@ -1,5 +1,5 @@
 pub mod Distance
-pub mod Ready
+pub mod WriteTests
 pub mod Rows
-pub mod Lent
+pub mod WrittenRows
 pub mod Argument

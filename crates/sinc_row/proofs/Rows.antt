@@ -4,9 +4,9 @@ use mathlib.Core.List.{List}
 use Prim.Native.Nat.{ℕ, _<_}
 use lib.ListN.{length, getD}
 use lib.Ieee.{Float, nan, binary64, add, div}
-use Rattle.loops.specs.Loops.{listOf}
-use Rattle.loops.proofs.Folds.{same}
-use Rattle.loops.proofs.Lists.{length-list, element, same-list}
+use Rattle.loop_laws.specs.Loops.{listOf}
+use Rattle.loop_laws.proofs.Folds.{same}
+use Rattle.loop_laws.proofs.Lists.{length-list, element, same-list}
 use Rattle.sinc_settings.specs.declared.Settings.{Settings}
 use Rattle.sinc_settings.specs.Ranges.{zero-f}
 use Rattle.sinc_row.specs.Coefficient.{distanceOf, coefficientOf}

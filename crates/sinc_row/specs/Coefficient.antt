@@ -4,7 +4,7 @@ use mathlib.Core.Bool.{Bool, false, cond}
 use lib.IntN.{pos, negsuc}
 use lib.Ieee.{Float, nan, inf, fin, binary64, round, sub, mul, div, lt, ofInt}
 use Rattle.rounding.specs.Operations.{root}
-use Rattle.order.specs.Choice.{larger}
+use Rattle.min_max.specs.Choice.{larger}
 use Rattle.elementary.specs.Answers.{sineAt}
 use Rattle.bessel.specs.declared.Mode.{Mode}
 use Rattle.bessel.specs.declared.Mode.the-variants.{Ported}

@@ -1,11 +1,12 @@
--- T1. A phase's row: a coefficient for each tap, each divided by the sum of all. The window of a tap is an argument. Definitions only.
+-- T1. A phase's row: a coefficient for each tap, divided by the sum of all. The window of a tap is an argument.
+-- Definitions only.
 use Prim.Native.Nat.{ℕ}
 use mathlib.Core.Bool.{Bool, cond, _&&_}
 use mathlib.Core.List.{List}
 use lib.Dec.{leb, eqb}
 use lib.ListN.{length, getD}
 use lib.Ieee.{Float, nan, binary64, add, div}
-use Rattle.loops.specs.Loops.{fold, listOf}
+use Rattle.loop_laws.specs.Loops.{fold, listOf}
 use Rattle.sinc_settings.specs.declared.Settings.{Settings}
 use Rattle.sinc_settings.specs.Ranges.{zero-f, settingsOk}
 use Rattle.bessel.specs.declared.Mode.{Mode}
@@ -15,12 +16,13 @@ use Rattle.sinc_row.specs.Coefficient.{windowIn, distanceOf, coefficient
 abbrev pub rawOf : Settings → (ℕ → Float) → ℕ → ℕ → Float
 rawOf s window phase k = coefficientOf (s .cutoff) (distanceOf s phase k) (window k)
 
--- `gain += coefficient`, over the first n taps
+-- `gain += coefficient`, over the first n taps.
 abbrev pub gainOf : Settings → (ℕ → Float) → ℕ → ℕ → Float
 gainOf s window phase n = fold (λ (k : ℕ) (gain : Float). add binary64 gain (rawOf s window phase k)) zero-f n
 
 abbrev pub rowOf : Settings → (ℕ → Float) → ℕ → List Float
-rowOf s window phase = listOf (λ (k : ℕ). div binary64 (rawOf s window phase k) (gainOf s window phase (s .taps))) (s .taps)
+rowOf s window phase =
+    listOf (λ (k : ℕ). div binary64 (rawOf s window phase k) (gainOf s window phase (s .taps))) (s .taps)
 
 -- ---- what is written into a lent slice, where the settings are in range and the lengths are the taps
 
@@ -33,7 +35,7 @@ windowAfterIn mode s xs = cond (windowReady s (length xs)) (listOf (windowIn mod
 abbrev pub windowAfter : Settings → List Float → List Float
 windowAfter = windowAfterIn Ported
 
--- the window as it is lent
+-- The window as it is lent.
 abbrev pub at : List Float → ℕ → Float
 at xs k = getD xs k nan
 

@@ -1,4 +1,5 @@
-// One row of 000's WindowedSinc: the coefficients of a phase. The window depends on the tap alone, so it is computed once and lent to every row.
+// One row of a windowed sinc table: the coefficients of one phase (000, T1).
+// The window depends on the tap alone, so it is computed once and lent to every row.
 mod window; // what a window has at each tap
 
 pub use window::write_window;
@@ -9,7 +10,7 @@ ghost use mathlib.Core.List.{map};
 ghost use Prim.Native.Nat.{_≤_};
 ghost use lib.ListN.{length};
 ghost use lib.Ieee.{Float, binary64, mul, div};
-ghost use Rattle.loops.specs.Loops.{listOf};
+ghost use Rattle.loop_laws.specs.Loops.{listOf};
 ghost use Rattle.magnitude.specs.Bounds.{AtMost};
 ghost use Rattle.sinc_settings.specs.Ranges.{settingsOk};
 ghost use Rattle.sinc_row.specs.Coefficient.{smallOf, sincOf, coefficientOf};
@@ -49,7 +50,8 @@ fn coefficient(cutoff: f64, distance: f64, window: f64) -> f64
 
 // Writes a row's coefficients and returns their sum.
 fn fill<'a>(row: &mut [f64], settings: Settings, window: &'a [f64], phase: usize) -> f64
-    requires { ⌜ (settingsOk settings ≡ true) × (phase ≤ settings .phases) × (length (now row) ≡ settings .taps) × (length (now window) ≡ settings .taps) ⌝ }
+    requires { ⌜ (settingsOk settings ≡ true) × (phase ≤ settings .phases) × (length (now row) ≡ settings .taps)
+        × (length (now window) ≡ settings .taps) ⌝ }
     ensures { λ r. ⌜ r ≡ gainOf settings (at (now (window .entry))) phase (settings .taps) ⌝ }
     ensures { λ _. ⌜ now (row .exit) ≡ listOf (rawOf settings (at (now (window .entry))) phase) (settings .taps) ⌝ }
 {
@@ -80,7 +82,7 @@ fn quotient(x: f64, gain: f64, plain: bool) -> f64
     ensures { λ r. ⌜ r ≡ div binary64 x gain ⌝ }
 {
     let y = x / gain;
-    if plain { y } else { patterns::one_nan(y) }
+    if plain { y } else { bit_patterns::one_nan(y) }
 }
 
 fn divide(row: &mut [f64], gain: f64)
@@ -108,7 +110,8 @@ fn row_ready(settings: Settings, phase: usize, len: usize, lent: usize) -> bool
     }
 }
 
-// T1. A phase's row under a lent window, divided by its sum. Where a setting, the phase or a length is out of range, nothing is written.
+// Writes a phase's row under a lent window, divided by its sum (T1). If a setting, the phase or a length is out of
+// range, nothing is written.
 pub fn write_row<'a>(row: &mut [f64], settings: Settings, window: &'a [f64], phase: usize)
     ensures { λ _. ⌜ now (row .exit) ≡ rowAfter settings (now (window .entry)) phase (now (row .entry)) ⌝ }
 {

@@ -3,7 +3,7 @@ ghost use mathlib.Core.Path.{_≡_};
 ghost use mathlib.Core.Bool.{true};
 ghost use Prim.Native.Nat.{_<_};
 ghost use lib.ListN.{length};
-ghost use Rattle.loops.specs.Loops.{listOf};
+ghost use Rattle.loop_laws.specs.Loops.{listOf};
 ghost use Rattle.bessel.specs.Modes.{sumIn};
 ghost use Rattle.sinc_settings.specs.Ranges.{settingsOk};
 ghost use Rattle.sinc_row.specs.Coefficient.{windowIn};
@@ -17,7 +17,7 @@ fn kaiser(settings: Settings, mode: Mode, denom: f64, k: usize) -> f64
     ensures { λ r. ⌜ r ≡ windowIn mode settings k ⌝ }
 {
     let normalized = 2.0 * (k as f64) / ((settings.taps - 1) as f64) - 1.0;
-    let root = square_root::square_root(order::max(1.0 - normalized * normalized, 0.0));
+    let root = square_root::square_root(min_max::max(1.0 - normalized * normalized, 0.0));
     bessel::sum(mode, settings.beta * root) / denom
 }
 

@@ -1,3 +1,3 @@
-pub mod Accepted
-pub mod Told
-pub mod Fitting
+pub mod SettingsInRange
+pub mod RefusalParts
+pub mod BuilderAccepted

@@ -1,4 +1,5 @@
--- N1, N2. Which refusal is due where a table is lent: 1 for a setting out of its range, 2 for another length, 0 for none. Definitions only.
+-- N1, N2. Which refusal is due when a table is lent: 1 for a setting out of range, 2 for another length, 0 for none.
+-- Definitions only.
 use Prim.Native.Nat.{ℕ, _+_, _*_}
 use mathlib.Core.Bool.{_&&_}
 use mathlib.Core.List.{[], _∷_}
@@ -8,22 +9,23 @@ use Rattle.refusal_order.specs.Order.{_unless_, firstOf}
 use Rattle.sinc_settings.specs.declared.Settings.{Settings}
 use Rattle.sinc_settings.specs.Ranges.{tapsOk, phasesOk, settingsOk, rateOk, passbandOk}
 
--- a row for each phase from 0 to phases
+-- A table has a row for each phase from 0 to phases.
 abbrev pub tableLength : ℕ → ℕ → ℕ
 tableLength taps phases = (phases + 1) * taps
 
--- to a reader
+-- The refusal when a table is lent to a reader.
 abbrev pub tableVerdict : ℕ → ℕ → ℕ → ℕ
 tableVerdict taps phases len =
     firstOf (1 unless (tapsOk taps && phasesOk phases) ∷ 2 unless eqb len (tableLength taps phases) ∷ [])
 
--- to a builder
+-- The refusal when a table is lent to a builder.
 abbrev pub verdict : Settings → ℕ → ℕ
 verdict s len = firstOf (1 unless settingsOk s ∷ 2 unless eqb len (tableLength (s .taps) (s .phases)) ∷ [])
 
--- 000's for_max_rate: the cutoff is passband / rate, and the rate and the passband are settings too
+-- 000's for_max_rate: the cutoff is passband / rate, and the rate and the passband are settings too.
 abbrev pub forRate : ℕ → ℕ → Float → Float → Float → Settings
-forRate taps phases rate passband beta = record { taps = taps; phases = phases; cutoff = div binary64 passband rate; beta = beta }
+forRate taps phases rate passband beta =
+    record { taps = taps; phases = phases; cutoff = div binary64 passband rate; beta = beta }
 
 abbrev pub rateVerdict : Settings → Float → Float → ℕ → ℕ
 rateVerdict s rate passband len =

@@ -1,4 +1,4 @@
-// G5, N1, N2. The settings of a windowed sinc table: their ranges, the length that they need, and which refusal is due.
+// The settings of a windowed sinc table: their ranges, the length of the table, and which refusal is due (G5, N1, N2).
 ghost use mathlib.Core.Path.{_≡_};
 ghost use mathlib.Core.Bool.{_&&_};
 ghost use Rattle.sinc_settings.specs.Ranges.{tapsOk, phasesOk, settingsOk, rateOk, passbandOk};
@@ -84,7 +84,8 @@ pub fn for_rate(taps: usize, phases: usize, rate: f64, passband: f64, beta: f64)
     }
 }
 
-// The refusal that is due where a table of this length is lent to 000's for_max_rate, or 0: the rate and the passband are settings too.
+// The refusal that is due, or 0, when a table of this length is lent to the original's for_max_rate (000): the rate and
+// the passband are settings too.
 pub fn rate_refusal(settings: Settings, rate: f64, passband: f64, len: usize) -> u8
     ensures { λ r. ⌜ r ≡ rateVerdict settings rate passband len ⌝ }
 {

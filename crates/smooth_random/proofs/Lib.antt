@@ -1,6 +1,6 @@
-pub mod Bounds
-pub mod Held
-pub mod Starts
-pub mod Settles
+pub mod TargetBounds
+pub mod ValidFields
+pub mod ValidSeeds
+pub mod LoopEnds
 pub mod Quintic
-pub mod Value
+pub mod ValueRange

@@ -1,4 +1,5 @@
--- The quintic of a position from 0 to 1 lies from 0 to 1.25, piece by piece: on a piece each operation keeps the order, so its ends bound it. Assumes nothing.
+-- The quintic of a position from 0 to 1 lies from 0 to 1.25, piece by piece: on a piece each operation keeps the order,
+-- so its ends bound it. Assumes nothing.
 use mathlib.Core.Path.{refl}
 use mathlib.Core.Bool.{Bool}
 use mathlib.Core.List.{List, [], _∷_}
@@ -6,7 +7,8 @@ use Prim.Native.Nat.{ℕ}
 use lib.Count.{trailingZeros}
 use lib.Dec.{T}
 use lib.IntN.{pos}
-use lib.Ieee.{Float, binary64, size, span, climb, odd, units, round, neg, sum, add, sub, mul, div, lt, eq, le, ofInt, ofFields, ofBits}
+use lib.Ieee.{Float, binary64, size, span, climb, odd, units, round, neg, sum, add, sub, mul, div, lt, eq, le, ofInt}
+use lib.Ieee.{ofFields, ofBits}
 use lib.Ieee.Scale.{finite}
 use Rattle.interval.proofs.Between.{Between, point, widen, sum-between, difference-between}
 use Rattle.interval.proofs.Products.{zero as nil, least, most, product-between}
@@ -27,7 +29,8 @@ fifteen = ofBits binary64 0x402e_0000_0000_0000
 abbrev ten : Float
 ten = ofBits binary64 0x4024_0000_0000_0000
 
--- What is asked of a piece from a to b: that the ends of every operation are finite, that no first factor is negative, and that the last ends lie from 0 to 1.25.
+-- What is asked of a piece from a to b: that the ends of every operation are finite, that no first factor is negative,
+-- and that the last ends lie from 0 to 1.25.
 tests : Float → Float → List Bool
 unfolding sub add mul le
 tests a b =
@@ -45,7 +48,8 @@ tests a b =
     let i' = add binary64 p' ten in
     let q = least binary64 a3 b3 i in
     let q' = most binary64 a3 b3 i' in
-    le nil a ∷ le nil a2 ∷ le nil a3 ∷ finite a2 ∷ finite b2 ∷ finite a3 ∷ finite b3 ∷ finite a6 ∷ finite b6 ∷ finite s ∷ finite s' ∷ finite p ∷ finite p' ∷ finite i ∷ finite i' ∷ finite q ∷ finite q' ∷ le zero q ∷ le q' bound ∷ []
+    le nil a ∷ le nil a2 ∷ le nil a3 ∷ finite a2 ∷ finite b2 ∷ finite a3 ∷ finite b3 ∷ finite a6 ∷ finite b6 ∷ finite s
+    ∷ finite s' ∷ finite p ∷ finite p' ∷ finite i ∷ finite i' ∷ finite q ∷ finite q' ∷ le zero q ∷ le q' bound ∷ []
 
 piece : (a b t : Float) → T (all (tests a b)) → Between a b t → Between zero bound (quinticOf t)
 unfolding quinticOf tests trailingZeros odd ofFields ofBits
@@ -59,19 +63,25 @@ piece a b t h u =
     let cube = product-between binary64 (k .1 .0) square u refl refl (f .1 .1 .0) (f .1 .1 .1 .0) in
     let sixfold = product-between binary64 (k .0) u (point six tt) refl refl (g .0) (g .1 .0) in
     let less = difference-between binary64 sixfold (point fifteen tt) refl refl (g .1 .1 .0) (g .1 .1 .1 .0) in
-    let inner = sum-between binary64 (product-between binary64 (k .0) u less refl refl (m .0) (m .1 .0)) (point ten tt) refl refl (m .1 .1 .0) (m .1 .1 .1 .0) in
-    widen (product-between binary64 (k .1 .1 .0) cube inner refl refl (w .0) (w .1 .0)) tt tt (w .1 .1 .0) (w .1 .1 .1 .0)
+    let inner =
+    sum-between binary64 (product-between binary64 (k .0) u less refl refl (m .0) (m .1 .0))
+    (point ten tt) refl refl (m .1 .1 .0) (m .1 .1 .1 .0) in
+    widen (product-between binary64 (k .1 .1 .0) cube inner refl refl (w .0) (w .1 .0)) tt tt (w .1 .1 .0)
+    (w .1 .1 .1 .0)
 
 -- The pieces' ends, in 64ths: narrower towards 1, where the cube grows while the other factor shrinks.
 abbrev part : ℕ → Float
 part n = div binary64 (ofInt binary64 (pos n)) (ofInt binary64 (pos 64))
 
 abbrev ends : List Float
-ends = part 41 ∷ part 46 ∷ part 50 ∷ part 53 ∷ part 55 ∷ part 57 ∷ part 59 ∷ part 60 ∷ part 61 ∷ part 62 ∷ part 63 ∷ one ∷ []
+ends =
+    part 41 ∷ part 46 ∷ part 50 ∷ part 53 ∷ part 55 ∷ part 57 ∷ part 59 ∷ part 60 ∷ part 61 ∷ part 62 ∷ part 63 ∷ one
+    ∷ []
 
 checked : T (passed (λ a b. all (tests a b)) zero (part 32) ends)
 unfolding tests trailingZeros size span climb odd units round neg sum add sub mul div lt eq le ofInt ofFields ofBits
 checked = tt
 
 pub quintic-between : (t : Float) → Between zero one t → Between zero bound (quinticOf t)
-quintic-between t u = pieces (λ x. Between zero bound (quinticOf x)) (λ a b. all (tests a b)) piece zero (part 32) ends t checked u
+quintic-between t u =
+    pieces (λ x. Between zero bound (quinticOf x)) (λ a b. all (tests a b)) piece zero (part 32) ends t checked u

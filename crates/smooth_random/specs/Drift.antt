@@ -1,9 +1,10 @@
--- M2, M3, M5. 001's SmoothRandom: from a seed, by another seed, from the start again, and one step of the drift. Definitions only.
+-- M2, M3, M5. 001's SmoothRandom: started from a seed, given another seed, started again, and one step of the drift.
+-- Definitions only.
 use Prim.Native.Nat.{ℕ, zero, suc}
 use mathlib.Core.Bool.{cond}
 use lib.Dec.{eqb}
 use lib.Ieee.{Float, binary64, ofBits, add, sub, mul, div, le}
-use Rattle.order.specs.Choice.{clamped}
+use Rattle.min_max.specs.Choice.{clamped}
 use Rattle.xorshift.specs.Xorshift.{stepOf}
 use Rattle.xorshift.specs.Seeds.{seedOf}
 use Rattle.xorshift.specs.Draws as draws
@@ -19,7 +20,14 @@ started seed =
     let first = stepOf seed in
     let second = stepOf first in
     let third = stepOf second in
-    record { «initial_seed» = seed; state = third; current = bipolarOf first; next = bipolarOf second; position = draws.zero; «segment_rate_scale» = scaleOf third }
+    record {
+      «initial_seed» = seed;
+      state = third;
+      current = bipolarOf first;
+      next = bipolarOf second;
+      position = draws.zero;
+      «segment_rate_scale» = scaleOf third;
+    }
 
 abbrev pub resetOf : SmoothRandom → SmoothRandom
 resetOf r = started (r .«initial_seed»)
@@ -41,12 +49,15 @@ quinticOf t =
     let six = ofBits binary64 0x4018_0000_0000_0000 in
     let fifteen = ofBits binary64 0x402e_0000_0000_0000 in
     let ten = ofBits binary64 0x4024_0000_0000_0000 in
-    mul binary64 (mul binary64 (mul binary64 t t) t) (add binary64 (mul binary64 t (sub binary64 (mul binary64 t six) fifteen)) ten)
+    mul binary64 (mul binary64 (mul binary64 t t) t)
+    (add binary64 (mul binary64 t (sub binary64 (mul binary64 t six) fifteen)) ten)
 
 -- The value at the position, between the two targets.
 unfoldable pub valueAt : SmoothRandom → Float
 unfolding quinticOf
-valueAt r = add binary64 (r .current) (mul binary64 (quinticOf (clamped (r .position) draws.zero one)) (sub binary64 (r .next) (r .current)))
+valueAt r =
+    add binary64 (r .current)
+    (mul binary64 (quinticOf (clamped (r .position) draws.zero one)) (sub binary64 (r .next) (r .current)))
 
 -- The position moved on by one sample.
 unfoldable pub advanced : SmoothRandom → Float → Float → SmoothRandom
@@ -73,15 +84,16 @@ turned r =
       «segment_rate_scale» = scaleOf second;
     }
 
--- 001's `while self.position >= 1.0`, at most n turns of it. Inside the ranges the position is below 1 after one turn (the law `settles`), so the loop
--- has ended, and any larger n gives the same (`more-turns`).
+-- 001's `while self.position >= 1.0`, at most n turns of it. In range the position is below 1 after one turn (the law
+-- `settles`), so the loop has ended, and any larger n gives the same (`more-turns`).
 unfoldable pub settled : ℕ → SmoothRandom → SmoothRandom
 unfolding turned
 settled zero r = r
 settled (suc n) r = cond (le one (r .position)) (settled n (turned r)) r
 
 abbrev pub answer : ℕ → SmoothRandom → Float → Float → Next
-answer zero r rate-hz sample-rate = record { random = settled 1 (advanced r rate-hz sample-rate); value = valueAt r; refusal = 0 }
+answer zero r rate-hz sample-rate =
+    record { random = settled 1 (advanced r rate-hz sample-rate); value = valueAt r; refusal = 0 }
 answer (suc k) r rate-hz sample-rate = record { random = r; value = draws.zero; refusal = suc k }
 
 -- One step: the value before it, and the state after it. A refusal leaves the state as it was.

@@ -1,4 +1,5 @@
--- G8, G6, N1, N3, N9. What `next` asks of a state and of its arguments, and the number of the refusal where that fails. Definitions only.
+-- G8, G6, N1, N3, N9. What `next` asks of a state and of its arguments, and the refusal number where that fails.
+-- Definitions only.
 use Prim.Native.Nat.{ℕ}
 use mathlib.Core.Bool.{Bool, not, _&&_, cond}
 use lib.Dec.{eqb}
@@ -44,8 +45,8 @@ leastSamples = ofBits binary64 0x40bf_4000_0000_0000
 abbrev pub mostSamples : Float
 mostSamples = ofBits binary64 0x4127_7000_0000_0000
 
--- Sample rate 8000 to 768000. 01 has no range for the rate at which targets come: 001 hands in 0.025 to 3, and any rate that lets the position grow by less than 1
--- is served here, 0 to 1000.
+-- The sample rate is 8000 to 768000. 01 has no range for the rate at which targets come: 001 hands in 0.025 to 3, and
+-- here 0 to 1000 is served, which lets the position grow by less than 1.
 abbrev pub argumentsOf : Float → Float → Bool
 argumentsOf rate-hz sample-rate = within zero mostTargets rate-hz && within leastSamples mostSamples sample-rate
 

@@ -7,7 +7,8 @@ ghost use Rattle.smooth_random.specs.Ranges.{verdict};
 ghost use Rattle.smooth_random.specs.Drift.{valueAt, advanced, turned, nextOf};
 
 impl SmoothRandom {
-    // 001's loop turns at most once: a step adds at most 1000 * 1.35 / 8000 to a position below 1. Most steps draw nothing.
+    // The original's loop (001) turns at most once, because a step adds at most 1000 * 1.35 / 8000 to a position below
+    // 1. Most steps draw nothing.
     pub fn next(self, rate_hz: f64, sample_rate: f64) -> Next
         ensures { λ r. ⌜ r ≡ nextOf self «rate_hz» «sample_rate» ⌝ }
     {
@@ -52,7 +53,7 @@ impl SmoothRandom {
     fn value(self) -> f64
         ensures { λ r. ⌜ r ≡ valueAt self ⌝ }
     {
-        let t = order::clamp(self.position, 0.0, 1.0);
+        let t = min_max::clamp(self.position, 0.0, 1.0);
         let quintic = t * t * t * (t * (t * 6.0 - 15.0) + 10.0);
         self.current + quintic * (self.next - self.current)
     }

@@ -1,6 +1,6 @@
-// 001's SmoothRandom: a generator, the two targets that it drew last, and the way from one to the other.
-// F8. Each method takes the state by value and hands it back, with the number where there is one.
-// N3. Each refuses a state that is out of range, and hands it back as it was.
+// The original's SmoothRandom (001): a generator, the two targets that it drew last, and the way from one to the other.
+// Each method takes the state by value and hands it back, with the number where there is one (F8). A state that is out
+// of range is refused and handed back as it was (N3).
 mod draws; // the numbers that are made of the generator
 mod drift; // a step from one target towards the next
 mod seeds; // from a seed, by another seed, and from the start again

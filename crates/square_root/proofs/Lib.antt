@@ -1,9 +1,9 @@
 pub mod Squares
 pub mod Restoring
-pub mod Halves
-pub mod Between
-pub mod Rooting
-pub mod Normal
-pub mod Cases
+pub mod GuessCheck
+pub mod WholeRoot
+pub mod PackedRoot
+pub mod QuickDigits
+pub mod SpecialCases
 pub mod Nearest
 pub mod Examples

@@ -2,7 +2,8 @@
 use mathlib.Core.Path.{_≡_}
 use mathlib.Core.Logic.{dite}
 use Prim.Native.Nat.{ℕ, zero, suc, _+_, _*_, _/_, _^_, _≤_, _<_, zero-le}
-use native.Mathlib.Nat.{le-of-eq, lt-of-lt-of-le, lt-of-not-le, lt-irrefl, zero-lt-suc, mul-comm, mul-assoc, mul-left-comm, mul-add, add-mul, mul-le-mul, pow-suc, pow-le-pow-left, div-lt-iff-lt-mul}
+use native.Mathlib.Nat.{le-of-eq, lt-of-lt-of-le, lt-of-not-le, lt-irrefl, zero-lt-suc, mul-comm, mul-assoc}
+use native.Mathlib.Nat.{mul-left-comm, mul-add, add-mul, mul-le-mul, pow-suc, pow-le-pow-left, div-lt-iff-lt-mul}
 use native.Mathlib.Decide.{decLe}
 use native.Mathlib.Omega.{arith}
 use borrow.Author.Tests.{le-leb, lt-leb}
@@ -36,4 +37,5 @@ digits-root (suc k) n h =
 
 pub whole-root : (n : ℕ) → IsRoot (wholeRoot n) n
 unfolding wholeRoot
-whole-root n = digits-root (size n) n (lt-of-lt-of-le (size-lt n) (pow-le-pow-left {n = 2} {m = 4} (omega arith) (size n)))
+whole-root n =
+    digits-root (size n) n (lt-of-lt-of-le (size-lt n) (pow-le-pow-left {n = 2} {m = 4} (omega arith) (size n)))

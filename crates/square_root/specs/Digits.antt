@@ -13,7 +13,8 @@ pub record RootDigits (z w : ℕ) : Type 0 where
   pub below : w < 2 ^ 55
   pub near : NearRoot (z * 2 ^ 46) w
 
--- y is the whole number nearest to the root of c * 2 ^ 52: half a unit below it and half a unit above it lie about the root.
+-- y is the whole number nearest to the root of c * 2 ^ 52: the root lies between half a unit below y and half a unit
+-- above.
 pub record Nearest (c y : ℕ) : Type 0 where
   pub least : 2 ^ 52 ≤ y
   pub top : y ≤ 2 ^ 53

@@ -1,4 +1,6 @@
-// K4. The square root of an f64, rounded once: a guess that is checked; and where the check says nothing, 55 digits by restoring steps, the last of them sticky, then one rounding.
+// The square root of an f64, rounded once (K4).
+// A guess is made and checked. Where the check decides nothing, 55 digits are found by restoring steps, the last of
+// them sticky, and rounded.
 mod quick;
 
 ghost use mathlib.Core.Path.{_≡_};
@@ -17,7 +19,8 @@ fn digit(a: u64, t: u64) -> u64
     if t <= a { 1 } else { 0 }
 }
 
-// The root of z * 2^46, two digits of z to one of the root: s is the root of what has been brought down, r what is left of that, y what is still to come.
+// The root of z * 2^46; two digits of z give one of the root. s is the root of what has been brought down so far, r
+// what it leaves over, y what is still to come.
 fn root_digits(z: u64) -> u64
     requires { ⌜ 2 ^ 62 ≤ z ⌝ }
     ensures { λ w. ⌜ RootDigits z w ⌝ }
@@ -35,7 +38,7 @@ fn root_digits(z: u64) -> u64
         y = y << 2;
         i += 1;
     }
-    digits::sticky(s, r)
+    float_digits::sticky(s, r)
 }
 
 // An even power of two is taken out: x is z * 2^46 * 4^(k - 1076), where z is m or 2 m and k what is packed.
@@ -43,9 +46,9 @@ fn restored(x: f64) -> f64
     requires { ⌜ positive x ≡ true ⌝ }
     ensures { λ r. ⌜ r ≡ root binary64 x ⌝ }
 {
-    let p = digits::unpack(f64::to_bits(x));
+    let p = float_digits::unpack(f64::to_bits(x));
     let w = root_digits(p.m << ((p.e + 1) & 1));
-    digits::pack(0, w, (p.e + 969) >> 1)
+    float_digits::pack(0, w, (p.e + 969) >> 1)
 }
 
 fn positive_root(x: f64) -> f64

@@ -1,11 +1,13 @@
-// The root's 53 digits by a guess in floats, of which nothing is promised, and a check in whole numbers, which says whether they are the nearest.
+// The root's 53 digits by a guess in floats, of which nothing is promised, and a check in whole numbers that says
+// whether they are the nearest.
 ghost use mathlib.Core.Path.{_≡_};
 ghost use Prim.Native.Nat.{_+_, _*_, _^_, _≤_, _<_};
 ghost use Rattle.square_root.specs.Digits.{Nearest, Quick};
 use crate::digit;
 
-// v lies from 1 to 4, and g within a 25th of its root: a step of Halley's leaves a hundred thousandth of that, and two of Heron's all but the rounding.
-// The last one aims a quarter of a place low: the guess is then the nearest or the one below it.
+// v lies from 1 to 4, and g within a 25th of its root. One step of Halley's leaves a hundred thousandth of that, and
+// two of Heron's all but the rounding. The last one aims a quarter of a place low, so that the guess is the nearest or
+// the one below it.
 fn guess(v: f64, g: f64) -> f64 {
     let h = g * g;
     let a = g * (h + 3.0 * v) / (3.0 * h + v);
@@ -45,7 +47,8 @@ fn nearest(c: u64, g: f64) -> u64
     0
 }
 
-// The root's digits for the pattern of a value from 2^-1022 on; or 0. The field's last digit says whether 2^52 or 2^53 times an even power of two is taken out.
+// The root's digits for the pattern of a value from 2^-1022 on, or 0 if the check fails. The field's last digit says
+// whether 2^52 or 2^53 times an even power of two is taken out.
 pub(crate) fn digits_of(bits: u64) -> u64
     ensures { λ y. ⌜ (0 < y → Quick bits y) ⌝ }
 {

@@ -17,9 +17,9 @@ use lib.Ieee.Nearest.{closest}
 use lib.Ieee.Scale.{finite}
 use Rattle.magnitude.proofs.Comparisons.{finite-number}
 use Rattle.rounding.specs.Operations.{narrowed}
-use Rattle.rounding.proofs.Own.{narrowed-own}
+use Rattle.rounding.proofs.RoundsToItself.{narrowed-own}
 use Rattle.rounding.proofs.Values.{value-finite}
-use Rattle.rounding.proofs.Within.{closest-multiple}
+use Rattle.rounding.proofs.WithinHalfDivisor.{closest-multiple}
 use Rattle.whole_samples.specs.Whole.{negative, size, wholeOf}
 use Rattle.whole_samples.proofs.Exact.{exact}
 use Rattle.sample_kind.specs.declared.SampleKind.{SampleKind}

@@ -15,7 +15,7 @@ use lib.Ieee.Scale.{finite, grid}
 use Rattle.rounding.specs.Nearest.{limit}
 use Rattle.rounding.specs.Operations.{narrowed}
 use Rattle.rounding.proofs.Grid.{round-value}
-use Rattle.rounding.proofs.Orders.{lt-or-ge, and-true}
+use Rattle.rounding.proofs.NumberOrders.{lt-or-ge, and-true}
 use Rattle.rounding.proofs.Overflow.{round-finite, round-infinite}
 use Rattle.rounding.proofs.Values.{value-finite}
 

@@ -9,7 +9,7 @@ use lib.Dec.{lit≤}
 use lib.Ieee.Nearest.{closest, closest-same, closest-mono}
 use lib.Ieee.Positive.{first-pos}
 use Rattle.interval.proofs.Signed.{ring}
-use Rattle.rounding.proofs.Within.{closest-near, closest-unique, closest-most}
+use Rattle.rounding.proofs.WithinHalfDivisor.{closest-near, closest-unique, closest-most}
 
 -- ---- q and a half
 half-of : (q : ℕ) → closest (q * 2 + 1) 2 ≡ q + q % 2

@@ -11,7 +11,7 @@ use lib.IntN.{ℤ, pos, negsuc}
 use lib.Ieee.{Float, nan, inf, fin, binary32, up, down, lt, le, eq, fits, isNan}
 use lib.Ieee.Fits.{down-pos}
 use Rattle.magnitude.proofs.Comparisons.{nlt→le, le-negative}
-use Rattle.rounding.proofs.Orders.{same-test}
+use Rattle.rounding.proofs.NumberOrders.{same-test}
 use Rattle.rounding.proofs.Values.{fits-parts}
 use Rattle.stored_samples.specs.Stored.{fitsWhole}
 use Rattle.stored_samples.proofs.Ranges.{least, past, in-range}

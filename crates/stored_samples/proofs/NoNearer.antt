@@ -13,9 +13,9 @@ use lib.Ieee.Fits.{down-pos}
 use lib.Ieee.Nearest.{closest}
 use Rattle.interval.proofs.Rounded.{none}
 use Rattle.rounding.specs.Nearest.{apart}
-use Rattle.rounding.proofs.Apart.{no-nearer, as-near, apart-le, apart-eq}
-use Rattle.rounding.proofs.Orders.{lt-or-ge}
-use Rattle.rounding.proofs.Within.{closest-near}
+use Rattle.rounding.proofs.Distances.{no-nearer, as-near, apart-le, apart-eq}
+use Rattle.rounding.proofs.NumberOrders.{lt-or-ge}
+use Rattle.rounding.proofs.WithinHalfDivisor.{closest-near}
 use Rattle.stored_samples.specs.Stored.{nearestWhole}
 use Rattle.stored_samples.specs.Nearest.{off, NearestWhole}
 use Rattle.stored_samples.proofs.Halves.{closest-half}

@@ -19,11 +19,11 @@ use lib.Ieee.Fits.{down-pos}
 use lib.Ieee.Nearest.{closest}
 use Rattle.interval.proofs.Signed.{ring}
 use Rattle.rounding.proofs.Adding.{add-units}
-use Rattle.rounding.proofs.Closest.{closest-shift}
+use Rattle.rounding.proofs.NearestWhole.{closest-shift}
 use Rattle.rounding.proofs.Sums.{sum-like, sum-over}
 use Rattle.rounding.proofs.Units.{bits-units}
 use Rattle.rounding.proofs.Values.{value-no-nan}
-use Rattle.rounding.proofs.Within.{closest-near}
+use Rattle.rounding.proofs.WithinHalfDivisor.{closest-near}
 use Rattle.stored_samples.proofs.Halves.{closest-less}
 use Rattle.stored_samples.proofs.Scaled.{Room, room, whole-units, product}
 

@@ -15,7 +15,7 @@ use lib.Ieee.{Float, nan, inf, fin, up, down, lt, le, isNan, eq}
 use lib.Ieee.Fits.{down-pos}
 use lib.Ieee.Nearest.{closest}
 use Rattle.magnitude.proofs.Comparisons.{nlt→le, le-negative}
-use Rattle.rounding.proofs.Orders.{same-test, and-true, ltb-iff, lt-or-ge, clash}
+use Rattle.rounding.proofs.NumberOrders.{same-test, and-true, ltb-iff, lt-or-ge, clash}
 use Rattle.stored_samples.specs.Stored.{nearestWhole, inDigits, fitsWhole}
 use Rattle.stored_samples.proofs.Halves.{stays-below, gets-there, stays-at, goes-past}
 

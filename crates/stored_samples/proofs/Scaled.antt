@@ -14,7 +14,7 @@ use lib.Ieee.{round, units, mul, fits}
 use lib.Ieee.Exact.{HasValue, round-exact}
 use lib.Ieee.Fits.{down-pos}
 use lib.Ieee.Nearest.{closest, closest-same}
-use Rattle.rounding.proofs.Dropped.{round-at}
+use Rattle.rounding.proofs.DroppedDigits.{round-at}
 use Rattle.rounding.proofs.Values.{fits-units, rescale}
 
 -- ---- what is known of a format, q standing for 2 ^ (prec - 3)

@@ -28,7 +28,8 @@ module _ {S : Type 0} where
     pub begun : Half s₀ ring₀ xs 0
     begun = record { long = refl; rest = refl; whole = refl }
 
-    module _ {s : S} {ring ys : List Float} {k : ℕ} (h : Half s ring ys k) (z : Float) (l : k < length xs) (m : k < length ds) where
+    module _ {s : S} {ring ys : List Float} {k : ℕ} (h : Half s ring ys k) (z : Float) (l : k < length xs)
+        (m : k < length ds) where
       -- the call that the loop makes: what it finds at the place is what was lent
       abbrev pub called : Called S
       called = call s ring (getD ys k z) (getD ds k z)
@@ -39,7 +40,8 @@ module _ {S : Type 0} where
           (sym (drop-cons ys k z (omega (arith, h .long))) ∙ h .rest ∙ drop-cons xs k z l)
 
       one-call : stretchOf call s ring (drop k xs) (drop k ds)
-          ≡ andThen (called .number) called (stretchOf call (called .state) (called .ring) (drop (suc k) xs) (drop (suc k) ds))
+          ≡ andThen (called .number) called
+          (stretchOf call (called .state) (called .ring) (drop (suc k) xs) (drop (suc k) ds))
       unfolding stretchOf
       one-call = rw (drop-cons xs k z l, drop-cons ds k z m) (ap of-input (sym as-lent))
         where
@@ -49,7 +51,8 @@ module _ {S : Type 0} where
               andThen (c .number) c (stretchOf call (c .state) (c .ring) (drop (suc k) xs) (drop (suc k) ds))
 
       -- a call that is not refused
-      pub turn : {n : ℕ} {t : S} {r : List Float} {y : Float} → n ≡ called .number → n ≡ 0 → t ≡ called .state → r ≡ called .ring
+      pub turn : {n : ℕ} {t : S} {r : List Float} {y : Float} → n ≡ called .number → n ≡ 0 → t ≡ called .state
+          → r ≡ called .ring
           → y ≡ called .sample → Half t r (set ys k y) (k + 1)
       turn {n} {t} {r} {y} a e p q v =
           let here : k < length ys = omega (arith, h .long) in
@@ -65,11 +68,13 @@ module _ {S : Type 0} where
           drop-rest = rw add-one at (sym (drop-drop 1 k ys) ∙ ap (drop 1) (h .rest) ∙ drop-drop 1 k xs)
 
           more : (us : List Float) (u : Float) (o : Ran S)
-              → behind us (record { state = o .state; ring = o .ring; number = o .number; samples = u ∷ o .samples }) ≡ behind (us ++ (u ∷ [])) o
+              → behind us (record { state = o .state; ring = o .ring; number = o .number; samples = u ∷ o .samples })
+              ≡ behind (us ++ (u ∷ [])) o
           more us u o = rw (append-assoc us (u ∷ []) (o .samples))
 
       -- one that is refused ends it
-      pub stopped : (n : ℕ) {t : S} {r : List Float} → n ≡ called .number → (n ≡ 0 → ⊥) → t ≡ called .state → r ≡ called .ring
+      pub stopped : (n : ℕ) {t : S} {r : List Float} → n ≡ called .number → (n ≡ 0 → ⊥) → t ≡ called .state
+          → r ≡ called .ring
           → stretchOf call s₀ ring₀ xs ds ≡ record { state = t; ring = r; number = n; samples = take k ys }
       stopped zero a e p q = absurd (e refl)
       stopped (suc n) a e p q = h .whole ∙ ap (behind (take k ys)) one-call ∙ rw (sym a, p, q, append-nil (take k ys))

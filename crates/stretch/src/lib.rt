@@ -1,1 +1,2 @@
-// Definitions and laws only: a stretch of calls, once over what a single call leaves (W3a, W3b).
+// The definition and laws of a stretch of calls, once over what a single call leaves (W3a, W3b).
+// There is no code.

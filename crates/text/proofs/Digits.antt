@@ -1,4 +1,5 @@
--- The decimal digits of a word, written from the last one on into a row: each turn puts the next in front. Assumes nothing.
+-- The decimal digits of a word, written from the last one on into a row: each turn puts the next in front.
+-- Assumes nothing.
 use mathlib.Core.Path.{_≡_}
 use mathlib.Core.Bool.{Bool, true, false, cond}
 use mathlib.Core.List.{List, [], _∷_, _++_, append-assoc}
@@ -23,7 +24,8 @@ pub digit-before : (xs : List ℕ) (v : ℕ) {j k : ℕ} → suc j ≡ k → k <
 unfolding decimalTo
 digit-before xs v {j} e h l = rw (← e) (rw (drop-set xs (suc j) (48 + v % 10) (rw e h), le-ltb v 10 l, append-assoc))
 
-pub first-digit : (xs : List ℕ) (k v : ℕ) {d : ℕ} → d ≡ 48 + v → k < length xs → v < 10 → decimalTo (suc k) v ++ drop (suc k) xs ≡ drop k (set xs k d)
+pub first-digit : (xs : List ℕ) (k v : ℕ) {d : ℕ} → d ≡ 48 + v → k < length xs → v < 10
+    → decimalTo (suc k) v ++ drop (suc k) xs ≡ drop k (set xs k d)
 unfolding decimalTo
 first-digit xs k v e h l = rw (e, drop-set xs k (48 + v) h, lt-ltb v 10 l, mod-eq-of-lt l)
 

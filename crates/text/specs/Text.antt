@@ -22,7 +22,8 @@ decimalTo (suc k) n = cond (ltb n 10) [] (decimalTo k (n / 10)) ++ ((48 + n % 10
 abbrev pub decimal : ℕ → List ℕ
 decimal n = decimalTo 20 n
 
--- The bytes xs after a text was put there from a place on: byte k of it stands k places further, and where xs has ended nothing is put.
+-- The bytes xs after a text was put there from a place on: byte k of it stands k places further, and past the end of xs
+-- nothing is put.
 abbrev pub putAt : List ℕ → ℕ → List ℕ → List ℕ
 putAt xs at text = sets xs at text
 

@@ -1,4 +1,5 @@
-// Texts put into a lent slice of bytes, one after the other, each call giving the place for the next. Where the slice ends a text is cut off there.
+// Texts put into a lent slice of bytes one after the other; each call gives the place for the next.
+// A text that does not fit is cut off where the slice ends.
 ghost use mathlib.Core.Path.{_≡_};
 ghost use Prim.Native.Nat.{_+_, _<_};
 ghost use lib.ListN.{length};

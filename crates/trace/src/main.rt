@@ -1,5 +1,5 @@
-// The program `trace` (X1): binary64 samples, low byte first, from standard input go to the cubic reader with ring 8 and delay 1.5, and for each a line goes to
-// standard output. What the lines are is proved in the crate trace_lines.
+// The program `trace`: reads binary64 samples, low byte first, and writes a line for each (X1).
+// The samples go to the cubic reader with a ring of 8 and the delay 1.5. What the lines are is proved in `trace_lines`.
 use libc::STDERR_FILENO;
 use libc::STDIN_FILENO;
 use libc::STDOUT_FILENO;
@@ -14,7 +14,7 @@ struct Turn {
     more: bool,
 }
 
-// The descriptor that ./run opens for the sign that all went well: there is no exit status to say it by.
+// The descriptor that ./run opens so that the program can say that all went well; a program here has no exit status.
 const SIGN: i32 = 3;
 
 // Whether to go on after a block of n bytes. A read or a write that failed is said on standard error.
@@ -34,7 +34,7 @@ fn goes_on(n: usize, written: bool, spare: &mut [u8]) -> bool {
     true
 }
 
-// One block. With 50 bytes for each sample no line is cut off (trace_lines, proofs/Whole.antt).
+// One block. With 50 bytes for each sample no line is cut off (trace_lines, proofs/NothingCutOff.antt).
 fn block(state: VariableDelay, ring: &mut [f64]) -> Turn {
     let mut samples = [0u8; BLOCK];
     let mut lines = [0u8; 51200];

@@ -1,5 +1,5 @@
--- A block of bytes, sample by sample: what a turn of the loop does to what is still to come, and that samples handed over in two blocks give the same
--- lines as in one. Assumes nothing.
+-- A block of bytes, sample by sample: what a turn of the loop does to what is still to come,
+-- and that samples handed over in two blocks give the same lines as in one. Assumes nothing.
 use mathlib.Core.Path.{_≡_, refl, sym, _∙_, ap}
 use mathlib.Core.List.{List, [], _∷_, _++_, append-assoc}
 use Prim.Native.Nat.{ℕ, suc, _+_, _-_, _/_, _<_, _≤_}
@@ -24,7 +24,8 @@ no-more bytes at h =
     let e : length (drop at bytes) / 8 ≡ 0 = simp length-drop (omega arith) in
     rw e
 
-pub next-sample : (bytes : List ℕ) (at : ℕ) {x : Float} → x ≡ ofBits binary64 (bytesValue (take 8 (drop at bytes))) → 8 ≤ length bytes - at
+pub next-sample : (bytes : List ℕ) (at : ℕ) {x : Float} → x ≡ ofBits binary64 (bytesValue (take 8 (drop at bytes)))
+    → 8 ≤ length bytes - at
     → samplesIn (drop at bytes) ≡ x ∷ samplesIn (drop (at + 8) bytes)
 unfolding samplesOf
 next-sample bytes at e h =
@@ -38,21 +39,35 @@ pub record Come : Type 0 where
   pub bytes : List ℕ
 
 abbrev pub come : Reader → List ℕ → ℕ → List Float → Come
-come r out at xs = record { reader = readerAfter r xs; place = placeAfter (length out) at (linesOf r xs); bytes = putAt out at (linesOf r xs) }
+come r out at xs =
+    record {
+      reader = readerAfter r xs;
+      place = placeAfter (length out) at (linesOf r xs);
+      bytes = putAt out at (linesOf r xs);
+    }
 
 -- one turn: the reader's call, and its line
-pub turn : (r : Reader) (out : List ℕ) (at : ℕ) {x : Float} {all xs : List Float} {p : Processed} {ring : List Float} {q : ℕ} {zs : List ℕ} → all ≡ x ∷ xs
+pub turn : (r : Reader) (out : List ℕ) (at : ℕ) {x : Float} {all xs : List Float} {p : Processed} {ring : List Float}
+    {q : ℕ} {zs : List ℕ}
+    → all ≡ x ∷ xs
     → p ≡ processed cubicAt (r .state) (r .ring) x (call x .delay)
     → ring ≡ ringAfter (due r (call x)) (r .state) (r .ring) x
     → Puts out at (lineOf (r .state .accepted) (p .answer)) q zs
     → come r out at all ≡ come (record { state = p .state; ring = ring }) zs q xs
 unfolding linesOf runOf
 turn r out at {x} {all} {xs} n e f p =
-    let t = then out (lineOf (r .state .accepted) (answerTo r (call x))) (linesOf (after r (call x)) xs) at (rw e at p) (refl, refl) in
-    rw (n, e, f) (λ i. record { reader = readerAfter (after r (call x)) xs; place = sym (t .0) i; bytes = sym (t .1) i })
+    let t =
+    then out (lineOf (r .state .accepted) (answerTo r (call x))) (linesOf (after r (call x)) xs) at (rw e at p)
+    (refl, refl) in
+    rw (
+      n,
+      e,
+      f,
+    ) (λ i. record { reader = readerAfter (after r (call x)) xs; place = sym (t .0) i; bytes = sym (t .1) i })
 
 -- where nothing is to come
-pub ended : (r : Reader) (out : List ℕ) (at : ℕ) {all : List Float} → all ≡ [] → at ≤ length out → come r out at all ≡ record { reader = r; place = at; bytes = out }
+pub ended : (r : Reader) (out : List ℕ) (at : ℕ) {all : List Float} → all ≡ [] → at ≤ length out
+    → come r out at all ≡ record { reader = r; place = at; bytes = out }
 unfolding linesOf runOf
 ended r out at n h = rw (n, add-zero at, min-eq-right h)
 

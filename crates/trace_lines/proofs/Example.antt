@@ -1,4 +1,5 @@
--- X1. 01's four lines for the inputs 1, 2, 3, 4, to the byte, with a trailing part that is ignored: computed over the definitions that the contracts cite. Assumes nothing.
+-- X1. 01's four lines for the inputs 1, 2, 3, 4, to the byte, with a trailing part that is ignored:
+-- computed over the definitions that the contracts cite. Assumes nothing.
 use mathlib.Core.Path.{_≡_, refl}
 use mathlib.Core.List.{List, [], _∷_, _++_}
 use Prim.Native.Nat.{ℕ}
@@ -16,9 +17,12 @@ use Rattle.trace_lines.specs.Lines.{linesOf, samplesOf, textOf}
 
 -- 1.0, 2.0, 3.0, 4.0, low byte first, and three bytes more
 abbrev pub bytes : List ℕ
-bytes = replicate 6 0 ++ 0xF0 ∷ 0x3F ∷ replicate 7 0 ++ 0x40 ∷ replicate 6 0 ++ 0x08 ∷ 0x40 ∷ replicate 6 0 ++ 0x10 ∷ 0x40 ∷ 1 ∷ 2 ∷ 3 ∷ []
+bytes =
+    replicate 6 0 ++ 0xF0 ∷ 0x3F ∷ replicate 7 0 ++ 0x40 ∷ replicate 6 0 ++ 0x08 ∷ 0x40 ∷ replicate 6 0 ++ 0x10 ∷ 0x40
+    ∷ 1 ∷ 2 ∷ 3 ∷ []
 
 pub four-lines : textOf (opened 0 0 8 .state) (opened 0 0 8 .ring) bytes
     ≡ ascii "0 BFB0000000000000\n1 3FDC000000000000\n2 3FF8000000000000\n3 4004000000000000\n"
-unfolding linesOf samplesOf bytesValue hexDigits ascii decimalTo runOf cubicAt lengthFor size floorOf fractionOf le add sub mul div neg ofInt ofBits toBits
+unfolding linesOf samplesOf bytesValue hexDigits ascii decimalTo runOf cubicAt lengthFor size floorOf fractionOf le add
+    sub mul div neg ofInt ofBits toBits
 four-lines = refl

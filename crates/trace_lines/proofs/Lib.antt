@@ -1,3 +1,3 @@
 pub mod Blocks
 pub mod Example
-pub mod Whole
+pub mod NothingCutOff

@@ -15,24 +15,24 @@ use Rattle.variable_delay.specs.declared.VariableDelay.{VariableDelay}
 use Rattle.cubic_farrow.specs.Cubic.{cubicAt}
 use Rattle.runs.specs.Runs.{Call, bareCall, Reader, after, run}
 
--- the answer's 16 hex digits in capitals, or `refused`, a blank and the number in place of the digits
+-- The answer's 16 hex digits in capitals, or `refused`, a blank and the number in place of the digits.
 abbrev pub answerText : Answer → List ℕ
 answerText (Sample y) = hexDigits 16 (toBits binary64 y)
 answerText (Refused k) = ascii "refused " ++ decimal k
 
--- the accepted count before the call in decimal, a blank, and the answer
+-- The accepted count before the call in decimal, a blank, and the answer.
 abbrev pub lineOf : ℕ → Answer → List ℕ
 lineOf count a = decimal count ++ (ascii " " ++ (answerText a ++ ascii "\n"))
 
--- a sample is read at the delay 1.5
+-- A sample is read at the delay 1.5.
 abbrev pub call : Float → Call
 call x = bareCall x (fin false 3 (negsuc 0))
 
--- what the cubic reader answers
+-- What the cubic reader answers.
 abbrev pub answerTo : Reader → Call → Answer
 answerTo r c = processed cubicAt (r .state) (r .ring) (c .input) (c .delay) .answer
 
--- the lines for samples, and the reader after them
+-- The lines for samples, and the reader after them.
 unfoldable pub linesOf : Reader → List Float → List ℕ
 linesOf r [] = []
 linesOf r (x ∷ xs) = lineOf (r .state .accepted) (answerTo r (call x)) ++ linesOf (after r (call x)) xs
@@ -40,12 +40,12 @@ linesOf r (x ∷ xs) = lineOf (r .state .accepted) (answerTo r (call x)) ++ line
 abbrev pub readerAfter : Reader → List Float → Reader
 readerAfter r xs = run r (map call xs)
 
--- headerless binary64, low byte first: the first n samples
+-- Headerless binary64, low byte first: the first n samples.
 unfoldable pub samplesOf : ℕ → List ℕ → List Float
 samplesOf zero bytes = []
 samplesOf (suc n) bytes = ofBits binary64 (bytesValue (take 8 bytes)) ∷ samplesOf n (drop 8 bytes)
 
--- a trailing part of fewer than 8 bytes is ignored
+-- A trailing part of fewer than 8 bytes is ignored.
 abbrev pub samplesIn : List ℕ → List Float
 samplesIn bytes = samplesOf (length bytes / 8) bytes
 

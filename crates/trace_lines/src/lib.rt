@@ -1,11 +1,11 @@
-// X1. The lines of the program `trace`: the cubic reader at the delay 1.5, over samples as bytes.
+// The lines of the program `trace`: the cubic reader at the delay 1.5, over samples as bytes (X1).
 ghost use mathlib.Core.Path.{_≡_};
 ghost use lib.ListN.{length};
 ghost use Rattle.text.specs.Text.{putAt, placeAfter};
 ghost use Rattle.trace_lines.specs.Lines.{answerText, lineOf, afterBlock, textOf};
 use answer::Answer;
-use patterns::bits_of;
-use patterns::float_of;
+use bit_patterns::bits_of;
+use bit_patterns::float_of;
 use variable_delay::VariableDelay;
 
 // The reader's state after the samples, and where their lines end.
@@ -44,9 +44,11 @@ pub fn put_line(out: &mut [u8], at: usize, count: u64, answer: Answer) -> usize
 // Puts a line for each whole sample of a block at the start of out.
 pub fn put_lines(state: VariableDelay, ring: &mut [f64], block: &[u8], out: &mut [u8]) -> Traced
     ensures { λ r. ⌜ r .state ≡ afterBlock state (now (ring .entry)) (now (block .entry)) .state ⌝ }
-    ensures { λ r. ⌜ r .length ≡ placeAfter (length (now (out .entry))) 0 (textOf state (now (ring .entry)) (now (block .entry))) ⌝ }
+    ensures { λ r. ⌜ r .length ≡
+        placeAfter (length (now (out .entry))) 0 (textOf state (now (ring .entry)) (now (block .entry))) ⌝ }
     ensures { λ r. ⌜ now (ring .exit) ≡ afterBlock state (now (ring .entry)) (now (block .entry)) .ring ⌝ }
-    ensures { λ r. ⌜ now (out .exit) ≡ putAt (now (out .entry)) 0 (textOf state (now (ring .entry)) (now (block .entry))) ⌝ }
+    ensures { λ r. ⌜ now (out .exit) ≡
+        putAt (now (out .entry)) 0 (textOf state (now (ring .entry)) (now (block .entry))) ⌝ }
 {
     let mut s = state;
     let mut to: usize = 0;

@@ -1,6 +1,6 @@
 pub mod Settings
-pub mod Taken
+pub mod AcceptedCall
 pub mod Refused
 pub mod Resets
-pub mod Widths
+pub mod AnyWidth
 pub mod Calls

@@ -7,7 +7,8 @@ use lib.IntN.{pos}
 use lib.Ieee.{Float, fin}
 use Rattle.answer.specs.Answers.{numberOf}
 use Rattle.answer.proofs.Cases.{number-is}
-use Rattle.variable_delay.specs.Reader.{Reading, acceptedOf, ringAfter, stateAfter, processedBy}
+use Rattle.variable_delay.specs.Reader.{Reading, ringAfter, stateAfter, processedBy}
+use Rattle.variable_delay.specs.Inner.{acceptedOf}
 use Rattle.variable_delay.specs.Opening as opening
 use Rattle.variable_delay.specs.Opening.{openedBy, clearedBy}
 use Rattle.variable_delay.specs.declared.VariableDelay.{VariableDelay}
@@ -19,7 +20,8 @@ pub same-state : (w : ℕ) {v : ℕ} → w ≡ v → (w ≡ 0 → ⊥) → (d : 
 same-state zero e h d = absurd (h refl)
 same-state (suc k) e h d = rw (← e)
 
-pub same-ring : (w : ℕ) {v : ℕ} → w ≡ v → (w ≡ 0 → ⊥) → (d : VariableDelay) (xs : List Float) (x : Float) → xs ≡ ringAfter v d xs x
+pub same-ring : (w : ℕ) {v : ℕ} → w ≡ v → (w ≡ 0 → ⊥) → (d : VariableDelay) (xs : List Float) (x : Float)
+    → xs ≡ ringAfter v d xs x
 same-ring zero e h d xs x = absurd (h refl)
 same-ring (suc k) e h d xs x = rw (← e)
 
@@ -36,7 +38,8 @@ pub not-cleared : (w : ℕ) {v : ℕ} → w ≡ v → (w ≡ 0 → ⊥) → (xs 
 not-cleared zero e h xs = absurd (h refl)
 not-cleared (suc k) e h xs = rw (← e)
 
-pub number-processed : (read : Reading) (v : ℕ) (d : VariableDelay) (xs : List Float) (x y : Float) → numberOf (processedBy read v d xs x y .answer) ≡ v
+pub number-processed : (read : Reading) (v : ℕ) (d : VariableDelay) (xs : List Float) (x y : Float)
+    → numberOf (processedBy read v d xs x y .answer) ≡ v
 number-processed read v d xs x y = number-is v _
 
 pub number-opened : (v : ℕ) (d : VariableDelay) → opening.numberOf (openedBy v d) ≡ v

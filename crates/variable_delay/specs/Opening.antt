@@ -12,7 +12,7 @@ use Rattle.variable_delay.specs.declared.VariableDelay.{VariableDelay}
 use Rattle.variable_delay.specs.declared.Opened.{Opened}
 use Rattle.variable_delay.specs.declared.Opened.the-variants.{Reader, Refused}
 
--- the state of a reader that has accepted nothing
+-- The state of a reader that has accepted nothing.
 abbrev pub fresh : ℕ → ℕ → VariableDelay
 fresh maximum margin = record { maximum = maximum; margin = margin; accepted = 0 }
 

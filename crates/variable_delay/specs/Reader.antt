@@ -1,26 +1,26 @@
--- A delay reader, defined once: over what its kernel reads and over what its kernel asks of its own settings (01, 'Reading a ring'). A kernel with none asks nothing.
--- Samples are floats of either width. Definitions only.
-use Prim.Native.Nat.{ℕ, zero, suc, _+_, _%_, _^_}
-use mathlib.Core.Bool.{Bool, true, false, not, _&&_}
+-- A delay reader, defined once over what its kernel reads and what its kernel asks of its own settings (01, 'Reading a
+-- ring'); a kernel without settings asks nothing. Samples are floats of either width. Definitions only.
+use Prim.Native.Nat.{ℕ, zero, suc, _+_, _%_}
+use mathlib.Core.Bool.{Bool, true, _&&_}
 use mathlib.Core.List.{List, [], _∷_}
 use lib.Dec.{eqb, leb, ltb}
 use lib.IntN.{pos}
 use lib.ListN.{length, set}
-use lib.Ieee.{Float, fin, binary64, sub, le, ofInt}
+use lib.Ieee.{Float, binary64, sub, le, ofInt}
 use lib.Ieee.Scale.{finite}
 use Rattle.constants.specs.Numbers.{zero-f, limit, limit-f}
 use Rattle.refusal_order.specs.Order.{_unless_, firstOf}
 use Rattle.answer.specs.Answers.{answerOf}
 use Rattle.ring.specs.Length.{settingsOk, lengthFor}
 use Rattle.variable_delay.specs.declared.VariableDelay.{VariableDelay}
-use Rattle.variable_delay.specs.declared.Accepted.{Accepted}
 use Rattle.variable_delay.specs.declared.Processed.{Processed}
 
 -- What a kernel reads: from the ring, the number of samples accepted with the newest, and the position.
 abbrev pub Reading : Type 0
 Reading = List Float → ℕ → Float → Float
 
--- N1 to N6, N8. The refusal that is due, 0 for none. `own` says that the kernel's own settings are in range, `lent` that its lent table has its length.
+-- N1 to N6, N8. The refusal that is due, 0 for none. `own` says that the kernel's own settings are in range, `lent`
+-- that its lent table has its length.
 abbrev pub verdict : Bool → Bool → VariableDelay → ℕ → Float → Float → ℕ
 verdict own lent d len x y =
     firstOf
@@ -31,19 +31,6 @@ verdict own lent d len x y =
     ∷ 5 unless (finite y && le zero-f y)
     ∷ 6 unless le y limit-f
     ∷ 8 unless ltb (d .accepted) limit
-    ∷ [])
-
--- The same on the length that `ring::length_for` gives, which is 0 where the settings are out of range: as the code tests it.
-abbrev pub dueOf : ℕ → Bool → Bool → ℕ → ℕ → Float → Float → ℕ
-dueOf needed own lent len accepted x y =
-    firstOf
-    (1 unless (not (eqb needed 0) && own)
-    ∷ 2 unless (eqb len needed && lent)
-    ∷ 3 unless leb accepted limit
-    ∷ 4 unless finite x
-    ∷ 5 unless (finite y && le zero-f y)
-    ∷ 6 unless le y limit-f
-    ∷ 8 unless ltb accepted limit
     ∷ [])
 
 -- K1. Accepted sample i goes to place i modulo the length.
@@ -62,11 +49,6 @@ ringAfter (suc k) d xs x = xs
 abbrev pub stateAfter : ℕ → VariableDelay → VariableDelay
 stateAfter zero d = record { maximum = d .maximum; margin = d .margin; accepted = d .accepted + 1 }
 stateAfter (suc k) d = d
-
--- What the kernel is handed: the samples accepted with this one, and the position.
-abbrev pub acceptedOf : ℕ → VariableDelay → Float → Accepted
-acceptedOf zero d y = record { refusal = 0; count = d .accepted + 1; position = positionOf (d .accepted) y }
-acceptedOf (suc k) d y = record { refusal = suc k; count = 0; position = zero-f }
 
 -- A call: refused with the state as it was, or stored, then read.
 abbrev pub processedBy : Reading → ℕ → VariableDelay → List Float → Float → Float → Processed

@@ -1,4 +1,5 @@
-// 000's VariableDelay: the state of a delay reader, what it refuses, and what an accepted call stores. The kernels' readers stand on this.
+// The original's VariableDelay (000): the state of a delay reader, what it refuses, and what an accepted call stores.
+// The readers of all kernels are made of this.
 mod opening; // open and reset
 mod refusals; // what is refused
 
@@ -7,7 +8,8 @@ pub use opening::reset;
 pub use refusals::refusal;
 ghost use mathlib.Core.Path.{_≡_};
 ghost use lib.ListN.{length};
-ghost use Rattle.variable_delay.specs.Reader.{verdict, acceptedOf, ringAfter};
+ghost use Rattle.variable_delay.specs.Reader.{verdict, ringAfter};
+ghost use Rattle.variable_delay.specs.Inner.{acceptedOf};
 use answer::Answer;
 use refusals::due;
 use refusals::passes;
@@ -35,7 +37,8 @@ pub struct Accepted {
     pub position: f64,
 }
 
-// Refuses, or stores the sample: what is left is to read at the position. The length is a power of two, so a mask has the sample's place.
+// Refuses, or stores the sample; the caller then reads at the position. The length is a power of two, so a mask gives
+// the sample's place (K1).
 pub fn accept(
     state: VariableDelay,
     own: bool,
@@ -45,7 +48,8 @@ pub fn accept(
     delay: f64,
 ) -> Accepted
     ensures { λ r. ⌜ r ≡ acceptedOf (verdict own lent state (length (now (ring .entry))) input delay) state delay ⌝ }
-    ensures { λ r. ⌜ now (ring .exit) ≡ ringAfter (verdict own lent state (length (now (ring .entry))) input delay) state (now (ring .entry)) input ⌝ }
+    ensures { λ r. ⌜ now (ring .exit) ≡
+        ringAfter (verdict own lent state (length (now (ring .entry))) input delay) state (now (ring .entry)) input ⌝ }
 {
     let len = ring.len();
     let needed = ring::length_for(state.maximum, state.margin);

@@ -2,7 +2,8 @@
 ghost use mathlib.Core.Path.{_≡_};
 ghost use mathlib.Core.Bool.{_&&_};
 ghost use lib.Dec.{eqb};
-ghost use Rattle.variable_delay.specs.Reader.{verdict, dueOf};
+ghost use Rattle.variable_delay.specs.Reader.{verdict};
+ghost use Rattle.variable_delay.specs.Inner.{dueOf};
 use super::VariableDelay;
 use constants::LIMIT;
 use constants::LIMIT_F64;
@@ -23,7 +24,7 @@ pub fn refusal(
     due(needed, own, lent, len, state.accepted, input, delay)
 }
 
-// The same for the length that the settings need, 0 where they are out of range.
+// The same, given the length that the settings need, 0 if they are out of range.
 pub(crate) fn due(
     needed: usize,
     own: bool,
@@ -45,7 +46,7 @@ pub(crate) fn due(
     answer::first(t1, t2, t3, t4, t5, t6, true, t8)
 }
 
-// Whether none is due, which asks less: a delay from 0 to 2^36 is finite, and a count below 2^36 is in range.
+// Whether no refusal is due, by fewer tests: a delay from 0 to 2^36 is finite, and a count below 2^36 is in range.
 pub(crate) fn passes(
     needed: usize,
     own: bool,

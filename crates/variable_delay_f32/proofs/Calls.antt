@@ -1,5 +1,5 @@
--- A call at f32: its record and its answer, for the laws of variable_delay's Widths, which each kernel's f32 reader cites. An answer's number is the
--- verdict (C4). Assumes nothing.
+-- A call at f32: its record and its answer, for the laws of variable_delay's AnyWidth, which each kernel's f32 reader
+-- cites. An answer's number is the verdict (C4). Assumes nothing.
 use mathlib.Core.Path.{_≡_, refl}
 use mathlib.Core.List.{List}
 use Prim.Native.Nat.{ℕ, suc}
@@ -18,5 +18,6 @@ made d r = record { state = d; answer = r }
 pub silent : (k : ℕ) (z w : Float) → answerF32Of (suc k) z ≡ answerF32Of (suc k) w
 silent k z w = refl
 
-pub number-processed : (read : Reading) (v : ℕ) (d : VariableDelay) (xs : List Float) (x y : Float) → numberF32Of (processedF32By read v d xs x y .answer) ≡ v
+pub number-processed : (read : Reading) (v : ℕ) (d : VariableDelay) (xs : List Float) (x y : Float)
+    → numberF32Of (processedF32By read v d xs x y .answer) ≡ v
 number-processed read v d xs x y = number-f32-is v _

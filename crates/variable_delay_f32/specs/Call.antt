@@ -1,5 +1,5 @@
--- A call of a reader over f32 samples, over what its kernel reads: verdict, ring and state are those of variable_delay, whose values are floats of either width.
--- Definitions only.
+-- A call of a reader over f32 samples, over what its kernel reads. The verdict, ring and state are those of
+-- variable_delay, whose values are floats of either width. Definitions only.
 use Prim.Native.Nat.{ℕ, _+_}
 use mathlib.Core.List.{List}
 use lib.Ieee.{Float}

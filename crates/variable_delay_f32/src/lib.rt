@@ -1,10 +1,12 @@
-// 000's VariableDelayF32: variable_delay over a ring of f32. The state and what opening answers are variable_delay's; the delay and the position stay f64.
+// The original's VariableDelayF32 (000): `variable_delay` over a ring of f32.
+// The state and the answer of an opening are variable_delay's; the delay and the position stay f64.
 mod served; // a call of which nothing is to be refused
 
 ghost use mathlib.Core.Path.{_≡_};
 ghost use mathlib.Core.Bool.{_&&_};
 ghost use lib.ListN.{length};
-ghost use Rattle.variable_delay.specs.Reader.{verdict, acceptedOf, ringAfter};
+ghost use Rattle.variable_delay.specs.Reader.{verdict, ringAfter};
+ghost use Rattle.variable_delay.specs.Inner.{acceptedOf};
 ghost use Rattle.variable_delay.specs.Opening.{openedOf, ringOpened, resetOf, ringReset};
 use answer::AnswerF32;
 use constants::LIMIT;
@@ -55,7 +57,8 @@ pub fn reset(state: VariableDelay, ring: &mut [f32]) -> Opened
     })
 }
 
-// The refusal that is due, in 01's order, and 0 for none. A common call is told by fewer tests than the order has.
+// The refusal that is due, in 01's order, 0 for none. Most calls are accepted, which fewer tests than the order has can
+// tell.
 pub fn refusal(
     state: VariableDelay,
     own: bool,
@@ -81,7 +84,7 @@ pub fn refusal(
     answer::first(t1, t2, t3, t4, t5, t6, true, t8)
 }
 
-// Refuses, or stores the sample: what is left is to read at the position.
+// Refuses, or stores the sample; the caller then reads at the position.
 pub fn accept(
     state: VariableDelay,
     own: bool,
@@ -91,7 +94,8 @@ pub fn accept(
     delay: f64,
 ) -> Accepted
     ensures { λ r. ⌜ r ≡ acceptedOf (verdict own lent state (length (now (ring .entry))) input delay) state delay ⌝ }
-    ensures { λ r. ⌜ now (ring .exit) ≡ ringAfter (verdict own lent state (length (now (ring .entry))) input delay) state (now (ring .entry)) input ⌝ }
+    ensures { λ r. ⌜ now (ring .exit) ≡
+        ringAfter (verdict own lent state (length (now (ring .entry))) input delay) state (now (ring .entry)) input ⌝ }
 {
     let len = ring.len();
     let no = refusal(state, own, lent, len, input, delay);

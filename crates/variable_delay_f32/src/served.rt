@@ -1,4 +1,4 @@
-// The tests of a common call, which passes them all: each leads away at once, and none of them picks a number.
+// Fast path: true only if no refusal is due. Returns at the first failing test; `refusal` works out the number.
 ghost use mathlib.Core.Path.{_≡_};
 ghost use mathlib.Core.Bool.{true};
 ghost use Rattle.variable_delay.specs.Reader.{verdict};
@@ -6,7 +6,8 @@ use constants::LIMIT;
 use constants::LIMIT_F64;
 use variable_delay::VariableDelay;
 
-// Whether nothing is to be refused. A delay between two finite numbers is finite; a ring that is empty has no settings.
+// Whether no refusal is due. A delay between two finite numbers is finite; an empty ring never has the length that
+// settings need.
 pub(crate) fn served(
     state: VariableDelay,
     own: bool,

@@ -10,8 +10,8 @@ pub use finding::finish;
 pub use first_tests::is_wave;
 use first_tests::past;
 use first_tests::within;
+use little_endian::two;
 use sample_kind::SampleKind;
-use short_words::two;
 use wav_format::tag_of;
 use word_bytes::low_first_u32;
 

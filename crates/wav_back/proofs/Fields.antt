@@ -7,7 +7,7 @@ use native.Mathlib.Omega.{arith}
 use lib.ListN.{take, drop}
 use lib.Seq.{take-take}
 use Rattle.word_bytes.specs.Bytes.{lowBytes, bytesValue}
-use Rattle.word_bytes.proofs.Back.{bytes-back}
+use Rattle.word_bytes.proofs.ReadBack.{bytes-back}
 use Rattle.sample_kind.specs.declared.SampleKind.{SampleKind}
 use Rattle.sample_kind.specs.Kinds.{widthOf, frameOf}
 use Rattle.wav_format.specs.Format.{number}

@@ -4,7 +4,7 @@ use mathlib.Core.Path.{_≡_, refl, ap, _∙_}
 use mathlib.Core.List.{List, [], _++_}
 use Prim.Native.Nat.{ℕ, _+_, _-_, _/_, _^_, _<_}
 use Rattle.word_bytes.specs.Bytes.{lowBytes, bytesValue}
-use Rattle.word_bytes.proofs.Back.{bytes-back}
+use Rattle.word_bytes.proofs.ReadBack.{bytes-back}
 use Rattle.sample_kind.specs.declared.SampleKind.{SampleKind}
 use Rattle.sample_kind.specs.declared.SampleKind.the-variants.{Pcm16, Pcm24, Float32}
 use Rattle.riff_chunks.specs.declared.Chunk.{Chunk}

@@ -16,7 +16,7 @@ use lib.Ieee.Fits.{round-fits}
 use lib.Ieee.Scale.{finite}
 use Rattle.rounding.specs.Operations.{narrowed}
 use Rattle.word_bytes.specs.Bytes.{lowBytes, bytesValue}
-use Rattle.word_bytes.proofs.Back.{bytes-back}
+use Rattle.word_bytes.proofs.ReadBack.{bytes-back}
 use Rattle.sample_kind.specs.declared.SampleKind.{SampleKind}
 use Rattle.sample_kind.specs.declared.SampleKind.the-variants.{Pcm16, Pcm24, Float32}
 use Rattle.sample_kind.specs.Kinds.{widthOf}

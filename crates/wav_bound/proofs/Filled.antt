@@ -12,7 +12,7 @@ use lib.IntN.{ℤ, pos, negsuc}
 use lib.Signed.{mag}
 use lib.ListN.{length}
 use lib.Ieee.{Float, Format}
-use Rattle.loops.specs.Loops.{listOf}
+use Rattle.loop_laws.specs.Loops.{listOf}
 use Rattle.cubic_bound.specs.Desk.{WholeSample, WholeSamples, none, also}
 use Rattle.report_tests.specs.Tests.{in24, all24}
 use Rattle.sample_kind.specs.declared.SampleKind.{SampleKind}
@@ -22,7 +22,7 @@ use Rattle.wav_format.specs.Format.{number}
 use Rattle.whole_samples.proofs.Signs.{units-small}
 use Rattle.wav_samples.specs.Samples.{sampleOf, isPcm, wholeNumber}
 use Rattle.wav_samples.specs.Filling.{verdict, wholeVerdict, framesOf, filled, filledWhole}
-use Rattle.wav_bound.proofs.Suits.{suits}
+use Rattle.wav_bound.proofs.PcmIsWhole.{suits}
 
 -- the sample at a place, by the kind
 pub whole-sample : (f : Format) (kind : SampleKind) → isPcm kind ≡ true → (b : List ℕ) (at : ℕ)

@@ -1,3 +1,3 @@
-pub mod Suits
+pub mod PcmIsWhole
 pub mod Filled
 pub mod Files

@@ -2,9 +2,9 @@
 ghost use mathlib.Core.Path.{_≡_};
 ghost use mathlib.Core.Bool.{_&&_, _||_};
 ghost use Rattle.wav_format.specs.Format.{listed, kindOf, wholeFrames, formatOk};
+use little_endian::two;
 use refusal_order::both;
 use sample_kind::SampleKind;
-use short_words::two;
 
 // 13, by the tag that was told.
 pub fn format_ok(tag: u32, f: &[u8], size: usize, samples: usize) -> bool

@@ -1,8 +1,8 @@
 // W1. How a reading tells the tag from the body of a `fmt ` and its size.
 ghost use mathlib.Core.Path.{_≡_};
 ghost use Rattle.wav_format.specs.Tags.{standardTail, wraps, wrappedTag, tagBy};
+use little_endian::two;
 use refusal_order::both;
-use short_words::two;
 use word_bytes::low_first_u32;
 
 // The tag as it stands, or, where wrapped kinds are taken, the one inside.

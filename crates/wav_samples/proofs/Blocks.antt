@@ -10,9 +10,9 @@ use lib.Bits.{bitOr, or-mod, or-add-and, and-le-l, and-le-r}
 use lib.Ieee.{binary32, ofBits}
 use lib.ListN.{length, getD, take, drop, length-append, length-drop}
 use lib.Seq.{take-at, length-take-le}
-use Rattle.loops.specs.Loops.{listOf}
-use Rattle.loops.proofs.Lists.{length-list, element, same-list}
-use Rattle.loops.proofs.Writing.{Written, all-written}
+use Rattle.loop_laws.specs.Loops.{listOf}
+use Rattle.loop_laws.proofs.Lists.{length-list, element, same-list}
+use Rattle.loop_laws.proofs.Writing.{Written, all-written}
 use Rattle.wav_samples.specs.Frames.{Whole, Inside, NoneAbove}
 use Rattle.wav_samples.proofs.Framing.{place}
 

@@ -7,7 +7,7 @@ use Prim.Native.Nat.{ℕ, _-_, _*_, _^_, _<_}
 use lib.Dec.{lit≤}
 use lib.Ieee.{Format, nan, binary32, nanBits, toBits}
 use lib.Ieee.Exact.{HasValue}
-use Rattle.patterns.proofs.Quiet.{bits-back}
+use Rattle.bit_patterns.proofs.Quiet.{bits-back}
 use Rattle.sample_kind.specs.declared.SampleKind.{SampleKind}
 use Rattle.sample_kind.specs.declared.SampleKind.the-variants.{Pcm16, Pcm24, Float32}
 use Rattle.sample_kind.specs.Kinds.{widthOf}

@@ -6,7 +6,7 @@ use lib.Dec.{eqb, leb, ltb}
 use lib.IntN.{ℤ}
 use lib.ListN.{length}
 use lib.Ieee.{Float, Format}
-use Rattle.loops.specs.Loops.{listOf}
+use Rattle.loop_laws.specs.Loops.{listOf}
 use Rattle.refusal_order.specs.Order.{_unless_, firstOf}
 use Rattle.sample_kind.specs.declared.SampleKind.{SampleKind}
 use Rattle.sample_kind.specs.Kinds.{frameOf}

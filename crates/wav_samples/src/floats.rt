@@ -5,7 +5,7 @@ ghost use mathlib.Core.Path.{_≡_};
 ghost use Prim.Native.Nat.{ℕ, _%_, _≤_};
 ghost use lib.ListN.{length, getD};
 ghost use lib.Ieee.{binary32, binary64, ofBits};
-ghost use Rattle.loops.specs.Loops.{listOf};
+ghost use Rattle.loop_laws.specs.Loops.{listOf};
 ghost use Rattle.sample_kind.specs.declared.SampleKind.the-variants.{Float32};
 ghost use Rattle.wav_samples.specs.Samples.{sampleOf};
 ghost use Rattle.wav_samples.specs.Filling.{framesOf};

@@ -81,7 +81,7 @@ fn float32(frame: usize, first: usize, part: &[u8], out: &mut [f32])
 {
     let mut k: usize = 0;
     while k < out.len() {
-        out[k] = patterns::float_of_f32(four_at(part, k * frame + first));
+        out[k] = bit_patterns::float_of_f32(four_at(part, k * frame + first));
         k += 1;
     }
 }

@@ -11,9 +11,9 @@ mod frames_whole; // into i32
 mod no_nan; // whether a block of floats holds no NaN
 mod places; // the bytes of a sample whose place is known to lie in the part
 
+use little_endian::three;
+use little_endian::two;
 use sample_kind::SampleKind;
-use short_words::three;
-use short_words::two;
 use word_bytes::low_first_u32;
 
 // The sample whose first byte stands at a place of the part.
@@ -33,7 +33,7 @@ pub fn sample_f32(kind: SampleKind, part: &[u8], at: usize) -> f32
     match kind {
         SampleKind::Pcm16 => whole_samples::pcm16_f32(two(part, at)),
         SampleKind::Pcm24 => whole_samples::pcm24_f32(three(part, at)),
-        SampleKind::Float32 => patterns::float_of_f32(low_first_u32(part, at)),
+        SampleKind::Float32 => bit_patterns::float_of_f32(low_first_u32(part, at)),
     }
 }
 

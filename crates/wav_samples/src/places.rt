@@ -5,9 +5,9 @@ ghost use mathlib.Core.Path.{_≡_};
 ghost use Prim.Native.Nat.{_+_, _≤_};
 ghost use lib.ListN.{length};
 ghost use Rattle.wav_format.specs.Format.{number};
-use short_words::of_four;
-use short_words::of_three;
-use short_words::of_two;
+use little_endian::of_four;
+use little_endian::of_three;
+use little_endian::of_two;
 
 pub(crate) fn two_at(part: &[u8], at: usize) -> u32
     requires { ⌜ at + 2 ≤ length (now part) ⌝ }

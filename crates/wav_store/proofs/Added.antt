@@ -14,7 +14,7 @@ use lib.Ieee.{Float, fin, binary64, round, mul, lt, ofBits, ofFields, odd}
 use lib.Ieee.Exact.{HasValue, round-exact}
 use lib.Ieee.Positive.{positive-of-value, mul-at}
 use Rattle.rounding.proofs.Comparing.{lt-units}
-use Rattle.rounding.proofs.Orders.{lt-or-ge}
+use Rattle.rounding.proofs.NumberOrders.{lt-or-ge}
 use Rattle.narrowing.proofs.Patterns.{value}
 use Rattle.wav_store.specs.Inner.{leastAdded}
 

@@ -8,8 +8,8 @@ use native.Mathlib.Omega.{arith}
 use borrow.Author.Tests.{eq-eqb}
 use lib.ListN.{length}
 use lib.Ieee.{Format}
-use Rattle.loops.specs.Loops.{listOf}
-use Rattle.loops.proofs.Lists.{length-list, same-list}
+use Rattle.loop_laws.specs.Loops.{listOf}
+use Rattle.loop_laws.proofs.Lists.{length-list, same-list}
 use Rattle.sample_kind.specs.declared.SampleKind.{SampleKind}
 use Rattle.sample_kind.specs.Kinds.{widthOf, frameOf}
 use Rattle.wav_samples.specs.Samples.{sampleOf}

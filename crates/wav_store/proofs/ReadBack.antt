@@ -12,10 +12,10 @@ use lib.ListN.{length, take, drop, getD, length-take, length-drop, List·getD-eq
 use lib.Seq.{take-add, take-all, getD-take, getD-drop}
 use lib.Ieee.{Float, Format}
 use lib.Ieee.Scale.{finite}
-use Rattle.rounding.proofs.Orders.{lt-or-ge, and-true}
+use Rattle.rounding.proofs.NumberOrders.{lt-or-ge, and-true}
 use Rattle.rounding.proofs.Values.{value-finite}
-use Rattle.loops.specs.Loops.{listOf}
-use Rattle.loops.proofs.Lists.{element}
+use Rattle.loop_laws.specs.Loops.{listOf}
+use Rattle.loop_laws.proofs.Lists.{element}
 use Rattle.word_bytes.specs.Bytes.{lowBytes, bytesValue}
 use Rattle.sample_kind.specs.declared.SampleKind.{SampleKind}
 use Rattle.sample_kind.specs.declared.SampleKind.the-variants.{Pcm16, Pcm24, Float32}

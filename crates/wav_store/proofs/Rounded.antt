@@ -18,13 +18,13 @@ use lib.Ieee.Nearest.{closest}
 use lib.Ieee.Scale.{finite}
 use Rattle.rounding.specs.Operations.{narrowed}
 use Rattle.rounding.proofs.Adding.{add-units, minus}
-use Rattle.rounding.proofs.Closest.{closest-ge, closest-le, closest-shift}
-use Rattle.rounding.proofs.Dropped.{round-finer}
-use Rattle.rounding.proofs.Orders.{lt-or-ge, clash}
+use Rattle.rounding.proofs.NearestWhole.{closest-ge, closest-le, closest-shift}
+use Rattle.rounding.proofs.DroppedDigits.{round-finer}
+use Rattle.rounding.proofs.NumberOrders.{lt-or-ge, clash}
 use Rattle.rounding.proofs.Sums.{sum-like, sum-over}
 use Rattle.rounding.proofs.Units.{units-over, toBits-value}
 use Rattle.rounding.proofs.Values.{rescale, neg-value, value-finite}
-use Rattle.rounding.proofs.Own.{value-unique}
+use Rattle.rounding.proofs.RoundsToItself.{value-unique}
 use Rattle.narrowing.proofs.Patterns.{exponent, count, under, value, narrows}
 use Rattle.stored_samples.proofs.Halves.{closest-less}
 

@@ -14,7 +14,7 @@ use lib.Ieee.{Float, nan, inf, fin, binary64, fits, lt, isNan, ofBits, toBits}
 use lib.Ieee.Bits.{is-true, ofBits-toBits, toBits-lt}
 use lib.Ieee.Scale.{finite}
 use Rattle.rounding.specs.Operations.{narrowed}
-use Rattle.rounding.proofs.Orders.{lt-or-ge}
+use Rattle.rounding.proofs.NumberOrders.{lt-or-ge}
 use Rattle.rounding.proofs.Patterns.{sign-rest}
 use Rattle.sample_kind.specs.declared.SampleKind.the-variants.{Float32}
 use Rattle.stored_samples.specs.Stored.{fitsIn}

@@ -12,7 +12,7 @@ use lib.Ieee.{Float}
 use lib.Ieee.Bits.{is-true}
 use lib.Ieee.Fits.{and-i, and-l, and-r}
 use denote.Floats.{passes}
-use Rattle.rounding.proofs.Orders.{same-test}
+use Rattle.rounding.proofs.NumberOrders.{same-test}
 use Rattle.sample_kind.specs.declared.SampleKind.{SampleKind}
 use Rattle.sample_kind.specs.declared.SampleKind.the-variants.{Pcm16, Pcm24, Float32}
 use Rattle.sample_kind.specs.Kinds.{widthOf}

@@ -4,7 +4,7 @@ use mathlib.Core.List.{List}
 use lib.Dec.{T}
 use lib.Ieee.{Float, Format}
 use lib.Ieee.Scale.{finite}
-use Rattle.loops.specs.Loops.{listOf}
+use Rattle.loop_laws.specs.Loops.{listOf}
 use Rattle.sample_kind.specs.declared.SampleKind.{SampleKind}
 use Rattle.sample_kind.specs.Kinds.{widthOf}
 use Rattle.wav_samples.specs.Samples.{sampleOf}

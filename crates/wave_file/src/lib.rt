@@ -3,10 +3,10 @@
 // a recording, so other layouts are read here too when they come. What a file says is proved in wav_turns; no contract
 // can say what a call of C's reads.
 use libc::SEEK_END;
+use little_endian::two;
 use riff_chunks::Walked;
 use riff_chunks::Walking;
 use sample_kind::SampleKind;
-use short_words::two;
 use sizes::begun;
 use sizes::fewer;
 use sizes::quotient;

@@ -16,7 +16,8 @@ size w n = cond (negative w n) (2 ^ w - n % 2 ^ w) (n % 2 ^ w)
 abbrev pub signed : ℕ → ℕ → ℤ
 signed w n = cond (negative w n) (negℤ (pos (size w n))) (pos (size w n))
 
--- signed w n / 2^(w-1), as a value of the format. Up to 24 digits nothing is rounded off: `whole_samples`' law `exact`.
+-- `signed w n` / 2^(w-1), as a value of the format. Up to 24 digits nothing is rounded off: `whole_samples`' law
+-- `exact`.
 unfoldable pub wholeOf : Format → ℕ → ℕ → Float
 unfolding round
 wholeOf f w n = round f (negative w n) (size w n) (2 ^ (w - 1))

@@ -1,10 +1,10 @@
-// W1. A stored PCM sample as a float and as a whole number: of its digits the last 16 or 24 count, in two's complement.
-// Nothing is rounded off.
+// A stored PCM sample as a float and as a whole number (W1).
+// Of its digits the last 16 or 24 count, in two's complement; nothing is rounded off.
 ghost use mathlib.Core.Path.{_≡_};
 ghost use lib.Ieee.{binary32, binary64};
 ghost use Rattle.whole_samples.specs.Whole.{signed, wholeOf, unitsOf};
 
-// Half the range is added and taken off again, without a branch: compiled, this is a sign extension.
+// Half the range is added and taken off again, without a branch; compiled, this is a sign extension.
 pub fn signed16(n: u32) -> i32
     ensures { λ r. ⌜ r ≡ signed 16 n ⌝ }
 {

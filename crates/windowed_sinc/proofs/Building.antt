@@ -6,16 +6,16 @@ use native.Mathlib.Nat.{add-mul, one-mul, mul-le-mul-right}
 use native.Mathlib.Omega.{arith}
 use lib.ListN.{length, take}
 use lib.Ieee.{Float}
-use Rattle.loops.specs.Loops.{listOf}
-use Rattle.loops.proofs.Lists.{length-list}
-use Rattle.loops.proofs.Scratch.{front-fits, front-again}
+use Rattle.loop_laws.specs.Loops.{listOf}
+use Rattle.loop_laws.proofs.Lists.{length-list}
+use Rattle.loop_laws.proofs.Scratch.{front-fits, front-again}
 use Rattle.sinc_settings.specs.declared.Settings.{Settings}
-use Rattle.sinc_settings.proofs.Accepted.{counts, accepted}
-use Rattle.sinc_settings.proofs.Fitting.{Fitting}
+use Rattle.sinc_settings.proofs.SettingsInRange.{counts, accepted}
+use Rattle.sinc_settings.proofs.BuilderAccepted.{Fitting}
 use Rattle.bessel.specs.declared.Mode.{Mode}
 use Rattle.sinc_row.specs.Coefficient.{windowIn}
 use Rattle.sinc_row.specs.Row.{at, windowAfterIn}
-use Rattle.sinc_row.proofs.Lent.{scratch, window-made, rows-lent}
+use Rattle.sinc_row.proofs.WrittenRows.{scratch, window-made, rows-lent}
 use Rattle.windowed_sinc.specs.Table.{tableUnder, tableIn}
 
 module _ {s : Settings} {len : ℕ} (lent : Fitting s len) where

@@ -4,7 +4,7 @@ use Prim.Native.Nat.{ℕ, _+_, _*_, _≤_, _<_}
 use native.Mathlib.Omega.{arith}
 use lib.ListN.{length, getD, take, drop}
 use lib.Ieee.{nan, binary64, div}
-use Rattle.loops.proofs.Rows.{length-rows, row, cell}
+use Rattle.loop_laws.proofs.Rows.{length-rows, row, cell}
 use Rattle.sinc_settings.specs.declared.Settings.{Settings}
 use Rattle.sinc_settings.specs.Refusals.{tableLength}
 use Rattle.bessel.specs.declared.Mode.{Mode}

@@ -3,7 +3,7 @@
 use Prim.Native.Nat.{ℕ, zero, suc, _+_}
 use mathlib.Core.List.{List}
 use lib.Ieee.{Float}
-use Rattle.loops.specs.Loops.{rows}
+use Rattle.loop_laws.specs.Loops.{rows}
 use Rattle.sinc_settings.specs.declared.Settings.{Settings}
 use Rattle.bessel.specs.declared.Mode.{Mode}
 use Rattle.bessel.specs.declared.Mode.the-variants.{Ported}

@@ -5,7 +5,7 @@ use Prim.Native.Nat.{ℕ, _+_, _*_, _≤_, _<_}
 use lib.ListN.{length, getD, length-map, List·getD-map, take, drop}
 use lib.Ieee.{nan, binary64, div}
 use Rattle.rounding.specs.Operations.{narrowed}
-use Rattle.loops.proofs.Mapped.{map-part}
+use Rattle.loop_laws.proofs.Mapped.{map-part}
 use Rattle.sinc_settings.specs.declared.Settings.{Settings}
 use Rattle.sinc_settings.specs.Refusals.{tableLength}
 use Rattle.bessel.specs.declared.Mode.{Mode}

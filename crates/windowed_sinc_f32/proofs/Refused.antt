@@ -1,4 +1,5 @@
--- A refused build says so, and the answer's number is the verdict (C4); that nothing is written is windowed_sinc's law. Assumes nothing.
+-- A refused build says so, and the answer's number is the verdict (C4); that nothing is written is windowed_sinc's law.
+-- Assumes nothing.
 use mathlib.Core.Path.{_≡_, refl}
 use Prim.Native.Nat.{ℕ, zero, suc}
 use Rattle.sinc_settings.specs.declared.Settings.{Settings}

@@ -1,2 +1,2 @@
 pub mod Rows
-pub mod Back
+pub mod ReadBack

@@ -28,11 +28,13 @@ hex-written xs k v h =
     let l : k < suc k = omega arith in
     rw (drop-cons (set xs k g) k 0 s, getD-set-same xs k g 0 h, drop-set-lt (suc k) xs k g l, append-assoc)
 
-pub hex-read : (xs : List ℕ) (i v : ℕ) → i < length xs → hexValue v (drop i xs) ≡ hexValue (v * 16 + digitOf (getD xs i 0)) (drop (suc i) xs)
+pub hex-read : (xs : List ℕ) (i v : ℕ) → i < length xs
+    → hexValue v (drop i xs) ≡ hexValue (v * 16 + digitOf (getD xs i 0)) (drop (suc i) xs)
 unfolding hexValue
 hex-read xs i v h = rw (drop-cons xs i 0 h)
 
-pub byte-read : (xs : List ℕ) (k : ℕ) → k < length xs → bytesValue (drop k xs) ≡ bytesValue (drop (suc k) xs) * 256 + getD xs k 0
+pub byte-read : (xs : List ℕ) (k : ℕ) → k < length xs
+    → bytesValue (drop k xs) ≡ bytesValue (drop (suc k) xs) * 256 + getD xs k 0
 unfolding bytesValue
 byte-read xs k h = rw (drop-cons xs k 0 h)
 

@@ -1,5 +1,6 @@
-// Words as bytes, written and read: as text, in hex digits of which the letters are capitals and the highest comes first, and low byte first (X1, X2).
-// A slice may be of any length and a place may lie past its end: reading takes the digits that are there.
+// Words as bytes, low byte first, and as text in hex digits, both written and read (X1, X2).
+// Hex digits have capital letters, the highest digit first. A slice may have any length and a place may lie past its
+// end: reading takes what is there.
 mod as_bytes; // low byte first
 mod as_text; // hex digits
 

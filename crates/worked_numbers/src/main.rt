@@ -1,8 +1,9 @@
-// C3. 01's worked numbers that are not marked P, as the compiled functions give them: a name and a value to a line. A float is written by its 16 hex digits.
+// The program that prints document 01's worked numbers that are not marked P, as the compiled functions give them (C3).
+// A line is a name and a value; a float is written by its 16 hex digits.
 use answer::Answer;
+use bit_patterns::bits_of;
 use elementary::Answer as Power;
 use libc::STDOUT_FILENO;
-use patterns::bits_of;
 use variable_delay::VariableDelay;
 
 fn number(name: &[u8], n: u64) {

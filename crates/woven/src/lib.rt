@@ -2,7 +2,7 @@
 ghost use mathlib.Core.Path.{_≡_};
 ghost use lib.ListN.{length, getD};
 ghost use Rattle.constants.specs.Numbers.{zero-f};
-ghost use Rattle.loops.specs.Loops.{listOf};
+ghost use Rattle.loop_laws.specs.Loops.{listOf};
 ghost use Rattle.woven.specs.Woven.{wovenAt};
 
 // A sample by its place; one that is not there is 0.0.

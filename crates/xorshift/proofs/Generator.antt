@@ -1,9 +1,10 @@
--- G8. Every state is a word, and one that is not 0 is followed by one that is not 0: each of the three xor-shifts gives 0 at 0 alone. Assumes nothing.
+-- G8. Every state is a word, and one that is not 0 is followed by one that is not 0: each of the three xor-shifts gives
+-- 0 at 0 alone. Assumes nothing.
 use mathlib.Core.Path.{_≡_}
 use Prim.Native.Nat.{ℕ, _*_, _/_, _%_, _^_, _<_}
-use Rattle.words.specs.Xor.{xor}
-use Rattle.words.proofs.Digitwise.{xor-below}
-use Rattle.words.proofs.XorShifts.{right-zero, left-zero}
+use Rattle.wrapping_u64.specs.Xor.{xor}
+use Rattle.wrapping_u64.proofs.Digitwise.{xor-below}
+use Rattle.wrapping_u64.proofs.XorShifts.{right-zero, left-zero}
 use Rattle.xorshift.specs.Xorshift.{stepOf}
 
 pub step-word : (x : ℕ) → stepOf x < 2 ^ 64

@@ -2,11 +2,12 @@
 use mathlib.Core.Path.{_≡_, refl}
 use mathlib.Core.List.{[], _∷_}
 use Prim.Native.Nat.{_/_, _^_}
-use Rattle.words.specs.Xor.{xorTo}
+use Rattle.wrapping_u64.specs.Xor.{xorTo}
 use Rattle.xorshift.specs.Xorshift.{stepOf, valueOf}
 use Rattle.xorshift.specs.Seeds.{flutterSeedOf}
 
-pub P7 : (stepOf 1 ∷ valueOf (stepOf 1) ∷ valueOf (stepOf 1) / 2 ^ 11 ∷ []) ≡ 0x200_0001 ∷ 0x47E4_CE4B_896C_DD1D ∷ 0x8_FC99_C971_2D9B ∷ []
+pub P7 : (stepOf 1 ∷ valueOf (stepOf 1) ∷ valueOf (stepOf 1) / 2 ^ 11 ∷ [])
+    ≡ 0x200_0001 ∷ 0x47E4_CE4B_896C_DD1D ∷ 0x8_FC99_C971_2D9B ∷ []
 unfolding xorTo stepOf
 P7 = refl
 

@@ -13,9 +13,12 @@ scale53 = div binary64 one (ofBits binary64 0x4340_0000_0000_0000)
 abbrev pub spread : Float
 spread = ofBits binary64 0x3fd6_6666_6666_6666
 
--- The number drawn where the state has become x: the value's 53 highest digits, as a number from 0 to 1, then stretched over -1 to 1.
+-- The number drawn when the state has become x: the value's 53 highest digits as a number from 0 to 1, then stretched
+-- over -1 to 1.
 unfoldable pub bipolarOf : ℕ → Float
-bipolarOf x = let unit = mul binary64 (ofInt binary64 (pos (valueOf x / 2 ^ 11))) scale53 in sub binary64 (mul binary64 unit two) one
+bipolarOf x =
+    let unit = mul binary64 (ofInt binary64 (pos (valueOf x / 2 ^ 11))) scale53 in
+    sub binary64 (mul binary64 unit two) one
 
 -- How fast the next segment is passed.
 unfoldable pub scaleOf : ℕ → Float

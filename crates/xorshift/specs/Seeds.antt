@@ -2,7 +2,7 @@
 use Prim.Native.Nat.{ℕ}
 use mathlib.Core.Bool.{cond}
 use lib.Dec.{eqb}
-use Rattle.words.specs.Xor.{xor}
+use Rattle.wrapping_u64.specs.Xor.{xor}
 
 -- Seed 0 becomes A0761D6478BD642F.
 abbrev pub seedOf : ℕ → ℕ

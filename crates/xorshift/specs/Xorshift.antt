@@ -1,7 +1,8 @@
--- M3. The generator xorshift64*, as published: S. Vigna, "An experimental exploration of Marsaglia's xorshift generators, scrambled", ACM Transactions on
--- Mathematical Software 42(4), 2016: x ^= x >> 12; x ^= x << 25; x ^= x >> 27; return x * 2685821657736338717. Words of 64 digits. Definitions only.
+-- M3. The generator xorshift64*, as published: S. Vigna, "An experimental exploration of Marsaglia's xorshift
+-- generators, scrambled", ACM Transactions on Mathematical Software 42(4), 2016: x ^= x >> 12; x ^= x << 25; x ^= x >>
+-- 27; return x * 2685821657736338717. Words of 64 digits. Definitions only.
 use Prim.Native.Nat.{ℕ, _*_, _/_, _%_, _^_}
-use Rattle.words.specs.Xor.{xor}
+use Rattle.wrapping_u64.specs.Xor.{xor}
 
 abbrev pub shiftedRight : ℕ → ℕ → ℕ
 shiftedRight n x = x / 2 ^ n

@@ -1,4 +1,4 @@
-// M1, M3. The generator xorshift64*: the seeds that 001 starts it from, its step, and the numbers that are made of a draw.
+// The random generator xorshift64*: its seeds, its step, and the numbers that are made of a draw (M1, M3).
 ghost use mathlib.Core.Path.{_≡_};
 ghost use Rattle.xorshift.specs.Xorshift.{stepOf};
 ghost use Rattle.xorshift.specs.Seeds.{seedOf, flutterSeedOf};
@@ -27,7 +27,7 @@ pub fn step(x: u64) -> u64
     ensures { λ r. ⌜ r ≡ stepOf x ⌝ }
 {
     let a = x ^ (x >> 12);
-    let b = a ^ words::shl(a, 25);
+    let b = a ^ wrapping_u64::shl(a, 25);
     b ^ (b >> 27)
 }
 
@@ -35,7 +35,7 @@ pub fn step(x: u64) -> u64
 pub fn bipolar(x: u64) -> f64
     ensures { λ r. ⌜ r ≡ bipolarOf x ⌝ }
 {
-    let value = words::wrapping_mul(x, 0x2545_F491_4F6C_DD1D);
+    let value = wrapping_u64::wrapping_mul(x, 0x2545_F491_4F6C_DD1D);
     let unit = (value >> 11) as f64 * (1.0 / 9007199254740992.0);
     unit * 2.0 - 1.0
 }

@@ -9,7 +9,8 @@ use lib.Ieee.{Float, isNan}
 use Rattle.bank_choice.specs.declared.Choice.{Choice}
 use Rattle.bank_choice.specs.declared.Selected.the-variants.{Refused}
 use Rattle.bank_choice.specs.Rates.{bankOk}
-use Rattle.bank_choice.specs.Choosing.{chosenOf, choiceOf, noChoice, pickChoice, chooseVerdict, selectedBy}
+use Rattle.bank_choice.specs.Choosing.{chosenOf, noChoice, chooseVerdict, selectedBy}
+use Rattle.bank_choice.specs.Inner.{choiceOf, pickChoice}
 use Rattle.bank_choice.proofs.choose.Statement.{statement}
 use Rattle.bank_choice.proofs.choose.Tie as tie
 

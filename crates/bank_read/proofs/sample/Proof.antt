@@ -2,7 +2,7 @@
 use borrow.Author.Needs.{needs}
 use mathlib.Core.Path.{_∙_}
 use denote.Ref.{now}
-use Rattle.bank_read.proofs.Bank.{answered}
+use Rattle.bank_read.proofs.BankReading.{answered}
 use Rattle.bank_read.proofs.sample.Statement.{statement}
 use Rattle.bank_read.proofs.sample.Tie as tie
 
@@ -16,4 +16,6 @@ returns c =
     (answered (a .max-rate) (a .rate) (a .quality) (now (a .sets)) (now (a .source)) (a .count) (a .position))
 
 pub sample-spec : {M : Type 1} → statement M
-sample-spec = tie.close (tie.spec (λ c κs. search needs) (λ c κs. search needs) (λ c κs. search needs) (λ c κs. search needs) returns)
+sample-spec =
+    tie.close (tie.spec (λ c κs. search needs) (λ c κs. search needs) (λ c κs. search needs)
+    (λ c κs. search needs) returns)

@@ -1,4 +1,5 @@
--- `bessel::series` meets its contract: what is still to be added to the loop's sum gives the whole series. Assumes nothing.
+-- `bessel::series` meets its contract: what is still to be added to the loop's sum gives the whole series.
+-- Assumes nothing.
 use borrow.Author.Needs.{needs}
 use mathlib.Core.Path.{_≡_, refl}
 use mathlib.Core.Bool.{Bool, true, false, cond}
@@ -24,9 +25,11 @@ tiny = refl
 -- one turn: the next term, then the end or what follows, as the test says
 turn : (n k : ℕ) (y sum term : Float) {r : Float} (b : Bool) → k < n → sumAfter (n - k) k y sum term ≡ r
     → let next = termOf y (k + 1) term in let more = add binary64 sum next in
-    lt next (mul binary64 more (ofBits binary64 0x3c9c_d2b2_97d8_89bc)) ≡ b → cond b more (sumAfter (n - (k + 1)) (k + 1) y more next) ≡ r
+    lt next (mul binary64 more (ofBits binary64 0x3c9c_d2b2_97d8_89bc)) ≡ b
+    → cond b more (sumAfter (n - (k + 1)) (k + 1) y more next) ≡ r
 unfolding sumAfter
-turn n k y sum term b l h t = let e : n - k ≡ suc (n - (k + 1)) = omega arith in rw (← t, tiny, add-one k) (rw (e, add-one k) at h)
+turn n k y sum term b l h t =
+    let e : n - k ≡ suc (n - (k + 1)) = omega arith in rw (← t, tiny, add-one k) (rw (e, add-one k) at h)
 
 last : (n k : ℕ) (y sum term r : Float) → k ≡ n → sumAfter (n - k) k y sum term ≡ r → sum ≡ r
 unfolding sumAfter
@@ -43,13 +46,23 @@ loop-less : tie.Need-loop-less Inv-loop μ-loop
 loop-less c = omega arith
 
 loop-again : tie.Need-loop-again Inv-loop μ-loop
-loop-again c = let l = c .before .before .before in (omega arith, turn (l .before .args .terms) (l .loop .k) _ (l .loop .sum) (l .loop .term) false (omega arith) (l .loop .inv .1) (c .if2 .left))
+loop-again c =
+    let l = c .before .before .before in (
+      omega arith,
+      turn (l .before .args .terms) (l .loop .k) _ (l .loop .sum) (l .loop .term) false (omega arith) (l .loop .inv .1)
+          (c .if2 .left),
+    )
 
 returns : tie.Need-returns Inv-loop μ-loop
 returns c = last _ _ _ _ (c .before .loop .term) _ (c .if1 .taken) (c .before .loop .inv .1)
 
 returns-2 : tie.Need-returns-2 Inv-loop μ-loop
-returns-2 c = let l = c .before .before .before in turn (l .before .args .terms) (l .loop .k) _ (l .loop .sum) (l .loop .term) true (omega arith) (l .loop .inv .1) (c .if2 .taken)
+returns-2 c =
+    let l = c .before .before .before in
+    turn (l .before .args .terms) (l .loop .k) _ (l .loop .sum) (l .loop .term) true (omega arith) (l .loop .inv .1)
+    (c .if2 .taken)
 
 pub series-spec : {M : Type 1} → statement M
-series-spec = tie.close (tie.spec Inv-loop μ-loop loop-holds (λ c. search needs) int-to-float-n loop-less loop-again returns returns-2)
+series-spec =
+    tie.close (tie.spec Inv-loop μ-loop loop-holds
+    (λ c. search needs) int-to-float-n loop-less loop-again returns returns-2)

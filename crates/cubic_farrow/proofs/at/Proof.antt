@@ -1,4 +1,4 @@
--- `cubic_farrow::at` meets its contract by `Ways`: a position in range has a small integer part. Assumes nothing.
+-- `cubic_farrow::at` meets its contract by `BothWays`: a position in range has a small integer part. Assumes nothing.
 use borrow.Author.Needs.{needs}
 use mathlib.Core.Path.{_≡_, _∙_}
 use Prim.Native.Nat.{_^_, _≤_}
@@ -11,9 +11,9 @@ use mir.Val.{toZ, ofZ}
 use mir.ValLaws.{toZ-ofZ}
 use Rattle.integer_part.specs.Parts.{floorOf}
 use Rattle.integer_part.proofs.Floors.{floor-mag}
-use Rattle.integer_part.proofs.Step.{in-float}
+use Rattle.integer_part.proofs.FloorInside.{in-float}
 use Rattle.ring.proofs.Positions.{position-at-most}
-use Rattle.cubic_farrow.proofs.Ways as ways
+use Rattle.cubic_farrow.proofs.BothWays as ways
 use Rattle.cubic_farrow.proofs.at.Statement.{statement}
 use Rattle.cubic_farrow.proofs.at.Tie as tie
 

@@ -1,4 +1,5 @@
--- `cubic_farrow_f32::at` meets its contract by `Ways`: a position in range has a small integer part. Assumes nothing.
+-- `cubic_farrow_f32::at` meets its contract by `BothWays`: a position in range has a small integer part.
+-- Assumes nothing.
 use borrow.Author.Needs.{needs}
 use mathlib.Core.Path.{_≡_, _∙_}
 use Prim.Native.Nat.{_^_, _≤_}
@@ -11,9 +12,9 @@ use mir.Val.{toZ, ofZ}
 use mir.ValLaws.{toZ-ofZ}
 use Rattle.integer_part.specs.Parts.{floorOf}
 use Rattle.integer_part.proofs.Floors.{floor-mag}
-use Rattle.integer_part.proofs.Step.{in-float}
+use Rattle.integer_part.proofs.FloorInside.{in-float}
 use Rattle.ring.proofs.Positions.{position-at-most}
-use Rattle.cubic_farrow_f32.proofs.Ways as ways
+use Rattle.cubic_farrow_f32.proofs.BothWays as ways
 use Rattle.cubic_farrow_f32.proofs.at.Statement.{statement}
 use Rattle.cubic_farrow_f32.proofs.at.Tie as tie
 
@@ -40,4 +41,5 @@ returns c =
     ways.one-by-one _ _ _ (Z z) (whole z) (n .narrow .result) (n .narrow .ensures) (c .one-by-one .ensures)
 
 pub at-spec : {M : Type 1} → statement M
-at-spec = tie.close (tie.spec (λ c κs. search needs) int-to-float-narrow (λ c κs. search needs) one-by-one-requires returns)
+at-spec =
+    tie.close (tie.spec (λ c κs. search needs) int-to-float-narrow (λ c κs. search needs) one-by-one-requires returns)

@@ -1,4 +1,5 @@
--- `cubic_farrow_f32::single` meets its contract: the pattern of a normal f32 is narrowing's, by `normal-code`, and has no sign. Assumes nothing.
+-- `cubic_farrow_f32::single` meets its contract: the pattern of a normal f32 is narrowing's, by `normal-code`,
+-- and has no sign. Assumes nothing.
 use borrow.Author.Needs.{needs}
 use mathlib.Core.Path.{_≡_, sym, subst, _∙_, ap}
 use mathlib.Core.Bool.{false, not}
@@ -29,7 +30,10 @@ no-nan b r R = subst (λ (z : ℕ). T (not (nanBits binary32 z))) (zero-add r) (
 
 reads : (x : Float) → T (fits binary64 x) → (r : ℕ) → Rounds (toBits binary64 x) r → ofBits binary32 r ≡ narrowed x
 reads x held r R =
-    ap (ofBits binary32) (sym (zero-add r)) ∙ R .reads false ∙ ap (λ (z : ℕ). narrowed (ofBits binary64 z)) (zero-add (toBits binary64 x)) ∙ ap narrowed (ofBits-toBits binary64 x held)
+    ap (ofBits binary32) (sym (zero-add r))
+    ∙ R .reads false
+    ∙ ap (λ (z : ℕ). narrowed (ofBits binary64 z)) (zero-add (toBits binary64 x))
+    ∙ ap narrowed (ofBits-toBits binary64 x held)
 
 float-to-bits-b : tie.Need-float-to-bits-b
 float-to-bits-b c = number (c .args .x) (c .pre)
@@ -63,4 +67,5 @@ returns c = reads _ (held (c .before .before)) _ (rounds c)
 
 pub single-spec : {M : Type 1} → statement M
 single-spec =
-    tie.close (tie.spec float-to-bits-b (λ c. search needs) add-r add-r-2 cast-result float-from-bits-result returns (λ c κs. search needs) (λ c. search needs))
+    tie.close (tie.spec float-to-bits-b (λ c. search needs) add-r add-r-2 cast-result float-from-bits-result returns
+    (λ c κs. search needs) (λ c. search needs))

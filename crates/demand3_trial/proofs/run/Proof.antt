@@ -13,4 +13,7 @@ abbrev μ-loop : tie.MeasureT-loop
 μ-loop samples delays seed ring₀ told₀ turn₀ i₀ ring told turn i = 4096 - i
 
 pub run-spec : {M : Type 1} → statement M
-run-spec = tie.close (tie.spec Inv-loop μ-loop (λ c. search needs) (λ c κs. search needs) (λ c. search needs) (λ c. search needs) (λ c. search needs) (λ c κs. search needs) (λ c. search needs) (λ c. search needs) (λ c. search needs) (λ c. search needs))
+run-spec =
+    tie.close (tie.spec Inv-loop μ-loop (λ c. search needs) (λ c κs. search needs) (λ c. search needs)
+    (λ c. search needs) (λ c. search needs) (λ c κs. search needs) (λ c. search needs) (λ c. search needs)
+    (λ c. search needs) (λ c. search needs))

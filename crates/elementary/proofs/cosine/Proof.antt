@@ -18,11 +18,14 @@ cosine-at-requires c κs = subst T (sym (c .if1 .taken) ∙ tested (c .before)) 
 
 returns : tie.Need-returns
 unfolding cosineOf
-returns c = given (atMost 256 (c .before .before .before .args .x)) (sym (tested (c .before .before)) ∙ c .before .if1 .taken) (c .cosine-at .ensures .0) (c .cosine-at .ensures .1)
+returns c =
+    given (atMost 256 (c .before .before .before .args .x)) (sym (tested (c .before .before)) ∙ c .before .if1 .taken)
+    (c .cosine-at .ensures .0) (c .cosine-at .ensures .1)
 
 returns-2 : tie.Need-returns-2
 unfolding cosineOf
-returns-2 c = let x = c .before .before .args .x in refused (atMost 256 x) (cosineAt x) (sym (tested (c .before)) ∙ c .if1 .left)
+returns-2 c =
+    let x = c .before .before .args .x in refused (atMost 256 x) (cosineAt x) (sym (tested (c .before)) ∙ c .if1 .left)
 
 pub cosine-spec : {M : Type 1} → statement M
 cosine-spec = tie.close (tie.spec (λ c κs. search needs) cosine-at-requires returns returns-2)

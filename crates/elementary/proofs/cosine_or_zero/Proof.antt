@@ -17,11 +17,15 @@ cosine-at-requires c κs = subst T (sym (c .if1 .taken) ∙ tested (c .before)) 
 
 returns : tie.Need-returns
 unfolding cosineOf
-returns c = value-given (atMost 256 (c .before .before .before .args .x)) (sym (tested (c .before .before)) ∙ c .before .if1 .taken) (c .cosine-at .ensures .0)
+returns c =
+    value-given (atMost 256 (c .before .before .before .args .x))
+    (sym (tested (c .before .before)) ∙ c .before .if1 .taken) (c .cosine-at .ensures .0)
 
 returns-2 : tie.Need-returns-2
 unfolding cosineOf
-returns-2 c = let x = c .before .before .args .x in value-refused (atMost 256 x) (cosineAt x) (sym (tested (c .before)) ∙ c .if1 .left)
+returns-2 c =
+    let x = c .before .before .args .x in
+    value-refused (atMost 256 x) (cosineAt x) (sym (tested (c .before)) ∙ c .if1 .left)
 
 pub cosine-or-zero-spec : {M : Type 1} → statement M
 cosine-or-zero-spec = tie.close (tie.spec (λ c κs. tt) cosine-at-requires returns returns-2)

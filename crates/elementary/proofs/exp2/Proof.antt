@@ -18,11 +18,14 @@ power-at-requires c κs = subst T (sym (c .if1 .taken) ∙ tested (c .before)) t
 
 returns : tie.Need-returns
 unfolding exp2Of
-returns c = given (atMost 1 (c .before .before .before .args .x)) (sym (tested (c .before .before)) ∙ c .before .if1 .taken) (c .power-at .ensures .0) (c .power-at .ensures .1)
+returns c =
+    given (atMost 1 (c .before .before .before .args .x)) (sym (tested (c .before .before)) ∙ c .before .if1 .taken)
+    (c .power-at .ensures .0) (c .power-at .ensures .1)
 
 returns-2 : tie.Need-returns-2
 unfolding exp2Of
-returns-2 c = let x = c .before .before .args .x in refused (atMost 1 x) (powerAt x) (sym (tested (c .before)) ∙ c .if1 .left)
+returns-2 c =
+    let x = c .before .before .args .x in refused (atMost 1 x) (powerAt x) (sym (tested (c .before)) ∙ c .if1 .left)
 
 pub exp2-spec : {M : Type 1} → statement M
 exp2-spec = tie.close (tie.spec (λ c κs. search needs) power-at-requires returns returns-2)

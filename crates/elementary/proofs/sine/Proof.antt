@@ -18,11 +18,14 @@ sine-at-requires c κs = subst T (sym (c .if1 .taken) ∙ tested (c .before)) tt
 
 returns : tie.Need-returns
 unfolding sineOf
-returns c = given (atMost 256 (c .before .before .before .args .x)) (sym (tested (c .before .before)) ∙ c .before .if1 .taken) (c .sine-at .ensures .0) (c .sine-at .ensures .1)
+returns c =
+    given (atMost 256 (c .before .before .before .args .x)) (sym (tested (c .before .before)) ∙ c .before .if1 .taken)
+    (c .sine-at .ensures .0) (c .sine-at .ensures .1)
 
 returns-2 : tie.Need-returns-2
 unfolding sineOf
-returns-2 c = let x = c .before .before .args .x in refused (atMost 256 x) (sineAt x) (sym (tested (c .before)) ∙ c .if1 .left)
+returns-2 c =
+    let x = c .before .before .args .x in refused (atMost 256 x) (sineAt x) (sym (tested (c .before)) ∙ c .if1 .left)
 
 pub sine-spec : {M : Type 1} → statement M
 sine-spec = tie.close (tie.spec (λ c κs. search needs) sine-at-requires returns returns-2)

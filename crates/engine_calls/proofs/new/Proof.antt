@@ -1,4 +1,5 @@
--- `engine_calls::new` meets its contract: what the calls ensure, one put into the other; none of them asks anything. Assumes nothing.
+-- `engine_calls::new` meets its contract: what the calls ensure, one put into the other; none of them asks anything.
+-- Assumes nothing.
 use Rattle.engine_calls.proofs.new.Statement.{statement}
 use Rattle.engine_calls.proofs.new.Tie as tie
 

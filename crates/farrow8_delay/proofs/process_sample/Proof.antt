@@ -1,12 +1,12 @@
--- `farrow8_delay::process_sample` meets its contract: `accept` refuses or stores, and what is read behind the stored sample is Farrow8's reading, by the laws over
--- any kernel's reading. Assumes nothing.
+-- `farrow8_delay::process_sample` meets its contract: `accept` refuses or stores, and what is read behind the stored
+-- sample is Farrow8's reading, by the laws over any kernel's reading. Assumes nothing.
 use borrow.Author.Needs.{needs}
 use mathlib.Core.Path.{_∙_, refl}
 use mathlib.Core.Bool.{true}
 use denote.Ref.{now}
 use Rattle.answer.specs.Answers.{answerOf}
 use Rattle.farrow8.specs.Kernel.{farrowAt}
-use Rattle.variable_delay.proofs.Widths.{refused-call, taken-call}
+use Rattle.variable_delay.proofs.AnyWidth.{refused-call, taken-call}
 use Rattle.variable_delay.proofs.Calls.{made, silent}
 use Rattle.farrow8_delay.proofs.process_sample.Statement.{statement}
 use Rattle.farrow8_delay.proofs.process_sample.Tie as tie
@@ -24,7 +24,10 @@ returns-2 c =
     let a = i .before .before .before in
     let s = a .before .before .before .args in
     taken-call made answerOf silent farrowAt true true (s .state) (now (s .ring)) (s .input) (s .delay)
-    (λ f still. refl) (a .accept .ensures) (i .if1 .left) (λ own lent here. c .before .read .ensures ∙ rw here) (c .answered2 .ensures)
+    (λ f still. refl) (a .accept .ensures) (i .if1 .left) (λ own lent here. c .before .read .ensures ∙ rw here)
+    (c .answered2 .ensures)
 
 pub process-sample-spec : {M : Type 1} → statement M
-process-sample-spec = tie.close (tie.spec (λ c κs. search needs) (λ c κs. search needs) (λ c. search needs) returns (λ c κs. search needs) (λ c κs. search needs) (λ c. search needs) returns-2)
+process-sample-spec =
+    tie.close (tie.spec (λ c κs. search needs) (λ c κs. search needs) (λ c. search needs) returns (λ c κs. search needs)
+    (λ c κs. search needs) (λ c. search needs) returns-2)

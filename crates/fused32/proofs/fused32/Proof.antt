@@ -18,9 +18,14 @@ returns c =
     let k = c .before in
     let s = k .before .before .before in
     c .sum32 .ensures
-    ∙ rw (k .before .before .f32-to-f64-with-nan .ensures, k .before .f32-to-f64-with-nan2 .ensures, k .f32-to-f64-with-nan3 .ensures)
+    ∙ rw (
+      k .before .before .f32-to-f64-with-nan .ensures,
+      k .before .f32-to-f64-with-nan2 .ensures,
+      k .f32-to-f64-with-nan3 .ensures,
+    )
     (fused-is (s .args .a) (s .args .b) (s .args .c) (held-a s) (held-b s))
 
 pub fused32-spec : {M : Type 1} → statement M
 fused32-spec =
-    tie.close (tie.spec (λ c κs. search needs) (λ c κs. search needs) (λ c κs. search needs) (λ c κs. search needs) returns)
+    tie.close (tie.spec (λ c κs. search needs) (λ c κs. search needs) (λ c κs. search needs)
+    (λ c κs. search needs) returns)

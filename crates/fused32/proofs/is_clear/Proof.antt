@@ -4,7 +4,7 @@ use native.Mathlib.Omega.{arith}
 use lib.Dec.{T}
 use lib.Ieee.{binary64, fits}
 use Rattle.rounding.proofs.Comparing.{differs-no-nan}
-use Rattle.fused32.proofs.Joined.{nan-tested, small-tested, other-tested}
+use Rattle.fused32.proofs.SumCases.{nan-tested, small-tested, other-tested}
 use Rattle.fused32.proofs.is_clear.Statement.{statement}
 use Rattle.fused32.proofs.is_clear.Tie as tie
 

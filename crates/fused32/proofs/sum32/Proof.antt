@@ -4,10 +4,10 @@ use mathlib.Core.Path.{refl, sym, ap, _∙_, subst}
 use lib.Dec.{T}
 use lib.Ieee.{binary32, binary64, fits, neg, add}
 use lib.Ieee.Scale.{finite}
-use Rattle.rounding.proofs.Mirror.{neg-neg}
+use Rattle.rounding.proofs.SumSymmetry.{neg-neg}
 use Rattle.fused32.specs.Parts.{Short}
-use Rattle.fused32.proofs.Joined.{both, clear-code}
-use Rattle.fused32.proofs.Larger.{short-neg, negatives, negative-bounded, negative-above}
+use Rattle.fused32.proofs.SumCases.{both, clear-code}
+use Rattle.fused32.proofs.LargerPart.{short-neg, negatives, negative-bounded, negative-above}
 use Rattle.fused32.proofs.Parts.{short}
 use Rattle.fused32.proofs.Sums.{sum-under, zero-sum}
 use Rattle.fused32.proofs.sum32.Statement.{statement}
@@ -36,10 +36,18 @@ second c =
 returns : tie.Need-returns
 returns c =
     let a = c .before .before .before in
-    c .narrow .ensures ∙ clear-code (a .args .p) (a .args .c) (held-p a) (held-c a) (c .before .before .is-clear .ensures .clear (c .before .if1 .taken))
+    c .narrow .ensures
+    ∙ clear-code (a .args .p) (a .args .c) (held-p a) (held-c a)
+    (c .before .before .is-clear .ensures .clear (c .before .if1 .taken))
 
 positive-sum-requires : tie.Need-positive-sum-requires
-positive-sum-requires c κs = record { first = first (c .before); second = second (c .before); sum = record { is = refl; bounded = bounded (c .before) }; above = c .if2 .taken }
+positive-sum-requires c κs =
+    record {
+      first = first (c .before);
+      second = second (c .before);
+      sum = record { is = refl; bounded = bounded (c .before) };
+      above = c .if2 .taken;
+    }
 
 positive-sum-requires-2 : tie.Need-positive-sum-requires-2
 positive-sum-requires-2 c κs =
@@ -59,14 +67,20 @@ returns-3 : tie.Need-returns-3
 returns-3 c =
     let e = c .before .before .before in
     let a = e .before .before in
-    ap neg (c .positive-sum2 .ensures ∙ negatives (a .args .p) (a .args .c) (first e) (second e) (bounded e) (c .before .if3 .taken) binary32) ∙ neg-neg (add binary32 (a .args .p) (a .args .c))
+    ap neg (c .positive-sum2 .ensures
+    ∙ negatives (a .args .p) (a .args .c) (first e) (second e) (bounded e) (c .before .if3 .taken) binary32)
+    ∙ neg-neg (add binary32 (a .args .p) (a .args .c))
 
 returns-4 : tie.Need-returns-4
 returns-4 c =
     let e = c .before .before .before in
     let a = e .before .before in
-    c .narrow2 .ensures ∙ zero-sum (a .args .p) (a .args .c) (first e) (second e) (sum-under (a .args .p) (a .args .c) (first e) (second e) (bounded e)) (c .before .before .if2 .left) (c .before .if3 .left)
+    c .narrow2 .ensures
+    ∙ zero-sum (a .args .p) (a .args .c) (first e) (second e)
+    (sum-under (a .args .p) (a .args .c) (first e) (second e) (bounded e)) (c .before .before .if2 .left)
+    (c .before .if3 .left)
 
 pub sum32-spec : {M : Type 1} → statement M
 sum32-spec =
-    tie.close (tie.spec (λ c κs. search needs) (λ c κs. search needs) returns positive-sum-requires (λ c. search needs) positive-sum-requires-2 returns-3 (λ c κs. search needs) returns-4)
+    tie.close (tie.spec (λ c κs. search needs) (λ c κs. search needs) returns positive-sum-requires
+    (λ c. search needs) positive-sum-requires-2 returns-3 (λ c κs. search needs) returns-4)

@@ -5,8 +5,8 @@ use mathlib.Core.Bool.{true, false, _&&_}
 use lib.Ieee.Bits.{is-true}
 use lib.Ieee.Fits.{and-l, and-r}
 use lib.Dec.{T}
-use Rattle.digits.specs.Pattern.{plain}
-use Rattle.fused64.proofs.Cases.{factor-not-plain, addend-not-plain}
+use Rattle.float_digits.specs.Pattern.{plain}
+use Rattle.fused64.proofs.SpecialCases.{factor-not-plain, addend-not-plain}
 use Rattle.fused64.proofs.by_cases.Statement.{statement}
 use Rattle.fused64.proofs.by_cases.Tie as tie
 
@@ -19,8 +19,13 @@ neither c = sym (c .before .is-plain .ensures) ∙ c .if2 .left
 fused-plain-requires : tie.Need-fused-plain-requires
 fused-plain-requires c κs =
     let a = c .before .before .before .before .args in
-    let t : T (plain (a .a) && plain (a .b)) = rw (both (c .before .before)) tt in
-    (is-true (plain (a .a)) (and-l (plain (a .a)) (plain (a .b)) t), (is-true (plain (a .b)) (and-r (plain (a .a)) (plain (a .b)) t), sym (c .before .is-plain .ensures) ∙ c .if2 .taken))
+    let t : T (plain (a .a) && plain (a .b)) = rw (both (c .before .before)) tt in (
+      is-true (plain (a .a)) (and-l (plain (a .a)) (plain (a .b)) t),
+      (
+        is-true (plain (a .b)) (and-r (plain (a .a)) (plain (a .b)) t),
+        sym (c .before .is-plain .ensures) ∙ c .if2 .taken,
+      ),
+    )
 
 returns-2 : tie.Need-returns-2
 returns-2 c =
@@ -31,7 +36,9 @@ returns-3 : tie.Need-returns-3
 returns-3 c =
     let d = c .before in
     let a = d .before .before .before .before .before .args in
-    c .one-nan .ensures ∙ addend-not-plain (a .a) (a .b) (a .c) (both (d .before .before .before)) (neither (d .before)) .1 (d .if3 .left)
+    c .one-nan .ensures
+    ∙ addend-not-plain (a .a) (a .b) (a .c) (both (d .before .before .before)) (neither (d .before)) .1
+    (d .if3 .left)
 
 returns-4 : tie.Need-returns-4
 returns-4 c =

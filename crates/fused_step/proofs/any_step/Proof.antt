@@ -21,7 +21,10 @@ returns c =
     let s = a .before in
     c .f32-to-f64-with-nan3 .ensures
     ∙ f .sum32 .ensures
-    ∙ rw (a .f32-to-f64-with-nan .ensures, b .f32-to-f64-with-nan2 .ensures) (fused-is (s .args .x) (s .args .c) (s .args .sum) (held-x s) (held-c s))
+    ∙ rw (a .f32-to-f64-with-nan .ensures, b .f32-to-f64-with-nan2 .ensures)
+    (fused-is (s .args .x) (s .args .c) (s .args .sum) (held-x s) (held-c s))
 
 pub any-step-spec : {M : Type 1} → statement M
-any-step-spec = tie.close (tie.spec (λ c κs. search needs) (λ c κs. search needs) (λ c κs. search needs) (λ c κs. search needs) returns)
+any-step-spec =
+    tie.close (tie.spec (λ c κs. search needs) (λ c κs. search needs) (λ c κs. search needs)
+    (λ c κs. search needs) returns)

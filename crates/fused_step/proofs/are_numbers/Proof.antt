@@ -7,10 +7,14 @@ use Rattle.fused_step.proofs.are_numbers.Statement.{statement}
 use Rattle.fused_step.proofs.are_numbers.Tie as tie
 
 returns : tie.Need-returns
-returns c = let a = c .before .args in (ap (λ (z : Bool). z || le (a .c) (a .x)) (sym (c .if1 .taken)), λ _. less-numbers (a .x) (a .c) (c .if1 .taken))
+returns c =
+    let a = c .before .args in
+    (ap (λ (z : Bool). z || le (a .c) (a .x)) (sym (c .if1 .taken)), λ _. less-numbers (a .x) (a .c) (c .if1 .taken))
 
 returns-2 : tie.Need-returns-2
-returns-2 c = let a = c .before .args in (ap (λ (z : Bool). z || le (a .c) (a .x)) (sym (c .if1 .left)), at-most-numbers (a .x) (a .c))
+returns-2 c =
+    let a = c .before .args in
+    (ap (λ (z : Bool). z || le (a .c) (a .x)) (sym (c .if1 .left)), at-most-numbers (a .x) (a .c))
 
 pub are-numbers-spec : {M : Type 1} → statement M
 are-numbers-spec = tie.close (tie.spec returns returns-2)

@@ -17,23 +17,33 @@ abbrev least : ℕ
 least = 0x3810_0000_1000_0000
 
 -- past the first test the others tell
-rest : (n : ℕ) → (bitAnd n 0x1fff_ffff ≡ 0 → ⊥) → plain n ≡ (not (ltb (size n) least) && ltb (size n) 0x47e0_0000_1000_0000)
-rest n h = ap (λ (z : Bool). not z && (not (ltb (size n) least) && ltb (size n) 0x47e0_0000_1000_0000)) (ne-eqb (bitAnd n 0x1fff_ffff) 0 h)
+rest : (n : ℕ) → (bitAnd n 0x1fff_ffff ≡ 0 → ⊥)
+    → plain n ≡ (not (ltb (size n) least) && ltb (size n) 0x47e0_0000_1000_0000)
+rest n h =
+    ap (λ (z : Bool). not z && (not (ltb (size n) least) && ltb (size n) 0x47e0_0000_1000_0000))
+    (ne-eqb (bitAnd n 0x1fff_ffff) 0 h)
 
 returns : tie.Need-returns
 returns c =
-    let n = c .before .args .n in
-    (sym (ap (λ (z : Bool). not z && (not (ltb (size n) least) && ltb (size n) 0x47e0_0000_1000_0000)) (eq-eqb (bitAnd n 0x1fff_ffff) 0 (c .if1 .taken))), λ h. absurd (false≢true h))
+    let n = c .before .args .n in (
+      sym (ap (λ (z : Bool). not z && (not (ltb (size n) least) && ltb (size n) 0x47e0_0000_1000_0000))
+          (eq-eqb (bitAnd n 0x1fff_ffff) 0 (c .if1 .taken))),
+      λ h. absurd (false≢true h),
+    )
 
 returns-2 : tie.Need-returns-2
 returns-2 c =
-    let n = c .before .before .args .n in
-    (sym (rest n (c .before .if1 .left) ∙ ap (λ (z : Bool). not z && ltb (size n) 0x47e0_0000_1000_0000) (lt-ltb (size n) least (c .if2 .taken))), λ h. absurd (false≢true h))
+    let n = c .before .before .args .n in (
+      sym (rest n (c .before .if1 .left)
+          ∙ ap (λ (z : Bool). not z && ltb (size n) 0x47e0_0000_1000_0000) (lt-ltb (size n) least (c .if2 .taken))),
+      λ h. absurd (false≢true h),
+    )
 
 returns-3 : tie.Need-returns-3
 returns-3 c =
     let n = c .before .before .args .n in (
-      sym (rest n (c .before .if1 .left) ∙ ap (λ (z : Bool). not z && ltb (size n) 0x47e0_0000_1000_0000) (le-ltb (size n) least (c .if2 .left))),
+      sym (rest n (c .before .if1 .left)
+          ∙ ap (λ (z : Bool). not z && ltb (size n) 0x47e0_0000_1000_0000) (le-ltb (size n) least (c .if2 .left))),
       λ h. record {
         normal = omega (arith, and-mask n 63);
         small = omega (arith, and-mask n 63, ltb-true (bitAnd n (2 ^ 63 - 1)) 0x47e0_0000_1000_0000 h);

@@ -10,7 +10,7 @@ use lib.Ieee.Fits.{add-fits}
 use Rattle.rounding.proofs.Comparing.{differs-no-nan}
 use Rattle.fused_step.specs.Steps.{Numbers}
 use Rattle.fused_step.proofs.Compared.{widens}
-use Rattle.fused_step.proofs.Cut.{half-fits, plain-no-nan}
+use Rattle.fused_step.proofs.QuickPattern.{half-fits, plain-no-nan}
 use Rattle.fused_step.proofs.Steps.{plain-step}
 use Rattle.fused_step.proofs.step.Statement.{statement}
 use Rattle.fused_step.proofs.step.Tie as tie
@@ -39,7 +39,8 @@ float-to-float-s : tie.Need-float-to-float-s
 float-to-float-s c = let b = c .before .before .before in widens (b .args .x) (held-x b) (both (c .before) .first)
 
 float-to-float-s-2 : tie.Need-float-to-float-s-2
-float-to-float-s-2 c = let b = c .before .before .before .before in widens (b .args .c) (held-c b) (both (c .before .before) .second)
+float-to-float-s-2 c =
+    let b = c .before .before .before .before in widens (b .args .c) (held-c b) (both (c .before .before) .second)
 
 float-to-bits-n : tie.Need-float-to-bits-n
 float-to-bits-n c = number c
@@ -48,15 +49,21 @@ add-n : tie.Need-add-n
 add-n c = omega (arith, half-fits (s c) (add-fits binary64 _ _) (number c))
 
 float-from-bits-result : tie.Need-float-from-bits-result
-float-from-bits-result c = let e = c .before .before in plain-no-nan (s e) (add-fits binary64 _ _) (number e) (c .before .is-plain .ensures .1 (c .if3 .taken))
+float-from-bits-result c =
+    let e = c .before .before in
+    plain-no-nan (s e) (add-fits binary64 _ _) (number e) (c .before .is-plain .ensures .1 (c .if3 .taken))
 
 returns-3 : tie.Need-returns-3
 returns-3 c =
     let e = c .before .before in
     let b = e .before .before .before .before .before in
     let a = b .args in
-    plain-step (a .x) (a .c) (a .sum) (s e) (held-x b) (held-c b) (held-sum b) refl (number e) (c .before .is-plain .ensures .1 (c .if3 .taken))
+    plain-step (a .x) (a .c) (a .sum) (s e) (held-x b) (held-c b) (held-sum b) refl (number e)
+    (c .before .is-plain .ensures .1 (c .if3 .taken))
 
 pub step-spec : {M : Type 1} → statement M
 step-spec =
-    tie.close (tie.spec (λ c κs. search needs) (λ c κs. search needs) (λ c. search needs) float-to-float-s float-to-float-s-2 (λ c κs. search needs) (λ c. search needs) float-to-bits-n add-n (λ c κs. search needs) float-from-bits-result returns-3 (λ c κs. search needs) (λ c. search needs))
+    tie.close (tie.spec (λ c κs. search needs) (λ c κs. search needs)
+    (λ c. search needs) float-to-float-s float-to-float-s-2 (λ c κs. search needs)
+    (λ c. search needs) float-to-bits-n add-n (λ c κs. search needs) float-from-bits-result returns-3
+    (λ c κs. search needs) (λ c. search needs))

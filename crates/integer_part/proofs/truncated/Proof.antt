@@ -1,8 +1,9 @@
--- `integer_part::truncated` meets its contract: between the ends the library casts, and the laws of `Ends` say the rest. Assumes nothing.
+-- `integer_part::truncated` meets its contract: between the ends the library casts, and the laws of `CastEnds` say the
+-- rest. Assumes nothing.
 use borrow.Author.Needs.{needs}
 use denote.Floats.{passes}
 use lib.Ieee.{neg, ofBits}
-use Rattle.integer_part.proofs.Ends.{above, under, unordered}
+use Rattle.integer_part.proofs.CastEnds.{above, under, unordered}
 use Rattle.integer_part.proofs.truncated.Statement.{statement}
 use Rattle.integer_part.proofs.truncated.Tie as tie
 

@@ -15,8 +15,8 @@ use Rattle.integer_part.specs.Parts.{floorOf}
 use Rattle.integer_part.proofs.Floors.{floor-mag}
 use Rattle.lagrange.specs.Kernel.{baseOf, lagrangeAt, zero-f}
 use Rattle.lagrange.proofs.Ranges.{Within, within}
-use Rattle.integer_part.proofs.Step.{in-float}
-use Rattle.integer_part.proofs.Shifted.{small, minus-mag, minus-fits}
+use Rattle.integer_part.proofs.FloorInside.{in-float}
+use Rattle.integer_part.proofs.SumsInRange.{small, minus-mag, minus-fits}
 use Rattle.lagrange.proofs.read.Statement.{statement}
 use Rattle.lagrange.proofs.read.Tie as tie
 
@@ -33,7 +33,11 @@ exact : (c : tie.After-floor) → let a = c .before .before .before .before .arg
 exact c =
     let a = c .before .before .before .before .args in
     let r = ranges (c .before) in
-    rw (toZ-ofZ w64 (c .floor .result) (record { sfits = c .floor .ok }), c .floor .ensures, small (a .taps / 2 - 1) (omega (arith, r .most)))
+    rw (
+      toZ-ofZ w64 (c .floor .result) (record { sfits = c .floor .ok }),
+      c .floor .ensures,
+      small (a .taps / 2 - 1) (omega (arith, r .most)),
+    )
 
 floor-near : (c : tie.After-floor) → mag (floorOf (c .before .before .before .before .args .position)) ≤ 2 ^ 36
 floor-near c = floor-mag (2 ^ 36) _ (lit< tt) (ranges (c .before) .near)
@@ -42,13 +46,16 @@ sub-base-2 : tie.Need-sub-base-2
 sub-base-2 c =
     let a = c .before .before .before .before .args in
     let r = ranges (c .before) in
-    subst (λ (z : ℤ). SFits w64 z) (sym (exact c)) (minus-fits (floorOf (a .position)) (a .taps / 2 - 1) (omega (arith, floor-near c, r .most)))
+    subst (λ (z : ℤ). SFits w64 z) (sym (exact c))
+    (minus-fits (floorOf (a .position)) (a .taps / 2 - 1) (omega (arith, floor-near c, r .most)))
 
 based : (c : tie.After-floor) → let a = c .before .before .before .before .args in
-    toZ w64 (ofZ w64 (toZ w64 (ofZ w64 (c .floor .result)) -ℤ toZ w64 (a .taps / 2 - 1))) ≡ baseOf (a .position) (a .taps)
+    toZ w64 (ofZ w64 (toZ w64 (ofZ w64 (c .floor .result)) -ℤ toZ w64 (a .taps / 2 - 1)))
+    ≡ baseOf (a .position) (a .taps)
 based c = toZ-ofZ w64 _ (sub-base-2 c) ∙ exact c
 
-base-near : (c : tie.After-floor) → let a = c .before .before .before .before .args in mag (baseOf (a .position) (a .taps)) ≤ 2 ^ 37
+base-near : (c : tie.After-floor) → let a = c .before .before .before .before .args in
+    mag (baseOf (a .position) (a .taps)) ≤ 2 ^ 37
 base-near c =
     let a = c .before .before .before .before .args in
     let r = ranges (c .before) in
@@ -81,4 +88,6 @@ returns-2 : tie.Need-returns-2
 returns-2 c = rw (← c .before .in-range .ensures, c .if1 .left) nothing
 
 pub read-spec : {M : Type 1} → statement M
-read-spec = tie.close (tie.spec (λ c κs. search needs) (λ c κs. search needs) sub-base (λ c. search needs) sub-base-2 int-to-float-local sum-requires returns returns-2)
+read-spec =
+    tie.close (tie.spec (λ c κs. search needs) (λ c κs. search needs) sub-base
+    (λ c. search needs) sub-base-2 int-to-float-local sum-requires returns returns-2)

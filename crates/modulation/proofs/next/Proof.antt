@@ -9,11 +9,12 @@ use Rattle.oscillator_ranges.specs.Ranges.{sampleRateOk}
 use Rattle.modulation_params.specs.Settings.{paramsOk}
 use Rattle.modulation_engine.specs.Engine.{phasesOk, validEngine}
 use Rattle.modulation.specs.Step.{wowDrift, flutterDrift}
-use Rattle.modulation.proofs.Ready.{ready, found, outside}
+use Rattle.modulation.proofs.VerdictByParts.{ready, found, outside}
 use Rattle.modulation.proofs.next.Statement.{statement}
 use Rattle.modulation.proofs.next.Tie as tie
 
-settings : (c : tie.After-both) → let a = c .before .before .before .args in c .both .result ≡ (sampleRateOk (a .engine .«sample_rate») && paramsOk (a .params))
+settings : (c : tie.After-both) → let a = c .before .before .before .args in
+    c .both .result ≡ (sampleRateOk (a .engine .«sample_rate») && paramsOk (a .params))
 settings c = rw (c .both .ensures, c .before .in-range .ensures, c .before .before .sample-rate-ok .ensures)
 
 -- two tests whose answers are known
@@ -31,10 +32,18 @@ valid c =
     let p = t .before .before .before .before .args .params in
     let second = c .before .before .before .before .before in
     let drawn = second .before .before .before in
-    let wow : drawn .next .result ≡ wowDrift e p = drawn .next .ensures ∙ ap (λ (z : Float). nextOf (e .«wow_drift») z (e .«sample_rate»)) (drawn .before .clamp .ensures) in
-    let flutter : second .next2 .result ≡ flutterDrift e p = second .next2 .ensures ∙ ap (λ (z : Float). nextOf (e .«flutter_drift») z (e .«sample_rate»)) (second .before .clamp2 .ensures) in
-    let drifts = and-is (c .before .before .both2 .ensures) (ap (λ (n : Next). eqb (n .refusal) 0) wow) (ap (λ (n : Next). eqb (n .refusal) 0) flutter) in
-    let tested : c .both3 .result ≡ (phasesOk e && (eqb (wowDrift e p .refusal) 0 && eqb (flutterDrift e p .refusal) 0)) = and-is (c .both3 .ensures) (c .before .phases-ok .ensures) drifts in
+    let wow : drawn .next .result ≡ wowDrift e p =
+    drawn .next .ensures
+    ∙ ap (λ (z : Float). nextOf (e .«wow_drift») z (e .«sample_rate»)) (drawn .before .clamp .ensures) in
+    let flutter : second .next2 .result ≡ flutterDrift e p =
+    second .next2 .ensures
+    ∙ ap (λ (z : Float). nextOf (e .«flutter_drift») z (e .«sample_rate»)) (second .before .clamp2 .ensures) in
+    let drifts =
+    and-is (c .before .before .both2 .ensures) (ap (λ (n : Next). eqb (n .refusal) 0) wow)
+    (ap (λ (n : Next). eqb (n .refusal) 0) flutter) in
+    let tested : c .both3 .result
+    ≡ (phasesOk e && (eqb (wowDrift e p .refusal) 0 && eqb (flutterDrift e p .refusal) 0)) =
+    and-is (c .both3 .ensures) (c .before .phases-ok .ensures) drifts in
     tested ∙ ready e p (sym (settings (t .before)) ∙ t .if1 .taken)
 
 returns : tie.Need-returns
@@ -59,7 +68,11 @@ returns-2 c =
     rw (found _ _ (sym (settings (t .before)) ∙ t .if1 .taken) false (sym (valid (c .before)) ∙ c .if2 .left))
 
 returns-3 : tie.Need-returns-3
-returns-3 c = let a = c .before .before .before .before .args in rw (outside (a .engine) (a .params) (sym (settings (c .before)) ∙ c .if1 .left))
+returns-3 c =
+    let a = c .before .before .before .before .args in
+    rw (outside (a .engine) (a .params) (sym (settings (c .before)) ∙ c .if1 .left))
 
 pub next-spec : {M : Type 1} → statement M
-next-spec = tie.close (tie.spec (λ c κs. tt) (λ c κs. tt) (λ c κs. tt) (λ c κs. tt) (λ c κs. tt) (λ c κs. tt) (λ c κs. tt) (λ c κs. tt) (λ c κs. tt) (λ c κs. tt) (λ c κs. tt) (λ c κs. tt) returns returns-2 returns-3)
+next-spec =
+    tie.close (tie.spec (λ c κs. tt) (λ c κs. tt) (λ c κs. tt) (λ c κs. tt) (λ c κs. tt) (λ c κs. tt) (λ c κs. tt)
+    (λ c κs. tt) (λ c κs. tt) (λ c κs. tt) (λ c κs. tt) (λ c κs. tt) returns returns-2 returns-3)

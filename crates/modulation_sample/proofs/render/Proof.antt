@@ -1,7 +1,8 @@
--- `modulation_sample::render` meets its contract: the amplitudes do not depend on the side, and where the phases of both sides are one, nothing does. Assumes nothing.
+-- `modulation_sample::render` meets its contract: the amplitudes do not depend on the side, and where the phases of
+-- both sides are one, nothing does. Assumes nothing.
 use mathlib.Core.Path.{sym, _∙_}
 use denote.Floats.{passes}
-use Rattle.waves.specs.Waves.{oscillatorDelay}
+use Rattle.oscillator_arithmetic.specs.Arithmetic.{oscillatorDelay}
 use Rattle.modulation_sample.specs.Sample.{renderOf}
 use Rattle.modulation_sample.proofs.Sides.{one-side}
 use Rattle.modulation_sample.proofs.render.Statement.{statement}
@@ -16,7 +17,8 @@ returns c =
     let side = first .before .before in
     let a = side .before .args in
     rw (
-      one-side (a .engine) (a .params) (side .clamp .result) (side .clamp .ensures) (passes _ (sym (test .pairs .ensures) ∙ c .if1 .taken)),
+      one-side (a .engine) (a .params) (side .clamp .result) (side .clamp .ensures)
+          (passes _ (sym (test .pairs .ensures) ∙ c .if1 .taken)),
       shapes .shape-primitive2 .ensures,
       shapes .before .shape-primitive .ensures,
       first .amplitude2 .ensures,
@@ -40,4 +42,6 @@ returns-2 c =
     )
 
 pub render-spec : {M : Type 1} → statement M
-render-spec = tie.close (tie.spec (λ c κs. tt) (λ c κs. tt) (λ c κs. tt) (λ c κs. tt) (λ c κs. tt) (λ c κs. tt) returns (λ c κs. tt) (λ c κs. tt) returns-2)
+render-spec =
+    tie.close (tie.spec (λ c κs. tt) (λ c κs. tt) (λ c κs. tt) (λ c κs. tt) (λ c κs. tt) (λ c κs. tt) returns
+    (λ c κs. tt) (λ c κs. tt) returns-2)

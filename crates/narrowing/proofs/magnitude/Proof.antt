@@ -1,4 +1,5 @@
--- `narrowing::magnitude` meets its contract. `proofs/Patterns.antt` and `proofs/Subnormal.antt` say what each branch computes. Assumes nothing.
+-- `narrowing::magnitude` meets its contract. `proofs/Patterns.antt` and `proofs/Subnormal.antt` say what each branch
+-- computes. Assumes nothing.
 use borrow.Author.Needs.{needs}
 use native.Mathlib.Omega.{arith}
 use Prim.Native.Nat.{_/_, _^_}
@@ -40,4 +41,6 @@ returns-3 c = low-code (c .before .args .b) (omega arith)
 
 pub magnitude-spec : {M : Type 1} → statement M
 magnitude-spec =
-    tie.close (tie.spec returns (λ c. search needs) add-result add-result-2 returns-2 float-from-bits-result float-from-bits-result-2 float-to-bits-result sub-result-2 returns-3)
+    tie.close (tie.spec returns
+    (λ c. search needs) add-result add-result-2 returns-2 float-from-bits-result float-from-bits-result-2
+    float-to-bits-result sub-result-2 returns-3)

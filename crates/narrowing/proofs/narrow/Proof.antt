@@ -3,7 +3,7 @@ use mathlib.Core.Path.{sym, subst}
 use lib.Dec.{T}
 use lib.Ieee.{binary64, fits}
 use Rattle.rounding.proofs.Comparing.{differs-no-nan}
-use Rattle.narrowing.proofs.Signed.{of-nan, size-of, joined-lt, joined-no-nan, joined-reads}
+use Rattle.narrowing.proofs.SignBit.{of-nan, size-of, joined-lt, joined-no-nan, joined-reads}
 use borrow.Author.Needs.{needs}
 use Rattle.narrowing.proofs.narrow.Statement.{statement}
 use Rattle.narrowing.proofs.narrow.Tie as tie
@@ -21,14 +21,22 @@ magnitude-requires : tie.Need-magnitude-requires
 magnitude-requires c κs = size-of (c .before .args .x) (held (c .before)) (c .if1 .left)
 
 cast-result : tie.Need-cast-result
-cast-result c = record { fits = joined-lt (c .before .before .args .x) (held (c .before .before)) (c .magnitude .result) (c .magnitude .ensures) }
+cast-result c =
+    record {
+      fits =
+          joined-lt (c .before .before .args .x) (held (c .before .before)) (c .magnitude .result)
+          (c .magnitude .ensures);
+    }
 
 float-from-bits-result : tie.Need-float-from-bits-result
-float-from-bits-result c = joined-no-nan (c .before .before .args .x) (held (c .before .before)) (c .magnitude .result) (c .magnitude .ensures)
+float-from-bits-result c =
+    joined-no-nan (c .before .before .args .x) (held (c .before .before)) (c .magnitude .result) (c .magnitude .ensures)
 
 returns-2 : tie.Need-returns-2
-returns-2 c = joined-reads (c .before .before .args .x) (held (c .before .before)) (c .magnitude .result) (c .magnitude .ensures)
+returns-2 c =
+    joined-reads (c .before .before .args .x) (held (c .before .before)) (c .magnitude .result) (c .magnitude .ensures)
 
 pub narrow-spec : {M : Type 1} → statement M
 narrow-spec =
-    tie.close (tie.spec returns float-to-bits-n magnitude-requires (λ c. search needs) cast-result float-from-bits-result returns-2)
+    tie.close (tie.spec returns float-to-bits-n magnitude-requires
+    (λ c. search needs) cast-result float-from-bits-result returns-2)

@@ -1,9 +1,10 @@
--- `oscillators::maximum_delay_excursion_samples` meets its contract: test by test it is the definition. Assumes nothing.
+-- `oscillators::maximum_delay_excursion_samples` meets its contract: test by test it is the definition.
+-- Assumes nothing.
 use mathlib.Core.Path.{_≡_, refl}
 use lib.Count.{trailingZeros}
 use lib.Ieee.{binary64, size, span, climb, odd, units, round, div, ofFields, ofBits}
 use Rattle.oscillator_ranges.specs.Constants.{maxShapePrimitive}
-use Rattle.waves.specs.Waves.{excursion}
+use Rattle.oscillator_arithmetic.specs.Arithmetic.{excursion}
 use Rattle.oscillators.proofs.maximum_delay_excursion_samples.Statement.{statement}
 use Rattle.oscillators.proofs.maximum_delay_excursion_samples.Tie as tie
 
@@ -27,4 +28,6 @@ returns c =
     )
 
 pub maximum-delay-excursion-samples-spec : {M : Type 1} → statement M
-maximum-delay-excursion-samples-spec = tie.close (tie.spec (λ c κs. tt) (λ c κs. tt) (λ c κs. tt) (λ c κs. tt) (λ c κs. tt) (λ c κs. tt) (λ c κs. tt) returns)
+maximum-delay-excursion-samples-spec =
+    tie.close (tie.spec (λ c κs. tt) (λ c κs. tt) (λ c κs. tt) (λ c κs. tt) (λ c κs. tt) (λ c κs. tt)
+    (λ c κs. tt) returns)

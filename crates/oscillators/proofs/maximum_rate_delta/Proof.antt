@@ -1,4 +1,5 @@
--- `oscillators::maximum_rate_delta` meets its contract. The loop's invariant: the depths that are left give, from the sum so far, what all give.
+-- `oscillators::maximum_rate_delta` meets its contract. The loop's invariant: the depths that are left give,
+-- from the sum so far, what all give.
 -- The measure is their number. Assumes nothing.
 use borrow.Author.Needs.{needs}
 use borrow.Author.Needs.{scaled-fits}
@@ -8,14 +9,16 @@ use native.Mathlib.Omega.{arith}
 use lib.ListN.{length, drop, drop-of-length-le}
 use lib.Ieee.{neg}
 use Rattle.oscillator_ranges.specs.Constants.{zero}
-use Rattle.waves.specs.Waves.{squaresFrom, rateDelta}
+use Rattle.oscillator_arithmetic.specs.Arithmetic.{squaresFrom, rateDelta}
 use Rattle.oscillators.specs.Answers.{answeredBy, depthsOk}
 use Rattle.oscillators.proofs.Squares.{one-more, passes, fails}
 use Rattle.oscillators.proofs.maximum_rate_delta.Statement.{statement}
 use Rattle.oscillators.proofs.maximum_rate_delta.Tie as tie
 
 abbrev Inv-loop : tie.InvT-loop
-Inv-loop depths sum₀ i₀ sum i = (i ≤ length depths) × (squaresFrom sum (drop i depths) ≡ squaresFrom (neg zero) depths) × (depthsOk (drop i depths) ≡ depthsOk depths)
+Inv-loop depths sum₀ i₀ sum i =
+    (i ≤ length depths) × (squaresFrom sum (drop i depths) ≡ squaresFrom (neg zero) depths)
+    × (depthsOk (drop i depths) ≡ depthsOk depths)
 
 abbrev μ-loop : tie.MeasureT-loop
 μ-loop depths sum₀ i₀ sum i = length depths - i
@@ -37,7 +40,10 @@ unfolding answeredBy
 returns c =
     let l = c .before .before .before in
     let xs = l .before .before .before .args .depths-cents .now in
-    rw (← l .before .loop .inv .2, fails xs (l .before .loop .i) (l .loop-test .taken) (sym (c .before .depth-ok .ensures) ∙ c .if1 .left))
+    rw (
+      ← l .before .loop .inv .2,
+      fails xs (l .before .loop .i) (l .loop-test .taken) (sym (c .before .depth-ok .ensures) ∙ c .if1 .left),
+    )
 
 speed-delta-requires : tie.Need-speed-delta-requires Inv-loop μ-loop
 speed-delta-requires c κs = search needs
@@ -56,7 +62,8 @@ loop-again c =
     let h = l .loop-test .taken in (
       omega arith,
       rw (c .speed-delta .ensures, ← one-more xs i h (l .before .loop .sum)) (l .before .loop .inv .1),
-      rw (← passes xs i h (sym (c .before .before .depth-ok .ensures) ∙ c .before .if1 .taken)) (l .before .loop .inv .2),
+      rw (← passes xs i h (sym (c .before .before .depth-ok .ensures) ∙ c .before .if1 .taken))
+          (l .before .loop .inv .2),
     )
 
 square-root-requires : tie.Need-square-root-requires Inv-loop μ-loop
@@ -71,4 +78,6 @@ returns-2 c =
     rw (← l .before .loop .inv .2, ← l .before .loop .inv .1, c .square-root .ensures, drop-of-length-le xs past)
 
 pub maximum-rate-delta-spec : {M : Type 1} → statement M
-maximum-rate-delta-spec = tie.close (tie.spec Inv-loop μ-loop loop-holds mul-depth shared-slice-read-depth depth-ok-requires speed-delta-requires add-i loop-less loop-again returns square-root-requires returns-2)
+maximum-rate-delta-spec =
+    tie.close (tie.spec Inv-loop μ-loop loop-holds mul-depth shared-slice-read-depth depth-ok-requires
+    speed-delta-requires add-i loop-less loop-again returns square-root-requires returns-2)

@@ -1,5 +1,5 @@
 -- `oscillators::oscillator_delay` meets its contract: test by test it is the definition. Assumes nothing.
-use Rattle.waves.specs.Waves.{oscillatorDelay}
+use Rattle.oscillator_arithmetic.specs.Arithmetic.{oscillatorDelay}
 use Rattle.oscillators.proofs.oscillator_delay.Statement.{statement}
 use Rattle.oscillators.proofs.oscillator_delay.Tie as tie
 
@@ -22,4 +22,6 @@ returns c =
     )
 
 pub oscillator-delay-spec : {M : Type 1} → statement M
-oscillator-delay-spec = tie.close (tie.spec (λ c κs. tt) (λ c κs. tt) (λ c κs. tt) (λ c κs. tt) (λ c κs. tt) (λ c κs. tt) (λ c κs. tt) (λ c κs. tt) (λ c κs. tt) (λ c κs. tt) (λ c κs. tt) (λ c κs. tt) returns)
+oscillator-delay-spec =
+    tie.close (tie.spec (λ c κs. tt) (λ c κs. tt) (λ c κs. tt) (λ c κs. tt) (λ c κs. tt) (λ c κs. tt) (λ c κs. tt)
+    (λ c κs. tt) (λ c κs. tt) (λ c κs. tt) (λ c κs. tt) (λ c κs. tt) returns)

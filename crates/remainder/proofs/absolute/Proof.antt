@@ -1,6 +1,6 @@
 -- `remainder::absolute` meets its contract, case by case. Assumes nothing.
 use denote.Floats.{passes}
-use Rattle.remainder.proofs.Cases.{negative, a-zero, the-same}
+use Rattle.remainder.proofs.TestCases.{negative, a-zero, the-same}
 use Rattle.remainder.proofs.absolute.Statement.{statement}
 use Rattle.remainder.proofs.absolute.Tie as tie
 

@@ -1,4 +1,5 @@
--- `remainder::divided` meets its contract: both numbers are their digits at a place, and a place common to both may be taken out. Assumes nothing.
+-- `remainder::divided` meets its contract: both numbers are their digits at a place, and a place common to both may be
+-- taken out. Assumes nothing.
 use borrow.Author.Needs.{needs}
 use denote.Floats.{passes}
 use mathlib.Core.Path.{_≡_, sym}
@@ -12,7 +13,7 @@ use lib.Ieee.Positive.{first-pos, value-pos, values-of-le, positive-finite}
 use Rattle.magnitude.proofs.Comparisons.{finite-number}
 use Rattle.remainder.proofs.Division.{placed}
 use Rattle.remainder.proofs.Remainders.{rem-units}
-use Rattle.remainder.proofs.Taking.{placeOf, digitsOf, Taken, taken, place-order}
+use Rattle.remainder.proofs.DigitsOfPattern.{placeOf, digitsOf, Taken, taken, place-order}
 use Rattle.remainder.proofs.divided.Statement.{statement}
 use Rattle.remainder.proofs.divided.Tie as tie
 
@@ -36,7 +37,9 @@ places c =
     let lu = dividend c .below in
     let lv = divisor c .below in
     place-order (digitsOf u) (placeOf u) (digitsOf v) (placeOf v) (omega arith) (λ (h : 0 < placeOf v). omega arith)
-    (le-of-mul-le-mul-right (values-of-le (c .args .b) (c .args .a) _ _ _ _ (c .pre .divisor) (c .pre .dividend) (divisor c .value) (dividend c .value) (c .pre .order)) (pow-pos 1074))
+    (le-of-mul-le-mul-right
+    (values-of-le (c .args .b) (c .args .a) _ _ _ _ (c .pre .divisor) (c .pre .dividend) (divisor c .value)
+    (dividend c .value) (c .pre .order)) (pow-pos 1074))
 
 some : (c : tie.Start) → 0 < digitsOf (toBits binary64 (c .args .b))
 some c = first-pos _ _ (value-pos (c .args .b) _ _ (c .pre .divisor) (pow-pos 1074) (divisor c .value))
@@ -68,9 +71,19 @@ returns c =
     let lv = divisor s .below in
     let at-u : placeOf u * 2 ^ 52 % 2 ^ 64 ≡ placeOf u * 2 ^ 52 = omega arith in
     let at-v : placeOf v * 2 ^ 52 % 2 ^ 64 ≡ placeOf v * 2 ^ 52 = omega arith in
-    rw (c .scaled .ensures, c .before .long-division .ensures, c .before .before .place2 .ensures, c .before .before .before .place .ensures, at-u, at-v, placed (digitsOf u) (digitsOf v) (placeOf u) (placeOf v) (some s) (places s))
-    (sym (rem-units binary64 (s .args .a) (s .args .b) false false _ _ _ (pow-pos 1074) (mul-pos (some s) (pow-pos (placeOf v))) (dividend s .value) (divisor s .value)))
+    rw (
+      c .scaled .ensures,
+      c .before .long-division .ensures,
+      c .before .before .place2 .ensures,
+      c .before .before .before .place .ensures,
+      at-u,
+      at-v,
+      placed (digitsOf u) (digitsOf v) (placeOf u) (placeOf v) (some s) (places s),
+    )
+    (sym (rem-units binary64 (s .args .a) (s .args .b) false false _ _ _ (pow-pos 1074)
+    (mul-pos (some s) (pow-pos (placeOf v))) (dividend s .value) (divisor s .value)))
 
 pub divided-spec : {M : Type 1} → statement M
 divided-spec =
-    tie.close (tie.spec float-to-bits-u float-to-bits-v (λ c κs. search needs) (λ c κs. search needs) (λ c. search needs) sub-long-division-2 (λ c. search needs) long-division-requires scaled-requires returns)
+    tie.close (tie.spec float-to-bits-u float-to-bits-v (λ c κs. search needs) (λ c κs. search needs)
+    (λ c. search needs) sub-long-division-2 (λ c. search needs) long-division-requires scaled-requires returns)

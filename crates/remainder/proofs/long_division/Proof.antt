@@ -1,4 +1,5 @@
--- `remainder::long_division` meets its contract. The loop's invariant: r, followed by the zeros that are left, leaves over what m does. The measure is their number.
+-- `remainder::long_division` meets its contract. The loop's invariant: r, followed by the zeros that are left,
+-- leaves over what m does. The measure is their number.
 -- Assumes nothing.
 use mathlib.Core.Path.{_≡_, sym, ap, _∙_}
 use Prim.Native.Nat.{ℕ, _-_, _*_, _%_, _^_, _<_}
@@ -35,7 +36,10 @@ loop-less c = omega arith
 
 -- one zero less
 onward : (r n left : ℕ) → 0 < left → r * 2 % n * 2 ^ (left - 1) % n ≡ r * 2 ^ left % n
-onward r n left h = step-mod (r * 2) (2 ^ (left - 1)) n ∙ ap (λ (z : ℕ). z % n) (mul-assoc r 2 (2 ^ (left - 1)) ∙ ap (λ (z : ℕ). r * z) (sym (pow-add 2 1 (left - 1)) ∙ ap (λ (z : ℕ). 2 ^ z) (omega arith)))
+onward r n left h =
+    step-mod (r * 2) (2 ^ (left - 1)) n
+    ∙ ap (λ (z : ℕ). z % n) (mul-assoc r 2 (2 ^ (left - 1))
+    ∙ ap (λ (z : ℕ). r * z) (sym (pow-add 2 1 (left - 1)) ∙ ap (λ (z : ℕ). 2 ^ z) (omega arith)))
 
 loop-again : tie.Need-loop-again Inv-loop μ-loop
 loop-again c =
@@ -48,7 +52,10 @@ returns c =
     let l = c .before .loop in
     let n = c .before .before .args .n in
     let ended : l .left ≡ 0 = omega arith in
-    sym (mod-eq-of-lt (l .inv .0)) ∙ ap (λ (z : ℕ). z % n) (sym (mul-one (l .r)) ∙ ap (λ (z : ℕ). l .r * 2 ^ z) (sym ended)) ∙ l .inv .1
+    sym (mod-eq-of-lt (l .inv .0))
+    ∙ ap (λ (z : ℕ). z % n) (sym (mul-one (l .r)) ∙ ap (λ (z : ℕ). l .r * 2 ^ z) (sym ended))
+    ∙ l .inv .1
 
 pub long-division-spec : {M : Type 1} → statement M
-long-division-spec = tie.close (tie.spec Inv-loop μ-loop rem-r loop-holds mul-r rem-r-2 sub-left loop-less loop-again returns)
+long-division-spec =
+    tie.close (tie.spec Inv-loop μ-loop rem-r loop-holds mul-r rem-r-2 sub-left loop-less loop-again returns)

@@ -14,9 +14,12 @@ returns c =
     let read = stepped .before in
     let a = read .before .before .before .before .before .before .args in
     let four = read .before .before .before .before .before .before .pre in
-    let e = rw (read .low-first-u32 .ensures ∙ ap bytesValue (take-all 4 (now (a .word)) (omega (arith, four)))) at (stepped .step .ensures) in
+    let e =
+    rw (read .low-first-u32 .ensures ∙ ap bytesValue (take-all 4 (now (a .word)) (omega (arith, four)))) at
+    (stepped .step .ensures) in
     (e .0, (e .1 .1, c .before .before .before .write-bytes .ensures ∙ rw (four, e .1 .0)))
 
 pub put-sample-spec : {M : Type 1} → statement M
 put-sample-spec =
-    tie.close (tie.spec (λ c κs. search needs) (λ c κs. search needs) (λ c. search needs) (λ c κs. search needs) (λ c. search needs) (λ c. search needs) returns)
+    tie.close (tie.spec (λ c κs. search needs) (λ c κs. search needs) (λ c. search needs) (λ c κs. search needs)
+    (λ c. search needs) (λ c. search needs) returns)

@@ -10,4 +10,5 @@ slice-aggregate-call c = sym (length-take-le _ _ (search needs))
 
 pub replay-spec : {M : Type 1} → statement M
 replay-spec =
-    tie.close (tie.spec (λ c κs. search needs) (λ c. search needs) slice-aggregate-call (λ c κs. search needs) (λ c. search needs) (λ c. search needs))
+    tie.close (tie.spec (λ c κs. search needs) (λ c. search needs) slice-aggregate-call (λ c κs. search needs)
+    (λ c. search needs) (λ c. search needs))

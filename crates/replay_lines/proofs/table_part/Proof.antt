@@ -14,16 +14,30 @@ returns : tie.Need-returns
 returns c = (rw (lt-leb (c .before .args .taps) 128 (omega (arith, c .if1 .taken))), le-refl _)
 
 returns-2 : tie.Need-returns-2
-returns-2 c = let a = c .before .before .args in (rw (le-leb (a .taps) 128 (omega (arith, c .before .if1 .left)), lt-leb (a .phases) 4096 (omega (arith, c .if2 .taken))), le-refl _)
+returns-2 c =
+    let a = c .before .before .args in (
+      rw (
+        le-leb (a .taps) 128 (omega (arith, c .before .if1 .left)),
+        lt-leb (a .phases) 4096 (omega (arith, c .if2 .taken)),
+      ),
+      le-refl _,
+    )
 
 mul-within : tie.Need-mul-within
-mul-within c = let a = c .before .before .args in omega (arith, short (a .taps) (a .phases) (omega (arith, c .before .if1 .left)) (omega (arith, c .if2 .left)))
+mul-within c =
+    let a = c .before .before .args in
+    omega (arith, short (a .taps) (a .phases) (omega (arith, c .before .if1 .left)) (omega (arith, c .if2 .left)))
 
 returns-3 : tie.Need-returns-3
 returns-3 c =
     let e = c .before in
-    let a = e .before .before .args in
-    (rw (le-leb (a .taps) 128 (omega (arith, e .before .if1 .left)), le-leb (a .phases) 4096 (omega (arith, e .if2 .left))) (c .within .ensures .0), c .within .ensures .1)
+    let a = e .before .before .args in (
+      rw (
+        le-leb (a .taps) 128 (omega (arith, e .before .if1 .left)),
+        le-leb (a .phases) 4096 (omega (arith, e .if2 .left)),
+      ) (c .within .ensures .0),
+      c .within .ensures .1,
+    )
 
 pub table-part-spec : {M : Type 1} → statement M
 table-part-spec = tie.close (tie.spec returns returns-2 (λ c. search needs) mul-within (λ c κs. search needs) returns-3)

@@ -3,7 +3,7 @@ use mathlib.Core.Path.{sym}
 use Prim.Native.Nat.{_+_, _*_}
 use native.Mathlib.Omega.{arith}
 use borrow.Author.Tests.{le-leb}
-use Rattle.report_tests.proofs.Sums.{low-alone}
+use Rattle.report_tests.proofs.WideSums.{low-alone}
 use Rattle.report_tests.proofs.at_least.Statement.{statement}
 use Rattle.report_tests.proofs.at_least.Tie as tie
 

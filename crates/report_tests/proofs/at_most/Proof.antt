@@ -4,7 +4,7 @@ use mathlib.Core.Path.{sym}
 use Prim.Native.Nat.{ℕ, _+_, _*_, _^_, _%_}
 use native.Mathlib.Omega.{arith}
 use borrow.Author.Tests.{le-leb, lt-leb}
-use Rattle.report_tests.proofs.Sums.{same-test, rest-below, top-below, product-below, in-units}
+use Rattle.report_tests.proofs.WideSums.{same-test, rest-below, top-below, product-below, in-units}
 use Rattle.report_tests.proofs.at_most.Statement.{statement}
 use Rattle.report_tests.proofs.at_most.Tie as tie
 

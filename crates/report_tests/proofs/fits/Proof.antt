@@ -3,7 +3,7 @@ use mathlib.Core.Path.{sym}
 use Prim.Native.Nat.{_+_, _-_}
 use native.Mathlib.Omega.{arith}
 use borrow.Author.Tests.{lt-leb}
-use Rattle.report_tests.proofs.Sums.{same-test}
+use Rattle.report_tests.proofs.WideSums.{same-test}
 use Rattle.report_tests.proofs.fits.Statement.{statement}
 use Rattle.report_tests.proofs.fits.Tie as tie
 

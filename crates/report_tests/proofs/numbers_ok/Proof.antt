@@ -2,7 +2,7 @@
 use mathlib.Core.Path.{_∙_}
 use Prim.Native.Nat.{ℕ, _+_, _*_, _^_}
 use native.Mathlib.Omega.{arith}
-use Rattle.report_tests.proofs.Sums.{square-below}
+use Rattle.report_tests.proofs.WideSums.{square-below}
 use Rattle.report_tests.proofs.Numbers.{too-many, too-large, in-range}
 use Rattle.report_tests.proofs.numbers_ok.Statement.{statement}
 use Rattle.report_tests.proofs.numbers_ok.Tie as tie

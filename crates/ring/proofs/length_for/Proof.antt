@@ -1,4 +1,5 @@
--- `ring::length_for` meets its contract: the digits that the leading zeros leave are those of need - 1, at most 24 of them. Assumes nothing.
+-- `ring::length_for` meets its contract: the digits that the leading zeros leave are those of need - 1,
+-- at most 24 of them. Assumes nothing.
 use borrow.Author.Needs.{needs}
 use borrow.Author.Tests.{le-leb, lt-leb}
 use mathlib.Core.Path.{_≡_, ap, _∙_}
@@ -29,7 +30,13 @@ few m g h = rw (digits-size 64 (need m g - 1) (omega arith)) (size-le (need m g 
 
 -- there is one at least, since need - 1 is not 0
 one : (m g : ℕ) → need m g ≤ 2 ^ 24 → digits m g ≡ suc (last m g)
-one m g h = omega (arith, digits-size 64 (need m g - 1) (omega arith), size-lt (need m g - 1), pow-one (need m g - 1) (omega arith))
+one m g h =
+    omega (
+      arith,
+      digits-size 64 (need m g - 1) (omega arith),
+      size-lt (need m g - 1),
+      pow-one (need m g - 1) (omega arith),
+    )
   where
     pow-one : (n : ℕ) → 0 < n → 0 < size n
     pow-one n p = go (size n) (size-lt n)
@@ -41,7 +48,8 @@ one m g h = omega (arith, digits-size 64 (need m g - 1) (omega arith), size-lt (
 raised : (m g : ℕ) → need m g ≤ 2 ^ 24 → 2 * 2 ^ last m g % 2 ^ 64 ≡ cond (settingsOk m g) (lengthFor m g) 0
 unfolding lengthFor
 raised m g h =
-    let whole : 2 * 2 ^ last m g ≡ 2 ^ digits m g = omega (arith, two-pow-succ (last m g), ap (λ (k : ℕ). 2 ^ k) (one m g h)) in
+    let whole : 2 * 2 ^ last m g ≡ 2 ^ digits m g =
+    omega (arith, two-pow-succ (last m g), ap (λ (k : ℕ). 2 ^ k) (one m g h)) in
     let fits : 2 ^ digits m g < 2 ^ 64 = omega (arith, pow-mono (few m g h)) in
     rw whole (mod-eq-of-lt fits ∙ rw (le-leb (need m g) (2 ^ 24) h, digits-size 64 (need m g - 1) (omega arith)))
 
@@ -71,4 +79,5 @@ returns-4 c = let a = c .before .before .before .args in raised (a .maximum) (a 
 
 pub length-for-spec : {M : Type 1} → statement M
 length-for-spec =
-    tie.close (tie.spec returns returns-2 (λ c. search needs) (λ c. search needs) (λ c. search needs) returns-3 (λ c. search needs) cast-last sub-last-2 shl-result returns-4)
+    tie.close (tie.spec returns returns-2 (λ c. search needs) (λ c. search needs) (λ c. search needs) returns-3
+    (λ c. search needs) cast-last sub-last-2 shl-result returns-4)

@@ -1,4 +1,5 @@
--- `ring::place` meets its contract: the mask of a power of two is the remainder, and so is an index below the length. Assumes nothing.
+-- `ring::place` meets its contract: the mask of a power of two is the remainder, and so is an index below the length.
+-- Assumes nothing.
 use borrow.Author.Needs.{needs}
 use borrow.Author.Tests.{eq-eqb, ne-eqb}
 use mathlib.Core.Path.{sym}
@@ -21,4 +22,6 @@ returns-4 : tie.Need-returns-4
 returns-4 c = rw (ne-eqb _ _ (c .before .before .if1 .left))
 
 pub place-spec : {M : Type 1} → statement M
-place-spec = tie.close (tie.spec returns (λ c. search needs) (λ c. search needs) returns-2 returns-3 (λ c. search needs) returns-4)
+place-spec =
+    tie.close (tie.spec returns (λ c. search needs) (λ c. search needs) returns-2 returns-3
+    (λ c. search needs) returns-4)

@@ -5,7 +5,7 @@ use Prim.Native.Nat.{_-_}
 use native.Mathlib.Omega.{arith}
 use lib.Dec.{lit≤}
 use lib.ListN.{length, length-set}
-use Rattle.loops.proofs.Writing.{Written, unwritten, written-more, all-written}
+use Rattle.loop_laws.proofs.Writing.{Written, unwritten, written-more, all-written}
 use Rattle.sample_kind.specs.declared.SampleKind.the-variants.{Pcm24}
 use Rattle.stored_samples.specs.Stored.{wordOf}
 use Rattle.whole_samples.proofs.Signs.{units-small, kept}

@@ -1,4 +1,5 @@
--- `sample_kind::frame_width` meets its contract: what the call ensures, and a byte of samples is few bytes. Assumes nothing.
+-- `sample_kind::frame_width` meets its contract: what the call ensures, and a byte of samples is few bytes.
+-- Assumes nothing.
 use borrow.Author.Needs.{needs}
 use native.Mathlib.Omega.{arith}
 use Rattle.sample_kind.proofs.Widths.{few-bytes}
@@ -6,7 +7,8 @@ use Rattle.sample_kind.proofs.frame_width.Statement.{statement}
 use Rattle.sample_kind.proofs.frame_width.Tie as tie
 
 mul-result : tie.Need-mul-result
-mul-result c = rw (c .width .ensures) (omega (arith, few-bytes (c .before .args .kind) (c .before .args .channels) (omega arith)))
+mul-result c =
+    rw (c .width .ensures) (omega (arith, few-bytes (c .before .args .kind) (c .before .args .channels) (omega arith)))
 
 returns : tie.Need-returns
 returns c = rw (c .width .ensures)

@@ -10,7 +10,7 @@ use denote.Ref.{now}
 use Rattle.bank_choice.specs.Rates.{bankOk, stepsOf}
 use Rattle.sinc_bank_f32.specs.declared.Built.the-variants.{Sets}
 use Rattle.sinc_bank_f32.specs.Sets.{setLength}
-use Rattle.sinc_bank_f32.proofs.Counted.{none, some}
+use Rattle.sinc_bank_f32.proofs.SetCount.{none, some}
 use Rattle.sinc_bank_f32.proofs.build_in.Statement.{statement}
 use Rattle.sinc_bank_f32.proofs.build_in.Tie as tie
 

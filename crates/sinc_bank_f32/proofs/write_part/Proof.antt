@@ -7,7 +7,7 @@ use native.Mathlib.Omega.{arith}
 use lib.ListN.{length, take, drop}
 use lib.Ieee.{Float, ofBits}
 use denote.Ref.{now}
-use Rattle.loops.proofs.Rows.{length-part}
+use Rattle.loop_laws.proofs.Rows.{length-part}
 use Rattle.sinc_settings.specs.Refusals.{forRate, rateVerdict}
 use Rattle.windowed_sinc.specs.Table.{tableAfter}
 use Rattle.windowed_sinc_f32.specs.Table.{tableF32In}

@@ -11,7 +11,7 @@ use lib.Ieee.{fin, ofBits, le}
 use denote.Ref.{now}
 use Rattle.windowed_sinc_f32.specs.Table.{tableF32In}
 use Rattle.sinc_bank_f32.specs.Sets.{setLength, normalAt, hqAt, ultraAt, setIn}
-use Rattle.sinc_bank_f32.proofs.Unrefused.{unrefused}
+use Rattle.sinc_bank_f32.proofs.NothingRefused.{unrefused}
 use Rattle.sinc_bank_f32.proofs.Sections as sections
 use Rattle.sinc_bank_f32.proofs.Lengths.{normal-long, hq-long, ultra-long}
 use Rattle.sinc_bank_f32.proofs.write_set.Statement.{statement}

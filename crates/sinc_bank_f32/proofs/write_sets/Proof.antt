@@ -9,12 +9,12 @@ use borrow.Author.Tests.{lt-ltb}
 use lib.ListN.{length}
 use lib.Ieee.{Float}
 use denote.Ref.{now}
-use Rattle.loops.specs.Loops.{rows}
-use Rattle.loops.proofs.Filling.{Filled, unfilled, row-end, length-lent, filled-more, filled}
+use Rattle.loop_laws.specs.Loops.{rows}
+use Rattle.loop_laws.proofs.Filling.{Filled, unfilled, row-end, length-lent, filled-more, filled}
 use Rattle.bessel.specs.declared.Mode.{Mode}
 use Rattle.bank_choice.specs.Rates.{bankOk, stepsOf, rateOf, setRateOf}
-use Rattle.bank_choice.proofs.Spans.{most}
-use Rattle.bank_choice.proofs.Growing.{set-in-range}
+use Rattle.bank_choice.proofs.SetCounts.{most}
+use Rattle.bank_choice.proofs.RatesGrow.{set-in-range}
 use Rattle.sinc_bank_f32.specs.Sets.{setIn, bankIn}
 use Rattle.sinc_bank_f32.proofs.Lengths.{set-long}
 use Rattle.sinc_bank_f32.proofs.write_sets.Statement.{statement}

@@ -1,4 +1,4 @@
--- `sinc_phases::cut_to` meets its contract: its three ways are the laws of `Cuts`. Assumes nothing.
+-- `sinc_phases::cut_to` meets its contract: its three ways are the laws of `CutToTop`. Assumes nothing.
 use borrow.Author.Needs.{needs}
 use mathlib.Core.Path.{_≡_, sym, _∙_, ap, subst}
 use mathlib.Core.Bool.{false}
@@ -12,9 +12,9 @@ use lib.Ieee.Exact.{HasValue}
 use mir.Syntax.{w64}
 use mir.Val.{Fits, toZ, ofZ}
 use mir.ValLaws.{toZ-ofZ}
-use Rattle.magnitude.proofs.Whole.{whole-value}
+use Rattle.magnitude.proofs.WholeFloats.{whole-value}
 use Rattle.sinc_phases.specs.Phases.{num, cutTo}
-use Rattle.sinc_phases.proofs.Cuts.{Under, under, whole, over, low, held}
+use Rattle.sinc_phases.proofs.CutToTop.{Under, under, whole, over, low, held}
 use Rattle.sinc_phases.proofs.cut_to.Statement.{statement}
 use Rattle.sinc_phases.proofs.cut_to.Tie as tie
 
@@ -32,15 +32,19 @@ below c =
     under (a .args .top) (a .args .x) _ (value (a .args .top) (a .pre)) (c .before .before .if1 .taken) (c .if2 .taken)
 
 -- the floor, as the code holds it
-word : (c : tie.After-floor) → let a = c .before .before .before .before .args in toZ w64 (ofZ w64 (c .floor .result)) ≡ pos (cutTo (a .top) (a .x))
+word : (c : tie.After-floor) → let a = c .before .before .before .before .args in
+    toZ w64 (ofZ w64 (c .floor .result)) ≡ pos (cutTo (a .top) (a .x))
 word c =
     let a = c .before .before .before .before in
-    toZ-ofZ w64 (c .floor .result) (record { sfits = c .floor .ok }) ∙ c .floor .ensures ∙ whole (a .args .top) (a .args .x) (a .pre) (below (c .before))
+    toZ-ofZ w64 (c .floor .result) (record { sfits = c .floor .ok })
+    ∙ c .floor .ensures
+    ∙ whole (a .args .top) (a .args .x) (a .pre) (below (c .before))
 
 cast-result : tie.Need-cast-result
 cast-result c =
     let a = c .before .before .before .before in
-    subst (λ (z : ℤ). T (nonNeg z) × Fits w64 (natAbs z)) (sym (word c)) (tt, record { fits = omega (arith, held (a .args .top) (a .args .x), a .pre) })
+    subst (λ (z : ℤ). T (nonNeg z) × Fits w64 (natAbs z)) (sym (word c))
+    (tt, record { fits = omega (arith, held (a .args .top) (a .args .x), a .pre) })
 
 returns : tie.Need-returns
 returns c = ap natAbs (word c)

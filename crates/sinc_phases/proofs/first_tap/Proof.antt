@@ -10,9 +10,9 @@ use mir.Val.{toZ, ofZ, SFits}
 use mir.ValLaws.{toZ-ofZ}
 use Rattle.integer_part.specs.Parts.{floorOf}
 use Rattle.integer_part.proofs.Floors.{floor-mag}
-use Rattle.integer_part.proofs.Shifted.{small, minus-fits}
+use Rattle.integer_part.proofs.SumsInRange.{small, minus-fits}
 use Rattle.sinc_phases.specs.Phases.{firstTap}
-use Rattle.sinc_phases.proofs.Aimed.{Aimed, aimed}
+use Rattle.sinc_phases.proofs.PositionInRange.{Aimed, aimed}
 use Rattle.sinc_phases.proofs.first_tap.Statement.{statement}
 use Rattle.sinc_phases.proofs.first_tap.Tie as tie
 
@@ -24,17 +24,24 @@ sub-result : tie.Need-sub-result
 sub-result c = let r = ranges (c .before) in omega (arith, r .least)
 
 -- the first tap, as the machine has it
-exact : (c : tie.After-floor) → let a = c .before .before .before .args in toZ w64 (ofZ w64 (c .floor .result)) -ℤ toZ w64 (a .taps / 2 - 1) ≡ firstTap (a .position) (a .taps)
+exact : (c : tie.After-floor) → let a = c .before .before .before .args in
+    toZ w64 (ofZ w64 (c .floor .result)) -ℤ toZ w64 (a .taps / 2 - 1) ≡ firstTap (a .position) (a .taps)
 exact c =
     let a = c .before .before .before .args in
     let r = ranges (c .before) in
-    rw (toZ-ofZ w64 (c .floor .result) (record { sfits = c .floor .ok }), c .floor .ensures, small (a .taps / 2 - 1) (omega (arith, r .most)))
+    rw (
+      toZ-ofZ w64 (c .floor .result) (record { sfits = c .floor .ok }),
+      c .floor .ensures,
+      small (a .taps / 2 - 1) (omega (arith, r .most)),
+    )
 
 sub-result-2 : tie.Need-sub-result-2
 sub-result-2 c =
     let a = c .before .before .before .args in
     let r = ranges (c .before) in
-    subst (λ (z : ℤ). SFits w64 z) (sym (exact c)) (minus-fits (floorOf (a .position)) (a .taps / 2 - 1) (omega (arith, floor-mag (2 ^ 36) (a .position) (lit< tt) (r .near), r .most)))
+    subst (λ (z : ℤ). SFits w64 z) (sym (exact c))
+    (minus-fits (floorOf (a .position)) (a .taps / 2 - 1)
+    (omega (arith, floor-mag (2 ^ 36) (a .position) (lit< tt) (r .near), r .most)))
 
 returns : tie.Need-returns
 returns c =
@@ -45,4 +52,6 @@ returns-2 : tie.Need-returns-2
 returns-2 c = rw (← c .before .taps-in-range .ensures, c .if1 .left)
 
 pub first-tap-spec : {M : Type 1} → statement M
-first-tap-spec = tie.close (tie.spec (λ c κs. search needs) (λ c κs. search needs) sub-result (λ c. search needs) sub-result-2 returns returns-2)
+first-tap-spec =
+    tie.close (tie.spec (λ c κs. search needs) (λ c κs. search needs) sub-result
+    (λ c. search needs) sub-result-2 returns returns-2)

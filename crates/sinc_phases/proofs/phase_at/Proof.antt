@@ -1,4 +1,5 @@
--- `sinc_phases::phase_at` meets its contract: by the test of the ranges, and each step's `ensures` in turn; what is cast is small. Assumes nothing.
+-- `sinc_phases::phase_at` meets its contract: by the test of the ranges, and each step's `ensures` in turn;
+-- what is cast is small. Assumes nothing.
 use borrow.Author.Needs.{needs}
 use mathlib.Core.Path.{_≡_, sym, _∙_}
 use Prim.Native.Nat.{_-_, _^_, _≤_}
@@ -10,9 +11,9 @@ use lib.Ieee.{ofBits, inFloat}
 use mir.Syntax.{w64}
 use mir.Val.{toZ}
 use mir.ValLaws.{toZ-ofZ}
-use Rattle.integer_part.proofs.Step.{in-float}
-use Rattle.sinc_phases.proofs.Cuts.{held}
-use Rattle.sinc_phases.proofs.Between.{Fine, fine}
+use Rattle.integer_part.proofs.FloorInside.{in-float}
+use Rattle.sinc_phases.proofs.CutToTop.{held}
+use Rattle.sinc_phases.proofs.RowsInTable.{Fine, fine}
 use Rattle.sinc_phases.proofs.phase_at.Statement.{statement}
 use Rattle.sinc_phases.proofs.phase_at.Tie as tie
 
@@ -32,7 +33,8 @@ cut-to-requires c κs = let r = ranges (c .before .before) in omega (arith, r .m
 
 -- the phase is small
 few : (c : tie.After-cut-to) → c .cut-to .result ≤ 4096
-few c = let r = ranges (c .before .before .before) in rw (c .cut-to .ensures) (le-trans (held _ _) (omega (arith, r .most)))
+few c =
+    let r = ranges (c .before .before .before) in rw (c .cut-to .ensures) (le-trans (held _ _) (omega (arith, r .most)))
 
 cast-t11 : tie.Need-cast-t11
 cast-t11 c = record { sfits = omega (arith, few c) }
@@ -55,4 +57,6 @@ unfolding ofBits
 returns-2 c = rw (← c .before .phases-in-range .ensures, c .if1 .left)
 
 pub phase-at-spec : {M : Type 1} → statement M
-phase-at-spec = tie.close (tie.spec (λ c κs. search needs) (λ c κs. search needs) int-to-float-x sub-cut-to cut-to-requires cast-t11 int-to-float-t7 returns returns-2)
+phase-at-spec =
+    tie.close (tie.spec (λ c κs. search needs)
+    (λ c κs. search needs) int-to-float-x sub-cut-to cut-to-requires cast-t11 int-to-float-t7 returns returns-2)

@@ -6,7 +6,7 @@ use native.Mathlib.Omega.{arith}
 use lib.ListN.{length, getD, set}
 use lib.Ieee.{Float, nan, binary64, div}
 use denote.Ref.{now}
-use Rattle.loops.proofs.Mapped.{halfway, at-first, not-yet, one-more, length-halfway, at-last}
+use Rattle.loop_laws.proofs.Mapped.{halfway, at-first, not-yet, one-more, length-halfway, at-last}
 use Rattle.sinc_row.proofs.divide.Statement.{statement}
 use Rattle.sinc_row.proofs.divide.Tie as tie
 
@@ -40,7 +40,8 @@ add-k : tie.Need-add-k Inv-loop μ-loop
 add-k c = omega arith
 
 -- the list after one turn
-divided : (c : tie.After-quotient Inv-loop μ-loop) → let l = c .before .before .before in let a = l .before .before .before .args in
+divided : (c : tie.After-quotient Inv-loop μ-loop) → let l = c .before .before .before in
+    let a = l .before .before .before .args in
     set (l .loop .row) (l .loop .k) (c .quotient .result) ≡ halfway (by (a .gain)) (now (a .row)) (l .loop .k + 1)
 divided c =
     let l = c .before .before .before in

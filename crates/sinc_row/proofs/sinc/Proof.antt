@@ -25,7 +25,8 @@ same x v h e = let a = answers x h in cc
 never : (x : Float) (n : ℕ) → AtMost 65 x → sineOf (mul binary64 pi x) ≡ Refused n → {A : Type 0} → A
 never x n h e = let a = answers x h in let z : _≡_ {A = ℕ} 0 1 = cc in absurd (omega arith)
 
-picked : (x r : Float) (b : Bool) → smallOf x ≡ b → r ≡ cond b one-f (div binary64 (sineAt (mul binary64 pi x)) (mul binary64 pi x)) → r ≡ sincOf x
+picked : (x r : Float) (b : Bool) → smallOf x ≡ b
+    → r ≡ cond b one-f (div binary64 (sineAt (mul binary64 pi x)) (mul binary64 pi x)) → r ≡ sincOf x
 unfolding sincOf
 picked x r b h e = e ∙ rw h
 
@@ -39,13 +40,18 @@ returns-2 c =
     let t = c .before .before .before in
     let n = t .before .before in
     let x = n .before .args .x in
-    picked x _ false (sym (n .small .ensures) ∙ t .before .if1 .left) (ap (λ (v : Float). div binary64 v (mul binary64 pi x)) (same x _ (n .before .pre) (sym (t .sine .ensures .0) ∙ c .before .v .given .1)))
+    picked x _ false (sym (n .small .ensures) ∙ t .before .if1 .left)
+    (ap (λ (v : Float). div binary64 v (mul binary64 pi x))
+    (same x _ (n .before .pre) (sym (t .sine .ensures .0) ∙ c .before .v .given .1)))
 
 returns-3 : tie.Need-returns-3
 unfolding ofBits
 returns-3 c =
     let t = c .before .before in
-    never (t .before .before .before .args .x) _ (t .before .before .before .pre) (sym (t .sine .ensures .0) ∙ c .enum-told .given .1)
+    never (t .before .before .before .args .x) _ (t .before .before .before .pre)
+    (sym (t .sine .ensures .0) ∙ c .enum-told .given .1)
 
 pub sinc-spec : {M : Type 1} → statement M
-sinc-spec = tie.close (tie.spec (λ c κs. search needs) returns (λ c κs. search needs) (λ c. search needs) (λ c. search needs) returns-2 returns-3)
+sinc-spec =
+    tie.close (tie.spec (λ c κs. search needs) returns (λ c κs. search needs) (λ c. search needs)
+    (λ c. search needs) returns-2 returns-3)

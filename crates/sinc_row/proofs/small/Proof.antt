@@ -19,7 +19,8 @@ module _ (n : ℕ) (d : ℤ) (p : 0 < n * up d) where
   under nan h = refl
   under (inf true) h = refl
   under (inf false) h = sym h
-  under (fin false m e) h = lt-ltb 0 (n * up d * down e + m * up e * down d) (omega (arith, mul-pos p (down-pos e))) ∙ sym h
+  under (fin false m e) h =
+      lt-ltb 0 (n * up d * down e + m * up e * down d) (omega (arith, mul-pos p (down-pos e))) ∙ sym h
   under (fin true m e) h = refl
 
   not-under : (x : Float) → lt x (fin false n d) ≡ false → false ≡ lt (absOf x) (fin false n d)
@@ -28,7 +29,8 @@ module _ (n : ℕ) (d : ℤ) (p : 0 < n * up d) where
   not-under (inf true) h = refl
   not-under (inf false) h = refl
   not-under (fin false m e) h = sym h
-  not-under (fin true m e) h = absurd (omega (arith, ltb-false 0 (m * up e * down d + n * up d * down e) h, mul-pos p (down-pos e)))
+  not-under (fin true m e) h =
+      absurd (omega (arith, ltb-false 0 (m * up e * down d + n * up d * down e) h, mul-pos p (down-pos e)))
 
 returns : tie.Need-returns
 unfolding smallOf round neg ofBits

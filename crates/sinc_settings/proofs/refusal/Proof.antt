@@ -1,7 +1,7 @@
 -- `sinc_settings::refusal` meets its contract, by the test of the settings. Assumes nothing.
 use borrow.Author.Needs.{needs}
 use mathlib.Core.Path.{sym, _∙_}
-use Rattle.sinc_settings.proofs.Accepted.{accepted}
+use Rattle.sinc_settings.proofs.SettingsInRange.{accepted}
 use Rattle.sinc_settings.proofs.refusal.Statement.{statement}
 use Rattle.sinc_settings.proofs.refusal.Tie as tie
 

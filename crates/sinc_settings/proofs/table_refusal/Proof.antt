@@ -1,16 +1,18 @@
--- `sinc_settings::table_refusal` meets its contract: the length of a table in range fits, and each answer rewrites with the tests that led there. Assumes nothing.
+-- `sinc_settings::table_refusal` meets its contract: the length of a table in range fits, and each answer rewrites with
+-- the tests that led there. Assumes nothing.
 use borrow.Author.Needs.{needs}
 use borrow.Author.Tests.{eq-eqb, ne-eqb}
 use mathlib.Core.Path.{_≡_, sym, _∙_}
 use mathlib.Core.Bool.{_&&_}
 use native.Mathlib.Omega.{arith}
 use Rattle.sinc_settings.specs.Ranges.{tapsOk, phasesOk}
-use Rattle.sinc_settings.proofs.Accepted.{Counts, counts, length-fits}
+use Rattle.sinc_settings.proofs.SettingsInRange.{Counts, counts, length-fits}
 use Rattle.sinc_settings.proofs.table_refusal.Statement.{statement}
 use Rattle.sinc_settings.proofs.table_refusal.Tie as tie
 
 -- what the test says
-tested : (c : tie.After-both) → let a = c .before .before .before .args in tapsOk (a .taps) && phasesOk (a .phases) ≡ c .both .result
+tested : (c : tie.After-both) → let a = c .before .before .before .args in
+    tapsOk (a .taps) && phasesOk (a .phases) ≡ c .both .result
 tested c = sym (c .both .ensures ∙ rw (c .before .phases-ok .ensures, c .before .before .taps-ok .ensures))
 
 in-range : (c : tie.Then1) → let a = c .before .before .before .before .args in Counts (a .taps) (a .phases)
@@ -32,4 +34,6 @@ returns-3 : tie.Need-returns-3
 returns-3 c = rw (tested (c .before), c .if1 .left)
 
 pub table-refusal-spec : {M : Type 1} → statement M
-table-refusal-spec = tie.close (tie.spec (λ c κs. search needs) (λ c κs. search needs) (λ c κs. search needs) add-if2 mul-if2 returns returns-2 returns-3)
+table-refusal-spec =
+    tie.close (tie.spec (λ c κs. search needs) (λ c κs. search needs)
+    (λ c κs. search needs) add-if2 mul-if2 returns returns-2 returns-3)

@@ -1,4 +1,5 @@
--- `square_root::positive_root` meets its contract: digits that the quick way finds are the root's, and else the restoring steps find them. Assumes nothing.
+-- `square_root::positive_root` meets its contract: digits that the quick way finds are the root's,
+-- and else the restoring steps find them. Assumes nothing.
 use borrow.Author.Needs.{needs}
 use native.Mathlib.Omega.{arith}
 use mathlib.Core.Path.{_≡_, sym, ap, _∙_, subst}
@@ -8,9 +9,9 @@ use lib.Dec.{T}
 use lib.Ieee.{binary64, fits, toBits}
 use lib.Ieee.Positive.{positive}
 use Rattle.rounding.proofs.Patterns.{rest-no-nan}
-use Rattle.digits.proofs.Plain.{positive-plain, plain-no-nan}
+use Rattle.float_digits.proofs.PlainValues.{positive-plain, plain-no-nan}
 use Rattle.square_root.specs.Digits.{Quick}
-use Rattle.square_root.proofs.Normal.{pattern-lt, quick-root}
+use Rattle.square_root.proofs.QuickDigits.{pattern-lt, quick-root}
 use Rattle.square_root.proofs.positive_root.Statement.{statement}
 use Rattle.square_root.proofs.positive_root.Tie as tie
 
@@ -45,4 +46,5 @@ returns-2 c =
 
 pub positive-root-spec : {M : Type 1} → statement M
 positive-root-spec =
-    tie.close (tie.spec float-to-bits-bits (λ c κs. search needs) (λ c κs. search needs) (λ c. search needs) add-result add-result-2 float-from-bits-result returns-2)
+    tie.close (tie.spec float-to-bits-bits (λ c κs. search needs) (λ c κs. search needs)
+    (λ c. search needs) add-result add-result-2 float-from-bits-result returns-2)

@@ -1,4 +1,5 @@
--- `square_root::root_digits` meets its contract: the loop's invariant is `Down`, what has been brought down and what it has given. Assumes nothing.
+-- `square_root::root_digits` meets its contract: the loop's invariant is `Down`, what has been brought down and what it
+-- has given. Assumes nothing.
 use native.Mathlib.Omega.{arith}
 use Prim.Native.Nat.{_+_, _-_, _*_, _/_, _≤_, _^_}
 use Rattle.square_root.proofs.Restoring.{Down, start, short-55, stepped, next, found}
@@ -30,11 +31,17 @@ digit-requires : tie.Need-digit-requires Inv-loop μ-loop
 digit-requires c κs = tt
 
 -- what the new digit takes
-taken : (c : tie.After-digit Inv-loop μ-loop) → c .digit .result * (c .before .before .loop .s * 4 + 1) ≤ c .before .before .loop .r * 4 + c .before .before .loop .y / 2 ^ 62
-taken c = stepped (c .before .before .loop .s) (c .before .before .loop .r * 4 + c .before .before .loop .y / 2 ^ 62) (c .digit .result) (omega arith) (c .digit .ensures) .1
+taken : (c : tie.After-digit Inv-loop μ-loop)
+    → c .digit .result * (c .before .before .loop .s * 4 + 1)
+    ≤ c .before .before .loop .r * 4 + c .before .before .loop .y / 2 ^ 62
+taken c =
+    stepped (c .before .before .loop .s) (c .before .before .loop .r * 4 + c .before .before .loop .y / 2 ^ 62)
+    (c .digit .result) (omega arith) (c .digit .ensures) .1
 
 one : (c : tie.After-digit Inv-loop μ-loop) → c .digit .result ≤ 1
-one c = stepped (c .before .before .loop .s) (c .before .before .loop .r * 4 + c .before .before .loop .y / 2 ^ 62) (c .digit .result) (omega arith) (c .digit .ensures) .0
+one c =
+    stepped (c .before .before .loop .s) (c .before .before .loop .r * 4 + c .before .before .loop .y / 2 ^ 62)
+    (c .digit .result) (omega arith) (c .digit .ensures) .0
 
 mul-s : tie.Need-mul-s Inv-loop μ-loop
 mul-s c = omega (arith, short-55 (c .before .before .loop .inv))
@@ -57,7 +64,8 @@ loop-less c = omega arith
 loop-again : tie.Need-loop-again Inv-loop μ-loop
 loop-again c =
     let l = c .before .before .loop in
-    next (c .before .before .before .args .z) (l .s) (l .r) (l .y) (l .i) (c .digit .result) (omega arith) (c .digit .ensures) (l .inv)
+    next (c .before .before .before .args .z) (l .s) (l .r) (l .y) (l .i) (c .digit .result) (omega arith)
+    (c .digit .ensures) (l .inv)
 
 sticky-requires : tie.Need-sticky-requires Inv-loop μ-loop
 sticky-requires c κs = tt
@@ -65,7 +73,8 @@ sticky-requires c κs = tt
 returns : tie.Need-returns Inv-loop μ-loop
 returns c =
     let a = c .before .before in
-    rw (c .sticky .ensures) (found (a .before .args .z) (a .loop .s) (a .loop .r) (a .loop .y) (a .loop .i) (a .before .pre) (omega arith) (a .loop .inv))
+    rw (c .sticky .ensures) (found (a .before .args .z) (a .loop .s) (a .loop .r) (a .loop .y) (a .loop .i)
+    (a .before .pre) (omega arith) (a .loop .inv))
 
 pub root-digits-spec : {M : Type 1} → statement M
 root-digits-spec =

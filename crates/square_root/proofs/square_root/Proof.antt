@@ -1,6 +1,6 @@
 -- `square_root::square_root` meets its contract, case by case. Assumes nothing.
 use borrow.Author.Needs.{needs}
-use Rattle.square_root.proofs.Cases.{above-zero, at-infinity, at-zero, below-zero}
+use Rattle.square_root.proofs.SpecialCases.{above-zero, at-infinity, at-zero, below-zero}
 use Rattle.square_root.proofs.square_root.Statement.{statement}
 use Rattle.square_root.proofs.square_root.Tie as tie
 

@@ -1,4 +1,5 @@
--- `text::put` meets its contract. The loop's invariant: what is left of the text from k on, put at the place `to`, gives the same as the whole text put at `at`.
+-- `text::put` meets its contract. The loop's invariant: what is left of the text from k on, put at the place `to`,
+-- gives the same as the whole text put at `at`.
 -- Assumes nothing.
 use borrow.Author.Needs.{needs}
 use mathlib.Core.Path.{_≡_, sym, _∙_}
@@ -15,18 +16,22 @@ use Rattle.text.proofs.put.Tie as tie
 
 abbrev Inv-loop : tie.InvT-loop
 Inv-loop out₀ at text to₀ k₀ out to k =
-    (length out ≡ length out₀) × (to ≡ at + k) × (to ≤ length out) × (k ≤ length text) × (putAt out₀ at text ≡ putAt out to (drop k text))
+    (length out ≡ length out₀) × (to ≡ at + k) × (to ≤ length out) × (k ≤ length text)
+    × (putAt out₀ at text ≡ putAt out to (drop k text))
 
 abbrev μ-loop : tie.MeasureT-loop
 μ-loop out₀ at text to₀ k₀ out to k = length text - k
 
 returns : tie.Need-returns Inv-loop μ-loop
-returns c = (omega arith ∙ sym (min-eq-left (omega arith)), sym (put-out (c .before .args .text .now) _ _ (omega arith)))
+returns c =
+    (omega arith ∙ sym (min-eq-left (omega arith)), sym (put-out (c .before .args .text .now) _ _ (omega arith)))
 
 returns-2 : tie.Need-returns-2 Inv-loop μ-loop
 returns-2 c =
-    let l = c .before .before .loop in
-    (omega arith ∙ sym (min-eq-left (omega arith)), sym (l .inv .4 ∙ put-out (drop (l .k) (c .before .before .before .before .args .text .now)) _ _ (omega arith)))
+    let l = c .before .before .loop in (
+      omega arith ∙ sym (min-eq-left (omega arith)),
+      sym (l .inv .4 ∙ put-out (drop (l .k) (c .before .before .before .before .args .text .now)) _ _ (omega arith)),
+    )
 
 loop-again : tie.Need-loop-again Inv-loop μ-loop
 loop-again c =
@@ -46,4 +51,6 @@ returns-3 c =
 
 pub put-spec : {M : Type 1} → statement M
 put-spec =
-    tie.close (tie.spec Inv-loop μ-loop returns (λ c. search needs) (λ c. search needs) returns-2 (λ c. search needs) (λ c. search needs) (λ c. search needs) (λ c. search needs) (λ c. search needs) loop-again (λ c. search needs) returns-3)
+    tie.close (tie.spec Inv-loop μ-loop returns (λ c. search needs) (λ c. search needs) returns-2 (λ c. search needs)
+    (λ c. search needs) (λ c. search needs) (λ c. search needs) (λ c. search needs) loop-again
+    (λ c. search needs) returns-3)

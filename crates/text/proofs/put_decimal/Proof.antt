@@ -1,4 +1,5 @@
--- `text::put_decimal` meets its contract. The loop's invariant: the digits that are left of v, with what is written behind k, are the digits of n.
+-- `text::put_decimal` meets its contract. The loop's invariant: the digits that are left of v,
+-- with what is written behind k, are the digits of n.
 -- Assumes nothing.
 use borrow.Author.Needs.{needs}
 use mathlib.Core.Path.{_≡_, sym, _∙_, ap}
@@ -47,10 +48,16 @@ returns c =
     let e = c .before .before .put .ensures in
     let d = c .before .before .before .before .before .before in
     let l = d .before .before .loop in
-    let all = take-all (20 - l .k) (drop (l .k) (set (l .digits) (l .k) (d .digit2 .result))) (simp (length-drop, length-set) (omega arith)) in
-    let same = all ∙ sym (l .inv .3 ∙ first-digit (l .digits) (l .k) (l .v) (d .digit2 .ensures) (omega arith) (omega arith)) in
+    let all =
+    take-all (20 - l .k) (drop (l .k) (set (l .digits) (l .k) (d .digit2 .result)))
+    (simp (length-drop, length-set) (omega arith)) in
+    let same =
+    all ∙ sym
+    (l .inv .3 ∙ first-digit (l .digits) (l .k) (l .v) (d .digit2 .ensures) (omega arith) (omega arith)) in
     (e .0 ∙ ap (placeAfter _ _) same, e .1 ∙ ap (putAt _ _) same)
 
 pub put-decimal-spec : {M : Type 1} → statement M
 put-decimal-spec =
-    tie.close (tie.spec Inv-loop μ-loop loop-holds (λ c κs. search needs) (λ c. search needs) sub-k loop-less loop-again (λ c κs. search needs) (λ c. search needs) (λ c. search needs) (λ c. search needs) part-put-end (λ c κs. search needs) (λ c. search needs) returns)
+    tie.close (tie.spec Inv-loop μ-loop loop-holds (λ c κs. search needs) (λ c. search needs) sub-k loop-less loop-again
+    (λ c κs. search needs) (λ c. search needs) (λ c. search needs) (λ c. search needs) part-put-end
+    (λ c κs. search needs) (λ c. search needs) returns)

@@ -17,10 +17,14 @@ returns c =
     let count = blank .before .before .before .before .before in
     let s = count .before .before .before .args in
     let line = ascii "\n" in
-    then (now (s .out)) (decimal (s .count)) (ascii " " ++ (answerText (s .answer) ++ line)) (s .at) (count .put-decimal .ensures)
-    (then (count .put-decimal .last .0) (ascii " ") (answerText (s .answer) ++ line) (count .put-decimal .result) (blank .put .ensures)
-    (then (blank .put .last .0) (answerText (s .answer)) line (blank .put .result) (answer .put-answer .ensures) (last .put2 .ensures)))
+    then (now (s .out)) (decimal (s .count)) (ascii " " ++ (answerText (s .answer) ++ line)) (s .at)
+    (count .put-decimal .ensures)
+    (then (count .put-decimal .last .0) (ascii " ") (answerText (s .answer) ++ line) (count .put-decimal .result)
+    (blank .put .ensures)
+    (then (blank .put .last .0) (answerText (s .answer)) line (blank .put .result) (answer .put-answer .ensures)
+    (last .put2 .ensures)))
 
 pub put-line-spec : {M : Type 1} → statement M
 put-line-spec =
-    tie.close (tie.spec (λ c κs. search needs) (λ c. search needs) (λ c κs. search needs) (λ c κs. search needs) (λ c. search needs) (λ c κs. search needs) (λ c. search needs) returns)
+    tie.close (tie.spec (λ c κs. search needs) (λ c. search needs) (λ c κs. search needs) (λ c κs. search needs)
+    (λ c. search needs) (λ c κs. search needs) (λ c. search needs) returns)

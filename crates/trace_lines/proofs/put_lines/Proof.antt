@@ -1,5 +1,5 @@
--- `trace_lines::put_lines` meets its contract. The loop's invariant: the samples from the place `at` on lead from the reader, the place and the bytes as they
--- are now to what the whole block leads to. Assumes nothing.
+-- `trace_lines::put_lines` meets its contract. The loop's invariant: the samples from the place `at` on lead from the
+-- reader, the place and the bytes as they are now to what the whole block leads to. Assumes nothing.
 use borrow.Author.Needs.{needs}
 use mathlib.Core.Path.{_≡_, sym, _∙_, ap}
 use Prim.Native.Nat.{_-_, _≤_}
@@ -16,7 +16,8 @@ use Rattle.trace_lines.proofs.put_lines.Tie as tie
 abbrev Inv-loop : tie.InvT-loop
 Inv-loop ring₀ block out₀ s₀ to₀ at₀ ring out s to at =
     (length ring ≡ length ring₀) × (length out ≡ length out₀) × (at ≤ length block) × (to ≤ length out)
-    × (come (record { state = s₀; ring = ring₀ }) out₀ 0 (samplesIn block) ≡ come (record { state = s; ring = ring }) out to (samplesIn (drop at block)))
+    × (come (record { state = s₀; ring = ring₀ }) out₀ 0 (samplesIn block)
+    ≡ come (record { state = s; ring = ring }) out to (samplesIn (drop at block)))
 
 abbrev μ-loop : tie.MeasureT-loop
 μ-loop ring₀ block out₀ s₀ to₀ at₀ ring out s to at = length block - at
@@ -45,4 +46,6 @@ returns c =
 
 pub put-lines-spec : {M : Type 1} → statement M
 put-lines-spec =
-    tie.close (tie.spec Inv-loop μ-loop (λ c. search needs) (λ c. search needs) (λ c κs. search needs) (λ c κs. search needs) (λ c κs. search needs) (λ c κs. search needs) (λ c. search needs) (λ c. search needs) loop-again (λ c. search needs) (λ c. search needs) returns)
+    tie.close (tie.spec Inv-loop μ-loop (λ c. search needs) (λ c. search needs) (λ c κs. search needs)
+    (λ c κs. search needs) (λ c κs. search needs) (λ c κs. search needs) (λ c. search needs)
+    (λ c. search needs) loop-again (λ c. search needs) (λ c. search needs) returns)

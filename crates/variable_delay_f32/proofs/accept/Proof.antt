@@ -1,4 +1,5 @@
--- `variable_delay_f32::accept` meets its contract: by its refusal, or, where every test passed, by the store at the sample's place. Assumes nothing.
+-- `variable_delay_f32::accept` meets its contract: by its refusal, or, where every test passed,
+-- by the store at the sample's place. Assumes nothing.
 use borrow.Author.Needs.{needs, scaled-fits}
 use mathlib.Core.Path.{_≡_, sym, _∙_}
 use Prim.Native.Nat.{_<_}
@@ -10,23 +11,26 @@ use mir.Syntax.{w64}
 use mir.Val.{toZ}
 use mir.ValLaws.{toZ-ofZ}
 use denote.Ref.{now}
-use Rattle.integer_part.proofs.Step.{in-float}
-use Rattle.ring.proofs.Held.{place-mod, place-inside}
+use Rattle.integer_part.proofs.FloorInside.{in-float}
+use Rattle.ring.proofs.RunStartWays.{place-mod, place-inside}
 use Rattle.variable_delay.specs.Reader.{verdict}
-use Rattle.variable_delay.proofs.Taken.{Taken, taken, ring-some}
+use Rattle.variable_delay.proofs.AcceptedCall.{Taken, taken, ring-some}
 use Rattle.variable_delay.proofs.Refused.{not-accepted, same-ring}
 use Rattle.variable_delay_f32.proofs.accept.Statement.{statement}
 use Rattle.variable_delay_f32.proofs.accept.Tie as tie
 
 returns : tie.Need-returns
 unfolding ofBits
-returns c = let e = c .before .refusal .ensures in (not-accepted _ e (c .if1 .taken) _ _, same-ring _ e (c .if1 .taken) _ _ _)
+returns c =
+    let e = c .before .refusal .ensures in (not-accepted _ e (c .if1 .taken) _ _, same-ring _ e (c .if1 .taken) _ _ _)
 
 -- the call is accepted
-none : (c : tie.Else1) → let a = c .before .before .before .args in verdict (a .own) (a .lent) (a .state) (length (now (a .ring))) (a .input) (a .delay) ≡ 0
+none : (c : tie.Else1) → let a = c .before .before .before .args in
+    verdict (a .own) (a .lent) (a .state) (length (now (a .ring))) (a .input) (a .delay) ≡ 0
 none c = sym (c .before .refusal .ensures) ∙ c .if1 .left
 
-passed : (c : tie.Else1) → let a = c .before .before .before .args in Taken (a .own) (a .lent) (a .state) (length (now (a .ring))) (a .input) (a .delay)
+passed : (c : tie.Else1) → let a = c .before .before .before .args in
+    Taken (a .own) (a .lent) (a .state) (length (now (a .ring))) (a .input) (a .delay)
 passed c = taken _ _ _ _ _ _ (none c)
 
 inside : (c : tie.After-place) → c .place .result < length (now (c .before .before .before .before .args .ring))
@@ -45,7 +49,9 @@ add-t14 c = omega (arith, passed (c .before) .room)
 cast-t15 : tie.Need-cast-t15
 cast-t15 c = record { sfits = omega (arith, passed (c .before) .room) }
 
-count-is : (c : tie.After-row-known) → toZ w64 (c .before .before .before .before .before .args .state .accepted) ≡ pos (c .before .before .before .before .before .args .state .accepted)
+count-is : (c : tie.After-row-known)
+    → toZ w64 (c .before .before .before .before .before .args .state .accepted)
+    ≡ pos (c .before .before .before .before .before .args .state .accepted)
 count-is c = toZ-ofZ w64 (pos _) (cast-t15 (c .before))
 
 int-to-float-t16 : tie.Need-int-to-float-t16
@@ -60,4 +66,6 @@ returns-2 c =
     (rw (none e, count-is c), rw (none e, p))
 
 pub accept-spec : {M : Type 1} → statement M
-accept-spec = tie.close (tie.spec (λ c κs. search needs) returns (λ c κs. search needs) mul-ring slice-write-ring add-t14 cast-t15 int-to-float-t16 (λ c. search needs) returns-2)
+accept-spec =
+    tie.close (tie.spec (λ c κs. search needs) returns
+    (λ c κs. search needs) mul-ring slice-write-ring add-t14 cast-t15 int-to-float-t16 (λ c. search needs) returns-2)

@@ -1,4 +1,5 @@
--- `variable_delay_f32::refusal` meets its contract: a common call is refused nothing; else each test is the definition's, the first two by `settled`. Assumes nothing.
+-- `variable_delay_f32::refusal` meets its contract: a common call is refused nothing; else each test is the
+-- definition's, the first two by `settled`. Assumes nothing.
 use borrow.Author.Needs.{needs}
 use mathlib.Core.Path.{refl, sym}
 use mathlib.Core.Bool.{Bool, true, false, _&&_}
@@ -31,10 +32,14 @@ returns-2 c =
     )
     (settled (s .maximum) (s .margin) (a .len) (f .length-for .result)
     (λ (t u : Bool).
-    lowestOf (t && a .own) (u && a .lent) (leb (s .accepted) (2 ^ 36)) (finite (a .input)) (finite (a .delay) && le (fin false 0 (pos 0)) (a .delay)) (le (a .delay) (fin false 1 (pos 36))) true (ltb (s .accepted) (2 ^ 36)))
+    lowestOf (t && a .own) (u && a .lent) (leb (s .accepted) (2 ^ 36)) (finite (a .input))
+    (finite (a .delay) && le (fin false 0 (pos 0)) (a .delay)) (le (a .delay) (fin false 1 (pos 36))) true
+    (ltb (s .accepted) (2 ^ 36)))
     (λ t u. refl)
     (f .length-for .ensures))
 
 pub refusal-spec : {M : Type 1} → statement M
 refusal-spec =
-    tie.close (tie.spec (λ c κs. search needs) returns (λ c κs. search needs) (λ c κs. search needs) (λ c κs. search needs) (λ c κs. search needs) (λ c κs. search needs) (λ c κs. search needs) (λ c κs. search needs) returns-2)
+    tie.close (tie.spec (λ c κs. search needs) returns (λ c κs. search needs) (λ c κs. search needs)
+    (λ c κs. search needs) (λ c κs. search needs) (λ c κs. search needs) (λ c κs. search needs)
+    (λ c κs. search needs) returns-2)

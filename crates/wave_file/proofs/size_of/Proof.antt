@@ -1,6 +1,6 @@
 -- `wave_file::size_of`: an i64 that is not below 0 is a usize. Assumes nothing.
 use borrow.Author.Needs.{needs}
-use Rattle.ring.proofs.Held as held
+use Rattle.ring.proofs.RunStartWays as held
 use Rattle.wave_file.proofs.size_of.Statement.{statement}
 use Rattle.wave_file.proofs.size_of.Tie as tie
 

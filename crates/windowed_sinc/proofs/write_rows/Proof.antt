@@ -7,12 +7,12 @@ use native.Mathlib.Omega.{arith}
 use lib.ListN.{length}
 use lib.Ieee.{Float}
 use denote.Ref.{now}
-use Rattle.loops.proofs.Filling.{Filled, lentRow, unfilled, length-lent, filled-more, filled}
+use Rattle.loop_laws.proofs.Filling.{Filled, lentRow, unfilled, length-lent, filled-more, filled}
 use Rattle.sinc_settings.specs.declared.Settings.{Settings}
-use Rattle.sinc_settings.proofs.Fitting.{Fitting, fitting}
+use Rattle.sinc_settings.proofs.BuilderAccepted.{Fitting, fitting}
 use Rattle.sinc_row.specs.Row.{at, rowOf}
 use Rattle.sinc_row.proofs.Rows.{length-row}
-use Rattle.sinc_row.proofs.Lent.{row-lent}
+use Rattle.sinc_row.proofs.WrittenRows.{row-lent}
 use Rattle.windowed_sinc.specs.Table.{tableUnder}
 use Rattle.windowed_sinc.proofs.Building.{most, row-inside}
 use Rattle.windowed_sinc.proofs.write_rows.Statement.{statement}

@@ -4,7 +4,7 @@ use mathlib.Core.Path.{_∙_}
 use native.Mathlib.Omega.{arith}
 use lib.ListN.{length}
 use denote.Ref.{now}
-use Rattle.sinc_settings.proofs.Fitting.{Fitting, fitting}
+use Rattle.sinc_settings.proofs.BuilderAccepted.{Fitting, fitting}
 use Rattle.windowed_sinc.proofs.Building.{most, window-fits, window-long, table-made}
 use Rattle.windowed_sinc.proofs.write_table.Statement.{statement}
 use Rattle.windowed_sinc.proofs.write_table.Tie as tie

@@ -1,4 +1,5 @@
--- `windowed_sinc_f32::build` meets its contract: by its refusal, or by the table that `write_table` leaves. Assumes nothing.
+-- `windowed_sinc_f32::build` meets its contract: by its refusal, or by the table that `write_table` leaves.
+-- Assumes nothing.
 use borrow.Author.Needs.{needs}
 use mathlib.Core.Path.{_≡_}
 use native.Mathlib.Omega.{arith}
@@ -20,7 +21,9 @@ write-table-requires : tie.Need-write-table-requires
 write-table-requires c κs = let e = c .before in e .before .before .pre (none e)
 
 returns-2 : tie.Need-returns-2
-returns-2 c = let w = c .before .before in (rw (none (w .before .before)), rw (none (w .before .before)) (w .write-table .ensures))
+returns-2 c =
+    let w = c .before .before in
+    (rw (none (w .before .before)), rw (none (w .before .before)) (w .write-table .ensures))
 
 pub build-spec : {M : Type 1} → statement M
 build-spec = tie.close (tie.spec returns write-table-requires (λ c. search needs) returns-2)

@@ -3,7 +3,7 @@ use borrow.Author.Needs.{needs}
 use mathlib.Core.Path.{sym, _∙_}
 use lib.ListN.{length}
 use denote.Ref.{now}
-use Rattle.sinc_settings.proofs.Fitting.{by-rate}
+use Rattle.sinc_settings.proofs.BuilderAccepted.{by-rate}
 use Rattle.windowed_sinc_f32.proofs.for_max_rate_in.Statement.{statement}
 use Rattle.windowed_sinc_f32.proofs.for_max_rate_in.Tie as tie
 

@@ -8,10 +8,10 @@ use lib.ListN.{length, getD, length-set}
 use lib.Ieee.{Float, nan}
 use denote.Ref.{now}
 use Rattle.rounding.specs.Operations.{narrowed}
-use Rattle.loops.specs.Loops.{listOf}
-use Rattle.loops.proofs.Lists.{elements}
-use Rattle.loops.proofs.Writing.{Written, unwritten, written-more, all-written}
-use Rattle.loops.proofs.Mapped.{map-list}
+use Rattle.loop_laws.specs.Loops.{listOf}
+use Rattle.loop_laws.proofs.Lists.{elements}
+use Rattle.loop_laws.proofs.Writing.{Written, unwritten, written-more, all-written}
+use Rattle.loop_laws.proofs.Mapped.{map-list}
 use Rattle.windowed_sinc_f32.proofs.narrow_row.Statement.{statement}
 use Rattle.windowed_sinc_f32.proofs.narrow_row.Tie as tie
 
@@ -25,10 +25,14 @@ abbrev μ-loop : tie.MeasureT-loop
 μ-loop row₀ from k₀ row k = length row - k
 
 mul-narrow : tie.Need-mul-narrow Inv-loop μ-loop
-mul-narrow c = let s = c .before .before .before .before in scaled-fits _ (length (now (s .args .from))) 8 (omega arith) (s .good .1 .0 .1)
+mul-narrow c =
+    let s = c .before .before .before .before in
+    scaled-fits _ (length (now (s .args .from))) 8 (omega arith) (s .good .1 .0 .1)
 
 mul-row : tie.Need-mul-row Inv-loop μ-loop
-mul-row c = let s = c .before .before .before .before .before .before in scaled-fits _ (length (now (s .args .row))) 4 (omega arith) (s .good .0 .1)
+mul-row c =
+    let s = c .before .before .before .before .before .before in
+    scaled-fits _ (length (now (s .args .row))) 4 (omega arith) (s .good .0 .1)
 
 -- the rounded list is the list rounded
 returns : tie.Need-returns Inv-loop μ-loop

@@ -7,11 +7,11 @@ use native.Mathlib.Omega.{arith}
 use lib.ListN.{length, take}
 use denote.Ref.{now}
 use Rattle.rounding.specs.Operations.{narrowed}
-use Rattle.loops.proofs.Scratch.{front-fits, front-again}
-use Rattle.sinc_settings.proofs.Accepted.{counts, accepted}
+use Rattle.loop_laws.proofs.Scratch.{front-fits, front-again}
+use Rattle.sinc_settings.proofs.SettingsInRange.{counts, accepted}
 use Rattle.sinc_row.specs.Row.{at, rowOf}
 use Rattle.sinc_row.proofs.Rows.{length-row}
-use Rattle.sinc_row.proofs.Lent.{scratch, scratch-long, row-lent}
+use Rattle.sinc_row.proofs.WrittenRows.{scratch, scratch-long, row-lent}
 use Rattle.windowed_sinc_f32.proofs.write_row.Statement.{statement}
 use Rattle.windowed_sinc_f32.proofs.write_row.Tie as tie
 

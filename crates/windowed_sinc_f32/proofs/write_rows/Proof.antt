@@ -8,10 +8,10 @@ use lib.ListN.{length, length-map}
 use lib.Ieee.{Float}
 use denote.Ref.{now}
 use Rattle.rounding.specs.Operations.{narrowed}
-use Rattle.loops.proofs.Mapped.{map-rows}
-use Rattle.loops.proofs.Filling.{Filled, unfilled, length-lent, filled-more, filled}
+use Rattle.loop_laws.proofs.Mapped.{map-rows}
+use Rattle.loop_laws.proofs.Filling.{Filled, unfilled, length-lent, filled-more, filled}
 use Rattle.sinc_settings.specs.declared.Settings.{Settings}
-use Rattle.sinc_settings.proofs.Fitting.{Fitting, fitting}
+use Rattle.sinc_settings.proofs.BuilderAccepted.{Fitting, fitting}
 use Rattle.sinc_row.specs.Row.{at, rowOf}
 use Rattle.sinc_row.proofs.Rows.{length-row}
 use Rattle.windowed_sinc.specs.Table.{tableUnder}

@@ -1,4 +1,5 @@
--- `word_bytes::part` meets its contract: past the end there is nothing to take, and near the end no more than is there. Assumes nothing.
+-- `word_bytes::part` meets its contract: past the end there is nothing to take, and near the end no more than is there.
+-- Assumes nothing.
 use borrow.Author.Needs.{needs}
 use mathlib.Core.Path.{sym, _∙_}
 use Prim.Native.Nat.{_-_, _≤_}
@@ -10,7 +11,11 @@ use Rattle.word_bytes.proofs.part.Statement.{statement}
 use Rattle.word_bytes.proofs.part.Tie as tie
 
 returns : tie.Need-returns
-returns c = (rw (drop-of-length-le (c .before .before .args .s .now) (c .before .if1 .taken)) (sym (take-nil (c .before .before .args .count))), search needs)
+returns c = (
+  rw (drop-of-length-le (c .before .before .args .s .now) (c .before .if1 .taken))
+      (sym (take-nil (c .before .before .args .count))),
+  search needs,
+)
 
 returns-2 : tie.Need-returns-2
 returns-2 c =
@@ -28,4 +33,6 @@ returns-3 c =
 
 pub part-spec : {M : Type 1} → statement M
 part-spec =
-    tie.close (tie.spec (λ c. search needs) returns (λ c. search needs) (λ c. search needs) (λ c. search needs) (λ c. search needs) (λ c. search needs) returns-2 (λ c. search needs) (λ c. search needs) (λ c. search needs) returns-3)
+    tie.close (tie.spec (λ c. search needs) returns (λ c. search needs) (λ c. search needs) (λ c. search needs)
+    (λ c. search needs) (λ c. search needs) returns-2 (λ c. search needs) (λ c. search needs)
+    (λ c. search needs) returns-3)

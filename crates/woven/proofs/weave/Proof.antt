@@ -3,7 +3,7 @@ use borrow.Author.Needs.{needs}
 use Prim.Native.Nat.{_-_}
 use native.Mathlib.Omega.{arith}
 use lib.ListN.{length, length-set}
-use Rattle.loops.proofs.Writing.{Written, unwritten, written-more, all-written}
+use Rattle.loop_laws.proofs.Writing.{Written, unwritten, written-more, all-written}
 use Rattle.woven.specs.Woven.{wovenAt}
 use Rattle.woven.proofs.weave.Statement.{statement}
 use Rattle.woven.proofs.weave.Tie as tie

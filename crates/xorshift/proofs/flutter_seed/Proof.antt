@@ -2,7 +2,7 @@
 use mathlib.Core.Path.{_∙_, ap}
 use lib.Dec.{lit<}
 use borrow.Author.Needs.{needs}
-use Rattle.words.proofs.Digitwise.{xor-is}
+use Rattle.wrapping_u64.proofs.Digitwise.{xor-is}
 use Rattle.xorshift.specs.Seeds.{seedOf}
 use Rattle.xorshift.proofs.flutter_seed.Statement.{statement}
 use Rattle.xorshift.proofs.flutter_seed.Tie as tie

@@ -1,4 +1,5 @@
--- `bank_choice::rates::set_rate` meets its contract: below the number of sets, which is 0 out of range, there is a set. Assumes nothing.
+-- `bank_choice::rates::set_rate` meets its contract: below the number of sets, which is 0 out of range, there is a set.
+-- Assumes nothing.
 use borrow.Author.Needs.{needs}
 use borrow.Author.Tests.{lt-ltb, le-ltb}
 use mathlib.Core.Path.{_≡_, refl, sym, _∙_, ap}
@@ -13,11 +14,13 @@ use Rattle.bank_choice.proofs.rates.set_rate.Statement.{statement}
 use Rattle.bank_choice.proofs.rates.set_rate.Tie as tie
 
 module _ (top : Float) (steps set n : ℕ) where
-  there : (ok : Bool) → n ≡ cond ok steps 0 → set < n → rateOf top n (set + 1) ≡ cond (ok && ltb set steps) (rateOf top steps (set + 1)) zero-f
+  there : (ok : Bool) → n ≡ cond ok steps 0 → set < n
+      → rateOf top n (set + 1) ≡ cond (ok && ltb set steps) (rateOf top steps (set + 1)) zero-f
   there true e h = rw (e, lt-ltb set steps (omega arith))
   there false e h = absurd (omega arith)
 
-  missing : (ok : Bool) → n ≡ cond ok steps 0 → n ≤ set → zero-f ≡ cond (ok && ltb set steps) (rateOf top steps (set + 1)) zero-f
+  missing : (ok : Bool) → n ≡ cond ok steps 0 → n ≤ set
+      → zero-f ≡ cond (ok && ltb set steps) (rateOf top steps (set + 1)) zero-f
   missing true e h = rw (le-ltb set steps (omega arith))
   missing false e h = refl
 
@@ -25,14 +28,17 @@ returns : tie.Need-returns
 returns c =
     let s = c .before .before in
     let a = s .before .args in
-    c .rate .ensures ∙ there (a .max-rate) (stepsOf (a .max-rate)) (a .set) (s .steps .result) (bankOk (a .max-rate)) (c .before .before .steps .ensures) (c .before .if1 .taken)
+    c .rate .ensures
+    ∙ there (a .max-rate) (stepsOf (a .max-rate)) (a .set) (s .steps .result) (bankOk (a .max-rate))
+    (c .before .before .steps .ensures) (c .before .if1 .taken)
 
 returns-2 : tie.Need-returns-2
 unfolding ofBits
 returns-2 c =
     let s = c .before in
     let a = s .before .args in
-    missing (a .max-rate) (stepsOf (a .max-rate)) (a .set) (s .steps .result) (bankOk (a .max-rate)) (c .before .steps .ensures) (c .if1 .left)
+    missing (a .max-rate) (stepsOf (a .max-rate)) (a .set) (s .steps .result) (bankOk (a .max-rate))
+    (c .before .steps .ensures) (c .if1 .left)
 
 pub set-rate-spec : {M : Type 1} → statement M
 set-rate-spec = tie.close (tie.spec (λ c κs. search needs) (λ c. search needs) (λ c κs. search needs) returns returns-2)

@@ -1,7 +1,8 @@
--- `bank_choice::rates::sets` meets its contract: the quotient is at most 50, and its ceiling is the definition's. Assumes nothing.
+-- `bank_choice::rates::sets` meets its contract: the quotient is at most 50, and its ceiling is the definition's.
+-- Assumes nothing.
 use lib.Ieee.{ofBits}
 use Rattle.bank_choice.specs.Rates.{stepsOf}
-use Rattle.bank_choice.proofs.Spans.{span-at-most}
+use Rattle.bank_choice.proofs.SetCounts.{span-at-most}
 use Rattle.bank_choice.proofs.rates.sets.Statement.{statement}
 use Rattle.bank_choice.proofs.rates.sets.Tie as tie
 

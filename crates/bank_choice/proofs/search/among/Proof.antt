@@ -1,10 +1,10 @@
--- `bank_choice::search::among` meets its contract: from wherever the guess is, down and up again end at the partition's place; and where the first set is
--- not slower, that is 0. Assumes nothing.
+-- `bank_choice::search::among` meets its contract: from wherever the guess is, down and up again end at the partition's
+-- place; and where the first set is not slower, that is 0. Assumes nothing.
 use borrow.Author.Needs.{needs}
 use mathlib.Core.Path.{sym, _∙_}
 use native.Mathlib.Omega.{arith}
 use Rattle.bank_choice.specs.Choosing.{slowerOf}
-use Rattle.bank_choice.proofs.Spans.{least}
+use Rattle.bank_choice.proofs.SetCounts.{least}
 use Rattle.bank_choice.proofs.Partition.{found}
 use Rattle.bank_choice.proofs.search.among.Statement.{statement}
 use Rattle.bank_choice.proofs.search.among.Tie as tie
@@ -18,7 +18,10 @@ guess-requires c κs = omega (arith, least (c .before .before .args .max-rate))
 returns-2 : tie.Need-returns-2
 returns-2 c =
     let a = c .before .before .args in
-    found (slowerOf (a .max-rate) (a .steps) (a .r)) (a .steps) 0 (omega arith) (λ j h. absurd (omega arith)) (λ h. sym (c .before .slower .ensures) ∙ c .if1 .left)
+    found (slowerOf (a .max-rate) (a .steps) (a .r)) (a .steps) 0 (omega arith) (λ j h. absurd (omega arith))
+    (λ h. sym (c .before .slower .ensures) ∙ c .if1 .left)
 
 pub among-spec : {M : Type 1} → statement M
-among-spec = tie.close (tie.spec slower-requires guess-requires (λ c κs. search needs) (λ c κs. search needs) (λ c. search needs) returns-2)
+among-spec =
+    tie.close (tie.spec slower-requires guess-requires (λ c κs. search needs) (λ c κs. search needs)
+    (λ c. search needs) returns-2)

@@ -1,4 +1,5 @@
--- `bank_choice::search::down` meets its contract: where a set is slower, so is every set before it, by `Growing`. The measure is the place.
+-- `bank_choice::search::down` meets its contract: where a set is slower, so is every set before it, by `RatesGrow`.
+-- The measure is the place.
 -- Assumes nothing.
 use mathlib.Core.Path.{_≡_, sym, _∙_}
 use mathlib.Core.Bool.{true}
@@ -7,12 +8,13 @@ use native.Mathlib.Omega.{arith}
 use lib.Ieee.{Float}
 use Rattle.bank_choice.specs.Rates.{bankOk, stepsOf}
 use Rattle.bank_choice.specs.Choosing.{slowerOf}
-use Rattle.bank_choice.proofs.Growing.{slower-before}
+use Rattle.bank_choice.proofs.RatesGrow.{slower-before}
 use Rattle.bank_choice.proofs.search.down.Statement.{statement}
 use Rattle.bank_choice.proofs.search.down.Tie as tie
 
 -- the set before e is slower
-stops : (top : Float) (steps : ℕ) (r : Float) (e : ℕ) → bankOk top ≡ true → steps ≡ stepsOf top → 0 < e → e ≤ steps → slowerOf top steps r (e - 1) ≡ true → (j : ℕ) → j < e → slowerOf top steps r j ≡ true
+stops : (top : Float) (steps : ℕ) (r : Float) (e : ℕ) → bankOk top ≡ true → steps ≡ stepsOf top → 0 < e → e ≤ steps
+    → slowerOf top steps r (e - 1) ≡ true → (j : ℕ) → j < e → slowerOf top steps r j ≡ true
 stops top steps r e ok n some l s j h = rw n (slower-before top ok r j (e - 1) (omega arith) (omega arith) (rw n at s))
 
 abbrev Inv-loop : tie.InvT-loop
@@ -36,8 +38,11 @@ slower-requires c κs = omega arith
 returns-2 : tie.Need-returns-2 Inv-loop μ-loop
 returns-2 c =
     let l = c .before .before .before in
-    let a = l .before in
-    (l .loop .inv, stops (a .args .max-rate) (a .args .steps) (a .args .r) (l .loop .e) (a .pre .0) (a .pre .1) (omega arith) (omega arith) (sym (c .before .slower .ensures) ∙ c .if2 .taken))
+    let a = l .before in (
+      l .loop .inv,
+      stops (a .args .max-rate) (a .args .steps) (a .args .r) (l .loop .e) (a .pre .0) (a .pre .1) (omega arith)
+          (omega arith) (sym (c .before .slower .ensures) ∙ c .if2 .taken),
+    )
 
 sub-e : tie.Need-sub-e Inv-loop μ-loop
 sub-e c = omega arith
@@ -49,4 +54,6 @@ loop-again : tie.Need-loop-again Inv-loop μ-loop
 loop-again c = omega arith
 
 pub down-spec : {M : Type 1} → statement M
-down-spec = tie.close (tie.spec Inv-loop μ-loop loop-holds returns sub-slower slower-requires returns-2 sub-e loop-less loop-again)
+down-spec =
+    tie.close (tie.spec Inv-loop μ-loop loop-holds returns sub-slower slower-requires returns-2 sub-e loop-less
+    loop-again)

@@ -1,4 +1,5 @@
--- `bank_choice::search::up` meets its contract. The loop's invariant: every set before the place is slower; so where it ends, it is `Partition`'s.
+-- `bank_choice::search::up` meets its contract. The loop's invariant: every set before the place is slower;
+-- so where it ends, it is `Partition`'s.
 -- The measure is what is left of the sets. Assumes nothing.
 use borrow.Author.Count.{below-more}
 use mathlib.Core.Path.{_≡_, sym, _∙_}
@@ -23,7 +24,8 @@ returns : tie.Need-returns Inv-loop μ-loop
 returns c =
     let l = c .before in
     let a = l .before .args in
-    found (slowerOf (a .max-rate) (a .steps) (a .r)) (a .steps) (l .loop .e) (l .loop .inv .0) (l .loop .inv .1) (λ h. absurd (omega arith))
+    found (slowerOf (a .max-rate) (a .steps) (a .r)) (a .steps) (l .loop .e) (l .loop .inv .0) (l .loop .inv .1)
+    (λ h. absurd (omega arith))
 
 slower-requires : tie.Need-slower-requires Inv-loop μ-loop
 slower-requires c κs = omega arith
@@ -43,7 +45,8 @@ returns-2 : tie.Need-returns-2 Inv-loop μ-loop
 returns-2 c =
     let l = c .before .before .before in
     let a = l .before .args in
-    found (slowerOf (a .max-rate) (a .steps) (a .r)) (a .steps) (l .loop .e) (l .loop .inv .0) (l .loop .inv .1) (λ h. sym (c .before .slower .ensures) ∙ c .if2 .left)
+    found (slowerOf (a .max-rate) (a .steps) (a .r)) (a .steps) (l .loop .e) (l .loop .inv .0) (l .loop .inv .1)
+    (λ h. sym (c .before .slower .ensures) ∙ c .if2 .left)
 
 pub up-spec : {M : Type 1} → statement M
 up-spec = tie.close (tie.spec Inv-loop μ-loop loop-holds returns slower-requires add-e loop-less loop-again returns-2)

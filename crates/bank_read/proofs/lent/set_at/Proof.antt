@@ -13,4 +13,5 @@ returns c = let k = c .before .args .k in let e : k * 1081648 + 1081648 - k * 10
 
 pub set-at-spec : {M : Type 1} → statement M
 set-at-spec =
-    tie.close (tie.spec (λ c. search needs) (λ c. search needs) (λ c. search needs) (λ c. search needs) (λ c. search needs) (λ c. search needs) returns)
+    tie.close (tie.spec (λ c. search needs) (λ c. search needs) (λ c. search needs) (λ c. search needs)
+    (λ c. search needs) (λ c. search needs) returns)

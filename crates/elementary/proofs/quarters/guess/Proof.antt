@@ -1,6 +1,7 @@
--- `elementary::quarters::guess` meets its contract: `Guessing` says which whole number the sum is, and what its pattern is. Assumes nothing.
+-- `elementary::quarters::guess` meets its contract: `QuickGuess` says which whole number the sum is,
+-- and what its pattern is. Assumes nothing.
 use lib.Ieee.{ofBits}
-use Rattle.elementary.proofs.Guessing.{guessed}
+use Rattle.elementary.proofs.QuickGuess.{guessed}
 use Rattle.elementary.proofs.quarters.guess.Statement.{statement}
 use Rattle.elementary.proofs.quarters.guess.Tie as tie
 

@@ -29,8 +29,12 @@ unfolding pick
 returns-3 c = rw (c .before .if3 .taken) (ap neg (c .sine-near2 .ensures))
 
 returns-4 : tie.Need-returns-4
-returns-4 c = let a = c .before .before .before .before .args in ap neg (c .cosine-near2 .ensures) ∙ last (a .q) (a .r) (c .before .before .before .if1 .left) (c .before .before .if2 .left) (c .before .if3 .left)
+returns-4 c =
+    let a = c .before .before .before .before .args in
+    ap neg (c .cosine-near2 .ensures)
+    ∙ last (a .q) (a .r) (c .before .before .before .if1 .left) (c .before .before .if2 .left) (c .before .if3 .left)
 
 pub choose-spec : {M : Type 1} → statement M
 choose-spec =
-    tie.close (tie.spec (λ c κs. search needs) returns (λ c κs. search needs) returns-2 (λ c κs. search needs) (λ c κs. search needs) returns-3 returns-4)
+    tie.close (tie.spec (λ c κs. search needs) returns (λ c κs. search needs) returns-2 (λ c κs. search needs)
+    (λ c κs. search needs) returns-3 returns-4)

@@ -1,4 +1,5 @@
--- `elementary::values::sine_at` meets its contract: within 1 the polynomial, beyond 1 what the quarter turns pick (`Picked`). Assumes nothing.
+-- `elementary::values::sine_at` meets its contract: within 1 the polynomial, beyond 1 what the quarter turns pick
+-- (`PickedPolynomial`). Assumes nothing.
 use borrow.Author.Needs.{needs}
 use mathlib.Core.Path.{_≡_, sym, _∙_, subst}
 use mathlib.Core.Bool.{Bool, not}
@@ -6,7 +7,7 @@ use lib.Dec.{T}
 use lib.Ieee.{ofBits}
 use Rattle.polynomials.specs.Range.{atMost}
 use Rattle.elementary.proofs.Range.{inside-is}
-use Rattle.elementary.proofs.Picked.{sine-short, sine-long}
+use Rattle.elementary.proofs.PickedPolynomial.{sine-short, sine-long}
 use Rattle.elementary.proofs.values.sine_at.Statement.{statement}
 use Rattle.elementary.proofs.values.sine_at.Tie as tie
 
@@ -15,7 +16,10 @@ unfolding ofBits
 tested c = c .inside .ensures ∙ inside-is 0 (c .before .args .x)
 
 returns : tie.Need-returns
-returns c = let s = c .before .before .before in sine-short (s .args .x) (subst T (sym (s .good .0 .1)) tt) (subst T (sym (c .before .if1 .taken) ∙ tested (c .before .before)) tt) (c .sine-near .ensures)
+returns c =
+    let s = c .before .before .before in
+    sine-short (s .args .x) (subst T (sym (s .good .0 .1)) tt)
+    (subst T (sym (c .before .if1 .taken) ∙ tested (c .before .before)) tt) (c .sine-near .ensures)
 
 beyond : (c : tie.Else1) → T (not (atMost 1 (c .before .before .args .x)))
 beyond c = subst (λ (b : Bool). T (not b)) (sym (c .if1 .left) ∙ tested (c .before)) tt
@@ -27,4 +31,6 @@ returns-2 : tie.Need-returns-2
 returns-2 c = sine-long (beyond (c .before .before)) (c .before .turn .ensures) (c .choose .ensures)
 
 pub sine-at-spec : {M : Type 1} → statement M
-sine-at-spec = tie.close (tie.spec (λ c κs. search needs) (λ c κs. search needs) returns turn-requires (λ c κs. search needs) returns-2)
+sine-at-spec =
+    tie.close (tie.spec (λ c κs. search needs) (λ c κs. search needs) returns turn-requires
+    (λ c κs. search needs) returns-2)

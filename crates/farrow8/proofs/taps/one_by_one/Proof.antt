@@ -9,7 +9,7 @@ use lib.IntN.{ℤ, pos, negsuc, _+ℤ_}
 use mir.Syntax.{w64}
 use mir.Val.{toZ, ofZ, SFits}
 use mir.ValLaws.{toZ-ofZ}
-use Rattle.integer_part.proofs.Signed.{sum-fits}
+use Rattle.integer_part.proofs.IntegerSizes.{sum-fits}
 use Rattle.farrow8.proofs.taps.one_by_one.Statement.{statement}
 use Rattle.farrow8.proofs.taps.one_by_one.Tie as tie
 
@@ -63,4 +63,7 @@ returns c =
     )
 
 pub one-by-one-spec : {M : Type 1} → statement M
-one-by-one-spec = tie.close (tie.spec sub-tap (λ c κs. search needs) sub-tap-2 (λ c κs. search needs) sub-tap-3 (λ c κs. search needs) (λ c κs. search needs) add-tap (λ c κs. search needs) add-tap-2 (λ c κs. search needs) add-tap-3 (λ c κs. search needs) add-tap-4 (λ c κs. search needs) returns)
+one-by-one-spec =
+    tie.close (tie.spec sub-tap (λ c κs. search needs) sub-tap-2 (λ c κs. search needs) sub-tap-3 (λ c κs. search needs)
+    (λ c κs. search needs) add-tap (λ c κs. search needs) add-tap-2 (λ c κs. search needs) add-tap-3
+    (λ c κs. search needs) add-tap-4 (λ c κs. search needs) returns)

@@ -1,6 +1,7 @@
--- `fugnadri::kernels::fugnadri_lagrange_sample` meets its contract: the answer that the reading gives, handed out. Assumes nothing.
+-- `fugnadri::kernels::fugnadri_lagrange_sample` meets its contract: the answer that the reading gives, handed out.
+-- Assumes nothing.
 use Rattle.answer.specs.Answers.{numberOf, valueOf}
-use Rattle.doors.proofs.Leaving.{told}
+use Rattle.answer_parts.proofs.LeftByExports.{told}
 use Rattle.fugnadri.proofs.kernels.fugnadri_lagrange_sample.Statement.{statement}
 use Rattle.fugnadri.proofs.kernels.fugnadri_lagrange_sample.Tie as tie
 

@@ -1,8 +1,8 @@
--- `fugnadri::reader_bits::fugnadri_farrow8_process_bits` meets its contract: what the call without `_bits` leaves, its sample as a
--- pattern. Assumes nothing.
+-- `fugnadri::reader_bits::fugnadri_farrow8_process_bits` meets its contract: what the call without `_bits` leaves,
+-- its sample as a pattern. Assumes nothing.
 use borrow.Author.Needs.{needs}
 use lib.Ieee.{binary64}
-use Rattle.doors.proofs.Leaving.{in-bits}
+use Rattle.answer_parts.proofs.LeftByExports.{in-bits}
 use Rattle.fugnadri.proofs.reader_bits.fugnadri_farrow8_process_bits.Statement.{statement}
 use Rattle.fugnadri.proofs.reader_bits.fugnadri_farrow8_process_bits.Tie as tie
 

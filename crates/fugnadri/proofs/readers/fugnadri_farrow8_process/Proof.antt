@@ -1,7 +1,7 @@
 -- `fugnadri::readers::fugnadri_farrow8_process` meets its contract: what the reader gives, handed out. Assumes nothing.
 use borrow.Author.Needs.{needs}
 use Rattle.answer.specs.Answers.{numberOf, valueOf}
-use Rattle.doors.proofs.Leaving.{left}
+use Rattle.answer_parts.proofs.LeftByExports.{left}
 use Rattle.fugnadri.proofs.readers.fugnadri_farrow8_process.Statement.{statement}
 use Rattle.fugnadri.proofs.readers.fugnadri_farrow8_process.Tie as tie
 

@@ -1,4 +1,5 @@
--- `fugnadri_bank::bank::fugnadri_bank_build` meets its contract: what the calls ensure, one put into the other. Assumes nothing.
+-- `fugnadri_bank::bank::fugnadri_bank_build` meets its contract: what the calls ensure, one put into the other.
+-- Assumes nothing.
 use borrow.Author.Needs.{needs}
 use mathlib.Core.Path.{_∙_, ap}
 use Rattle.sinc_bank_f32.specs.Building.{numberOf}

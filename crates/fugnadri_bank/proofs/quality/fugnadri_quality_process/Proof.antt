@@ -1,4 +1,5 @@
--- `fugnadri_bank::quality::fugnadri_quality_process` meets its contract: it is the call at the bank's maximum rate. Assumes nothing.
+-- `fugnadri_bank::quality::fugnadri_quality_process` meets its contract: it is the call at the bank's maximum rate.
+-- Assumes nothing.
 use borrow.Author.Needs.{needs}
 use Rattle.fugnadri_bank.proofs.quality.fugnadri_quality_process.Statement.{statement}
 use Rattle.fugnadri_bank.proofs.quality.fugnadri_quality_process.Tie as tie

@@ -1,8 +1,9 @@
--- `fugnadri_bank::quality_openings::fugnadri_quality_open` meets its contract: refused, what stood there is kept; opened, it is what the reset gives. Assumes nothing.
+-- `fugnadri_bank::quality_openings::fugnadri_quality_open` meets its contract: refused, what stood there is kept;
+-- opened, it is what the reset gives. Assumes nothing.
 use borrow.Author.Needs.{needs}
 use mathlib.Core.Path.{ap}
 use Rattle.quality_codes.specs.Left.{changedOf}
-use Rattle.quality_codes.proofs.Told.{kept, given}
+use Rattle.quality_codes.proofs.NamedQualities.{kept, given}
 use Rattle.fugnadri_bank.proofs.quality_openings.fugnadri_quality_open.Statement.{statement}
 use Rattle.fugnadri_bank.proofs.quality_openings.fugnadri_quality_open.Tie as tie
 

@@ -1,7 +1,7 @@
 -- `fugnadri_bank::quality_openings::fugnadri_quality_reset` meets its contract: what the reset gives. Assumes nothing.
 use borrow.Author.Needs.{needs}
 use mathlib.Core.Path.{refl}
-use Rattle.doors.proofs.Leaving.{renewed}
+use Rattle.answer_parts.proofs.LeftByExports.{renewed}
 use Rattle.quality_codes.specs.Left.{changedOf}
 use Rattle.fugnadri_bank.proofs.quality_openings.fugnadri_quality_reset.Statement.{statement}
 use Rattle.fugnadri_bank.proofs.quality_openings.fugnadri_quality_reset.Tie as tie

@@ -1,6 +1,8 @@
--- `fugnadri_numbers::bits::fugnadri_fused32_bits` meets its contract: what the calls ensure, one put into the other; none of them asks anything. Assumes nothing.
+-- `fugnadri_numbers::bits::fugnadri_fused32_bits` meets its contract: what the calls ensure, one put into the other;
+-- none of them asks anything. Assumes nothing.
 use Rattle.fugnadri_numbers.proofs.bits.fugnadri_fused32_bits.Statement.{statement}
 use Rattle.fugnadri_numbers.proofs.bits.fugnadri_fused32_bits.Tie as tie
 
 pub fugnadri-fused32-bits-spec : {M : Type 1} → statement M
-fugnadri-fused32-bits-spec = tie.close (tie.spec (λ c κs. tt) (λ c κs. tt) (λ c κs. tt) (λ c κs. tt) (λ c κs. tt) (λ c. cc))
+fugnadri-fused32-bits-spec =
+    tie.close (tie.spec (λ c κs. tt) (λ c κs. tt) (λ c κs. tt) (λ c κs. tt) (λ c κs. tt) (λ c. cc))

@@ -1,8 +1,8 @@
--- `fugnadri_tables::readers::fugnadri_windowed_sinc_process_bits` meets its contract: what the call without `_bits` leaves, its sample as a
--- pattern. Assumes nothing.
+-- `fugnadri_tables::readers::fugnadri_windowed_sinc_process_bits` meets its contract: what the call without `_bits`
+-- leaves, its sample as a pattern. Assumes nothing.
 use borrow.Author.Needs.{needs}
 use lib.Ieee.{binary64}
-use Rattle.doors.proofs.Leaving.{in-bits}
+use Rattle.answer_parts.proofs.LeftByExports.{in-bits}
 use Rattle.fugnadri_tables.proofs.readers.fugnadri_windowed_sinc_process_bits.Statement.{statement}
 use Rattle.fugnadri_tables.proofs.readers.fugnadri_windowed_sinc_process_bits.Tie as tie
 
@@ -10,4 +10,5 @@ returns : tie.Need-returns
 returns c = in-bits binary64 (c .before .before .before .fugnadri-windowed-sinc-process .ensures) (c .bits-of .ensures)
 
 pub fugnadri-windowed-sinc-process-bits-spec : {M : Type 1} → statement M
-fugnadri-windowed-sinc-process-bits-spec = tie.close (tie.spec (λ c κs. search needs) (λ c κs. search needs) (λ c. search needs) returns)
+fugnadri-windowed-sinc-process-bits-spec =
+    tie.close (tie.spec (λ c κs. search needs) (λ c κs. search needs) (λ c. search needs) returns)

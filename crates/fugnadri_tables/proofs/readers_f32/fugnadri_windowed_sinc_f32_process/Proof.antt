@@ -1,7 +1,8 @@
--- `fugnadri_tables::readers_f32::fugnadri_windowed_sinc_f32_process` meets its contract: what the reader gives, handed out. Assumes nothing.
+-- `fugnadri_tables::readers_f32::fugnadri_windowed_sinc_f32_process` meets its contract: what the reader gives,
+-- handed out. Assumes nothing.
 use borrow.Author.Needs.{needs}
 use Rattle.answer.specs.Answers.{numberF32Of, valueF32Of}
-use Rattle.doors.proofs.Leaving.{left}
+use Rattle.answer_parts.proofs.LeftByExports.{left}
 use Rattle.fugnadri_tables.proofs.readers_f32.fugnadri_windowed_sinc_f32_process.Statement.{statement}
 use Rattle.fugnadri_tables.proofs.readers_f32.fugnadri_windowed_sinc_f32_process.Tie as tie
 

@@ -1,4 +1,5 @@
--- `fugnadri_tables::tables::fugnadri_windowed_sinc_f32_for_max_rate` meets its contract: what the calls ensure, one put into the other; none of them asks anything. Assumes nothing.
+-- `fugnadri_tables::tables::fugnadri_windowed_sinc_f32_for_max_rate` meets its contract: what the calls ensure,
+-- one put into the other; none of them asks anything. Assumes nothing.
 use borrow.Author.Needs.{needs}
 use Rattle.windowed_sinc_f32.specs.Table.{numberOf}
 use Rattle.fugnadri_tables.proofs.Building.{made}
@@ -9,4 +10,5 @@ returns : tie.Need-returns
 returns c = made numberOf (c .before .before .before .for-max-rate .ensures) (c .number-f32 .ensures)
 
 pub fugnadri-windowed-sinc-f32-for-max-rate-spec : {M : Type 1} → statement M
-fugnadri-windowed-sinc-f32-for-max-rate-spec = tie.close (tie.spec (λ c κs. tt) (λ c κs. tt) (λ c. search needs) returns)
+fugnadri-windowed-sinc-f32-for-max-rate-spec =
+    tie.close (tie.spec (λ c κs. tt) (λ c κs. tt) (λ c. search needs) returns)

@@ -1,4 +1,5 @@
--- `fugnadri_wander::wander::fugnadri_engine_next` meets its contract: what the two calls ensure, one put into the other; neither asks anything. Assumes nothing.
+-- `fugnadri_wander::wander::fugnadri_engine_next` meets its contract: what the two calls ensure,
+-- one put into the other; neither asks anything. Assumes nothing.
 use Rattle.fugnadri_wander.proofs.wander.fugnadri_engine_next.Statement.{statement}
 use Rattle.fugnadri_wander.proofs.wander.fugnadri_engine_next.Tie as tie
 

@@ -1,7 +1,7 @@
 -- `fugnadri_wav::files::fugnadri_wav_read_wrapped` meets its contract: what is handed out was found. Assumes nothing.
 use borrow.Author.Needs.{needs}
 use mathlib.Core.Path.{_∙_, ap}
-use Rattle.fugnadri_wav.specs.Doors.{leftBy}
+use Rattle.fugnadri_wav.specs.Exports.{leftBy}
 use Rattle.fugnadri_wav.proofs.files.fugnadri_wav_read_wrapped.Statement.{statement}
 use Rattle.fugnadri_wav.proofs.files.fugnadri_wav_read_wrapped.Tie as tie
 

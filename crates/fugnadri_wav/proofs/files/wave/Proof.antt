@@ -1,7 +1,7 @@
 -- `fugnadri_wav::files::wave` meets its contract, by its two cases. Assumes nothing.
 use borrow.Author.Needs.{needs}
 use mathlib.Core.Path.{sym, ap}
-use Rattle.fugnadri_wav.specs.Doors.{waveOf}
+use Rattle.fugnadri_wav.specs.Exports.{waveOf}
 use Rattle.fugnadri_wav.proofs.files.wave.Statement.{statement}
 use Rattle.fugnadri_wav.proofs.files.wave.Tie as tie
 

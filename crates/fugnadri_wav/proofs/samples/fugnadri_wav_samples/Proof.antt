@@ -1,4 +1,5 @@
--- `fugnadri_wav::samples::fugnadri_wav_samples` meets its contract: what the calls ensure, one put into the other. Assumes nothing.
+-- `fugnadri_wav::samples::fugnadri_wav_samples` meets its contract: what the calls ensure, one put into the other.
+-- Assumes nothing.
 use borrow.Author.Needs.{needs}
 use Rattle.fugnadri_wav.proofs.samples.fugnadri_wav_samples.Statement.{statement}
 use Rattle.fugnadri_wav.proofs.samples.fugnadri_wav_samples.Tie as tie
@@ -11,4 +12,6 @@ returns c =
     (rw (k, n) at (f .fill .ensures .0), rw (k, n) at (f .fill .ensures .1))
 
 pub fugnadri-wav-samples-spec : {M : Type 1} → statement M
-fugnadri-wav-samples-spec = tie.close (tie.spec (λ c κs. search needs) (λ c κs. search needs) (λ c κs. search needs) (λ c. search needs) returns)
+fugnadri-wav-samples-spec =
+    tie.close (tie.spec (λ c κs. search needs) (λ c κs. search needs) (λ c κs. search needs)
+    (λ c. search needs) returns)

@@ -1,4 +1,5 @@
--- `fugnadri_wav::samples::fugnadri_wav_samples_f32` meets its contract: what the calls ensure, one put into the other. Assumes nothing.
+-- `fugnadri_wav::samples::fugnadri_wav_samples_f32` meets its contract: what the calls ensure, one put into the other.
+-- Assumes nothing.
 use borrow.Author.Needs.{needs}
 use Rattle.fugnadri_wav.proofs.samples.fugnadri_wav_samples_f32.Statement.{statement}
 use Rattle.fugnadri_wav.proofs.samples.fugnadri_wav_samples_f32.Tie as tie
@@ -11,4 +12,6 @@ returns c =
     (rw (k, n) at (f .fill-f32 .ensures .0), rw (k, n) at (f .fill-f32 .ensures .1))
 
 pub fugnadri-wav-samples-f32-spec : {M : Type 1} → statement M
-fugnadri-wav-samples-f32-spec = tie.close (tie.spec (λ c κs. search needs) (λ c κs. search needs) (λ c κs. search needs) (λ c. search needs) returns)
+fugnadri-wav-samples-f32-spec =
+    tie.close (tie.spec (λ c κs. search needs) (λ c κs. search needs) (λ c κs. search needs)
+    (λ c. search needs) returns)

@@ -8,7 +8,12 @@ returns : tie.Need-returns
 returns c =
     let h = c .before .before in
     let k = h .before .before in
-    rw (sym (k .before .before .known .ensures) ∙ k .before .if1 .taken, h .write-header .ensures .0, h .write-header .ensures .1, k .of-code .ensures)
+    rw (
+      sym (k .before .before .known .ensures) ∙ k .before .if1 .taken,
+      h .write-header .ensures .0,
+      h .write-header .ensures .1,
+      k .of-code .ensures,
+    )
 
 returns-2 : tie.Need-returns-2
 returns-2 c = rw (sym (c .before .before .known .ensures) ∙ c .before .if1 .left, c .refusal-unlisted .ensures)

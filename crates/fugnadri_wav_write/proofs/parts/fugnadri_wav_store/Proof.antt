@@ -8,7 +8,12 @@ returns : tie.Need-returns
 returns c =
     let s = c .before .before in
     let k = s .before .before in
-    rw (sym (k .before .before .known .ensures) ∙ k .before .if1 .taken, s .store .ensures .0, s .store .ensures .1, k .of-code .ensures)
+    rw (
+      sym (k .before .before .known .ensures) ∙ k .before .if1 .taken,
+      s .store .ensures .0,
+      s .store .ensures .1,
+      k .of-code .ensures,
+    )
 
 returns-2 : tie.Need-returns-2
 returns-2 c = rw (sym (c .before .known .ensures) ∙ c .if1 .left)

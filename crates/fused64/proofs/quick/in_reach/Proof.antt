@@ -1,6 +1,6 @@
 -- `fused64::quick::in_reach` meets its contract. Assumes nothing.
 use borrow.Author.Tests.{ltb-true}
-use Rattle.fused64.proofs.Reach.{heads}
+use Rattle.fused64.proofs.FieldsInReach.{heads}
 use Rattle.fused64.proofs.quick.in_reach.Statement.{statement}
 use Rattle.fused64.proofs.quick.in_reach.Tie as tie
 

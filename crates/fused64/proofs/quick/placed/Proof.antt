@@ -17,8 +17,13 @@ led c =
     let z = zeros (c .before .args .n) (c .before .args .g) (c .before .pre) (c .if1 .left) in
     (z .0, z .1)
 
-short : (c : tie.Else1) → (c .before .args .n * 2 ^ (leadingZeros 64 (c .before .args .n) - 1) % 2 ^ 64 ≤ 0x7fff_ffff_ffff_ffff) × (bitAnd (c .before .args .n * 2 ^ (leadingZeros 64 (c .before .args .n) - 1) % 2 ^ 64 / 2 ^ 10) 1 ≤ 1)
-short c = (omega (arith, moved-lt (c .before .args .n) (c .before .args .g) (c .before .pre) (c .if1 .left)), omega (arith, and-mask (c .before .args .n * 2 ^ (leadingZeros 64 (c .before .args .n) - 1) % 2 ^ 64 / 2 ^ 10) 1))
+short : (c : tie.Else1)
+    → (c .before .args .n * 2 ^ (leadingZeros 64 (c .before .args .n) - 1) % 2 ^ 64 ≤ 0x7fff_ffff_ffff_ffff)
+    × (bitAnd (c .before .args .n * 2 ^ (leadingZeros 64 (c .before .args .n) - 1) % 2 ^ 64 / 2 ^ 10) 1 ≤ 1)
+short c = (
+  omega (arith, moved-lt (c .before .args .n) (c .before .args .g) (c .before .pre) (c .if1 .left)),
+  omega (arith, and-mask (c .before .args .n * 2 ^ (leadingZeros 64 (c .before .args .n) - 1) % 2 ^ 64 / 2 ^ 10) 1),
+)
 
 cast-l : tie.Need-cast-l
 cast-l c = omega (arith, leading-le 64 (c .before .args .n))

@@ -1,4 +1,5 @@
--- `fused64::quick::quick` meets its contract: by what it knows of its words, the sum at either place is the exact one. Assumes nothing.
+-- `fused64::quick::quick` meets its contract: by what it knows of its words, the sum at either place is the exact one.
+-- Assumes nothing.
 mod Known
 use borrow.Author.Needs.{needs}
 use native.Mathlib.Omega.{arith}
@@ -6,8 +7,9 @@ use Prim.Native.Nat.{_+_, _-_, _*_, _%_, _^_}
 use native.Mathlib.Nat.{lt-irrefl, lt-of-le-of-lt, zero-lt-suc}
 use lib.Pow.{shr-le}
 use Rattle.fused64.specs.Word.{digits53}
-use Rattle.fused64.proofs.Fields.{halved-even, beside, at-addend, at-product}
-use Rattle.fused64.proofs.quick.quick.Proof.Known.{fields, first, second, third, low-word, told, whole, narrow, addend, same-sign, same-place}
+use Rattle.fused64.proofs.QuickPlaces.{halved-even, beside, at-addend, at-product}
+use Rattle.fused64.proofs.quick.quick.Proof.Known.{fields, first, second, third, low-word, told, whole, narrow}
+use Rattle.fused64.proofs.quick.quick.Proof.Known.{addend, same-sign, same-place}
 use Rattle.fused64.proofs.quick.quick.Statement.{statement}
 use Rattle.fused64.proofs.quick.quick.Tie as tie
 
@@ -34,7 +36,9 @@ joined-requires c κs =
     let r = t .before .before in
     let k = r .before .before .head .result + r .before .head2 .result in
     let h = r .head3 .result in
-    rw (same-sign k, same-sign h, addend w, same-place h) (beside k h (c .without .result) _ _ (c .without .ensures (low-word (w .before .before)) (told (w .before .before)) .below) (omega arith) (omega arith) (omega arith) (omega (arith, fields t .third)))
+    rw (same-sign k, same-sign h, addend w, same-place h) (beside k h (c .without .result) _ _
+    (c .without .ensures (low-word (w .before .before)) (told (w .before .before)) .below) (omega arith)
+    (omega arith) (omega arith) (omega (arith, fields t .third)))
 
 returns : tie.Need-returns
 returns c = λ some.
@@ -47,7 +51,8 @@ returns c = λ some.
     let g = r .before .head2 .result in
     let h = r .head3 .result in
     let a = r .before .before .before .args in
-    at-addend (a .a) (a .b) (a .c) f g h (m .columns .result .hi) (low-word m) (first t) (second t) (third t) (fields t) (whole m) (o .without .result) (c .joined .result)
+    at-addend (a .a) (a .b) (a .c) f g h (m .columns .result .hi) (low-word m) (first t) (second t) (third t) (fields t)
+    (whole m) (o .without .result) (c .joined .result)
     (rw (same-place (f + g), same-place h) at (o .before .before .if2 .taken))
     (rw (same-place (f + g), same-place h) at (o .without .ensures (low-word m) (told m)))
     (rw (same-sign (f + g), same-sign h, addend w, same-place h) at (c .joined .ensures some))
@@ -67,7 +72,11 @@ joined-requires-2 c κs =
     let h = r .head3 .result in
     let n = digits53 (r .before .before .before .args .c) in
     let d = k % 2 ^ 11 + 515 - (h % 2 ^ 11 + 770) in
-    rw (same-sign k, same-sign h, addend w, same-place k, same-place h) (beside k h (c .without2 .result) _ _ (c .without2 .ensures (low-word (w .before .before)) (told (w .before .before)) .below) (lt-of-le-of-lt (shr-le (n * 2 ^ 8) d) (omega arith)) (halved-even n d (rw (same-place k, same-place h) at (c .before .if4 .taken))) (omega arith) (omega (arith, fields t .first, fields t .second)))
+    rw (same-sign k, same-sign h, addend w, same-place k, same-place h) (beside k h (c .without2 .result) _ _
+    (c .without2 .ensures (low-word (w .before .before)) (told (w .before .before)) .below)
+    (lt-of-le-of-lt (shr-le (n * 2 ^ 8) d) (omega arith))
+    (halved-even n d (rw (same-place k, same-place h) at (c .before .if4 .taken))) (omega arith)
+    (omega (arith, fields t .first, fields t .second)))
 
 returns-3 : tie.Need-returns-3
 returns-3 c = λ some.
@@ -80,7 +89,8 @@ returns-3 c = λ some.
     let g = r .before .head2 .result in
     let h = r .head3 .result in
     let a = r .before .before .before .args in
-    at-product (a .a) (a .b) (a .c) f g h (m .columns .result .hi) (low-word m) (first t) (second t) (third t) (fields t) (whole m) (o .without2 .result) (c .joined2 .result)
+    at-product (a .a) (a .b) (a .c) f g h (m .columns .result .hi) (low-word m) (first t) (second t) (third t)
+    (fields t) (whole m) (o .without2 .result) (c .joined2 .result)
     (rw (same-place (f + g), same-place h) at (o .before .before .if2 .left))
     (rw (same-place (f + g), same-place h) at (o .before .if4 .taken))
     (o .without2 .ensures (low-word m) (told m))
@@ -94,4 +104,8 @@ returns-5 c = λ some. absurd (lt-irrefl 0 some)
 
 pub quick-spec : {M : Type 1} → statement M
 quick-spec =
-    tie.close (tie.spec (λ c κs. search needs) (λ c κs. search needs) (λ c κs. search needs) (λ c κs. search needs) (λ c κs. search needs) (λ c κs. search needs) (λ c κs. search needs) (λ c κs. search needs) add-k add-i add-j without-requires joined-requires returns returns-2 (λ c. search needs) without-requires-2 (λ c. search needs) (λ c. search needs) joined-requires-2 returns-3 returns-4 returns-5)
+    tie.close (tie.spec (λ c κs. search needs) (λ c κs. search needs) (λ c κs. search needs) (λ c κs. search needs)
+    (λ c κs. search needs) (λ c κs. search needs) (λ c κs. search needs)
+    (λ c κs. search needs) add-k add-i add-j without-requires joined-requires returns returns-2
+    (λ c. search needs) without-requires-2 (λ c. search needs)
+    (λ c. search needs) joined-requires-2 returns-3 returns-4 returns-5)

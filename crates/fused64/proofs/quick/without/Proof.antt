@@ -1,6 +1,6 @@
 -- `fused64::quick::without` meets its contract. Assumes nothing.
 use borrow.Author.Needs.{needs}
-use Rattle.fused64.proofs.Reach.{back-le, cut-off}
+use Rattle.fused64.proofs.FieldsInReach.{back-le, cut-off}
 use Rattle.fused64.proofs.quick.without.Statement.{statement}
 use Rattle.fused64.proofs.quick.without.Tie as tie
 

@@ -11,13 +11,19 @@ use Rattle.fused_chain.proofs.before.four_rounded.Tie as tie
 left : (b : Bool) → not b ≡ true → b ≡ true → ⊥
 left b h k = false≢true (sym (not-true b h) ∙ k)
 
-first : (c : tie.Else1) → let r = c .before .before in Nearest (r .before .args .a) (r .before .args .sum) (r .rounded .result .sum)
+first : (c : tie.Else1) → let r = c .before .before in
+    Nearest (r .before .args .a) (r .before .args .sum) (r .rounded .result .sum)
 first c = let r = c .before .before in r .rounded .ensures (not-false (r .rounded .result .fine) (c .if1 .left))
 
-second : (c : tie.Else2) → let r = c .before .before in let e = r .before in Nearest (e .before .before .before .args .b) (e .before .before .rounded .result .sum) (r .rounded2 .result .sum)
+second : (c : tie.Else2) → let r = c .before .before in
+    let e = r .before in
+    Nearest (e .before .before .before .args .b) (e .before .before .rounded .result .sum) (r .rounded2 .result .sum)
 second c = let r = c .before .before in r .rounded2 .ensures (not-false (r .rounded2 .result .fine) (c .if2 .left))
 
-third : (c : tie.Else3) → let r = c .before .before in let e = r .before in Nearest (e .before .before .before .before .before .before .args .c) (e .before .before .rounded2 .result .sum) (r .rounded3 .result .sum)
+third : (c : tie.Else3) → let r = c .before .before in
+    let e = r .before in
+    Nearest (e .before .before .before .before .before .before .args .c) (e .before .before .rounded2 .result .sum)
+    (r .rounded3 .result .sum)
 third c = let r = c .before .before in r .rounded3 .ensures (not-false (r .rounded3 .result .fine) (c .if3 .left))
 
 rounded-requires : tie.Need-rounded-requires
@@ -39,7 +45,8 @@ returns-3 : tie.Need-returns-3
 returns-3 c = λ h. absurd (left (c .before .before .rounded3 .result .fine) (c .if3 .taken) h)
 
 rounded-requires-4 : tie.Need-rounded-requires-4
-rounded-requires-4 c κs = (c .before .before .before .before .before .before .before .before .before .pre .0 .fourth, third c .bounded)
+rounded-requires-4 c κs =
+    (c .before .before .before .before .before .before .before .before .before .pre .0 .fourth, third c .bounded)
 
 returns-4 : tie.Need-returns-4
 returns-4 c =
@@ -57,4 +64,6 @@ returns-4 c =
     }
 
 pub four-rounded-spec : {M : Type 1} → statement M
-four-rounded-spec = tie.close (tie.spec rounded-requires returns rounded-requires-2 returns-2 rounded-requires-3 returns-3 rounded-requires-4 returns-4)
+four-rounded-spec =
+    tie.close (tie.spec rounded-requires returns rounded-requires-2 returns-2 rounded-requires-3 returns-3
+    rounded-requires-4 returns-4)

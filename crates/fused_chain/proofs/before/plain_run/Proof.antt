@@ -1,4 +1,5 @@
--- `fused_chain::before::plain_run` meets its contract: the turns so far carry the sum, and it is finite. Assumes nothing.
+-- `fused_chain::before::plain_run` meets its contract: the turns so far carry the sum, and it is finite.
+-- Assumes nothing.
 use borrow.Author.Needs.{needs}
 use borrow.Author.Tests.{not-false}
 use mathlib.Core.Path.{_≡_}
@@ -10,14 +11,15 @@ use lib.Ieee.{binary64, sub, eq, ne, ofBits}
 use lib.Ieee.Scale.{finite}
 use denote.Ref.{now}
 use Rattle.fused_chain.specs.Blocks.{Carries}
-use Rattle.fused_chain.proofs.Carrying.{stay, on}
+use Rattle.fused_chain.proofs.ChainParts.{stay, on}
 use Rattle.fused_chain.proofs.Finite.{self-finite}
-use Rattle.fused_chain.proofs.Nearby.{four}
+use Rattle.fused_chain.proofs.FourTurnsByPatterns.{four}
 use Rattle.fused_chain.proofs.before.plain_run.Statement.{statement}
 use Rattle.fused_chain.proofs.before.plain_run.Tie as tie
 
 abbrev Inv-loop : tie.InvT-loop
-Inv-loop xs row0 row1 blend from to sum held₀ k₀ held k = (from ≤ k) × (k ≤ to) × (Carries xs row0 row1 blend from k sum held) × (T (finite held))
+Inv-loop xs row0 row1 blend from to sum held₀ k₀ held k =
+    (from ≤ k) × (k ≤ to) × (Carries xs row0 row1 blend from k sum held) × (T (finite held))
 
 abbrev μ-loop : tie.MeasureT-loop
 μ-loop xs row0 row1 blend from to sum held₀ k₀ held k = to - k
@@ -26,7 +28,11 @@ returns : tie.Need-returns Inv-loop μ-loop
 returns c =
     let b = c .before .before .before .before in
     let a = b .args in
-    record { first = le-refl (a .from); last = b .pre .order; carried = stay (now (a .xs)) (now (a .row0)) (now (a .row1)) (a .blend) (a .from) (a .sum) (b .pre .held) }
+    record {
+      first = le-refl (a .from);
+      last = b .pre .order;
+      carried = stay (now (a .xs)) (now (a .row0)) (now (a .row1)) (a .blend) (a .from) (a .sum) (b .pre .held);
+    }
 
 loop-holds : tie.Need-loop-holds Inv-loop μ-loop
 unfolding ne
@@ -54,8 +60,10 @@ returns-2 c =
 
 four-rounded-requires : tie.Need-four-rounded-requires Inv-loop μ-loop
 four-rounded-requires c κs =
-    let m = c .before .before in
-    (m .multiplied .ensures (not-false (m .multiplied .result .fine) (c .if2 .left)) .bounded, m .before .before .loop .inv .3)
+    let m = c .before .before in (
+      m .multiplied .ensures (not-false (m .multiplied .result .fine) (c .if2 .left)) .bounded,
+      m .before .before .loop .inv .3,
+    )
 
 returns-3 : tie.Need-returns-3 Inv-loop μ-loop
 returns-3 c =
@@ -78,8 +86,14 @@ loop-again c =
     let p = m .multiplied .result in
     let N = v .four-rounded .ensures (not-false (v .four-rounded .result .fine) (c .if3 .left)) in
     let M = m .multiplied .ensures (not-false (p .fine) (e .if2 .left)) in
-    let C = four (now (a .xs)) (now (a .row0)) (now (a .row1)) (a .blend) (l .loop .k) (l .loop .held) (p .a) (p .b) (p .c) (p .d) (v .four-rounded .result .sum) M N in
-    (omega arith, omega arith, on (now (a .xs)) (now (a .row0)) (now (a .row1)) (a .blend) (l .loop .inv .2) C, N .fourth .bounded)
+    let C =
+    four (now (a .xs)) (now (a .row0)) (now (a .row1)) (a .blend) (l .loop .k) (l .loop .held) (p .a) (p .b) (p .c)
+    (p .d) (v .four-rounded .result .sum) M N in (
+      omega arith,
+      omega arith,
+      on (now (a .xs)) (now (a .row0)) (now (a .row1)) (a .blend) (l .loop .inv .2) C,
+      N .fourth .bounded,
+    )
 
 returns-4 : tie.Need-returns-4 Inv-loop μ-loop
 returns-4 c =

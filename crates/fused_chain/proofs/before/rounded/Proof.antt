@@ -6,7 +6,7 @@ use native.Mathlib.Omega.{arith}
 use lib.Dec.{T}
 use lib.Ieee.{Float, binary64, fits, isNan, add}
 use lib.Ieee.Fits.{add-fits}
-use Rattle.fused_step.proofs.Cut.{half-fits, plain-no-nan, plain-finite}
+use Rattle.fused_step.proofs.QuickPattern.{half-fits, plain-no-nan, plain-finite}
 use Rattle.fused_chain.proofs.Finite.{add-number}
 use Rattle.fused_step.proofs.Steps.{plain-step}
 use Rattle.fused_chain.proofs.before.rounded.Statement.{statement}
@@ -28,7 +28,9 @@ add-n : tie.Need-add-n
 add-n c = omega (arith, half-fits (s c) (add-fits binary64 _ _) (number c))
 
 float-from-bits-near : tie.Need-float-from-bits-near
-float-from-bits-near c = let b = c .before .before in plain-no-nan (s b) (add-fits binary64 _ _) (number b) (c .before .is-plain .ensures .1 (c .if1 .taken))
+float-from-bits-near c =
+    let b = c .before .before in
+    plain-no-nan (s b) (add-fits binary64 _ _) (number b) (c .before .is-plain .ensures .1 (c .if1 .taken))
 
 returns : tie.Need-returns
 returns c =
@@ -36,7 +38,9 @@ returns c =
     let plain = c .before .is-plain .ensures .1 (c .if1 .taken) in
     λ h. record {
       bounded = plain-finite (s b) (add-fits binary64 _ _) (number b) plain;
-      is = λ x d p. plain-step x d (b .args .sum) (s b) (p .sample) (p .coefficient) (held b) (ap (λ (z : Float). add binary64 z (b .args .sum)) (p .is)) (number b) plain;
+      is =
+          λ x d p. plain-step x d (b .args .sum) (s b) (p .sample) (p .coefficient) (held b)
+          (ap (λ (z : Float). add binary64 z (b .args .sum)) (p .is)) (number b) plain;
     }
 
 returns-2 : tie.Need-returns-2

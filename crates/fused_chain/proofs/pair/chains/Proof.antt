@@ -1,4 +1,5 @@
--- `fused_chain::pair::chains` meets its contract: both chains end where the shorter lists do, or each is made by itself. Assumes nothing.
+-- `fused_chain::pair::chains` meets its contract: both chains end where the shorter lists do,
+-- or each is made by itself. Assumes nothing.
 use borrow.Author.Needs.{needs}
 use mathlib.Core.Path.{_∙_, ap}
 use native.Mathlib.Omega.{arith}
@@ -16,4 +17,5 @@ returns c =
 
 pub chains-spec : {M : Type 1} → statement M
 chains-spec =
-    tie.close (tie.spec (λ c κs. search needs) (λ c κs. search needs) (λ c κs. search needs) (λ c κs. search needs) (λ c κs. search needs) returns (λ c κs. search needs) (λ c κs. search needs) (λ c. search needs))
+    tie.close (tie.spec (λ c κs. search needs) (λ c κs. search needs) (λ c κs. search needs) (λ c κs. search needs)
+    (λ c κs. search needs) returns (λ c κs. search needs) (λ c κs. search needs) (λ c. search needs))

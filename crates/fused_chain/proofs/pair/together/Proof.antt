@@ -6,16 +6,17 @@ use native.Mathlib.Omega.{arith}
 use lib.Dec.{T}
 use lib.Ieee.{Float, binary32, fits}
 use denote.Ref.{now}
-use Rattle.loops.proofs.Folds.{none}
-use Rattle.rounding.proofs.Own.{narrowed-own}
+use Rattle.loop_laws.proofs.Folds.{none}
+use Rattle.rounding.proofs.RoundsToItself.{narrowed-own}
 use Rattle.fused_chain.specs.Chain.{turnOf, chainOf}
 use Rattle.fused_chain.specs.Blocks.{Carries}
-use Rattle.fused_chain.proofs.Carrying.{less, on}
+use Rattle.fused_chain.proofs.ChainParts.{less, on}
 use Rattle.fused_chain.proofs.pair.together.Statement.{statement}
 use Rattle.fused_chain.proofs.pair.together.Tie as tie
 
 abbrev Inv-loop : tie.InvT-loop
-Inv-loop xs a0 a1 b0 b1 blend a b n middle from-a from-b s₀ t₀ k₀ s t k = (k ≤ n) × (Carries xs a0 a1 blend 0 k a s) × (Carries xs b0 b1 blend 0 k b t)
+Inv-loop xs a0 a1 b0 b1 blend a b n middle from-a from-b s₀ t₀ k₀ s t k =
+    (k ≤ n) × (Carries xs a0 a1 blend 0 k a s) × (Carries xs b0 b1 blend 0 k b t)
 
 abbrev μ-loop : tie.MeasureT-loop
 μ-loop xs a0 a1 b0 b1 blend a b n middle from-a from-b s₀ t₀ k₀ s t k = n - k
@@ -43,8 +44,21 @@ plain-runs-requires c κs =
     let b = begun h in
     let p = b .pre in
     let m = inside h in (
-      record { order = omega arith; samples = omega (arith, m, p .0); row = omega (arith, m, p .1); next = omega (arith, m, p .2); held = subst (λ (z : Float). T (fits binary32 z)) (sym (c .before .f32-to-f64-with-nan .ensures)) (held-a b) },
-      record { order = omega arith; samples = omega (arith, m, p .0); row = omega (arith, m, p .3); next = omega (arith, m, p .4); held = subst (λ (z : Float). T (fits binary32 z)) (sym (c .f32-to-f64-with-nan2 .ensures)) (held-b b) },
+      record {
+        order = omega arith;
+        samples = omega (arith, m, p .0);
+        row = omega (arith, m, p .1);
+        next = omega (arith, m, p .2);
+        held =
+            subst (λ (z : Float). T (fits binary32 z)) (sym (c .before .f32-to-f64-with-nan .ensures)) (held-a b);
+      },
+      record {
+        order = omega arith;
+        samples = omega (arith, m, p .0);
+        row = omega (arith, m, p .3);
+        next = omega (arith, m, p .4);
+        held = subst (λ (z : Float). T (fits binary32 z)) (sym (c .f32-to-f64-with-nan2 .ensures)) (held-b b);
+      },
     )
 
 plainly-requires : tie.Need-plainly-requires Inv-loop μ-loop
@@ -53,7 +67,13 @@ plainly-requires c κs =
     let h = c .before .before .before in
     let m = inside h in
     let p = begun h .pre in
-    record { order = r .last; samples = omega (arith, m, p .0); row = omega (arith, m, p .1); next = omega (arith, m, p .2); held = r .carried .held }
+    record {
+      order = r .last;
+      samples = omega (arith, m, p .0);
+      row = omega (arith, m, p .1);
+      next = omega (arith, m, p .2);
+      held = r .carried .held;
+    }
 
 plainly-requires-2 : tie.Need-plainly-requires-2 Inv-loop μ-loop
 plainly-requires-2 c κs =
@@ -61,7 +81,13 @@ plainly-requires-2 c κs =
     let h = c .before .before .before .before in
     let m = inside h in
     let p = begun h .pre in
-    record { order = r .last; samples = omega (arith, m, p .0); row = omega (arith, m, p .3); next = omega (arith, m, p .4); held = r .carried .held }
+    record {
+      order = r .last;
+      samples = omega (arith, m, p .0);
+      row = omega (arith, m, p .3);
+      next = omega (arith, m, p .4);
+      held = r .carried .held;
+    }
 
 loop-holds : tie.Need-loop-holds Inv-loop μ-loop
 loop-holds c =
@@ -72,16 +98,26 @@ loop-holds c =
     let h = v .before in
     let a = begun h .args in (
       inside h,
-      subst (λ (z : Float). Carries (now (a .xs)) (now (a .a0)) (now (a .a1)) (a .blend) 0 (h .ahead .result) z (q .plainly .result)) (v .f32-to-f64-with-nan .ensures) (on (now (a .xs)) (now (a .a0)) (now (a .a1)) (a .blend) (r .plain-runs .ensures .0 .carried) (q .plainly .ensures)),
-      subst (λ (z : Float). Carries (now (a .xs)) (now (a .b0)) (now (a .b1)) (a .blend) 0 (h .ahead .result) z (c .plainly2 .result)) (w .f32-to-f64-with-nan2 .ensures) (on (now (a .xs)) (now (a .b0)) (now (a .b1)) (a .blend) (r .plain-runs .ensures .1 .carried) (c .plainly2 .ensures)),
+      subst
+          (λ (z : Float). Carries (now (a .xs)) (now (a .a0)) (now (a .a1)) (a .blend) 0 (h .ahead .result) z
+          (q .plainly .result)) (v .f32-to-f64-with-nan .ensures)
+          (on (now (a .xs)) (now (a .a0)) (now (a .a1)) (a .blend) (r .plain-runs .ensures .0 .carried)
+          (q .plainly .ensures)),
+      subst
+          (λ (z : Float). Carries (now (a .xs)) (now (a .b0)) (now (a .b1)) (a .blend) 0 (h .ahead .result) z
+          (c .plainly2 .result)) (w .f32-to-f64-with-nan2 .ensures)
+          (on (now (a .xs)) (now (a .b0)) (now (a .b1)) (a .blend) (r .plain-runs .ensures .1 .carried)
+          (c .plainly2 .ensures)),
     )
 
 biased-runs-requires : tie.Need-biased-runs-requires Inv-loop μ-loop
 biased-runs-requires c κs =
     let l = c .before in
     let p = entered l .pre in
-    let i = l .loop .inv in
-    (record { order = i .0; samples = p .0; row = p .1; next = p .2; held = i .1 .held }, record { order = i .0; samples = p .0; row = p .3; next = p .4; held = i .2 .held })
+    let i = l .loop .inv in (
+      record { order = i .0; samples = p .0; row = p .1; next = p .2; held = i .1 .held },
+      record { order = i .0; samples = p .0; row = p .3; next = p .4; held = i .2 .held },
+    )
 
 stretch-requires : tie.Need-stretch-requires Inv-loop μ-loop
 stretch-requires c κs = c .biased-runs .ensures .0 .last
@@ -90,20 +126,34 @@ one-by-one-requires : tie.Need-one-by-one-requires Inv-loop μ-loop
 one-by-one-requires c κs =
     let e = c .stretch .ensures in
     let p = entered (c .before .before .before) .pre in
-    record { order = e .0; samples = omega (arith, e .1, p .0); row = omega (arith, e .1, p .1); next = omega (arith, e .1, p .2); held = c .before .biased-runs .ensures .0 .carried .held }
+    record {
+      order = e .0;
+      samples = omega (arith, e .1, p .0);
+      row = omega (arith, e .1, p .1);
+      next = omega (arith, e .1, p .2);
+      held = c .before .biased-runs .ensures .0 .carried .held;
+    }
 
 one-by-one-requires-2 : tie.Need-one-by-one-requires-2 Inv-loop μ-loop
 one-by-one-requires-2 c κs =
     let e = c .before .stretch .ensures in
     let p = entered (c .before .before .before .before) .pre in
-    record { order = e .0; samples = omega (arith, e .1, p .0); row = omega (arith, e .1, p .3); next = omega (arith, e .1, p .4); held = c .before .before .biased-runs .ensures .1 .carried .held }
+    record {
+      order = e .0;
+      samples = omega (arith, e .1, p .0);
+      row = omega (arith, e .1, p .3);
+      next = omega (arith, e .1, p .4);
+      held = c .before .before .biased-runs .ensures .1 .carried .held;
+    }
 
 loop-less : tie.Need-loop-less Inv-loop μ-loop
 loop-less c =
     let e = c .before .before in
     let r = e .before .biased-runs in
     let i = e .before .before in
-    less (i .before .loop .k) (r .result .k) (e .stretch .result) (entered (i .before) .args .n) (i .loop-test .taken) (r .ensures .0 .first) (r .ensures .0 .last) (e .stretch .ensures .0) (e .stretch .ensures .1) (e .stretch .ensures .2)
+    less (i .before .loop .k) (r .result .k) (e .stretch .result) (entered (i .before) .args .n) (i .loop-test .taken)
+    (r .ensures .0 .first) (r .ensures .0 .last) (e .stretch .ensures .0) (e .stretch .ensures .1)
+    (e .stretch .ensures .2)
 
 loop-again : tie.Need-loop-again Inv-loop μ-loop
 loop-again c =
@@ -114,8 +164,12 @@ loop-again c =
     let a = entered l .args in
     let i = l .loop .inv in (
       e .stretch .ensures .1,
-      on (now (a .xs)) (now (a .a0)) (now (a .a1)) (a .blend) (on (now (a .xs)) (now (a .a0)) (now (a .a1)) (a .blend) (i .1) (r .biased-runs .ensures .0 .carried)) (o .one-by-one .ensures),
-      on (now (a .xs)) (now (a .b0)) (now (a .b1)) (a .blend) (on (now (a .xs)) (now (a .b0)) (now (a .b1)) (a .blend) (i .2) (r .biased-runs .ensures .1 .carried)) (c .one-by-one2 .ensures),
+      on (now (a .xs)) (now (a .a0)) (now (a .a1)) (a .blend)
+          (on (now (a .xs)) (now (a .a0)) (now (a .a1)) (a .blend) (i .1) (r .biased-runs .ensures .0 .carried))
+          (o .one-by-one .ensures),
+      on (now (a .xs)) (now (a .b0)) (now (a .b1)) (a .blend)
+          (on (now (a .xs)) (now (a .b0)) (now (a .b1)) (a .blend) (i .2) (r .biased-runs .ensures .1 .carried))
+          (c .one-by-one2 .ensures),
     )
 
 returns : tie.Need-returns Inv-loop μ-loop

@@ -6,11 +6,11 @@ use native.Mathlib.Omega.{arith}
 use lib.Dec.{T}
 use lib.Ieee.{Float, binary32, fits}
 use denote.Ref.{now}
-use Rattle.loops.proofs.Folds.{none}
-use Rattle.rounding.proofs.Own.{narrowed-own}
+use Rattle.loop_laws.proofs.Folds.{none}
+use Rattle.rounding.proofs.RoundsToItself.{narrowed-own}
 use Rattle.fused_chain.specs.Chain.{turnOf, chainOf}
 use Rattle.fused_chain.specs.Blocks.{Carries}
-use Rattle.fused_chain.proofs.Carrying.{less, on}
+use Rattle.fused_chain.proofs.ChainParts.{less, on}
 use Rattle.fused_chain.proofs.single.chain.Statement.{statement}
 use Rattle.fused_chain.proofs.single.chain.Tie as tie
 
@@ -49,13 +49,25 @@ plainly-requires c κs =
 loop-holds : tie.Need-loop-holds Inv-loop μ-loop
 loop-holds c =
     let w = c .before in
-    let a = w .before .before .before .before .before .before .before .args in
-    (omega arith, subst (λ (z : Float). Carries (now (a .xs)) (now (a .row0)) (now (a .row1)) (a .blend) 0 (w .before .ahead .result) z (c .plainly .result)) (w .f32-to-f64-with-nan .ensures) (c .plainly .ensures))
+    let a = w .before .before .before .before .before .before .before .args in (
+      omega arith,
+      subst
+          (λ (z : Float). Carries (now (a .xs)) (now (a .row0)) (now (a .row1)) (a .blend) 0
+          (w .before .ahead .result) z
+          (c .plainly .result))
+          (w .f32-to-f64-with-nan .ensures) (c .plainly .ensures),
+    )
 
 biased-run-requires : tie.Need-biased-run-requires Inv-loop μ-loop
 biased-run-requires c κs =
     let l = c .before in
-    record { order = l .loop .inv .0; samples = omega arith; row = omega arith; next = omega arith; held = l .loop .inv .1 .held }
+    record {
+      order = l .loop .inv .0;
+      samples = omega arith;
+      row = omega arith;
+      next = omega arith;
+      held = l .loop .inv .1 .held;
+    }
 
 stretch-requires : tie.Need-stretch-requires Inv-loop μ-loop
 stretch-requires c κs = c .biased-run .ensures .last
@@ -63,7 +75,13 @@ stretch-requires c κs = c .biased-run .ensures .last
 one-by-one-requires : tie.Need-one-by-one-requires Inv-loop μ-loop
 one-by-one-requires c κs =
     let r = c .before .biased-run .ensures in
-    record { order = c .stretch .ensures .0; samples = omega arith; row = omega arith; next = omega arith; held = r .carried .held }
+    record {
+      order = c .stretch .ensures .0;
+      samples = omega arith;
+      row = omega arith;
+      next = omega arith;
+      held = r .carried .held;
+    }
 
 loop-less : tie.Need-loop-less Inv-loop μ-loop
 loop-less c =
@@ -71,15 +89,20 @@ loop-less c =
     let r = e .before .biased-run in
     let k = e .before .before .before .loop .k in
     let n = e .before .before .before .before .before .before .before .least2 .result in
-    less k (r .result .k) (e .stretch .result) n (e .before .before .loop-test .taken) (r .ensures .first) (r .ensures .last) (e .stretch .ensures .0) (e .stretch .ensures .1) (e .stretch .ensures .2)
+    less k (r .result .k) (e .stretch .result) n (e .before .before .loop-test .taken) (r .ensures .first)
+    (r .ensures .last) (e .stretch .ensures .0) (e .stretch .ensures .1) (e .stretch .ensures .2)
 
 loop-again : tie.Need-loop-again Inv-loop μ-loop
 loop-again c =
     let e = c .before in
     let r = e .before in
     let l = r .before .before in
-    let a = l .before .before .before .before .before .before .before .before .before .args in
-    (e .stretch .ensures .1, on (now (a .xs)) (now (a .row0)) (now (a .row1)) (a .blend) (on (now (a .xs)) (now (a .row0)) (now (a .row1)) (a .blend) (l .loop .inv .1) (r .biased-run .ensures .carried)) (c .one-by-one .ensures))
+    let a = l .before .before .before .before .before .before .before .before .before .args in (
+      e .stretch .ensures .1,
+      on (now (a .xs)) (now (a .row0)) (now (a .row1)) (a .blend)
+          (on (now (a .xs)) (now (a .row0)) (now (a .row1)) (a .blend) (l .loop .inv .1)
+          (r .biased-run .ensures .carried)) (c .one-by-one .ensures),
+    )
 
 narrow-requires : tie.Need-narrow-requires Inv-loop μ-loop
 narrow-requires c κs = search needs

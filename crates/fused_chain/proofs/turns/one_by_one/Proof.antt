@@ -6,12 +6,13 @@ use native.Mathlib.Nat.{le-refl}
 use native.Mathlib.Omega.{arith}
 use denote.Ref.{now}
 use Rattle.fused_chain.specs.Blocks.{Carries}
-use Rattle.fused_chain.proofs.Carrying.{stay, on, once}
+use Rattle.fused_chain.proofs.ChainParts.{stay, on, once}
 use Rattle.fused_chain.proofs.turns.one_by_one.Statement.{statement}
 use Rattle.fused_chain.proofs.turns.one_by_one.Tie as tie
 
 abbrev Inv-loop : tie.InvT-loop
-Inv-loop xs row0 row1 blend from to sum held₀ k₀ held k = (from ≤ k) × (k ≤ to) × (Carries xs row0 row1 blend from k sum held)
+Inv-loop xs row0 row1 blend from to sum held₀ k₀ held k =
+    (from ≤ k) × (k ≤ to) × (Carries xs row0 row1 blend from k sum held)
 
 abbrev μ-loop : tie.MeasureT-loop
 μ-loop xs row0 row1 blend from to sum held₀ k₀ held k = to - k
@@ -19,8 +20,11 @@ abbrev μ-loop : tie.MeasureT-loop
 loop-holds : tie.Need-loop-holds Inv-loop μ-loop
 loop-holds c =
     let b = c .before .before .before in
-    let a = b .args in
-    (le-refl (a .from), b .pre .order, stay (now (a .xs)) (now (a .row0)) (now (a .row1)) (a .blend) (a .from) (a .sum) (b .pre .held))
+    let a = b .args in (
+      le-refl (a .from),
+      b .pre .order,
+      stay (now (a .xs)) (now (a .row0)) (now (a .row1)) (a .blend) (a .from) (a .sum) (b .pre .held),
+    )
 
 mul-a : tie.Need-mul-a Inv-loop μ-loop
 mul-a c = search needs
@@ -52,14 +56,21 @@ loop-less c = omega arith
 loop-again : tie.Need-loop-again Inv-loop μ-loop
 loop-again c =
     let l = c .before .before .before .before .before in
-    let a = l .before .before .before .before .args in
-    (omega arith, omega arith, on (now (a .xs)) (now (a .row0)) (now (a .row1)) (a .blend) (l .loop .inv .2) (once (now (a .xs)) (now (a .row0)) (now (a .row1)) (a .blend) (l .loop .k) _ (l .loop .held) (c .step .result) refl (c .step .ensures)))
+    let a = l .before .before .before .before .args in (
+      omega arith,
+      omega arith,
+      on (now (a .xs)) (now (a .row0)) (now (a .row1)) (a .blend) (l .loop .inv .2)
+          (once (now (a .xs)) (now (a .row0)) (now (a .row1)) (a .blend) (l .loop .k) _ (l .loop .held)
+          (c .step .result) refl (c .step .ensures)),
+    )
 
 returns : tie.Need-returns Inv-loop μ-loop
 returns c =
     let l = c .before in
     let a = l .before .before .before .before .args in
-    subst (λ (z : _). Carries (now (a .xs)) (now (a .row0)) (now (a .row1)) (a .blend) (a .from) z (a .sum) (l .loop .held)) (omega arith) (l .loop .inv .2)
+    subst
+    (λ (z : _). Carries (now (a .xs)) (now (a .row0)) (now (a .row1)) (a .blend) (a .from) z (a .sum)
+    (l .loop .held)) (omega arith) (l .loop .inv .2)
 
 pub one-by-one-spec : {M : Type 1} → statement M
 one-by-one-spec =

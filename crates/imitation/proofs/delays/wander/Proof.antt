@@ -1,5 +1,5 @@
--- `imitation::delays::wander` meets its contract: two lists that are written by a rule from the front on, and an engine that
--- has turned as often. Assumes nothing.
+-- `imitation::delays::wander` meets its contract: two lists that are written by a rule from the front on,
+-- and an engine that has turned as often. Assumes nothing.
 use borrow.Author.Needs.{needs}
 use mathlib.Core.Path.{_≡_, refl, sym, ap, _∙_}
 use Prim.Native.Nat.{ℕ, _-_, _≤_, min}
@@ -9,7 +9,7 @@ use denote.Ref.{now}
 use lib.ListN.{length}
 use Rattle.imitation.specs.Delays.{turnedBy, leftOf, rightOf, offsetAt}
 use Rattle.imitation.proofs.Fronts.{Front, begun, one-more, ended}
-use Rattle.imitation.proofs.Turning.{turned-none, turned-more, left-turned, right-turned}
+use Rattle.imitation.proofs.EngineTurns.{turned-none, turned-more, left-turned, right-turned}
 use Rattle.imitation.proofs.delays.wander.Statement.{statement}
 use Rattle.imitation.proofs.delays.wander.Tie as tie
 
@@ -41,7 +41,8 @@ loop-again c =
       omega arith,
       turned-more _ _ (l .k) (i .2) (n .ensures),
       one-more (i .3) (omega (arith, i .0, i .3 .long))
-          (left-turned (a .params) (a .engine) (l .k) (a .middle) (i .2) (n .ensures) (c .before .before .left-of .ensures)),
+          (left-turned (a .params) (a .engine) (l .k) (a .middle) (i .2) (n .ensures)
+          (c .before .before .left-of .ensures)),
       one-more (i .4) (omega (arith, i .0, i .4 .long))
           (right-turned (a .params) (a .engine) (l .k) (a .middle) (i .2) (n .ensures) (c .before .right-of .ensures)),
     )
@@ -57,6 +58,8 @@ returns c =
 pub wander-spec : {M : Type 1} → statement M
 wander-spec =
     tie.close
-    (tie.spec Inv-loop μ-loop (λ c κs. search needs) loop-holds (λ c κs. search needs) (λ c κs. search needs) (λ c. search needs)
-    slice-write-left (λ c κs. search needs) (λ c. search needs) slice-write-right (λ c. search needs) (λ c. search needs) loop-again
+    (tie.spec Inv-loop μ-loop (λ c κs. search needs) loop-holds (λ c κs. search needs) (λ c κs. search needs)
+    (λ c. search needs)
+    slice-write-left (λ c κs. search needs) (λ c. search needs) slice-write-right (λ c. search needs)
+    (λ c. search needs) loop-again
     (λ c. search needs) (λ c. search needs) returns)

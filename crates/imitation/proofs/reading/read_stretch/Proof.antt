@@ -1,5 +1,5 @@
--- `imitation::reading::read_stretch` meets its contract. The loop's invariant is `Half` of crates/stretch: up to the place k
--- the samples are answered. Assumes nothing.
+-- `imitation::reading::read_stretch` meets its contract. The loop's invariant is `Half` of crates/stretch:
+-- up to the place k the samples are answered. Assumes nothing.
 use borrow.Author.Needs.{needs}
 use mathlib.Core.Path.{_≡_, refl, sym, ap, _∙_}
 use Prim.Native.Nat.{_-_, _≤_, min}
@@ -39,7 +39,9 @@ returns c =
     let l = c .before .before .before .before .before .before .before .before .before .before .loop in
     let e = c .before .before .before .before .before .hear .ensures in
     let i = l .inv in
-    let r = stopped _ _ _ _ _ (i .3) _ (omega (arith, i .0)) (omega (arith, i .0)) _ (e .1 .0) (c .if1 .taken) (e .0) (e .1 .1 .1) in
+    let r =
+    stopped _ _ _ _ _ (i .3) _ (omega (arith, i .0)) (omega (arith, i .0)) _ (e .1 .0) (c .if1 .taken) (e .0)
+    (e .1 .1 .1) in
     let d = done _ _ _ _ _ (i .3) (omega (arith, i .0)) in
     (rw (r, d), (rw r, rw r (in-place _ _ _ _ _ (i .3) (omega (arith, i .0)))))
 
@@ -63,7 +65,9 @@ loop-again c =
     let h = c .before .before .before .before .before .hear in
     let e = h .ensures in
     let i = l .inv in
-    let t = turn _ _ _ _ _ (i .3) _ (omega (arith, i .0)) (omega (arith, i .0)) (e .1 .0) (c .if1 .left) (e .0) (e .1 .1 .1) (e .1 .1 .0) in
+    let t =
+    turn _ _ _ _ _ (i .3) _ (omega (arith, i .0)) (omega (arith, i .0)) (e .1 .0) (c .if1 .left) (e .0) (e .1 .1 .1)
+    (e .1 .1 .0) in
     (i .0, omega arith, search needs, t)
 
 returns-2 : tie.Need-returns-2 Inv-loop μ-loop
@@ -76,6 +80,8 @@ returns-2 c =
 pub read-stretch-spec : {M : Type 1} → statement M
 read-stretch-spec =
     tie.close
-    (tie.spec Inv-loop μ-loop (λ c κs. search needs) loop-holds mul-hear slice-read-hear mul-hear-2 shared-slice-read-hear
-    (λ c κs. search needs) (λ c. search needs) (λ c. search needs) returns mul-samples slice-write-samples add-k loop-less
+    (tie.spec Inv-loop μ-loop
+    (λ c κs. search needs) loop-holds mul-hear slice-read-hear mul-hear-2 shared-slice-read-hear
+    (λ c κs. search needs) (λ c. search needs)
+    (λ c. search needs) returns mul-samples slice-write-samples add-k loop-less
     loop-again (λ c. search needs) (λ c. search needs) returns-2)

@@ -2,8 +2,8 @@
 use borrow.Author.Needs.{needs}
 use native.Mathlib.Omega.{arith}
 use lib.IntN.{pos}
-use Rattle.integer_part.proofs.Shifted.{small}
-use Rattle.integer_part.proofs.Step.{in-float}
+use Rattle.integer_part.proofs.SumsInRange.{small}
+use Rattle.integer_part.proofs.FloorInside.{in-float}
 use Rattle.lagrange.proofs.lanes.number.Statement.{statement}
 use Rattle.lagrange.proofs.lanes.number.Tie as tie
 

@@ -8,15 +8,16 @@ use denote.Ref.{now}
 use mir.Syntax.{w64}
 use mir.Val.{toZ, ofZ}
 use mir.ValLaws.{toZ-ofZ}
-use Rattle.loops.specs.Loops.{fold}
-use Rattle.loops.proofs.Folds.{none, turn}
+use Rattle.loop_laws.specs.Loops.{fold}
+use Rattle.loop_laws.proofs.Folds.{none, turn}
 use Rattle.ring.specs.Taps.{tapOf}
 use Rattle.lagrange.specs.Eights.{tapTurn}
 use Rattle.lagrange.proofs.sums.one_by_one.Statement.{statement}
 use Rattle.lagrange.proofs.sums.one_by_one.Tie as tie
 
 abbrev Inv-loop : tie.InvT-loop
-Inv-loop source count base first n start w sum₀ k₀ sum k = (k ≤ n) × (sum ≡ fold (tapTurn (λ k. tapOf source count (toZ w64 base +ℤ pos (first + k))) w) start k)
+Inv-loop source count base first n start w sum₀ k₀ sum k =
+    (k ≤ n) × (sum ≡ fold (tapTurn (λ k. tapOf source count (toZ w64 base +ℤ pos (first + k))) w) start k)
 
 abbrev μ-loop : tie.MeasureT-loop
 μ-loop source count base first n start w sum₀ k₀ sum k = n - k
@@ -32,8 +33,13 @@ tap-after-requires c κs =
 loop-again : tie.Need-loop-again Inv-loop μ-loop
 loop-again c =
     let l = c .before .before in
-    let a = l .before .before .args in
-    (omega arith, turn (tapTurn (λ k. tapOf (now (a .source)) (a .count) (toZ w64 (ofZ w64 (a .base)) +ℤ pos (a .first + k))) (a .t5)) (a .sum) (l .loop .k) (l .loop .sum) _ (l .loop .inv .1) (rw (c .tap-after .ensures)))
+    let a = l .before .before .args in (
+      omega arith,
+      turn
+          (tapTurn (λ k. tapOf (now (a .source)) (a .count) (toZ w64 (ofZ w64 (a .base)) +ℤ pos (a .first + k)))
+          (a .t5))
+          (a .sum) (l .loop .k) (l .loop .sum) _ (l .loop .inv .1) (rw (c .tap-after .ensures)),
+    )
 
 returns : tie.Need-returns Inv-loop μ-loop
 returns c =
@@ -41,8 +47,14 @@ returns c =
     let b = l .before .before in
     let a = b .args in
     l .loop .inv .1
-    ∙ ap (λ (z : ℤ). fold (tapTurn (λ (k : ℕ). tapOf (now (a .source)) (a .count) (z +ℤ pos (a .first + k))) (a .t5)) (a .sum) (l .loop .k)) (toZ-ofZ w64 (a .base) (b .fits .base))
-    ∙ ap (fold (tapTurn (λ (k : ℕ). tapOf (now (a .source)) (a .count) (a .base +ℤ pos (a .first + k))) (a .t5)) (a .sum)) (omega arith)
+    ∙ ap
+    (λ (z : ℤ). fold (tapTurn (λ (k : ℕ). tapOf (now (a .source)) (a .count) (z +ℤ pos (a .first + k))) (a .t5))
+    (a .sum) (l .loop .k)) (toZ-ofZ w64 (a .base) (b .fits .base))
+    ∙ ap
+    (fold (tapTurn (λ (k : ℕ). tapOf (now (a .source)) (a .count) (a .base +ℤ pos (a .first + k))) (a .t5))
+    (a .sum)) (omega arith)
 
 pub one-by-one-spec : {M : Type 1} → statement M
-one-by-one-spec = tie.close (tie.spec Inv-loop μ-loop loop-holds (λ c. omega arith) tap-after-requires (λ c. omega arith) (λ c. omega arith) (λ c. omega arith) (λ c. omega arith) loop-again returns)
+one-by-one-spec =
+    tie.close (tie.spec Inv-loop μ-loop loop-holds (λ c. omega arith) tap-after-requires (λ c. omega arith)
+    (λ c. omega arith) (λ c. omega arith) (λ c. omega arith) loop-again returns)

@@ -8,25 +8,36 @@ use lib.ListN.{length}
 use denote.Ref.{now}
 use mir.Syntax.{w64}
 use mir.ValLaws.{toZ-ofZ}
-use Rattle.ring.specs.Places.{startOf}
-use Rattle.ring.proofs.Run.{inside, straight}
+use Rattle.ring.specs.Quick.{startOf}
+use Rattle.ring.proofs.HeldRuns.{inside, straight}
 use Rattle.lagrange.proofs.sums.start.Statement.{statement}
 use Rattle.lagrange.proofs.sums.start.Tie as tie
 
-begun : (c : tie.After-run-start) → let a = c .before .before .args in c .run-start .result ≡ startOf (length (now (a .source))) (a .count) (a .base) (a .taps)
+begun : (c : tie.After-run-start) → let a = c .before .before .args in
+    c .run-start .result ≡ startOf (length (now (a .source))) (a .count) (a .base) (a .taps)
 begun c = let b = c .before .before in rw (toZ-ofZ w64 (b .args .base) (b .fits .base)) at (c .run-start .ensures)
 
 add-if2 : tie.Need-add-if2
 add-if2 c =
     let r = c .before in
     let a = r .before .before .args in
-    omega (arith, inside (now (a .source)) (a .count) (a .taps) (a .base) (r .run-start .result) (begun r) (c .if1 .taken) (omega arith))
+    omega (
+      arith,
+      inside (now (a .source)) (a .count) (a .taps) (a .base) (r .run-start .result) (begun r) (c .if1 .taken)
+          (omega arith),
+    )
 
 returns : tie.Need-returns
 returns c = λ e.
     let r = c .before .before in
     let a = r .before .before .args in
-    record { fits = c .if2 .taken; tap = λ k h. sym (straight (now (a .source)) (a .count) (a .taps) (a .base) (r .run-start .result) (begun r) (c .before .if1 .taken) k h (omega (arith, c .if2 .taken))) }
+    record {
+      fits = c .if2 .taken;
+      tap =
+          λ k h. sym
+          (straight (now (a .source)) (a .count) (a .taps) (a .base) (r .run-start .result) (begun r)
+          (c .before .if1 .taken) k h (omega (arith, c .if2 .taken)));
+    }
 
 returns-2 : tie.Need-returns-2
 returns-2 c = λ e. absurd (true≢false (sym e))

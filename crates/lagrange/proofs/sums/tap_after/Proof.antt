@@ -3,7 +3,7 @@ use borrow.Author.Needs.{needs}
 use mathlib.Core.Path.{_∙_, ap}
 use native.Mathlib.Omega.{arith}
 use denote.Ref.{now}
-use Rattle.integer_part.proofs.Shifted.{plus-fits, plus-is}
+use Rattle.integer_part.proofs.SumsInRange.{plus-fits, plus-is}
 use Rattle.ring.specs.Taps.{tapOf}
 use Rattle.lagrange.proofs.sums.tap_after.Statement.{statement}
 use Rattle.lagrange.proofs.sums.tap_after.Tie as tie
@@ -11,8 +11,10 @@ use Rattle.lagrange.proofs.sums.tap_after.Tie as tie
 returns : tie.Need-returns
 returns c =
     let s = c .before .before in
-    c .tap .ensures ∙ ap (tapOf (now (s .args .source)) (s .args .count)) (plus-is (s .fits .base) (s .args .k) (omega arith))
+    c .tap .ensures
+    ∙ ap (tapOf (now (s .args .source)) (s .args .count)) (plus-is (s .fits .base) (s .args .k) (omega arith))
 
 pub tap-after-spec : {M : Type 1} → statement M
 tap-after-spec =
-    tie.close (tie.spec (λ c. search needs) (λ c. plus-fits (c .before .fits .base) (c .before .args .k) (omega arith)) (λ c κs. search needs) returns)
+    tie.close (tie.spec (λ c. search needs) (λ c. plus-fits (c .before .fits .base) (c .before .args .k) (omega arith))
+    (λ c κs. search needs) returns)

@@ -1,4 +1,5 @@
--- `modulation_engine::ModulationEngine::reset` meets its contract: it is the definition, by `both-renewed`. Assumes nothing.
+-- `modulation_engine::ModulationEngine::reset` meets its contract: it is the definition, by `both-renewed`.
+-- Assumes nothing.
 use Rattle.smooth_random.specs.Drift as drift
 use Rattle.oscillator_ranges.specs.Constants as numbers
 use Rattle.modulation_engine.proofs.Renewing.{both-renewed}

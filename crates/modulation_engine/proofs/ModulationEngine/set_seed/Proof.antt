@@ -1,4 +1,5 @@
--- `modulation_engine::ModulationEngine::set_seed` meets its contract: it is the definition, by `both-renewed`. Assumes nothing.
+-- `modulation_engine::ModulationEngine::set_seed` meets its contract: it is the definition, by `both-renewed`.
+-- Assumes nothing.
 use Rattle.smooth_random.specs.Drift as drift
 use Rattle.xorshift.specs.Seeds.{flutterSeedOf}
 use Rattle.modulation_engine.proofs.Renewing.{both-renewed}
@@ -13,7 +14,13 @@ returns c =
     let due = s .before .before .before in
     let a = due .before .args in
     let e = a .self in
-    rw (c .handed-back .ensures, s2 .set-seed2 .ensures, f .flutter-seed .ensures, s .set-seed .ensures, due .refusal .ensures)
+    rw (
+      c .handed-back .ensures,
+      s2 .set-seed2 .ensures,
+      f .flutter-seed .ensures,
+      s .set-seed .ensures,
+      due .refusal .ensures,
+    )
     (both-renewed e (λ w f. record {
       «sample_rate» = e .«sample_rate»;
       «wow_phase» = e .«wow_phase»;

@@ -1,4 +1,5 @@
--- `modulation_params::ModulationParams::in_range` meets its contract: test by test it is the definition. Assumes nothing.
+-- `modulation_params::ModulationParams::in_range` meets its contract: test by test it is the definition.
+-- Assumes nothing.
 use Rattle.modulation_params.specs.Settings.{paramsOk}
 use Rattle.modulation_params.proofs.ModulationParams.in_range.Statement.{statement}
 use Rattle.modulation_params.proofs.ModulationParams.in_range.Tie as tie
@@ -29,4 +30,6 @@ returns c =
     )
 
 pub in-range-spec : {M : Type 1} → statement M
-in-range-spec = tie.close (tie.spec (λ c κs. tt) (λ c κs. tt) (λ c κs. tt) (λ c κs. tt) (λ c κs. tt) (λ c κs. tt) (λ c κs. tt) (λ c κs. tt) (λ c κs. tt) (λ c κs. tt) (λ c κs. tt) (λ c κs. tt) (λ c κs. tt) (λ c κs. tt) (λ c κs. tt) returns)
+in-range-spec =
+    tie.close (tie.spec (λ c κs. tt) (λ c κs. tt) (λ c κs. tt) (λ c κs. tt) (λ c κs. tt) (λ c κs. tt) (λ c κs. tt)
+    (λ c κs. tt) (λ c κs. tt) (λ c κs. tt) (λ c κs. tt) (λ c κs. tt) (λ c κs. tt) (λ c κs. tt) (λ c κs. tt) returns)

@@ -2,7 +2,7 @@
 use borrow.Author.Needs.{needs}
 use native.Mathlib.Omega.{arith}
 use lib.Count.{leading-le}
-use Rattle.digits.proofs.Lengths.{zeros-and-size}
+use Rattle.float_digits.proofs.Lengths.{zeros-and-size}
 use Rattle.picture.proofs.bars.bits.Statement.{statement}
 use Rattle.picture.proofs.bars.bits.Tie as tie
 

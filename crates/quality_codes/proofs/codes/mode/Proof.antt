@@ -21,7 +21,8 @@ above : (k : ℕ) → (k ≡ 0 → ⊥) → (k ≡ 1 → ⊥) → (k ≡ 2 → �
 above zero d n h = absurd (d refl)
 above (suc zero) d n h = absurd (n refl)
 above (suc (suc zero)) d n h = absurd (h refl)
-above (suc (suc (suc k))) d n h = let j = suc (suc (suc k)) in rw (lt-leb j 0 (omega arith), lt-leb j 1 (omega arith), lt-leb j 2 (omega arith))
+above (suc (suc (suc k))) d n h =
+    let j = suc (suc (suc k)) in rw (lt-leb j 0 (omega arith), lt-leb j 1 (omega arith), lt-leb j 2 (omega arith))
 
 returns-4 : tie.Need-returns-4
 returns-4 c = let r = c .match .rest in above (c .before .args .code) (r .0 .0 .1) (r .0 .1) (r .1)

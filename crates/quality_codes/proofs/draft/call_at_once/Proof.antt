@@ -1,4 +1,5 @@
--- `quality_codes::draft::call_at_once` meets its contract: a call that is plain in Draft by the law of `Drafted`, any other by `call_through`. Assumes nothing.
+-- `quality_codes::draft::call_at_once` meets its contract: a call that is plain in Draft by the law of `DraftCalls`,
+-- any other by `call_through`. Assumes nothing.
 use borrow.Author.Needs.{needs}
 use mathlib.Core.Path.{_≡_}
 use mathlib.Core.Bool.{true}
@@ -11,7 +12,7 @@ use Rattle.ring.specs.Places.{positionOk}
 use Rattle.variable_delay.specs.Reader.{positionOf}
 use Rattle.quality_variable_delay.specs.Bank.{dueOf}
 use Rattle.quality_codes.specs.Codes.{decoded, stateOf}
-use Rattle.quality_codes.proofs.Drafted.{ready, called, left}
+use Rattle.quality_codes.proofs.DraftCalls.{ready, called, left}
 use Rattle.quality_codes.proofs.draft.call_at_once.Statement.{statement}
 use Rattle.quality_codes.proofs.draft.call_at_once.Tie as tie
 
@@ -20,12 +21,23 @@ start c = c .before .before .before .before .before .before .before .before
 
 -- the tests passed
 told : (c : tie.Then1) → let a = start c .args in
-    (now (a .current) ≡ 0) × (now (a .target) ≡ 0) × (a .quality ≡ 0) × (dueOf (length (now (a .sets))) (a .top) (decoded (stateOf (a .maximum) (a .margin) (now (a .accepted)) (now (a .current)) (now (a .target)) (now (a .place)) (a .crossfade))) (length (now (a .ring))) (a .input) (a .delay) (a .rate) ≡ 0)
+    (now (a .current) ≡ 0) × (now (a .target) ≡ 0) × (a .quality ≡ 0)
+    × (dueOf (length (now (a .sets))) (a .max-rate)
+    (decoded (stateOf (a .maximum) (a .margin) (now (a .accepted)) (now (a .current)) (now (a .target))
+    (now (a .crossfade-position)) (a .crossfade-samples)))
+    (length (now (a .ring))) (a .input) (a .delay) (a .playback-rate)
+    ≡ 0)
 told c = c .before .plain .ensures (c .if1 .taken)
 
 asked : (c : tie.Then1) → let a = start c .args in
-    (now (a .accepted) < 2 ^ 36) × (0 < length (now (a .ring))) × (bitAnd (now (a .accepted)) (length (now (a .ring)) - 1) ≡ now (a .accepted) % length (now (a .ring))) × (positionOk (positionOf (now (a .accepted)) (a .delay)) ≡ true)
-asked c = let a = start c .args in ready (length (now (a .sets))) (a .top) (a .maximum) (a .margin) (now (a .accepted)) (now (a .current)) (now (a .target)) (now (a .place)) (a .crossfade) (length (now (a .ring))) (a .input) (a .delay) (a .rate) (told c .3)
+    (now (a .accepted) < 2 ^ 36) × (0 < length (now (a .ring)))
+    × (bitAnd (now (a .accepted)) (length (now (a .ring)) - 1) ≡ now (a .accepted) % length (now (a .ring)))
+    × (positionOk (positionOf (now (a .accepted)) (a .delay)) ≡ true)
+asked c =
+    let a = start c .args in
+    ready (length (now (a .sets))) (a .max-rate) (a .maximum) (a .margin) (now (a .accepted)) (now (a .current))
+    (now (a .target)) (now (a .crossfade-position)) (a .crossfade-samples) (length (now (a .ring))) (a .input)
+    (a .delay) (a .playback-rate) (told c .3)
 
 read-requires : tie.Need-read-requires
 read-requires c κs = asked (c .before)
@@ -41,11 +53,16 @@ returns c =
     let a = start t .args in
     let p = told t in
     let e =
-    called (now (a .sets)) (a .top) (a .maximum) (a .margin) (now (a .accepted)) (now (a .current)) (now (a .target)) (now (a .place)) (a .crossfade) (now (a .ring)) (a .input) (a .delay) (a .quality) (a .rate) (p .0) (p .1) (p .2) (p .3) in
+    called (now (a .sets)) (a .max-rate) (a .maximum) (a .margin) (now (a .accepted)) (now (a .current))
+    (now (a .target)) (now (a .crossfade-position)) (a .crossfade-samples) (now (a .ring)) (a .input) (a .delay)
+    (a .quality) (a .playback-rate) (p .0) (p .1) (p .2) (p .3) in
     let l =
-    left (now (a .sets)) (a .top) (a .maximum) (a .margin) (now (a .accepted)) (now (a .current)) (now (a .target)) (now (a .place)) (a .crossfade) (now (a .ring)) (a .input) (a .delay) (a .quality) (a .rate) (p .0) (p .1) (p .2) (p .3) in
+    left (now (a .sets)) (a .max-rate) (a .maximum) (a .margin) (now (a .accepted)) (now (a .current)) (now (a .target))
+    (now (a .crossfade-position)) (a .crossfade-samples) (now (a .ring)) (a .input) (a .delay) (a .quality)
+    (a .playback-rate) (p .0) (p .1) (p .2) (p .3) in
     rw (w .0, w .1, r .read .ensures .0, r .read .ensures .1, e, l)
 
 pub call-at-once-spec : {M : Type 1} → statement M
 call-at-once-spec =
-    tie.close (tie.spec (λ c κs. search needs) read-requires add-put-f32 (λ c κs. search needs) (λ c. search needs) returns (λ c κs. search needs) (λ c. search needs) (λ c. search needs))
+    tie.close (tie.spec (λ c κs. search needs) read-requires add-put-f32 (λ c κs. search needs)
+    (λ c. search needs) returns (λ c κs. search needs) (λ c. search needs) (λ c. search needs))

@@ -13,4 +13,5 @@ returns c =
 
 pub draft-spec : {M : Type 1} → statement M
 draft-spec =
-    tie.close (tie.spec returns (λ c h. absurd (false≢true h)) (λ c h. absurd (false≢true h)) (λ c h. absurd (false≢true h)) (λ c h. absurd (false≢true h)))
+    tie.close (tie.spec returns (λ c h. absurd (false≢true h)) (λ c h. absurd (false≢true h))
+    (λ c h. absurd (false≢true h)) (λ c h. absurd (false≢true h)))

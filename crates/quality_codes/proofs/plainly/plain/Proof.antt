@@ -1,10 +1,11 @@
--- `quality_codes::plainly::plain` meets its contract: where its tests pass nothing is to be refused, by quality_variable_delay's law. Assumes nothing.
+-- `quality_codes::plainly::plain` meets its contract: where its tests pass nothing is to be refused,
+-- by quality_variable_delay's law. Assumes nothing.
 use borrow.Author.Needs.{needs}
 use borrow.Author.Tests.{le-leb}
 use mathlib.Core.Bool.{false≢true}
-use Rattle.quality_variable_delay.proofs.Passing.{none-due}
+use Rattle.quality_variable_delay.proofs.CommonCall.{none-due}
 use Rattle.quality_codes.specs.Codes.{decoded, stateOf}
-use Rattle.quality_codes.proofs.Drafted.{placed}
+use Rattle.quality_codes.proofs.DraftCalls.{placed}
 use Rattle.quality_codes.proofs.plainly.plain.Statement.{statement}
 use Rattle.quality_codes.proofs.plainly.plain.Tie as tie
 
@@ -16,9 +17,18 @@ returns c =
     λ h.
     let d = drafts .draft .ensures (ranges .before .if1 .taken) in
     let r = ranges .in-range .ensures (c .before .if2 .taken) in
-    let l = c .filled .ensures h in
-    (d .0, d .1, d .2, none-due (a .lent) (a .top) (decoded (stateOf (a .maximum) (a .margin) (a .accepted) (a .current) (a .target) (a .place) (a .crossfade))) (a .len) (a .input) (a .delay) (a .rate) (r .0) (le-leb _ _ (d .3)) (placed (d .0) (d .1) (d .4)) (r .1) (r .2) (r .3) (r .4) (l .0) (l .1) (l .2) (l .3))
+    let l = c .filled .ensures h in (
+      d .0,
+      d .1,
+      d .2,
+      none-due (a .lent) (a .max-rate)
+          (decoded (stateOf (a .maximum) (a .margin) (a .accepted) (a .current) (a .target) (a .crossfade-position)
+          (a .crossfade-samples)))
+          (a .len) (a .input) (a .delay) (a .playback-rate) (r .0) (le-leb _ _ (d .3)) (placed (d .0) (d .1) (d .4))
+          (r .1) (r .2) (r .3) (r .4) (l .0) (l .1) (l .2) (l .3),
+    )
 
 pub plain-spec : {M : Type 1} → statement M
 plain-spec =
-    tie.close (tie.spec (λ c κs. search needs) (λ c κs. search needs) (λ c κs. search needs) returns (λ c h. absurd (false≢true h)) (λ c h. absurd (false≢true h)))
+    tie.close (tie.spec (λ c κs. search needs) (λ c κs. search needs) (λ c κs. search needs) returns
+    (λ c h. absurd (false≢true h)) (λ c h. absurd (false≢true h)))

@@ -1,7 +1,7 @@
 -- `quality_codes::through::call_through` meets its contract: what the call gives. Assumes nothing.
 use borrow.Author.Needs.{needs}
 use mathlib.Core.Path.{refl}
-use Rattle.doors.proofs.Leaving.{left}
+use Rattle.answer_parts.proofs.LeftByExports.{left}
 use Rattle.quality_codes.specs.Left.{changedOf}
 use Rattle.quality_codes.proofs.through.call_through.Statement.{statement}
 use Rattle.quality_codes.proofs.through.call_through.Tie as tie

@@ -1,4 +1,5 @@
--- `quality_fade::ported::turn` meets its contract: plain, or mixed with a place below the length, so that one more fits. Assumes nothing.
+-- `quality_fade::ported::turn` meets its contract: plain, or mixed with a place below the length,
+-- so that one more fits. Assumes nothing.
 use borrow.Author.Needs.{needs}
 use mathlib.Core.Path.{_≡_, sym, _∙_}
 use mathlib.Core.Logic.{⊎-elim}
@@ -15,7 +16,8 @@ add-weight : tie.Need-add-weight
 add-weight c =
     let e = c .before in
     let s = e .before .before .args .state in
-    let below : s .place < s .length = e .before .before .pre (sym (e .before .plain .ensures) ∙ e .if1 .left) in
+    let below : s .«crossfade_position» < s .«crossfade_samples» =
+    e .before .before .pre (sym (e .before .plain .ensures) ∙ e .if1 .left) in
     omega (arith, c .struct-known .given)
 
 returns-2 : tie.Need-returns-2
@@ -27,4 +29,5 @@ returns-2 c =
 
 pub turn-spec : {M : Type 1} → statement M
 turn-spec =
-    tie.close (tie.spec (λ c κs. search needs) (λ c κs. search needs) returns add-weight (λ c κs. search needs) returns-2)
+    tie.close (tie.spec (λ c κs. search needs) (λ c κs. search needs) returns add-weight
+    (λ c κs. search needs) returns-2)

@@ -1,4 +1,5 @@
--- `quality_variable_delay::opening::renew` meets its contract: its fade part is what `quality_fade::reset` leaves. Assumes nothing.
+-- `quality_variable_delay::opening::renew` meets its contract: its fade part is what `quality_fade::reset` leaves.
+-- Assumes nothing.
 use borrow.Author.Needs.{needs}
 use Rattle.quality_variable_delay.proofs.opening.renew.Statement.{statement}
 use Rattle.quality_variable_delay.proofs.opening.renew.Tie as tie

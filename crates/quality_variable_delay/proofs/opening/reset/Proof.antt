@@ -1,4 +1,5 @@
--- `quality_variable_delay::opening::reset` meets its contract: by its refusal, or by the ring that `clear_f32` leaves and the state that `renew` gives.
+-- `quality_variable_delay::opening::reset` meets its contract: by its refusal, or by the ring that `clear_f32` leaves
+-- and the state that `renew` gives.
 -- Assumes nothing.
 use borrow.Author.Needs.{needs}
 use mathlib.Core.Path.{sym, _∙_}
@@ -8,7 +9,8 @@ use Rattle.quality_variable_delay.proofs.opening.reset.Statement.{state
 use Rattle.quality_variable_delay.proofs.opening.reset.Tie as tie
 
 returns : tie.Need-returns
-returns c = let e = c .before .reset-refusal .ensures in (not-opened _ e (c .if1 .taken) _, not-cleared _ e (c .if1 .taken) _)
+returns c =
+    let e = c .before .reset-refusal .ensures in (not-opened _ e (c .if1 .taken) _, not-cleared _ e (c .if1 .taken) _)
 
 returns-2 : tie.Need-returns-2
 returns-2 c =
@@ -18,4 +20,6 @@ returns-2 c =
     (rw (none, c .renew .ensures), rw none (cleared .clear-f32 .ensures))
 
 pub reset-spec : {M : Type 1} → statement M
-reset-spec = tie.close (tie.spec (λ c κs. search needs) returns (λ c κs. search needs) (λ c κs. search needs) (λ c. search needs) returns-2)
+reset-spec =
+    tie.close (tie.spec (λ c κs. search needs) returns (λ c κs. search needs) (λ c κs. search needs)
+    (λ c. search needs) returns-2)

@@ -1,4 +1,5 @@
--- `quality_variable_delay::refusing::refusal` meets its contract: each test is the definition's, the first two by `settled`. Assumes nothing.
+-- `quality_variable_delay::refusing::refusal` meets its contract: each test is the definition's,
+-- the first two by `settled`. Assumes nothing.
 use borrow.Author.Needs.{needs}
 use mathlib.Core.Path.{refl}
 use mathlib.Core.Bool.{Bool, true, false, not, _&&_}
@@ -47,10 +48,16 @@ returns c =
     )
     (settled (s .maximum) (s .margin) (a .len) (long .length-for .result)
     (λ (t u : Bool).
-    lowestOf (t && (lengthOk (s .«crossfade_samples») && a .bank)) (u && a .lent) (leb (s .accepted) (2 ^ 36) && placeOk (fadePart s)) (finite (a .input)) (finite (a .delay) && le (fin false 0 (pos 0)) (a .delay)) (le (a .delay) (fin false 1 (pos 36))) (not (isNan (a .playback-rate))) (ltb (s .accepted) (2 ^ 36)))
+    lowestOf (t && (lengthOk (s .«crossfade_samples») && a .bank)) (u && a .lent)
+    (leb (s .accepted) (2 ^ 36) && placeOk (fadePart s)) (finite (a .input))
+    (finite (a .delay) && le (fin false 0 (pos 0)) (a .delay)) (le (a .delay) (fin false 1 (pos 36)))
+    (not (isNan (a .playback-rate))) (ltb (s .accepted) (2 ^ 36)))
     (λ t u. refl)
     (long .length-for .ensures))
 
 pub refusal-spec : {M : Type 1} → statement M
 refusal-spec =
-    tie.close (tie.spec (λ c κs. search needs) (λ c κs. search needs) (λ c κs. search needs) (λ c κs. search needs) (λ c κs. search needs) (λ c κs. search needs) (λ c κs. search needs) (λ c κs. search needs) (λ c κs. search needs) (λ c κs. search needs) (λ c κs. search needs) (λ c κs. search needs) (λ c κs. search needs) returns)
+    tie.close (tie.spec (λ c κs. search needs) (λ c κs. search needs) (λ c κs. search needs) (λ c κs. search needs)
+    (λ c κs. search needs) (λ c κs. search needs) (λ c κs. search needs) (λ c κs. search needs)
+    (λ c κs. search needs) (λ c κs. search needs) (λ c κs. search needs) (λ c κs. search needs)
+    (λ c κs. search needs) returns)

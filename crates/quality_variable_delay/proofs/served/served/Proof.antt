@@ -1,10 +1,11 @@
--- `quality_variable_delay::served::served` meets its contract: the tests that it makes leave no refusal, by `Passing`. Assumes nothing.
+-- `quality_variable_delay::served::served` meets its contract: the tests that it makes leave no refusal,
+-- by `CommonCall`. Assumes nothing.
 use borrow.Author.Needs.{needs}
 use mathlib.Core.Path.{sym, _∙_, ap}
 use lib.Ieee.{ofBits}
-use Rattle.variable_delay_f32.proofs.Passing.{led-away}
+use Rattle.variable_delay_f32.proofs.CommonCall.{led-away}
 use Rattle.quality_fade.specs.Fade.{placeOk}
-use Rattle.quality_variable_delay.proofs.Passing.{none-due}
+use Rattle.quality_variable_delay.proofs.CommonCall.{none-due}
 use Rattle.quality_variable_delay.proofs.served.served.Statement.{statement}
 use Rattle.quality_variable_delay.proofs.served.served.Tie as tie
 
@@ -36,4 +37,6 @@ returns c =
 
 pub served-spec : {M : Type 1} → statement M
 served-spec =
-    tie.close (tie.spec (λ c κs. search needs) (λ c κs. search needs) (λ c κs. search needs) (λ c κs. search needs) (λ c κs. search needs) (λ c κs. search needs) returns (λ c. led-away) (λ c. led-away) (λ c. led-away) (λ c. led-away) (λ c. led-away) (λ c. led-away) (λ c. led-away))
+    tie.close (tie.spec (λ c κs. search needs) (λ c κs. search needs) (λ c κs. search needs) (λ c κs. search needs)
+    (λ c κs. search needs) (λ c κs. search needs) returns (λ c. led-away) (λ c. led-away) (λ c. led-away)
+    (λ c. led-away) (λ c. led-away) (λ c. led-away) (λ c. led-away))

@@ -6,7 +6,8 @@ use Rattle.quality_variable_delay.proofs.turns.mix.Tie as tie
 
 returns : tie.Need-returns
 unfolding ofBits
-returns c = rw (c .min-f32 .ensures, c .before .nearest-u32-to-f322 .ensures, c .before .before .nearest-u32-to-f32 .ensures)
+returns c =
+    rw (c .min-f32 .ensures, c .before .nearest-u32-to-f322 .ensures, c .before .before .nearest-u32-to-f32 .ensures)
 
 pub mix-spec : {M : Type 1} → statement M
 mix-spec =

@@ -1,4 +1,5 @@
--- `replay_bank::slice::draft` keeps within the slice: the part that is read is no longer than the slice is. Assumes nothing.
+-- `replay_bank::slice::draft` keeps within the slice: the part that is read is no longer than the slice is.
+-- Assumes nothing.
 use borrow.Author.Needs.{needs}
 use mathlib.Core.Path.{sym}
 use lib.Seq.{length-take-le}
@@ -10,4 +11,5 @@ slice-aggregate-read c = sym (length-take-le _ _ (search needs))
 
 pub draft-spec : {M : Type 1} → statement M
 draft-spec =
-    tie.close (tie.spec (λ c κs. search needs) slice-aggregate-read (λ c κs. search needs) (λ c κs. search needs) (λ c. search needs) (λ c. search needs))
+    tie.close (tie.spec (λ c κs. search needs) slice-aggregate-read (λ c κs. search needs) (λ c κs. search needs)
+    (λ c. search needs) (λ c. search needs))

@@ -1,4 +1,5 @@
--- `replay_numbers::answers::signed` is safe: -1 - n is a number of as many digits as n, and not negative where n is. Assumes nothing.
+-- `replay_numbers::answers::signed` is safe: -1 - n is a number of as many digits as n, and not negative where n is.
+-- Assumes nothing.
 use borrow.Author.Needs.{needs}
 use borrow.Author.Tests.{ltb-true, le-ltb}
 use mathlib.Core.Path.{_≡_, ap}
@@ -18,14 +19,18 @@ use Rattle.replay_numbers.proofs.answers.signed.Tie as tie
 below : (z : ℤ) → SFits w64 z → ltZ (toZ w64 (ofZ w64 z)) (pos 0) ≡ true
     → (k : ℕ) × ((negsuc 0 -ℤ toZ w64 (ofZ w64 z) ≡ pos k) × (k < 2 ^ 63))
 below (pos n) f h = absurd (omega (arith, ltb-true n 0 (rw (toZ-ofZ w64 (pos n) f) at h)))
-below (negsuc k) f h = (k, (rw (toZ-ofZ w64 (negsuc k) f, le-ltb (suc k) 1 (omega arith)) (ap pos (omega arith)), f .sfits))
+below (negsuc k) f h =
+    (k, (rw (toZ-ofZ w64 (negsuc k) f, le-ltb (suc k) 1 (omega arith)) (ap pos (omega arith)), f .sfits))
 
-above : (z : ℤ) → SFits w64 z → ltZ (toZ w64 (ofZ w64 z)) (pos 0) ≡ false → T (nonNeg (toZ w64 (ofZ w64 z))) × Fits w64 (natAbs (toZ w64 (ofZ w64 z)))
+above : (z : ℤ) → SFits w64 z → ltZ (toZ w64 (ofZ w64 z)) (pos 0) ≡ false
+    → T (nonNeg (toZ w64 (ofZ w64 z))) × Fits w64 (natAbs (toZ w64 (ofZ w64 z)))
 above (pos n) f h = rw (toZ-ofZ w64 (pos n) f) (tt, record { fits = omega (arith, f .sfits) })
-above (negsuc k) f h = let e = rw (toZ-ofZ w64 (negsuc k) f) at h in let z : _≡_ {A = ℕ} 0 1 = cc in absurd (omega arith)
+above (negsuc k) f h =
+    let e = rw (toZ-ofZ w64 (negsuc k) f) at h in let z : _≡_ {A = ℕ} 0 1 = cc in absurd (omega arith)
 
 sub-result : tie.Need-sub-result
-sub-result c = let b = below (c .before .args .n) (c .before .fits .n) (c .if1 .taken) in rw (b .1 .0) (record { sfits = b .1 .1 })
+sub-result c =
+    let b = below (c .before .args .n) (c .before .fits .n) (c .if1 .taken) in rw (b .1 .0) (record { sfits = b .1 .1 })
 
 cast-result : tie.Need-cast-result
 cast-result c =

@@ -1,4 +1,5 @@
--- `replay_sinc::readers_f32::call_f32` keeps within the ring and the table: the parts that it lends are no longer than they are. Assumes nothing.
+-- `replay_sinc::readers_f32::call_f32` keeps within the ring and the table: the parts that it lends are no longer than
+-- they are. Assumes nothing.
 use borrow.Author.Needs.{needs}
 use mathlib.Core.Path.{sym}
 use lib.Seq.{length-take-le}
@@ -13,4 +14,6 @@ slice-aggregate-called-f32-2 c = sym (length-take-le _ _ (search needs))
 
 pub call-f32-spec : {M : Type 1} → statement M
 call-f32-spec =
-    tie.close (tie.spec (λ c κs. search needs) (λ c κs. search needs) (λ c. search needs) slice-aggregate-called-f32 slice-aggregate-called-f32-2 (λ c κs. search needs) (λ c κs. search needs) (λ c. search needs) (λ c. search needs))
+    tie.close (tie.spec (λ c κs. search needs) (λ c κs. search needs)
+    (λ c. search needs) slice-aggregate-called-f32 slice-aggregate-called-f32-2 (λ c κs. search needs)
+    (λ c κs. search needs) (λ c. search needs) (λ c. search needs))

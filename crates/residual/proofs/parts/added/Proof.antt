@@ -4,7 +4,7 @@ use Prim.Native.Nat.{_≤_, _<_, _^_}
 use native.Mathlib.Omega.{arith}
 use lib.Dec.{ltb}
 use Rattle.residual.specs.Blocks.{sumOfParts}
-use Rattle.residual.proofs.Halves.{one-at-most}
+use Rattle.residual.proofs.SumHalves.{one-at-most}
 use Rattle.residual.proofs.Counting.{high-below, added-is}
 use Rattle.residual.proofs.parts.added.Statement.{statement}
 use Rattle.residual.proofs.parts.added.Tie as tie

@@ -8,7 +8,7 @@ use denote.Ref.{now}
 use Rattle.residual.specs.declared.tally.Tally.{Tally}
 use Rattle.residual.specs.Report.{differences, carried}
 use Rattle.residual.specs.Tallies.{toldOf, stepOf, Ready}
-use Rattle.residual.proofs.Valid.{accepted, ready}
+use Rattle.residual.proofs.ValidReport.{accepted, ready}
 use Rattle.residual.proofs.Agreeing.{fit, same-fold}
 use Rattle.residual.proofs.steps.counted.Statement.{statement}
 use Rattle.residual.proofs.steps.counted.Tie as tie

@@ -3,8 +3,8 @@ use borrow.Author.Needs.{needs}
 use Prim.Native.Nat.{_*_, _≤_}
 use native.Mathlib.Omega.{arith}
 use lib.Dec.{ltb}
-use Rattle.report_tests.proofs.Sums.{square-below}
-use Rattle.residual.proofs.Halves.{one-at-most}
+use Rattle.report_tests.proofs.WideSums.{square-below}
+use Rattle.residual.proofs.SumHalves.{one-at-most}
 use Rattle.residual.proofs.Counting.{high-below, step-is}
 use Rattle.residual.proofs.steps.step.Statement.{statement}
 use Rattle.residual.proofs.steps.step.Tie as tie

@@ -1,4 +1,5 @@
--- `sinc_bank_f32::parts::part` meets its contract: a quality's part lies within a set, and is the definition's. Assumes nothing.
+-- `sinc_bank_f32::parts::part` meets its contract: a quality's part lies within a set, and is the definition's.
+-- Assumes nothing.
 use borrow.Author.Needs.{needs}
 use borrow.Author.Tests.{eq-eqb, ne-eqb}
 use mathlib.Core.Path.{_≡_, refl}
@@ -61,11 +62,16 @@ returns c =
     let t = c .before .before in
     let x = ends t in
     let a = t .before .before .before .args in
-    rw (eq-eqb (length (now (a .set))) setLength (c .before .if1 .taken), x .start-is, x .end-is) (part-is (a .quality) (now (a .set)))
+    rw (eq-eqb (length (now (a .set))) setLength (c .before .if1 .taken), x .start-is, x .end-is)
+    (part-is (a .quality) (now (a .set)))
 
 returns-2 : tie.Need-returns-2
-returns-2 c = let a = c .before .before .before .before .before .args in rw (ne-eqb (length (now (a .set))) setLength (λ z. omega (arith, z, c .before .if1 .left)))
+returns-2 c =
+    let a = c .before .before .before .before .before .args in
+    rw (ne-eqb (length (now (a .set))) setLength (λ z. omega (arith, z, c .before .if1 .left)))
 
 pub part-spec : {M : Type 1} → statement M
 part-spec =
-    tie.close (tie.spec (λ c κs. search needs) (λ c κs. search needs) mul-result sub-result part-result-start part-result-end returns (λ c. search needs) (λ c. search needs) (λ c. search needs) returns-2)
+    tie.close (tie.spec (λ c κs. search needs)
+    (λ c κs. search needs) mul-result sub-result part-result-start part-result-end returns (λ c. search needs)
+    (λ c. search needs) (λ c. search needs) returns-2)

@@ -10,17 +10,19 @@ use mir.Syntax.{w64}
 use mir.Val.{toZ, ofZ}
 use mir.ValLaws.{toZ-ofZ}
 use Rattle.answer.specs.Answers.{zero-f}
-use Rattle.loops.specs.Loops.{fold}
-use Rattle.loops.proofs.Folds.{none, turn}
+use Rattle.loop_laws.specs.Loops.{fold}
+use Rattle.loop_laws.proofs.Folds.{none, turn}
 use Rattle.ring.specs.Taps.{tapOf}
 use Rattle.sinc_read.specs.Sums.{tapTurn}
-use Rattle.sinc_phases.proofs.Between.{next-row}
+use Rattle.sinc_phases.proofs.RowsInTable.{next-row}
 use Rattle.sinc_read.proofs.sums.one_by_one.Statement.{statement}
 use Rattle.sinc_read.proofs.sums.one_by_one.Tie as tie
 
 abbrev Inv-loop : tie.InvT-loop
 Inv-loop table taps phase blend source count first row next sum₀ k₀ sum k =
-    (k ≤ taps) × (sum ≡ fold (tapTurn (λ (k : ℕ). tapOf source count (toZ w64 first +ℤ pos k)) table blend taps phase) zero-f k)
+    (k ≤ taps)
+    × (sum
+    ≡ fold (tapTurn (λ (k : ℕ). tapOf source count (toZ w64 first +ℤ pos k)) table blend taps phase) zero-f k)
 
 abbrev μ-loop : tie.MeasureT-loop
 μ-loop table taps phase blend source count first row next sum₀ k₀ sum k = taps - k
@@ -72,8 +74,11 @@ loop-again c =
     let t = c .before in
     let l = t .before .before .before in
     let a = l .before .before .before .args in
-    let x : ℕ → Float = λ (k : ℕ). tapOf (now (a .source)) (a .count) (toZ w64 (ofZ w64 (a .first)) +ℤ pos k) in
-    (omega arith, turn (tapTurn x (now (a .table)) (a .blend) (a .taps) (a .phase)) zero-f (l .loop .k) (l .loop .sum) _ (l .loop .inv .1) (rw (t .tap-after .ensures, next-row (a .phase) (a .taps))))
+    let x : ℕ → Float = λ (k : ℕ). tapOf (now (a .source)) (a .count) (toZ w64 (ofZ w64 (a .first)) +ℤ pos k) in (
+      omega arith,
+      turn (tapTurn x (now (a .table)) (a .blend) (a .taps) (a .phase)) zero-f (l .loop .k) (l .loop .sum) _
+          (l .loop .inv .1) (rw (t .tap-after .ensures, next-row (a .phase) (a .taps))),
+    )
 
 returns : tie.Need-returns Inv-loop μ-loop
 returns c =
@@ -81,8 +86,15 @@ returns c =
     let b = l .before .before .before in
     let a = b .args in
     l .loop .inv .1
-    ∙ ap (λ (z : ℤ). fold (tapTurn (λ (k : ℕ). tapOf (now (a .source)) (a .count) (z +ℤ pos k)) (now (a .table)) (a .blend) (a .taps) (a .phase)) zero-f (l .loop .k)) (toZ-ofZ w64 (a .first) (b .fits .first))
-    ∙ ap (fold (tapTurn (λ (k : ℕ). tapOf (now (a .source)) (a .count) (a .first +ℤ pos k)) (now (a .table)) (a .blend) (a .taps) (a .phase)) zero-f) (omega arith)
+    ∙ ap (λ (z : ℤ). fold
+    (tapTurn (λ (k : ℕ). tapOf (now (a .source)) (a .count) (z +ℤ pos k)) (now (a .table)) (a .blend) (a .taps)
+    (a .phase)) zero-f (l .loop .k))
+    (toZ-ofZ w64 (a .first) (b .fits .first))
+    ∙ ap (fold
+    (tapTurn (λ (k : ℕ). tapOf (now (a .source)) (a .count) (a .first +ℤ pos k)) (now (a .table)) (a .blend)
+    (a .taps) (a .phase)) zero-f) (omega arith)
 
 pub one-by-one-spec : {M : Type 1} → statement M
-one-by-one-spec = tie.close (tie.spec Inv-loop μ-loop mul-row add-next loop-holds add-a mul-a shared-slice-read-a tap-after-requires add-sum mul-sum shared-slice-read-sum add-k loop-less loop-again returns)
+one-by-one-spec =
+    tie.close (tie.spec Inv-loop μ-loop mul-row add-next loop-holds add-a mul-a shared-slice-read-a tap-after-requires
+    add-sum mul-sum shared-slice-read-sum add-k loop-less loop-again returns)

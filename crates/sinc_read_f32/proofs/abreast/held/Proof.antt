@@ -1,4 +1,5 @@
--- `sinc_read_f32::abreast::held` meets its contract: the samples lie side by side, or up to the ring's end and on from its start. Assumes nothing.
+-- `sinc_read_f32::abreast::held` meets its contract: the samples lie side by side, or up to the ring's end and on from
+-- its start. Assumes nothing.
 use borrow.Author.Needs.{needs}
 use mathlib.Core.Path.{_∙_}
 use native.Mathlib.Omega.{arith}
@@ -11,8 +12,12 @@ returns : tie.Need-returns
 returns c =
     let s = c .before .before .before .before .before .before in
     let a = s .args in (
-      c .over .ensures .0 ∙ one-run (now (a .source)) (now (a .one)) (a .blend) (a .taps) (a .phase) (a .place) (s .pre .2) (s .pre .3) (omega arith),
-      c .over .ensures .1 ∙ one-run (now (a .source)) (now (a .two)) (a .blend) (a .taps) (a .phase) (a .place) (s .pre .2) (s .pre .3) (omega arith),
+      c .over .ensures .0
+          ∙ one-run (now (a .source)) (now (a .one)) (a .blend) (a .taps) (a .phase) (a .place) (s .pre .2) (s .pre .3)
+          (omega arith),
+      c .over .ensures .1
+          ∙ one-run (now (a .source)) (now (a .two)) (a .blend) (a .taps) (a .phase) (a .place) (s .pre .2) (s .pre .3)
+          (omega arith),
     )
 
 returns-2 : tie.Need-returns-2
@@ -21,12 +26,26 @@ returns-2 c =
     let s = o .before .before .before .before .before .before in
     let a = s .args in
     let r = o .over2 in
-    let one = r .ensures .0 ∙ first-run (now (a .source)) (now (a .one)) (a .blend) (a .taps) (a .phase) (a .place) (s .pre .2) (s .pre .3) in
-    let two = r .ensures .1 ∙ first-run (now (a .source)) (now (a .two)) (a .blend) (a .taps) (a .phase) (a .place) (s .pre .2) (s .pre .3) in (
-      c .over3 .ensures .0 ∙ second-run (now (a .source)) (now (a .one)) (a .blend) (a .taps) (a .phase) (a .place) (s .pre .2) (s .pre .3) (r .result .a) (omega arith) one,
-      c .over3 .ensures .1 ∙ second-run (now (a .source)) (now (a .two)) (a .blend) (a .taps) (a .phase) (a .place) (s .pre .2) (s .pre .3) (r .result .b) (omega arith) two,
+    let one =
+    r .ensures .0
+    ∙ first-run (now (a .source)) (now (a .one)) (a .blend) (a .taps) (a .phase) (a .place) (s .pre .2)
+    (s .pre .3) in
+    let two =
+    r .ensures .1
+    ∙ first-run (now (a .source)) (now (a .two)) (a .blend) (a .taps) (a .phase) (a .place) (s .pre .2)
+    (s .pre .3) in (
+      c .over3 .ensures .0
+          ∙ second-run (now (a .source)) (now (a .one)) (a .blend) (a .taps) (a .phase) (a .place) (s .pre .2)
+          (s .pre .3) (r .result .a) (omega arith) one,
+      c .over3 .ensures .1
+          ∙ second-run (now (a .source)) (now (a .two)) (a .blend) (a .taps) (a .phase) (a .place) (s .pre .2)
+          (s .pre .3) (r .result .b) (omega arith) two,
     )
 
 pub held-spec : {M : Type 1} → statement M
 held-spec =
-    tie.close (tie.spec (λ c. search needs) (λ c. search needs) (λ c. search needs) (λ c. search needs) (λ c. search needs) (λ c. search needs) (λ c. search needs) (λ c. search needs) (λ c κs. search needs) returns (λ c. search needs) (λ c. search needs) (λ c. search needs) (λ c. search needs) (λ c κs. search needs) (λ c. search needs) (λ c. search needs) (λ c. search needs) (λ c. search needs) (λ c. search needs) (λ c. search needs) (λ c κs. search needs) returns-2)
+    tie.close (tie.spec (λ c. search needs) (λ c. search needs) (λ c. search needs) (λ c. search needs)
+    (λ c. search needs) (λ c. search needs) (λ c. search needs) (λ c. search needs) (λ c κs. search needs) returns
+    (λ c. search needs) (λ c. search needs) (λ c. search needs) (λ c. search needs) (λ c κs. search needs)
+    (λ c. search needs) (λ c. search needs) (λ c. search needs) (λ c. search needs) (λ c. search needs)
+    (λ c. search needs) (λ c κs. search needs) returns-2)

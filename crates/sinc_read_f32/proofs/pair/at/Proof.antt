@@ -1,4 +1,5 @@
--- `sinc_read_f32::pair::at` meets its contract: each way is the definition's for both tables, by `Ways`. Assumes nothing.
+-- `sinc_read_f32::pair::at` meets its contract: each way is the definition's for both tables, by `BothWays`.
+-- Assumes nothing.
 use borrow.Author.Needs.{needs}
 use mathlib.Core.Path.{_≡_, sym, _∙_, subst}
 use Prim.Native.Nat.{ℕ, _^_, _≤_}
@@ -9,11 +10,11 @@ use mir.Syntax.{w64}
 use mir.Val.{toZ, ofZ}
 use mir.ValLaws.{toZ-ofZ}
 use denote.Ref.{now}
-use Rattle.ring.proofs.Run as run
+use Rattle.ring.proofs.HeldRuns as run
 use Rattle.sinc_phases.specs.Phases.{firstTap}
-use Rattle.sinc_read.proofs.Accepted.{Readable, readable}
-use Rattle.sinc_read.proofs.Ways as found
-use Rattle.sinc_read_f32.proofs.Ways as ways
+use Rattle.sinc_read.proofs.AcceptedReading.{Readable, readable}
+use Rattle.sinc_read.proofs.BothWays as found
+use Rattle.sinc_read_f32.proofs.BothWays as ways
 use Rattle.sinc_read_f32.proofs.pair.at.Statement.{statement}
 use Rattle.sinc_read_f32.proofs.pair.at.Tie as tie
 
@@ -21,15 +22,24 @@ abbrev begun : tie.After-run-start → tie.Start
 begun c = c .before .before .before .before .before .before .before
 
 -- nothing is refused, of either table
-ok : (c : tie.After-run-start) → let a = begun c .args in Readable (a .taps) (a .phases) (length (now (a .one))) (a .position)
-ok c = let s = begun c in readable (s .args .taps) (s .args .phases) (length (now (s .args .one))) (s .args .position) (s .pre .0)
+ok : (c : tie.After-run-start) → let a = begun c .args in
+    Readable (a .taps) (a .phases) (length (now (a .one))) (a .position)
+ok c =
+    let s = begun c in
+    readable (s .args .taps) (s .args .phases) (length (now (s .args .one))) (s .args .position) (s .pre .0)
 
-ok-two : (c : tie.After-run-start) → let a = begun c .args in Readable (a .taps) (a .phases) (length (now (a .two))) (a .position)
-ok-two c = let s = begun c in subst (λ (n : ℕ). Readable (s .args .taps) (s .args .phases) n (s .args .position)) (s .pre .1) (ok c)
+ok-two : (c : tie.After-run-start) → let a = begun c .args in
+    Readable (a .taps) (a .phases) (length (now (a .two))) (a .position)
+ok-two c =
+    let s = begun c in
+    subst (λ (n : ℕ). Readable (s .args .taps) (s .args .phases) n (s .args .position)) (s .pre .1) (ok c)
 
 -- the first tap, as the code holds it
-first : (c : tie.After-run-start) → let a = begun c .args in toZ w64 (ofZ w64 (c .before .first-tap .result)) ≡ firstTap (a .position) (a .taps)
-first c = let f = c .before .first-tap in found.first-is (ok c) (toZ-ofZ w64 (f .result) (record { sfits = f .ok }) ∙ f .ensures)
+first : (c : tie.After-run-start) → let a = begun c .args in
+    toZ w64 (ofZ w64 (c .before .first-tap .result)) ≡ firstTap (a .position) (a .taps)
+first c =
+    let f = c .before .first-tap in
+    found.first-is (ok c) (toZ-ofZ w64 (f .result) (record { sfits = f .ok }) ∙ f .ensures)
 
 held-requires : tie.Need-held-requires
 held-requires c κs =
@@ -39,7 +49,8 @@ held-requires c κs =
       found.rows-fit (ok r) (r .before .before .before .phase-at .ensures),
       found.rows-fit (ok-two r) (r .before .before .before .phase-at .ensures),
       run.fits (now (a .source)) (a .count) (a .taps) Z (r .run-start .result) (r .run-start .ensures) (c .if1 .taken),
-      run.inside (now (a .source)) (a .count) (a .taps) Z (r .run-start .result) (r .run-start .ensures) (c .if1 .taken) (found.some (ok r)),
+      run.inside (now (a .source)) (a .count) (a .taps) Z (r .run-start .result) (r .run-start .ensures) (c .if1 .taken)
+          (found.some (ok r)),
     )
 
 returns : tie.Need-returns
@@ -48,19 +59,27 @@ returns c =
     let a = begun r .args in
     let n = r .before .before in
     let both = c .held .ensures in (
-      ways.held (ok r) (now (a .one)) (now (a .source)) (a .count) (n .before .phase-at .ensures) (n .narrow .ensures) (first r) (r .run-start .result) (r .run-start .ensures) (c .before .if1 .taken) (both .0),
-      ways.held (ok r) (now (a .two)) (now (a .source)) (a .count) (n .before .phase-at .ensures) (n .narrow .ensures) (first r) (r .run-start .result) (r .run-start .ensures) (c .before .if1 .taken) (both .1),
+      ways.held (ok r) (now (a .one)) (now (a .source)) (a .count) (n .before .phase-at .ensures) (n .narrow .ensures)
+          (first r) (r .run-start .result) (r .run-start .ensures) (c .before .if1 .taken) (both .0),
+      ways.held (ok r) (now (a .two)) (now (a .source)) (a .count) (n .before .phase-at .ensures) (n .narrow .ensures)
+          (first r) (r .run-start .result) (r .run-start .ensures) (c .before .if1 .taken) (both .1),
     )
 
 scattered-requires : tie.Need-scattered-requires
 scattered-requires c κs =
-    let r = c .before in
-    (found.rows-fit (ok r) (r .before .before .before .phase-at .ensures), found.few (ok r), subst (λ (z : ℤ). mag z ≤ 2 ^ 37) (sym (first r)) (found.first-near (ok r)))
+    let r = c .before in (
+      found.rows-fit (ok r) (r .before .before .before .phase-at .ensures),
+      found.few (ok r),
+      subst (λ (z : ℤ). mag z ≤ 2 ^ 37) (sym (first r)) (found.first-near (ok r)),
+    )
 
 scattered-requires-2 : tie.Need-scattered-requires-2
 scattered-requires-2 c κs =
-    let r = c .before .before in
-    (found.rows-fit (ok-two r) (r .before .before .before .phase-at .ensures), found.few (ok r), subst (λ (z : ℤ). mag z ≤ 2 ^ 37) (sym (first r)) (found.first-near (ok r)))
+    let r = c .before .before in (
+      found.rows-fit (ok-two r) (r .before .before .before .phase-at .ensures),
+      found.few (ok r),
+      subst (λ (z : ℤ). mag z ≤ 2 ^ 37) (sym (first r)) (found.first-near (ok r)),
+    )
 
 returns-2 : tie.Need-returns-2
 returns-2 c =
@@ -68,9 +87,13 @@ returns-2 c =
     let r = o .before .before in
     let a = begun r .args in
     let n = r .before .before in (
-      ways.scattered (ok r) (now (a .one)) (now (a .source)) (a .count) (n .before .phase-at .ensures) (n .narrow .ensures) (first r) (o .scattered .ensures),
-      ways.scattered (ok r) (now (a .two)) (now (a .source)) (a .count) (n .before .phase-at .ensures) (n .narrow .ensures) (first r) (c .scattered2 .ensures),
+      ways.scattered (ok r) (now (a .one)) (now (a .source)) (a .count) (n .before .phase-at .ensures)
+          (n .narrow .ensures) (first r) (o .scattered .ensures),
+      ways.scattered (ok r) (now (a .two)) (now (a .source)) (a .count) (n .before .phase-at .ensures)
+          (n .narrow .ensures) (first r) (c .scattered2 .ensures),
     )
 
 pub at-spec : {M : Type 1} → statement M
-at-spec = tie.close (tie.spec (λ c κs. search needs) (λ c κs. search needs) (λ c κs. search needs) (λ c κs. search needs) held-requires returns scattered-requires scattered-requires-2 returns-2)
+at-spec =
+    tie.close (tie.spec (λ c κs. search needs) (λ c κs. search needs) (λ c κs. search needs)
+    (λ c κs. search needs) held-requires returns scattered-requires scattered-requires-2 returns-2)

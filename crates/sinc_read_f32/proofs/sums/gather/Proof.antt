@@ -12,8 +12,8 @@ use mathlib.Core.List.{List}
 use mir.Syntax.{w64}
 use mir.Val.{toZ}
 use mir.ValLaws.{toZ-ofZ}
-use Rattle.loops.specs.Loops.{listOf}
-use Rattle.loops.proofs.Writing.{Written, unwritten, written-more, all-written}
+use Rattle.loop_laws.specs.Loops.{listOf}
+use Rattle.loop_laws.proofs.Writing.{Written, unwritten, written-more, all-written}
 use Rattle.ring.specs.Taps.{tapOf}
 use Rattle.sinc_read_f32.proofs.sums.gather.Statement.{statement}
 use Rattle.sinc_read_f32.proofs.sums.gather.Tie as tie
@@ -34,7 +34,9 @@ tap-after-requires c κs =
     (subst (λ (z : ℤ). mag z ≤ 2 ^ 37) (sym (toZ-ofZ w64 (s .args .first) (s .fits .first))) (s .pre .0), omega arith)
 
 mul-samples : tie.Need-mul-samples Inv-loop μ-loop
-mul-samples c = let s = c .before .before .before .before .before in scaled-fits _ (length (now (s .args .samples))) 4 (omega arith) (s .good .0 .1)
+mul-samples c =
+    let s = c .before .before .before .before .before in
+    scaled-fits _ (length (now (s .args .samples))) 4 (omega arith) (s .good .0 .1)
 
 returns : tie.Need-returns Inv-loop μ-loop
 returns c =
@@ -42,7 +44,8 @@ returns c =
     let s = l .before .before .before in
     let a = s .args in
     all-written (l .loop .inv) (omega arith)
-    ∙ ap (λ (z : ℤ). listOf (from (now (a .source)) (a .count) z) (length (now (a .samples)))) (toZ-ofZ w64 (a .first) (s .fits .first))
+    ∙ ap (λ (z : ℤ). listOf (from (now (a .source)) (a .count) z) (length (now (a .samples))))
+    (toZ-ofZ w64 (a .first) (s .fits .first))
 
 pub gather-spec : {M : Type 1} → statement M
 gather-spec =

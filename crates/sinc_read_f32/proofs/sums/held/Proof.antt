@@ -1,4 +1,5 @@
--- `sinc_read_f32::sums::held` meets its contract: the samples lie side by side, or up to the ring's end and on from its start. Assumes nothing.
+-- `sinc_read_f32::sums::held` meets its contract: the samples lie side by side, or up to the ring's end and on from its
+-- start. Assumes nothing.
 use borrow.Author.Needs.{needs}
 use mathlib.Core.Path.{_∙_}
 use native.Mathlib.Omega.{arith}
@@ -11,16 +12,27 @@ returns : tie.Need-returns
 returns c =
     let s = c .before .before .before .before .before in
     let a = s .args in
-    c .over .ensures ∙ one-run (now (a .source)) (now (a .table)) (a .blend) (a .taps) (a .phase) (a .place) (s .pre .1) (s .pre .2) (omega arith)
+    c .over .ensures
+    ∙ one-run (now (a .source)) (now (a .table)) (a .blend) (a .taps) (a .phase) (a .place) (s .pre .1) (s .pre .2)
+    (omega arith)
 
 returns-2 : tie.Need-returns-2
 returns-2 c =
     let o = c .before .before in
     let s = o .before .before .before .before .before in
     let a = s .args in
-    let first = o .over2 .ensures ∙ first-run (now (a .source)) (now (a .table)) (a .blend) (a .taps) (a .phase) (a .place) (s .pre .1) (s .pre .2) in
-    c .over3 .ensures ∙ second-run (now (a .source)) (now (a .table)) (a .blend) (a .taps) (a .phase) (a .place) (s .pre .1) (s .pre .2) (o .over2 .result) (omega arith) first
+    let first =
+    o .over2 .ensures
+    ∙ first-run (now (a .source)) (now (a .table)) (a .blend) (a .taps) (a .phase) (a .place) (s .pre .1)
+    (s .pre .2) in
+    c .over3 .ensures
+    ∙ second-run (now (a .source)) (now (a .table)) (a .blend) (a .taps) (a .phase) (a .place) (s .pre .1)
+    (s .pre .2) (o .over2 .result) (omega arith) first
 
 pub held-spec : {M : Type 1} → statement M
 held-spec =
-    tie.close (tie.spec (λ c. search needs) (λ c. search needs) (λ c. search needs) (λ c. search needs) (λ c. search needs) (λ c. search needs) (λ c. search needs) (λ c. search needs) (λ c κs. search needs) returns (λ c. search needs) (λ c. search needs) (λ c. search needs) (λ c. search needs) (λ c κs. search needs) (λ c. search needs) (λ c. search needs) (λ c. search needs) (λ c. search needs) (λ c. search needs) (λ c. search needs) (λ c κs. search needs) returns-2)
+    tie.close (tie.spec (λ c. search needs) (λ c. search needs) (λ c. search needs) (λ c. search needs)
+    (λ c. search needs) (λ c. search needs) (λ c. search needs) (λ c. search needs) (λ c κs. search needs) returns
+    (λ c. search needs) (λ c. search needs) (λ c. search needs) (λ c. search needs) (λ c κs. search needs)
+    (λ c. search needs) (λ c. search needs) (λ c. search needs) (λ c. search needs) (λ c. search needs)
+    (λ c. search needs) (λ c κs. search needs) returns-2)

@@ -10,8 +10,10 @@ returns : tie.Need-returns
 returns c =
     let s = c .before .before .before .before .before in
     let a = s .args in
-    c .chain .ensures ∙ one-chain (now (a .samples)) (now (a .table)) (a .row) (a .next) (a .blend) (a .sum) (s .pre .0) (s .pre .1)
+    c .chain .ensures
+    ∙ one-chain (now (a .samples)) (now (a .table)) (a .row) (a .next) (a .blend) (a .sum) (s .pre .0) (s .pre .1)
 
 pub over-spec : {M : Type 1} → statement M
 over-spec =
-    tie.close (tie.spec (λ c. search needs) (λ c. search needs) (λ c. search needs) (λ c. search needs) (λ c. search needs) (λ c. search needs) (λ c. search needs) (λ c. search needs) (λ c κs. search needs) returns)
+    tie.close (tie.spec (λ c. search needs) (λ c. search needs) (λ c. search needs) (λ c. search needs)
+    (λ c. search needs) (λ c. search needs) (λ c. search needs) (λ c. search needs) (λ c κs. search needs) returns)

@@ -1,4 +1,5 @@
--- `sinc_read_f32::sums::scattered` meets its contract: the front of the scratch holds the taps, and a chain reads it. Assumes nothing.
+-- `sinc_read_f32::sums::scattered` meets its contract: the front of the scratch holds the taps, and a chain reads it.
+-- Assumes nothing.
 use borrow.Author.Needs.{needs}
 use mathlib.Core.Path.{_≡_, _∙_, ap}
 use Prim.Native.Nat.{ℕ}
@@ -9,9 +10,9 @@ use denote.Ref.{now}
 use mir.Syntax.{w64}
 use mir.Val.{toZ, ofZ}
 use mir.ValLaws.{toZ-ofZ}
-use Rattle.loops.specs.Loops.{listOf}
-use Rattle.loops.proofs.Lists.{length-list}
-use Rattle.loops.proofs.Scratch.{length-front, front-fits}
+use Rattle.loop_laws.specs.Loops.{listOf}
+use Rattle.loop_laws.proofs.Lists.{length-list}
+use Rattle.loop_laws.proofs.Scratch.{length-front, front-fits}
 use Rattle.ring.specs.Taps.{tapOf}
 use Rattle.sinc_read_f32.proofs.Chains.{laid-out}
 use Rattle.sinc_read_f32.proofs.sums.scattered.Statement.{statement}
@@ -47,4 +48,6 @@ returns c =
 
 pub scattered-spec : {M : Type 1} → statement M
 scattered-spec =
-    tie.close (tie.spec (λ c. search needs) (λ c. search needs) (λ c. search needs) (λ c κs. search needs) (λ c. search needs) (λ c. search needs) (λ c. search needs) part-over-end (λ c. search needs) (λ c κs. search needs) returns)
+    tie.close (tie.spec (λ c. search needs) (λ c. search needs) (λ c. search needs) (λ c κs. search needs)
+    (λ c. search needs) (λ c. search needs) (λ c. search needs) part-over-end (λ c. search needs)
+    (λ c κs. search needs) returns)

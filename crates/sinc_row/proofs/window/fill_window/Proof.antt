@@ -5,8 +5,8 @@ use Prim.Native.Nat.{_-_}
 use native.Mathlib.Omega.{arith}
 use lib.ListN.{length, length-set}
 use denote.Ref.{now}
-use Rattle.loops.specs.Loops.{listOf}
-use Rattle.loops.proofs.Writing.{Written, unwritten, written-more, all-written}
+use Rattle.loop_laws.specs.Loops.{listOf}
+use Rattle.loop_laws.proofs.Writing.{Written, unwritten, written-more, all-written}
 use Rattle.sinc_row.specs.Coefficient.{windowIn}
 use Rattle.sinc_row.proofs.window.fill_window.Statement.{statement}
 use Rattle.sinc_row.proofs.window.fill_window.Tie as tie

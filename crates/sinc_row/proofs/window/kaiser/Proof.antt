@@ -3,7 +3,7 @@ use borrow.Author.Needs.{needs}
 use Prim.Native.Nat.{_-_}
 use native.Mathlib.Omega.{arith}
 use lib.Ieee.{ofBits}
-use Rattle.sinc_settings.proofs.Accepted.{Counts, counts, accepted}
+use Rattle.sinc_settings.proofs.SettingsInRange.{Counts, counts, accepted}
 use Rattle.sinc_row.specs.Coefficient.{windowIn}
 use Rattle.sinc_row.proofs.Distance.{exact}
 use Rattle.sinc_row.proofs.window.kaiser.Statement.{statement}

@@ -6,7 +6,7 @@ use mathlib.Core.Bool.{true}
 use lib.ListN.{length}
 use denote.Ref.{now}
 use Rattle.sinc_row.specs.Row.{windowReady}
-use Rattle.sinc_row.proofs.Ready.{window-ready}
+use Rattle.sinc_row.proofs.WriteTests.{window-ready}
 use Rattle.sinc_row.proofs.window.write_window_in.Statement.{statement}
 use Rattle.sinc_row.proofs.window.write_window_in.Tie as tie
 

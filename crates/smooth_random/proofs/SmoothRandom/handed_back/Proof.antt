@@ -1,4 +1,5 @@
--- `smooth_random::SmoothRandom::handed_back` meets its contract: the definition at what the test found. Assumes nothing.
+-- `smooth_random::SmoothRandom::handed_back` meets its contract: the definition at what the test found.
+-- Assumes nothing.
 use borrow.Author.Needs.{needs}
 use Rattle.smooth_random.proofs.SmoothRandom.handed_back.Statement.{statement}
 use Rattle.smooth_random.proofs.SmoothRandom.handed_back.Tie as tie

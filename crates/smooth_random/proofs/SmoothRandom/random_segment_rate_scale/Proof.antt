@@ -1,4 +1,5 @@
--- `smooth_random::SmoothRandom::random_segment_rate_scale` meets its contract: the draw, as it is answered. Assumes nothing.
+-- `smooth_random::SmoothRandom::random_segment_rate_scale` meets its contract: the draw, as it is answered.
+-- Assumes nothing.
 use borrow.Author.Needs.{needs}
 use Rattle.smooth_random.proofs.SmoothRandom.random_segment_rate_scale.Statement.{
   statement,

@@ -7,7 +7,11 @@ use Rattle.smooth_random.proofs.SmoothRandom.restarted.Tie as tie
 returns : tie.Need-returns
 unfolding started
 returns c =
-    rw (c .before .scale .ensures, c .before .before .before .bipolar2 .ensures, c .before .before .before .before .before .bipolar .ensures)
+    rw (
+      c .before .scale .ensures,
+      c .before .before .before .bipolar2 .ensures,
+      c .before .before .before .before .before .bipolar .ensures,
+    )
 
 pub restarted-spec : {M : Type 1} → statement M
 restarted-spec =

@@ -1,4 +1,5 @@
--- `smooth_random::SmoothRandom::seeded` meets its contract: the definition at what the comparison found. Assumes nothing.
+-- `smooth_random::SmoothRandom::seeded` meets its contract: the definition at what the comparison found.
+-- Assumes nothing.
 use borrow.Author.Tests.{eq-eqb, ne-eqb}
 use borrow.Author.Needs.{needs}
 use Rattle.smooth_random.proofs.SmoothRandom.seeded.Statement.{statement}
@@ -8,7 +9,9 @@ returns : tie.Need-returns
 returns c = rw (← c .before .before .normalized-seed .ensures, eq-eqb _ _ (c .if1 .taken))
 
 returns-2 : tie.Need-returns-2
-returns-2 c = let test = c .before in rw (c .restarted .ensures, ← test .before .before .normalized-seed .ensures, ne-eqb _ _ (test .if1 .left))
+returns-2 c =
+    let test = c .before in
+    rw (c .restarted .ensures, ← test .before .before .normalized-seed .ensures, ne-eqb _ _ (test .if1 .left))
 
 pub seeded-spec : {M : Type 1} → statement M
 seeded-spec = tie.close (tie.spec (λ c κs. search needs) returns (λ c κs. search needs) returns-2)

@@ -1,4 +1,5 @@
--- `smooth_random::SmoothRandom::value` meets its contract: the definition's operations in the definition's order. Assumes nothing.
+-- `smooth_random::SmoothRandom::value` meets its contract: the definition's operations in the definition's order.
+-- Assumes nothing.
 use borrow.Author.Needs.{needs}
 use Rattle.smooth_random.specs.Drift.{quinticOf, valueAt}
 use Rattle.smooth_random.proofs.SmoothRandom.value.Statement.{statement}

@@ -1,4 +1,5 @@
--- `square_root::quick::digits_of` meets its contract: what it takes out of the pattern is `evened`, and the patterns it makes are no NaN's. Assumes nothing.
+-- `square_root::quick::digits_of` meets its contract: what it takes out of the pattern is `evened`,
+-- and the patterns it makes are no NaN's. Assumes nothing.
 use borrow.Author.Needs.{needs}
 use native.Mathlib.Omega.{arith}
 use mathlib.Core.Path.{_≡_}
@@ -48,4 +49,6 @@ returns-2 c = λ some.
 
 pub digits-of-spec : {M : Type 1} → statement M
 digits-of-spec =
-    tie.close (tie.spec (λ c. search needs) add-d (λ c. search needs) add-v add-v-2 shl-nearest float-from-bits-guess add-guess float-from-bits-guess-2 (λ c κs. search needs) (λ c κs. search needs) returns-2)
+    tie.close (tie.spec (λ c. search needs) add-d
+    (λ c. search needs) add-v add-v-2 shl-nearest float-from-bits-guess add-guess float-from-bits-guess-2
+    (λ c κs. search needs) (λ c κs. search needs) returns-2)

@@ -1,10 +1,11 @@
--- `square_root::quick::rest` meets its contract: products of halves fit, and a difference in reach is exact. Assumes nothing.
+-- `square_root::quick::rest` meets its contract: products of halves fit, and a difference in reach is exact.
+-- Assumes nothing.
 use borrow.Author.Needs.{needs}
 use native.Mathlib.Omega.{arith}
 use mathlib.Core.Path.{_≡_, sym, ap, _∙_}
 use Prim.Native.Nat.{ℕ, _+_, _*_, _/_, _^_, _<_}
 use lib.Bits.{bitAnd, and-mask}
-use Rattle.square_root.proofs.Halves.{product-le, rest-is}
+use Rattle.square_root.proofs.GuessCheck.{product-le, rest-is}
 use Rattle.square_root.proofs.quick.rest.Statement.{statement}
 use Rattle.square_root.proofs.quick.rest.Tie as tie
 
@@ -36,8 +37,13 @@ returns c = λ R.
     let h = s / 2 ^ 27 in
     let l = bitAnd s 0x7ff_ffff in
     let whole : h * 2 ^ 27 + l ≡ s = omega (arith, and-mask s 27) in
-    sym (ap (λ (x : ℕ). x * x + w .wrapping-sub-u643 .result) whole) ∙ rest-is (a .args .c) h l (u .wrapping-sub-u64 .result) (v .wrapping-sub-u642 .result) (w .wrapping-sub-u643 .result) (high a) (low a) (u .wrapping-sub-u64 .ensures) (v .wrapping-sub-u642 .ensures) (w .wrapping-sub-u643 .ensures) (c .before .if1 .taken) (c .if2 .taken) R
+    sym (ap (λ (x : ℕ). x * x + w .wrapping-sub-u643 .result) whole)
+    ∙ rest-is (a .args .c) h l (u .wrapping-sub-u64 .result) (v .wrapping-sub-u642 .result)
+    (w .wrapping-sub-u643 .result) (high a) (low a) (u .wrapping-sub-u64 .ensures) (v .wrapping-sub-u642 .ensures)
+    (w .wrapping-sub-u643 .ensures) (c .before .if1 .taken) (c .if2 .taken) R
 
 pub rest-spec : {M : Type 1} → statement M
 rest-spec =
-    tie.close (tie.spec mul-wrapping-sub-u64 (λ c κs. search needs) mul-wrapping-sub-u64-2 mul-wrapping-sub-u64-3 (λ c κs. search needs) mul-wrapping-sub-u64-4 (λ c κs. search needs) returns (λ c. search needs) (λ c. search needs))
+    tie.close (tie.spec mul-wrapping-sub-u64 (λ c κs. search needs) mul-wrapping-sub-u64-2 mul-wrapping-sub-u64-3
+    (λ c κs. search needs) mul-wrapping-sub-u64-4 (λ c κs. search needs) returns (λ c. search needs)
+    (λ c. search needs))

@@ -4,7 +4,7 @@ use mathlib.Core.Path.{sym, ap, _∙_}
 use denote.Floats.{passes}
 use lib.Ieee.{binary32, fits}
 use lib.Ieee.Scale.{finite}
-use Rattle.rounding.proofs.Own.{narrowed-own}
+use Rattle.rounding.proofs.RoundsToItself.{narrowed-own}
 use Rattle.stored_samples.proofs.narrow_samples.fits_float_f32.Statement.{statement}
 use Rattle.stored_samples.proofs.narrow_samples.fits_float_f32.Tie as tie
 

@@ -7,7 +7,7 @@ use lib.Dec.{T}
 use lib.Ieee.{binary32, fits, toBits}
 use lib.Ieee.Scale.{finite}
 use Rattle.magnitude.proofs.Comparisons.{finite-number}
-use Rattle.rounding.proofs.Own.{narrowed-own}
+use Rattle.rounding.proofs.RoundsToItself.{narrowed-own}
 use Rattle.sample_kind.specs.declared.SampleKind.the-variants.{Float32}
 use Rattle.stored_samples.proofs.Words.{fitting, word, none}
 use Rattle.stored_samples.proofs.narrow_samples.stored_float_f32.Statement.{statement}

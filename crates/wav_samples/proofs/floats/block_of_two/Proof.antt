@@ -5,7 +5,7 @@ use Prim.Native.Nat.{ℕ}
 use lib.Dec.{lit≤}
 use lib.ListN.{length}
 use denote.Ref.{now}
-use Rattle.loops.proofs.Lists.{length-list}
+use Rattle.loop_laws.proofs.Lists.{length-list}
 use Rattle.wav_samples.specs.Frames.{Inside, patterns}
 use Rattle.wav_samples.proofs.Blocks.{kept-numbers, kept-samples}
 use Rattle.wav_samples.proofs.floats.block_of_two.Statement.{statement}

@@ -5,7 +5,7 @@ use Prim.Native.Nat.{ℕ, _-_}
 use native.Mathlib.Omega.{arith}
 use lib.ListN.{length, getD, length-set}
 use lib.Ieee.{binary32, ofBits}
-use Rattle.loops.proofs.Writing.{Written, unwritten, written-more, all-written}
+use Rattle.loop_laws.proofs.Writing.{Written, unwritten, written-more, all-written}
 use Rattle.wav_samples.proofs.floats.handed.Statement.{statement}
 use Rattle.wav_samples.proofs.floats.handed.Tie as tie
 

@@ -6,8 +6,8 @@ use native.Mathlib.Omega.{arith}
 use lib.ListN.{length}
 use lib.Ieee.{binary64}
 use denote.Ref.{now}
-use Rattle.loops.proofs.Rows.{length-part}
-use Rattle.loops.proofs.Writing.{Written, unwritten}
+use Rattle.loop_laws.proofs.Rows.{length-part}
+use Rattle.loop_laws.proofs.Writing.{Written, unwritten}
 use Rattle.sample_kind.specs.declared.SampleKind.the-variants.{Float32}
 use Rattle.wav_samples.specs.Samples.{sampleOf}
 use Rattle.wav_samples.proofs.Blocks.{block, begins, shifted, block-written, last-written}

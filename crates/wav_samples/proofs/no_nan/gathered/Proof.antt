@@ -5,7 +5,7 @@ use Prim.Native.Nat.{_+_, _-_, _*_, _%_, _≤_}
 use native.Mathlib.Omega.{arith}
 use denote.Ref.{now}
 use lib.ListN.{length, length-set}
-use Rattle.loops.proofs.Writing.{Written, unwritten, written-more, all-written}
+use Rattle.loop_laws.proofs.Writing.{Written, unwritten, written-more, all-written}
 use Rattle.wav_samples.specs.Frames.{patterns, NoneAbove}
 use Rattle.wav_samples.proofs.Blocks.{no-pattern, one-more}
 use Rattle.wav_samples.proofs.no_nan.gathered.Statement.{statement}

@@ -14,7 +14,8 @@ read-bytes-requires c κs = omega arith
 
 cast-result : tie.Need-cast-result
 cast-result c =
-    let h : c .read-bytes .result < 256 ^ 4 = within 256 4 (c .read-bytes .ensures .1) (c .before .part .ensures .1) (lit≤ tt) in
+    let h : c .read-bytes .result < 256 ^ 4 =
+    within 256 4 (c .read-bytes .ensures .1) (c .before .part .ensures .1) (lit≤ tt) in
     omega arith
 
 returns : tie.Need-returns

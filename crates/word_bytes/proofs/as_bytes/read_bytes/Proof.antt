@@ -1,4 +1,5 @@
--- `word_bytes::read_bytes` meets its contract. The loop's invariant: v is the number of the bytes from k on. Assumes nothing.
+-- `word_bytes::read_bytes` meets its contract. The loop's invariant: v is the number of the bytes from k on.
+-- Assumes nothing.
 use borrow.Author.Needs.{needs}
 use mathlib.Core.Path.{_≡_, sym, ap}
 use Prim.Native.Nat.{suc, _-_, _^_, _≤_, _<_}
@@ -51,4 +52,5 @@ returns c =
 
 pub read-bytes-spec : {M : Type 1} → statement M
 read-bytes-spec =
-    tie.close (tie.spec Inv-loop μ-loop loop-holds (λ c. search needs) mul-v (λ c. search needs) (λ c κs. search needs) add-v (λ c. search needs) loop-again returns)
+    tie.close (tie.spec Inv-loop μ-loop loop-holds (λ c. search needs) mul-v (λ c. search needs)
+    (λ c κs. search needs) add-v (λ c. search needs) loop-again returns)

@@ -1,4 +1,5 @@
--- `word_bytes::write_bytes` meets its contract. The loop's invariant: what is written before i, with the bytes that are left of v, are the bytes of n.
+-- `word_bytes::write_bytes` meets its contract. The loop's invariant: what is written before i,
+-- with the bytes that are left of v, are the bytes of n.
 -- Assumes nothing.
 use borrow.Author.Needs.{needs}
 use mathlib.Core.Path.{_≡_, sym}
@@ -16,7 +17,8 @@ use Rattle.word_bytes.proofs.as_bytes.write_bytes.Tie as tie
 
 abbrev Inv-loop : tie.InvT-loop
 Inv-loop n out₀ v₀ i₀ out v i =
-    (length out ≡ length out₀) × (i ≤ length out) × (lowBytes (length out₀) n ≡ take i out ++ lowBytes (length out - i) v)
+    (length out ≡ length out₀) × (i ≤ length out)
+    × (lowBytes (length out₀) n ≡ take i out ++ lowBytes (length out - i) v)
 
 abbrev μ-loop : tie.MeasureT-loop
 μ-loop n out₀ v₀ i₀ out v i = length out - i
@@ -33,7 +35,8 @@ loop-again c =
     let e : length (l .out) - l .i ≡ suc (length (l .out) - suc (l .i)) = omega arith in (
       simp length-set (omega arith),
       simp length-set (omega arith),
-      simp (length-set, add-one) (rw (← byte-written (l .out) (l .i) (length (l .out) - suc (l .i)) (l .v) (omega arith), ← e) (l .inv .2)),
+      simp (length-set, add-one)
+          (rw (← byte-written (l .out) (l .i) (length (l .out) - suc (l .i)) (l .v) (omega arith), ← e) (l .inv .2)),
     )
 
 returns : tie.Need-returns Inv-loop μ-loop
@@ -45,4 +48,5 @@ returns c =
 
 pub write-bytes-spec : {M : Type 1} → statement M
 write-bytes-spec =
-    tie.close (tie.spec Inv-loop μ-loop loop-holds (λ c. search needs) (λ c. search needs) (λ c. search needs) loop-less loop-again (λ c. search needs) returns)
+    tie.close (tie.spec Inv-loop μ-loop loop-holds (λ c. search needs) (λ c. search needs)
+    (λ c. search needs) loop-less loop-again (λ c. search needs) returns)

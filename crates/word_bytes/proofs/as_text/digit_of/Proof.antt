@@ -12,17 +12,30 @@ returns-2 : tie.Need-returns-2
 returns-2 c = (simp (le-ltb _ _ (c .before .if1 .left), lt-ltb _ _ (c .if2 .taken)), omega arith)
 
 returns-3 : tie.Need-returns-3
-returns-3 c = (simp (le-ltb _ _ (c .before .before .if1 .left), le-ltb _ _ (c .before .if2 .left), lt-ltb _ _ (c .if3 .taken)), omega arith)
+returns-3 c = (
+  simp (le-ltb _ _ (c .before .before .if1 .left), le-ltb _ _ (c .before .if2 .left), lt-ltb _ _ (c .if3 .taken)),
+  omega arith,
+)
 
 returns-4 : tie.Need-returns-4
 returns-4 c = (
-  simp (le-ltb _ _ (c .before .before .before .if1 .left), le-ltb _ _ (c .before .before .if2 .left), le-ltb _ _ (c .before .if3 .left), lt-ltb _ _ (c .if4 .taken)),
+  simp (
+    le-ltb _ _ (c .before .before .before .if1 .left),
+    le-ltb _ _ (c .before .before .if2 .left),
+    le-ltb _ _ (c .before .if3 .left),
+    lt-ltb _ _ (c .if4 .taken),
+  ),
   omega arith,
 )
 
 returns-5 : tie.Need-returns-5
 returns-5 c = (
-  simp (le-ltb _ _ (c .before .before .before .if1 .left), le-ltb _ _ (c .before .before .if2 .left), le-ltb _ _ (c .before .if3 .left), le-ltb _ _ (c .if4 .left)),
+  simp (
+    le-ltb _ _ (c .before .before .before .if1 .left),
+    le-ltb _ _ (c .before .before .if2 .left),
+    le-ltb _ _ (c .before .if3 .left),
+    le-ltb _ _ (c .if4 .left),
+  ),
   omega arith,
 )
 

@@ -1,5 +1,5 @@
--- `word_bytes::hex16` meets its contract. The loop's invariant: the k digits that are left of v, with what is written from k on, are the sixteen
--- digits of n. Assumes nothing.
+-- `word_bytes::hex16` meets its contract. The loop's invariant: the k digits that are left of v,
+-- with what is written from k on, are the sixteen digits of n. Assumes nothing.
 use borrow.Author.Needs.{needs}
 use mathlib.Core.Path.{_≡_, sym}
 use mathlib.Core.List.{_++_, append-nil}
@@ -35,4 +35,5 @@ returns c =
 
 pub hex16-spec : {M : Type 1} → statement M
 hex16-spec =
-    tie.close (tie.spec Inv-loop μ-loop loop-holds (λ c. search needs) (λ c κs. search needs) (λ c. search needs) (λ c. search needs) loop-again returns)
+    tie.close (tie.spec Inv-loop μ-loop loop-holds (λ c. search needs) (λ c κs. search needs) (λ c. search needs)
+    (λ c. search needs) loop-again returns)

@@ -1,4 +1,5 @@
--- `word_bytes::read_hex` meets its contract. The loop's invariant: v has i digits, and v followed by what is left from i on is the whole number.
+-- `word_bytes::read_hex` meets its contract. The loop's invariant: v has i digits, and v followed by what is left from
+-- i on is the whole number.
 -- Assumes nothing.
 use borrow.Author.Needs.{needs}
 use mathlib.Core.Path.{_≡_, sym, _∙_}
@@ -46,4 +47,5 @@ returns c =
 
 pub read-hex-spec : {M : Type 1} → statement M
 read-hex-spec =
-    tie.close (tie.spec Inv-loop μ-loop (λ c. search needs) mul-v (λ c. search needs) (λ c κs. search needs) add-v (λ c. search needs) (λ c. search needs) loop-again returns)
+    tie.close (tie.spec Inv-loop μ-loop (λ c. search needs) mul-v (λ c. search needs) (λ c κs. search needs) add-v
+    (λ c. search needs) (λ c. search needs) loop-again returns)

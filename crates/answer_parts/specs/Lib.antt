@@ -1,0 +1,3 @@
+pub mod States
+pub mod Left
+pub mod Values

@@ -1,0 +1,9 @@
+pub mod Grid
+pub mod ExactFrames
+pub mod Signs
+pub mod InsideFrame
+pub mod BiasedAddition
+pub mod Steps
+pub mod Frames
+pub mod CombinedTests
+pub mod BiasTests

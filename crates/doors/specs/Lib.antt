@@ -1,3 +1,0 @@
-pub mod Doors
-pub mod Left
-pub mod Values

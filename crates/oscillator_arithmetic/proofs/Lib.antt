@@ -1,0 +1,4 @@
+pub mod AnswerValues
+pub mod NothingRefused
+pub mod PowerBound
+pub mod PhaseCycle

@@ -1,0 +1,136 @@
+-- G2, N3, Q3. A call leaves a state in its ranges where it was in them, over whole runs too;
+-- and so do opening and reset, which leave nothing to fade.
+-- Assumes nothing.
+use mathlib.Core.Path.{_≡_, refl, _∙_}
+use mathlib.Core.Bool.{Bool, true, _&&_}
+use mathlib.Core.List.{List, [], _∷_}
+use Prim.Native.Nat.{ℕ, zero, suc, _+_, _%_, _^_, _<_}
+use native.Mathlib.Omega.{arith}
+use borrow.Author.Tests.{le-leb}
+use lib.Dec.{eqb, leb}
+use lib.ListN.{length, length-set}
+use lib.Ieee.{Float}
+use lib.Ieee.Bits.{is-true}
+use lib.Ieee.Fits.{and-l, and-r}
+use Rattle.answer.specs.Refusals.{lowestOf}
+use Rattle.answer.proofs.Passed.{passed}
+use Rattle.ring.specs.Length.{settingsOk, lengthFor}
+use Rattle.quality_mode.specs.declared.QualityMode.{QualityMode}
+use Rattle.quality_mode.proofs.Equal.{same-refl}
+use Rattle.quality_fade.specs.Fade.{lengthOk, placeOk, validOf}
+use Rattle.quality_fade.specs.Step.{stepOf}
+use Rattle.quality_fade.proofs.StaysInRange as fade
+use Rattle.quality_fade.proofs.OneCall.{open-valid}
+use Rattle.quality_variable_delay.specs.State.{fadePart}
+use Rattle.quality_variable_delay.specs.Reader.{stateAfter, ringAfter}
+use Rattle.quality_variable_delay.specs.Opening.{resetVerdict, renewed, fresh}
+use Rattle.quality_variable_delay.proofs.AcceptedCall.{taken, room}
+use Rattle.quality_variable_delay.specs.declared.QualityVariableDelayF32.{QualityVariableDelayF32}
+use Rattle.runs.specs.Calls.{runOf}
+use Rattle.quality_runs.specs.Runs.{Call, Reader, afterBy, due, after, run}
+
+-- the tests of 1 to 3
+module _ (s n e a p : Bool) where
+  record Valid : Type 0 where
+    settings : s ≡ true
+    fits : n ≡ true
+    long : e ≡ true
+    counts : a ≡ true
+    placed : p ≡ true
+
+  valid : lowestOf (s && n) e (a && p) true true true true true ≡ 0 → Valid
+  valid h =
+      let q = passed (s && n) e (a && p) true true true true true h in
+      record {
+        settings = is-true s (and-l s n (q .p1));
+        fits = is-true n (and-r s n (q .p1));
+        long = is-true e (q .p2);
+        counts = is-true a (and-l a p (q .p3));
+        placed = is-true p (and-r a p (q .p3));
+      }
+
+  sound : Valid → lowestOf (s && n) e (a && p) true true true true true ≡ 0
+  sound v = rw (v .settings, v .fits, v .long, v .counts, v .placed)
+
+-- what the five tests of a state and its ring's length say
+abbrev inRange : QualityVariableDelayF32 → ℕ → Type 0
+inRange d len =
+    Valid (settingsOk (d .maximum) (d .margin)) (lengthOk (d .«crossfade_samples»))
+    (eqb len (lengthFor (d .maximum) (d .margin))) (leb (d .accepted) (2 ^ 36)) (placeOk (fadePart d))
+
+in-range : (d : QualityVariableDelayF32) (len : ℕ) → resetVerdict d len ≡ 0 → inRange d len
+in-range d len h =
+    valid (settingsOk (d .maximum) (d .margin)) (lengthOk (d .«crossfade_samples»))
+    (eqb len (lengthFor (d .maximum) (d .margin))) (leb (d .accepted) (2 ^ 36)) (placeOk (fadePart d)) h
+
+not-due : (d : QualityVariableDelayF32) (len : ℕ) → inRange d len → resetVerdict d len ≡ 0
+not-due d len v =
+    sound (settingsOk (d .maximum) (d .margin)) (lengthOk (d .«crossfade_samples»))
+    (eqb len (lengthFor (d .maximum) (d .margin))) (leb (d .accepted) (2 ^ 36)) (placeOk (fadePart d)) v
+
+-- ---- a call
+
+taken-kept : (d : QualityVariableDelayF32) (xs : List Float) (x : Float) (q : QualityMode) → inRange d (length xs)
+    → d .accepted < 2 ^ 36
+    → inRange (stateAfter 0 d q) (length (ringAfter 0 d xs x))
+taken-kept d xs x q v l =
+    let s = fadePart d in
+    let faded : validOf (stepOf s q .state) ≡ true = fade.step-valid s q ∙ rw (v .fits) (v .placed) in record {
+      settings = v .settings;
+      fits = rw (fade.step-length s q) (v .fits);
+      long = rw (length-set xs (d .accepted % length xs) x) (v .long);
+      counts = le-leb (d .accepted + 1) (2 ^ 36) (omega arith);
+      placed = fade.both (lengthOk (stepOf s q .state .«crossfade_samples»)) (placeOk (stepOf s q .state)) faded .1;
+    }
+
+-- no refusal 1 to 3 is due of a state and a ring that a call leaves, where none was due before
+pub kept : (r : Reader) (c : Call) → resetVerdict (r .state) (length (r .ring)) ≡ 0
+    → resetVerdict (after r c .state) (length (after r c .ring)) ≡ 0
+kept r c h = go (due r c) refl
+  where
+    go : (v : ℕ) → due r c ≡ v → resetVerdict (afterBy v r c .state) (length (afterBy v r c .ring)) ≡ 0
+    go zero e =
+        let t = taken (c .bank) (c .lent) (r .state) (length (r .ring)) (c .input) (c .delay) (c .playback-rate) e in
+        not-due (afterBy 0 r c .state) (length (afterBy 0 r c .ring))
+        (taken-kept (r .state) (r .ring) (c .input) (c .quality) (in-range (r .state) (length (r .ring)) h)
+        (room t))
+    go (suc k) e = h
+
+pub run-kept : (r : Reader) (cs : List Call) → resetVerdict (r .state) (length (r .ring)) ≡ 0
+    → resetVerdict (run r cs .state) (length (run r cs .ring)) ≡ 0
+unfolding runOf
+run-kept r [] h = h
+run-kept r (c ∷ cs) h = run-kept (after r c) cs (kept r c h)
+
+-- ---- opening and reset
+
+-- Q3. what a reset leaves is in its ranges
+pub reset-kept : (d : QualityVariableDelayF32) (len : ℕ) → resetVerdict d len ≡ 0 → resetVerdict (renewed d) len ≡ 0
+reset-kept d len h =
+    let v = in-range d len h in
+    not-due (renewed d) len record {
+      settings = v .settings;
+      fits = v .fits;
+      long = v .long;
+      counts = refl;
+      placed =
+          fade.both (lengthOk (d .«crossfade_samples»)) _
+          (open-valid (d .«target_quality») (d .«crossfade_samples») (v .fits)) .1;
+    }
+
+-- a reset of what a reset leaves changes nothing
+pub reset-again : (d : QualityVariableDelayF32) → renewed (renewed d) ≡ renewed d
+reset-again d = refl
+
+-- Q3. opening leaves its one quality, and only 1 and 2 can be due
+pub opens : (maximum margin crossfade : ℕ) (q : QualityMode)
+    → renewed (fresh maximum margin q crossfade) ≡ fresh maximum margin q crossfade
+opens maximum margin crossfade q = refl
+
+pub open-due : (maximum margin crossfade len : ℕ) (q : QualityMode)
+    → resetVerdict (fresh maximum margin q crossfade) len
+    ≡ lowestOf (settingsOk maximum margin && lengthOk crossfade)
+    (eqb len (lengthFor maximum margin)) true true true true true true
+open-due maximum margin crossfade len q =
+    rw (fade.in-place q q crossfade crossfade (omega arith)
+    (λ f. let z : _≡_ {A = ℕ} 0 1 = cc (same-refl q) in absurd (omega arith)))

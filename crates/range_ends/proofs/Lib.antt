@@ -1,0 +1,12 @@
+pub mod Readers
+pub mod Tables
+pub mod Banks
+pub mod Qualities
+pub mod QualityNumbers
+pub mod Wander
+pub mod Engine
+pub mod Elementary
+pub mod Files
+pub mod Formats
+pub mod WrappedFormats
+pub mod Residual

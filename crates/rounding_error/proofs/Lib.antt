@@ -1,0 +1,15 @@
+pub mod Same
+pub mod Within
+pub mod ProductErrors
+pub mod Value
+pub mod UnitErrors
+pub mod OneRounding
+pub mod Operations
+pub mod Fused
+pub mod Exact
+pub mod OperandErrors
+pub mod Nearest
+pub mod Grid
+pub mod Compare
+pub mod WholeDifferences
+pub mod Integers

@@ -1,4 +1,0 @@
-pub mod Values
-pub mod Inside
-pub mod Powers
-pub mod Cycle
