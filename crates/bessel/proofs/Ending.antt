@@ -1,6 +1,6 @@
--- W5d. From 0 to 20 the tolerance ends the series, after at most 41 terms: each step keeps the order, so that no term lies
--- above the one at y = 100 and no sum below 1; and the 41st term at y = 100 is below 1.0e-16. So it is all one how many
--- more terms are allowed. Assumes nothing.
+-- W5d. From 0 to 20 the tolerance ends the series, after at most 41 terms: each step keeps the order,
+-- so that no term lies above the one at y = 100 and no sum below 1; and the 41st term at y = 100 is below 1.0e-16.
+-- So it is all one how many more terms are allowed. Assumes nothing.
 use mathlib.Core.Path.{_≡_, refl, sym, ap, _∙_}
 use mathlib.Core.Bool.{Bool, true, false, cond, _&&_, false≢true}
 use mathlib.Core.List.{List, [], _∷_}

@@ -1,4 +1,5 @@
--- T1. What a builder leaves: the refusal's number, which it returns, 0 for none, and the table, in f64 and in f32 alike.
+-- T1. What a builder leaves: the refusal's number, which it returns, 0 for none, and the table,
+-- in f64 and in f32 alike.
 -- Definitions only.
 use Prim.Native.Nat.{ℕ}
 use mathlib.Core.List.{List}

@@ -1,5 +1,6 @@
-// The static library's exports for tables of the windowed sinc and the readers over them: numbers pass as themselves, a slice as a pointer and a length, a `&mut` number
-// as a pointer. No enum, no struct. Each function is total, and its contract is that of the function it calls.
+// The static library of the windowed sinc tables and the delay readers over them, for C and Rust.
+// Numbers pass as themselves, a slice as a pointer and a length, a `&mut` number as a pointer; there is no enum and no
+// struct. Each function accepts every input, and its contract is that of the function it calls.
 pub mod modes;
 pub mod openings;
 pub mod readers;

@@ -1,5 +1,5 @@
--- What follows the tests of the lengths refuses nothing: the ring of 1024 is what the maximum delay 1016 needs, the table of 2080 what the settings need, and 48000 Hz
--- is a sample rate. By computing. Assumes nothing.
+-- What follows the tests of the lengths refuses nothing: the ring of 1024 is what the maximum delay 1016 needs,
+-- the table of 2080 what the settings need, and 48000 Hz is a sample rate. By computing. Assumes nothing.
 use mathlib.Core.Path.{_≡_, refl, ap}
 use mathlib.Core.Bool.{true, false}
 use mathlib.Core.List.{List}
@@ -48,7 +48,8 @@ pub table-opens : {n : ℕ} → n ≡ 2080
     → builtBy (verdict settings n) settings ≡ Kernel (record { taps = 32; phases = 64; mode = Ported })
 table-opens e = rw (e, table-needs)
 
-pub table-is : (xs : List Float) {n : ℕ} → n ≡ 2080 → tableAfter (verdict settings n) (tableF32Of settings) xs ≡ tableF32Of settings
+pub table-is : (xs : List Float) {n : ℕ} → n ≡ 2080
+    → tableAfter (verdict settings n) (tableF32Of settings) xs ≡ tableF32Of settings
 table-is xs e = rw (e, table-needs)
 
 pub engine-opens : engine.openedOf (fresh .engine .«sample_rate») 1 ≡ Engine (fresh .engine)
@@ -76,7 +77,8 @@ pub both-right : {n m : ℕ} → n ≡ 1024 → m ≡ 2080 → lengthsOk n m ≡
 both-right e f = rw (e, f)
 
 -- the beginning, of the reader and the engine that were opened
-pub started : {a : readers-opened.Opened} {d : VariableDelay} {b : engines-opened.Opened} {e : ModulationEngine} → a ≡ Reader d → a ≡ Reader (fresh .reader) → b ≡ Engine e → b ≡ Engine (fresh .engine)
+pub started : {a : readers-opened.Opened} {d : VariableDelay} {b : engines-opened.Opened} {e : ModulationEngine}
+    → a ≡ Reader d → a ≡ Reader (fresh .reader) → b ≡ Engine e → b ≡ Engine (fresh .engine)
     → Started (record { reader = d; engine = e }) ≡ Started fresh
 started {a} {d} {b} {e} p q r s =
     let same-reader : d ≡ fresh .reader = cc in

@@ -1,4 +1,5 @@
--- The first sample that does not fit, one sample further: where the loop ends, goes on, and is through. Assumes nothing.
+-- The first sample that does not fit, one sample further: where the loop ends, goes on, and is through.
+-- Assumes nothing.
 use mathlib.Core.Path.{_≡_, refl, sym, ap, _∙_}
 use mathlib.Core.Bool.{true, false}
 use mathlib.Core.List.{List, []}
@@ -13,7 +14,8 @@ use Rattle.stored_samples.specs.Stored.{fitsIn}
 use Rattle.rounded_samples.specs.Rounded.{misfitIn}
 
 module _ (kind : SampleKind) (xs : List Float) (i : ℕ) (d : Float) (h : i < length xs) where
-  pub goes-on : fitsIn kind (getD xs i d) ≡ true → i + misfitIn kind (drop i xs) ≡ i + 1 + misfitIn kind (drop (suc i) xs)
+  pub goes-on : fitsIn kind (getD xs i d) ≡ true
+      → i + misfitIn kind (drop i xs) ≡ i + 1 + misfitIn kind (drop (suc i) xs)
   unfolding misfitIn
   goes-on e = rw (drop-cons xs i d h, e) (omega arith)
 

@@ -1,4 +1,5 @@
--- How long a quality's table, a set and a bank are; and each quality's part of a set is its own table, each set of a bank its own. Assumes nothing.
+-- How long a quality's table, a set and a bank are; and each quality's part of a set is its own table,
+-- each set of a bank its own. Assumes nothing.
 use mathlib.Core.Path.{_≡_, sym, _∙_, ap}
 use mathlib.Core.List.{List, _++_, append-assoc}
 use Prim.Native.Nat.{ℕ, _+_, _*_, _<_}
@@ -23,7 +24,8 @@ long : (m : Mode) (s : Settings) → length (tableF32In m s) ≡ tableLength (s 
 long m s = length-map (tableIn m s) narrowed ∙ length-table m s
 
 -- three lists, one behind the other
-one-behind-another : (x y z : List Float) (a b c : ℕ) → length x ≡ a → length y ≡ b → length z ≡ c → (take a (x ++ (y ++ z)) ≡ x) × (take b (drop a (x ++ (y ++ z))) ≡ y) × (take c (drop (a + b) (x ++ (y ++ z))) ≡ z)
+one-behind-another : (x y z : List Float) (a b c : ℕ) → length x ≡ a → length y ≡ b → length z ≡ c
+    → (take a (x ++ (y ++ z)) ≡ x) × (take b (drop a (x ++ (y ++ z))) ≡ y) × (take c (drop (a + b) (x ++ (y ++ z))) ≡ z)
 one-behind-another x y z a b c p q r = (
   take-at x (y ++ z) a p,
   ap (take b) (drop-at x (y ++ z) a p) ∙ take-at y z b q,
@@ -47,9 +49,13 @@ module _ (m : Mode) (rate : Float) where
   set-long = simp (length-append, normal-long, hq-long, ultra-long)
 
   -- T5
-  parts : (take 163920 (setIn m rate) ≡ tableF32In m (normalAt rate)) × (take 393312 (drop 163920 (setIn m rate)) ≡ tableF32In m (hqAt rate)) × (take 524416 (drop (163920 + 393312) (setIn m rate)) ≡ tableF32In m (ultraAt rate))
+  parts : (take 163920 (setIn m rate) ≡ tableF32In m (normalAt rate))
+      × (take 393312 (drop 163920 (setIn m rate)) ≡ tableF32In m (hqAt rate))
+      × (take 524416 (drop (163920 + 393312) (setIn m rate)) ≡ tableF32In m (ultraAt rate))
   unfolding setIn
-  parts = one-behind-another (tableF32In m (normalAt rate)) (tableF32In m (hqAt rate)) (tableF32In m (ultraAt rate)) 163920 393312 524416 normal-long hq-long ultra-long
+  parts =
+      one-behind-another (tableF32In m (normalAt rate)) (tableF32In m (hqAt rate))
+      (tableF32In m (ultraAt rate)) 163920 393312 524416 normal-long hq-long ultra-long
 
   pub normal-part : partOf Normal (setIn m rate) ≡ tableF32In m (normalAt rate)
   normal-part = parts .0
@@ -61,10 +67,15 @@ module _ (m : Mode) (rate : Float) where
   ultra-part = parts .2
 
 -- T3. set i of a bank, counted from 0
-pub set-at : (m : Mode) (top : Float) (i : ℕ) → i < stepsOf top → take setLength (drop (i * setLength) (bankIn m top)) ≡ setIn m (rateOf top (stepsOf top) (i + 1))
+pub set-at : (m : Mode) (top : Float) (i : ℕ) → i < stepsOf top
+    → take setLength (drop (i * setLength) (bankIn m top)) ≡ setIn m (rateOf top (stepsOf top) (i + 1))
 unfolding bankIn
-set-at m top i h = row (λ (k : ℕ). setIn m (rateOf top (stepsOf top) (k + 1))) setLength (λ k. set-long m (rateOf top (stepsOf top) (k + 1))) (stepsOf top) i h
+set-at m top i h =
+    row (λ (k : ℕ). setIn m (rateOf top (stepsOf top) (k + 1))) setLength
+    (λ k. set-long m (rateOf top (stepsOf top) (k + 1))) (stepsOf top) i h
 
 pub bank-long : (m : Mode) (top : Float) → length (bankIn m top) ≡ stepsOf top * setLength
 unfolding bankIn
-bank-long m top = length-rows (λ (k : ℕ). setIn m (rateOf top (stepsOf top) (k + 1))) setLength (λ k. set-long m (rateOf top (stepsOf top) (k + 1))) (stepsOf top)
+bank-long m top =
+    length-rows (λ (k : ℕ). setIn m (rateOf top (stepsOf top) (k + 1))) setLength
+    (λ k. set-long m (rateOf top (stepsOf top) (k + 1))) (stepsOf top)

@@ -1,5 +1,5 @@
-// T3, T5. 000's SincBankF32 over lent slices: the sets of a bank are built in their places, and the part of a set that
-// a quality reads is handed back.
+// The original's SincBankF32 (000) over lent slices: builds the sets of a bank, and gives the part of a set that a
+// quality reads (T3, T5).
 mod parts; // the part of a set that is to be read
 
 use bessel::Mode;

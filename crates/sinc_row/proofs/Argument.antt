@@ -5,7 +5,8 @@ use mathlib.Core.Path.{_≡_, refl, _∙_, ap, subst}
 use mathlib.Core.Bool.{Bool, true, false, cond, _&&_}
 use mathlib.Core.Logic.{dite}
 use Prim.Native.Nat.{ℕ, zero, suc, _+_, _-_, _*_, _/_, _^_, _≤_, _<_}
-use native.Mathlib.Nat.{le-refl, lt-irrefl, lt-of-lt-of-le, lt-of-not-le, mul-pos, zero-lt-suc, zero-mul, one-mul, add-mul, mul-comm, mul-le-mul-right, div-lt-iff-lt-mul}
+use native.Mathlib.Nat.{le-refl, lt-irrefl, lt-of-lt-of-le, lt-of-not-le, mul-pos, zero-lt-suc, zero-mul, one-mul}
+use native.Mathlib.Nat.{add-mul, mul-comm, mul-le-mul-right, div-lt-iff-lt-mul}
 use native.Mathlib.Decide.{decLe}
 use native.Mathlib.Omega.{arith}
 use borrow.Author.Tests.{eq-eqb}
@@ -98,7 +99,8 @@ module _ (l n s : ℕ) (h : n ≤ 4 * l * l) (low-end : s * s ≤ n) where
       omega arith
 
   counted : 2 * s + more s n ≤ 4 * l
-  counted = dite (decLe (2 * l) s) whole (λ g. let b = at-most-one (eqb (s * s) n) in let k = lt-of-not-le g in omega arith)
+  counted =
+      dite (decLe (2 * l) s) whole (λ g. let b = at-most-one (eqb (s * s) n) in let k = lt-of-not-le g in omega arith)
     where
       whole : 2 * l ≤ s → 2 * s + more s n ≤ 4 * l
       whole g =
@@ -132,7 +134,8 @@ unit n h =
     let p : 0 < d = pow-pos 1076 in
     between tt tt
     (rw nothing at (round-mono binary64 0 1 v d (lit< tt) p (nothing-below v d)))
-    (rw one-rounded at (round-mono binary64 v d d d p p (mul-le-mul-right d (counted (2 ^ 1074) n s h (whole-root n .0)))))
+    (rw one-rounded at (round-mono binary64 v d d d p p
+    (mul-le-mul-right d (counted (2 ^ 1074) n s h (whole-root n .0)))))
 
 root-unit : (x : Float) → Between zero-f one-f x → Between zero-f one-f (root binary64 x)
 unfolding root
@@ -140,7 +143,8 @@ root-unit nan b = absurd (b .above .second)
 root-unit (inf s) b = absurd (b .above .second)
 root-unit (fin s zero e) b = b
 root-unit (fin true (suc m) e) b =
-    absurd (lt-irrefl 0 (lt-of-lt-of-le (mul-pos (zero-lt-suc m) (up-pos e)) (omega (arith, not-negative _ tt (b .above .order)))))
+    absurd (lt-irrefl 0 (lt-of-lt-of-le (mul-pos (zero-lt-suc m) (up-pos e))
+    (omega (arith, not-negative _ tt (b .above .order)))))
 root-unit (fin false (suc m) e) b =
     let h : suc m * up e ≤ down e = omega (arith, under (fin false (suc m) e) one-f tt tt (b .below .order)) in
     unit _ (quotient (suc m * up e) (4 * 2 ^ 1074 * 2 ^ 1074) (down e) (down-pos e) h)
@@ -154,7 +158,8 @@ module _ (s : Settings) (ok : settingsOk s ≡ true) (k : ℕ) (l : k < s .taps)
   normalized =
       let c = inside in
       let top : AtMost (2 * k) (mul binary64 two-f (num k)) =
-      mul-at-most binary64 2 k two-f (num k) (omega arith) (lit≤ tt) (whole-at-most binary64 k (pos k) (omega arith) (le-refl k)) in
+      mul-at-most binary64 2 k two-f (num k) (omega arith) (lit≤ tt)
+      (whole-at-most binary64 k (pos k) (omega arith) (le-refl k)) in
       sub-at-most binary64 2 1 (div binary64 (mul binary64 two-f (num k)) (num (s .taps - 1))) one-f (lit≤ tt)
       (div-at-most binary64 (2 * k) 2 (mul binary64 two-f (num k)) (num (s .taps - 1)) false (s .taps - 1) 1 (lit≤ tt)
       (omega arith) (lit< tt) top (whole-value binary64 (pos (s .taps - 1)) (omega arith)) (omega arith))
@@ -167,7 +172,8 @@ module _ (s : Settings) (ok : settingsOk s ≡ true) (k : ℕ) (l : k < s .taps)
       let b =
       and-r (cutoffOk (s .cutoff)) (betaOk (s .beta))
       (and-r (tapsOk (s .taps) && phasesOk (s .phases)) (cutoffOk (s .cutoff) && betaOk (s .beta)) t) in
-      between tt tt (and-l (le zero-f (s .beta)) (le (s .beta) twenty) b) (and-r (le zero-f (s .beta)) (le (s .beta) twenty) b)
+      between tt tt (and-l (le zero-f (s .beta)) (le (s .beta) twenty) b)
+      (and-r (le zero-f (s .beta)) (le (s .beta) twenty) b)
 
   under-root : let n = normalizedOf (s .taps) k in
       Between zero-f one-f (larger (sub binary64 one-f (mul binary64 n n)) zero-f)

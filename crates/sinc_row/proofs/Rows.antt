@@ -16,7 +16,8 @@ pub length-row : (s : Settings) (window : ℕ → Float) (phase : ℕ) → lengt
 length-row s window phase = length-list _ (s .taps)
 
 -- T1. A coefficient is 000's, divided by its row's sum.
-pub coefficient-at : (s : Settings) (window : ℕ → Float) (phase k : ℕ) → k < s .taps → getD (rowOf s window phase) k nan ≡ div binary64 (rawOf s window phase k) (gainOf s window phase (s .taps))
+pub coefficient-at : (s : Settings) (window : ℕ → Float) (phase k : ℕ) → k < s .taps
+    → getD (rowOf s window phase) k nan ≡ div binary64 (rawOf s window phase k) (gainOf s window phase (s .taps))
 coefficient-at s window phase k h = element _ (s .taps) k nan h
 
 -- two windows that agree below the taps
@@ -28,7 +29,10 @@ module _ (s : Settings) (v w : ℕ → Float) (agree : (k : ℕ) → k < s .taps
   gain-same = same _ _ zero-f (s .taps) (λ k h gain. ap (add binary64 gain) (raw-same k h))
 
   row-same : rowOf s v phase ≡ rowOf s w phase
-  row-same = same-list _ _ (s .taps) (λ k h. ap (λ (x : Float). div binary64 x (gainOf s v phase (s .taps))) (raw-same k h) ∙ ap (div binary64 (rawOf s w phase k)) gain-same)
+  row-same =
+      same-list _ _ (s .taps)
+      (λ k h. ap (λ (x : Float). div binary64 x (gainOf s v phase (s .taps))) (raw-same k h)
+      ∙ ap (div binary64 (rawOf s w phase k)) gain-same)
 
 -- The row under a window that was written into a list is the row under that window.
 pub written : (s : Settings) (window : ℕ → Float) (xs : List Float) → xs ≡ listOf window (s .taps)

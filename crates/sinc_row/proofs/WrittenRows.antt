@@ -1,4 +1,5 @@
--- What `write_window` and `write_row` leave where settings in range and slices of the taps' length are lent. Assumes nothing.
+-- What `write_window` and `write_row` leave where settings in range and slices of the taps' length are lent.
+-- Assumes nothing.
 use borrow.Author.Tests.{eq-eqb, le-leb}
 use mathlib.Core.Path.{_≡_, refl, ap, _∙_}
 use mathlib.Core.Bool.{true}

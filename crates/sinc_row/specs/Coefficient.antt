@@ -1,4 +1,5 @@
--- K4, T1. 000's sinc, Kaiser's window, and a coefficient before its row is divided: each step rounded, in 000's order. Definitions only.
+-- K4, T1. 000's sinc, Kaiser's window, and a coefficient before its row is divided: each step rounded, in 000's order.
+-- Definitions only.
 use Prim.Native.Nat.{ℕ, _-_, _^_}
 use mathlib.Core.Bool.{Bool, false, cond}
 use lib.IntN.{pos, negsuc}

@@ -47,7 +47,8 @@ few Float32 x t = toBits-lt binary32 (narrowed x) (narrow-fits x)
 pub word-lt : (kind : SampleKind) (x : Float) → wordOf kind x < 256 ^ widthOf kind
 word-lt kind x = by (fitsIn kind x) (few kind x)
   where
-    by : (t : Bool) → (t ≡ true → digitsIn kind x < 256 ^ widthOf kind) → cond t (digitsIn kind x) 0 < 256 ^ widthOf kind
+    by : (t : Bool) → (t ≡ true → digitsIn kind x < 256 ^ widthOf kind)
+        → cond t (digitsIn kind x) 0 < 256 ^ widthOf kind
     by true h = h refl
     by false h = some kind
       where

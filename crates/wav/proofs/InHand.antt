@@ -14,7 +14,8 @@ use Rattle.wav.specs.declared.Found.the-variants as found
 use Rattle.wav.specs.declared.Told.{Told}
 use Rattle.wav.specs.declared.Wave.{Wave}
 use Rattle.wav_format.specs.Format.{tag, channels, block, bits, formatOk}
-use Rattle.wav.specs.Wave.{riffSize, walkIn, partOf, fmtOf, isWave, tagIn, testsOf, verdict, waveIn, answered, foundOf, foundBy, toldIn}
+use Rattle.wav.specs.Wave.{riffSize, walkIn, partOf, fmtOf, isWave, tagIn, testsOf, verdict, waveIn, answered}
+use Rattle.wav.specs.Wave.{foundOf, foundBy, toldIn}
 
 pub refused : (k : ℕ) (w : Wave) → (k ≡ 0 → ⊥) → found.Refused k ≡ answered k w
 refused zero w h = absurd (h refl)
@@ -26,7 +27,8 @@ taken k w h = rw h
 -- the tests of `first`, in their order
 pub in-order : (wave inside : Bool) (t : ℕ) (f : List ℕ) (w : Walked) {t13 : Bool} {r : ℕ}
     → t13 ≡ formatOk t f (w .format .size) (w .samples .size)
-    → r ≡ firstOf (9 unless wave ∷ 10 unless inside ∷ 11 unless w .format .found ∷ 12 unless w .samples .found ∷ 13 unless t13 ∷ [])
+    → r ≡ firstOf (9 unless wave ∷ 10 unless inside ∷ 11 unless w .format .found ∷ 12 unless w .samples .found
+    ∷ 13 unless t13 ∷ [])
     → r ≡ firstOf (testsOf wave inside t f w)
 in-order wave inside t f w p q = q ∙ rw p
 
@@ -62,7 +64,8 @@ module _ (tagOf : List ℕ → ℕ → ℕ) (b : List ℕ) (w : Walked) (f : Lis
       → foundOf t9 t10 t f w ≡ foundBy tagOf b
   found-is t9 t10 e9 e10 =
       rw (e9, e10, h .fmt-is, h .tag-is)
-      (ap (λ (v : Walked). foundOf (isWave b) (leb (8 + riffSize b) (length b) && not (v .overruns)) (tagIn tagOf b) (fmtOf b) v)
+      (ap (λ (v : Walked). foundOf (isWave b) (leb (8 + riffSize b) (length b) && not (v .overruns)) (tagIn tagOf b)
+      (fmtOf b) v)
       (h .walk-is))
 
   pub told-is : _≡_ {A = Told}

@@ -74,5 +74,6 @@ all-passed tagOf b h =
       format-ok = test 4;
     }
 
-pub few-channels : (wave inside : Bool) (t : ℕ) (f : List ℕ) (w : Walked) → firstOf (testsOf wave inside t f w) ≡ 0 → channels f ≤ 2
+pub few-channels : (wave inside : Bool) (t : ℕ) (f : List ℕ) (w : Walked) → firstOf (testsOf wave inside t f w) ≡ 0
+    → channels f ≤ 2
 few-channels wave inside t f w h = formatted t f _ _ (none (testsOf wave inside t f w) refl .0 h 4) .few

@@ -49,8 +49,8 @@ within b = leb (8 + riffSize b) (length b) && not (walkIn b .overruns)
 abbrev pub tagIn : (List ℕ → ℕ → ℕ) → List ℕ → ℕ
 tagIn tagOf b = tagOf (fmtOf b) (walkIn b .format .size)
 
--- 9 to 13, in that order, from the first two tests, the tag, the body of the `fmt ` and the walk. 11: no `fmt ` up to the
--- first `data`; 12: no `data`.
+-- 9 to 13, in that order, from the first two tests, the tag, the body of the `fmt ` and the walk.
+-- 11: no `fmt ` up to the first `data`; 12: no `data`.
 abbrev pub testsOf : Bool → Bool → ℕ → List ℕ → Walked → List Test
 testsOf wave inside t f w =
     9 unless wave

@@ -1,5 +1,5 @@
--- W1e. The largest, the least and the last number below zero of both widths, in units of 2^-23, and the refusals of whole
--- numbers in their order. Assumes nothing.
+-- W1e. The largest, the least and the last number below zero of both widths, in units of 2^-23,
+-- and the refusals of whole numbers in their order. Assumes nothing.
 use mathlib.Core.Path.{_≡_, refl}
 use mathlib.Core.List.{[], _∷_}
 use lib.IntN.{pos, negsuc}

@@ -1,4 +1,5 @@
--- W1k. What a sample is: of PCM its number n over 2^15 or 2^23, once over the width, nothing rounded off in either format;
+-- W1k. What a sample is: of PCM its number n over 2^15 or 2^23, once over the width, nothing rounded off in either
+-- format;
 -- of float 32 the very pattern that is stored, in either format, but that there is one NaN. Assumes nothing.
 use mathlib.Core.Path.{_≡_, refl, sym}
 use mathlib.Core.Bool.{true, true≢false, cond}
@@ -25,12 +26,14 @@ bitsOf kind = widthOf kind * 8
 
 module _ (f : Format) (b : List ℕ) (at : ℕ) where
   pub pcm-exact : (kind : SampleKind) → isPcm kind ≡ true
-      → HasValue (sampleOf f kind b at) (negative (bitsOf kind) (digits kind b at)) (size (bitsOf kind) (digits kind b at))
+      → HasValue (sampleOf f kind b at) (negative (bitsOf kind) (digits kind b at))
+      (size (bitsOf kind) (digits kind b at))
       (2 ^ (bitsOf kind - 1))
   pcm-exact Pcm16 p = exact f 16 (number 2 b at) (lit≤ tt) (lit≤ tt)
   pcm-exact Pcm24 p = exact f 24 (number 3 b at) (lit≤ tt) (lit≤ tt)
   pcm-exact Float32 p = absurd (true≢false (sym p))
 
   pub float-stored : number 4 b at < 2 ^ 32
-      → toBits binary32 (sampleOf f Float32 b at) ≡ cond (nanBits binary32 (number 4 b at)) (toBits binary32 nan) (number 4 b at)
+      → toBits binary32 (sampleOf f Float32 b at)
+      ≡ cond (nanBits binary32 (number 4 b at)) (toBits binary32 nan) (number 4 b at)
   float-stored h = bits-back binary32 (number 4 b at) h

@@ -57,7 +57,8 @@ held b p h =
 pub by-turns : (b : List ℕ) → foundByTurns b (length b) ≡ foundWrapped b
 by-turns b = rw (same-letters b, same-size b) (by (isWave b) (leb (8 + riffSize b) (length b)) refl refl)
   where
-    by : (t u : Bool) → isWave b ≡ t → leb (8 + riffSize b) (length b) ≡ u → byTurns (cond t (cond u 0 10) 9) (8 + riffSize b) b ≡ foundWrapped b
+    by : (t u : Bool) → isWave b ≡ t → leb (8 + riffSize b) (length b) ≡ u
+        → byTurns (cond t (cond u 0 10) 9) (8 + riffSize b) b ≡ foundWrapped b
     by true true p q = held b p (leb-true _ _ q)
     by true false p q = sym (rw (p, q))
     by false u p q = sym (rw p)

@@ -33,7 +33,8 @@ module _ (f : List ℕ) where
         field 36 4 (lit≤ tt),
       )
 
-  pub same-found : (wave inside : Bool) (t : ℕ) (w : Walked) → foundOf wave inside t (take 40 f) w ≡ foundOf wave inside t f w
+  pub same-found : (wave inside : Bool) (t : ℕ) (w : Walked)
+      → foundOf wave inside t (take 40 f) w ≡ foundOf wave inside t f w
   unfolding formatOk
   same-found wave inside t w =
       rw (field 2 2 (lit≤ tt), field 4 4 (lit≤ tt), field 12 2 (lit≤ tt), field 14 2 (lit≤ tt))

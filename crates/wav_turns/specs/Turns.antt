@@ -1,5 +1,5 @@
--- W1. A RIFF WAVE file by turns: what its beginning tells, a chunk more by its first 8 bytes, and the answer from the walk
--- and the first bytes of `fmt `. Definitions only.
+-- W1. A RIFF WAVE file by turns: what its beginning tells, a chunk more by its first 8 bytes,
+-- and the answer from the walk and the first bytes of `fmt `. Definitions only.
 use Prim.Native.Nat.{ℕ, zero, suc, _+_, _-_}
 use mathlib.Core.Bool.{Bool, true, not, cond, _&&_}
 use mathlib.Core.List.{List, [], _∷_}

@@ -1,6 +1,6 @@
-// W1. A RIFF WAVE file read by turns, where it is too long to be held: its first 12 bytes and its length, then the 8 bytes
-// at the head of each chunk that is walked, then the first 40 bytes of `fmt `. The answer is the one of the whole file, by
-// the reading that takes wrapped kinds.
+// W1. A RIFF WAVE file read by turns, where it is too long to be held: its first 12 bytes and its length,
+// then the 8 bytes at the head of each chunk that is walked, then the first 40 bytes of `fmt `.
+// The answer is the one of the whole file, by the reading that takes wrapped kinds.
 ghost use mathlib.Core.Path.{_≡_};
 ghost use mathlib.Core.List.{[], _∷_};
 ghost use Rattle.refusal_order.specs.Order.{_unless_, firstOf};

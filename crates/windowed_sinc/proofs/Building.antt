@@ -1,4 +1,5 @@
--- What `write_table` and `write_rows` rest on, for a table of either width: the window stands in the scratch's front, and each row ends within the lent table. Assumes nothing.
+-- What `write_table` and `write_rows` rest on, for a table of either width: the window stands in the scratch's front,
+-- and each row ends within the lent table. Assumes nothing.
 use mathlib.Core.Path.{_≡_, ap, _∙_}
 use mathlib.Core.List.{List, _++_}
 use Prim.Native.Nat.{ℕ, _+_, _-_, _*_, _≤_}
@@ -23,7 +24,9 @@ module _ {s : Settings} {len : ℕ} (lent : Fitting s len) where
   most = let m = counts (s .taps) (s .phases) (accepted s (lent .settings) .counted) in (m .most-taps, m .most-phases)
 
   pub row-inside : (phase : ℕ) → phase ≤ s .phases → phase * s .taps + s .taps ≤ len
-  row-inside phase h = let g : phase + 1 ≤ s .phases + 1 = omega arith in omega (arith, lent .long, add-mul phase 1 (s .taps), one-mul (s .taps), mul-le-mul-right (s .taps) g)
+  row-inside phase h =
+      let g : phase + 1 ≤ s .phases + 1 = omega arith in
+      omega (arith, lent .long, add-mul phase 1 (s .taps), one-mul (s .taps), mul-le-mul-right (s .taps) g)
 
   -- the scratch, once `write_window_in` was lent its front
   module _ (m : Mode) (front rest : List Float) (e : front ≡ windowAfterIn m s (take (s .taps - 0) scratch)) where

@@ -1,4 +1,5 @@
--- T1. A windowed sinc table by its rows and by its elements: each is 000's coefficient, divided by its row's sum. Assumes nothing.
+-- T1. A windowed sinc table by its rows and by its elements: each is 000's coefficient, divided by its row's sum.
+-- Assumes nothing.
 use mathlib.Core.Path.{_≡_, _∙_}
 use Prim.Native.Nat.{ℕ, _+_, _*_, _≤_, _<_}
 use native.Mathlib.Omega.{arith}
@@ -18,11 +19,16 @@ module _ (m : Mode) (s : Settings) where
   unfolding tableUnder
   length-table = length-rows (rowOf s (windowIn m s)) (s .taps) (length-row s (windowIn m s)) (s .phases + 1)
 
-  pub table-row : (phase : ℕ) → phase ≤ s .phases → take (s .taps) (drop (phase * s .taps) (tableIn m s)) ≡ rowOf s (windowIn m s) phase
+  pub table-row : (phase : ℕ) → phase ≤ s .phases
+      → take (s .taps) (drop (phase * s .taps) (tableIn m s)) ≡ rowOf s (windowIn m s) phase
   unfolding tableUnder
-  table-row phase h = row (rowOf s (windowIn m s)) (s .taps) (length-row s (windowIn m s)) (s .phases + 1) phase (omega arith)
+  table-row phase h =
+      row (rowOf s (windowIn m s)) (s .taps) (length-row s (windowIn m s)) (s .phases + 1) phase (omega arith)
 
   pub table-element : (phase k : ℕ) → phase ≤ s .phases → k < s .taps
-      → getD (tableIn m s) (phase * s .taps + k) nan ≡ div binary64 (rawOf s (windowIn m s) phase k) (gainOf s (windowIn m s) phase (s .taps))
+      → getD (tableIn m s) (phase * s .taps + k) nan
+      ≡ div binary64 (rawOf s (windowIn m s) phase k) (gainOf s (windowIn m s) phase (s .taps))
   unfolding tableUnder
-  table-element phase k h l = cell (rowOf s (windowIn m s)) (s .taps) (length-row s (windowIn m s)) (s .phases + 1) phase k nan (omega arith) l ∙ coefficient-at s (windowIn m s) phase k l
+  table-element phase k h l =
+      cell (rowOf s (windowIn m s)) (s .taps) (length-row s (windowIn m s)) (s .phases + 1) phase k nan (omega arith) l
+      ∙ coefficient-at s (windowIn m s) phase k l

@@ -1,4 +1,5 @@
-// 000's WindowedSinc over a lent table: new and for_max_rate. The reader of such a table is in sinc_read.
+// The original's WindowedSinc (000) built into a lent table: `new` and `for_max_rate`.
+// Such a table is read by `sinc_read`.
 ghost use mathlib.Core.Path.{_≡_};
 ghost use lib.ListN.{length};
 ghost use Rattle.sinc_settings.specs.Refusals.{verdict, forRate, rateVerdict};
@@ -67,7 +68,10 @@ fn build(no: u8, settings: Settings, mode: Mode, table: &mut [f64]) -> Built
 // 000's WindowedSinc::new: refuses by 1 or 2, or writes the table.
 pub fn new(settings: Settings, table: &mut [f64]) -> Built
     ensures { λ r. ⌜ r ≡ builtBy (verdict settings (length (now (table .entry)))) settings ⌝ }
-    ensures { λ r. ⌜ now (table .exit) ≡ tableAfter (verdict settings (length (now (table .entry)))) (tableOf settings) (now (table .entry)) ⌝ }
+    ensures { λ r. ⌜
+        now (table .exit)
+        ≡ tableAfter (verdict settings (length (now (table .entry)))) (tableOf settings) (now (table .entry))
+        ⌝ }
 {
     new_in(settings, Mode::Ported, &mut table[..])
 }
@@ -93,8 +97,18 @@ pub fn for_max_rate(
     beta: f64,
     table: &mut [f64],
 ) -> Built
-    ensures { λ r. ⌜ r ≡ builtBy (rateVerdict (forRate taps phases «max_rate» passband beta) «max_rate» passband (length (now (table .entry)))) (forRate taps phases «max_rate» passband beta) ⌝ }
-    ensures { λ r. ⌜ now (table .exit) ≡ tableAfter (rateVerdict (forRate taps phases «max_rate» passband beta) «max_rate» passband (length (now (table .entry)))) (tableOf (forRate taps phases «max_rate» passband beta)) (now (table .entry)) ⌝ }
+    ensures { λ r. ⌜
+        r
+        ≡ builtBy
+        (rateVerdict (forRate taps phases «max_rate» passband beta) «max_rate» passband (length (now (table .entry))))
+        (forRate taps phases «max_rate» passband beta)
+        ⌝ }
+    ensures { λ r. ⌜
+        now (table .exit)
+        ≡ tableAfter
+        (rateVerdict (forRate taps phases «max_rate» passband beta) «max_rate» passband (length (now (table .entry))))
+        (tableOf (forRate taps phases «max_rate» passband beta)) (now (table .entry))
+        ⌝ }
 {
     for_max_rate_in(
         taps,

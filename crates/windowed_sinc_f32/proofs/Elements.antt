@@ -19,8 +19,10 @@ module _ (m : Mode) (s : Settings) where
   pub length-table-f32 : length (tableF32In m s) ≡ tableLength (s .taps) (s .phases)
   length-table-f32 = length-map (tableIn m s) narrowed ∙ length-table m s
 
-  pub table-row-f32 : (phase : ℕ) → phase ≤ s .phases → take (s .taps) (drop (phase * s .taps) (tableF32In m s)) ≡ map narrowed (rowOf s (windowIn m s) phase)
-  table-row-f32 phase h = map-part narrowed (tableIn m s) (phase * s .taps) (s .taps) ∙ ap (map narrowed) (table-row m s phase h)
+  pub table-row-f32 : (phase : ℕ) → phase ≤ s .phases
+      → take (s .taps) (drop (phase * s .taps) (tableF32In m s)) ≡ map narrowed (rowOf s (windowIn m s) phase)
+  table-row-f32 phase h =
+      map-part narrowed (tableIn m s) (phase * s .taps) (s .taps) ∙ ap (map narrowed) (table-row m s phase h)
 
   -- wherever it stands, inside the table or not: the NaN stands for no element
   pub rounded-once : (i : ℕ) → getD (tableF32In m s) i nan ≡ narrowed (getD (tableIn m s) i nan)
@@ -28,5 +30,6 @@ module _ (m : Mode) (s : Settings) where
   rounded-once i = List·getD-map narrowed (tableIn m s) i nan
 
   pub table-element-f32 : (phase k : ℕ) → phase ≤ s .phases → k < s .taps
-      → getD (tableF32In m s) (phase * s .taps + k) nan ≡ narrowed (div binary64 (rawOf s (windowIn m s) phase k) (gainOf s (windowIn m s) phase (s .taps)))
+      → getD (tableF32In m s) (phase * s .taps + k) nan
+      ≡ narrowed (div binary64 (rawOf s (windowIn m s) phase k) (gainOf s (windowIn m s) phase (s .taps)))
   table-element-f32 phase k h l = rounded-once (phase * s .taps + k) ∙ ap narrowed (table-element m s phase k h l)

@@ -1,4 +1,5 @@
-// 000's WindowedSincF32 over a lent table: new and for_max_rate. No f64 table is made: a row stands in a scratch, and is rounded into its place.
+// The original's WindowedSincF32 (000) built into a lent table: `new` and `for_max_rate`.
+// No f64 table is made: each row is computed in a scratch and rounded into its place.
 ghost use mathlib.Core.Path.{_≡_};
 ghost use mathlib.Core.Bool.{true};
 ghost use mathlib.Core.List.{map};
@@ -96,7 +97,10 @@ fn build(no: u8, settings: Settings, mode: Mode, table: &mut [f32]) -> Built
 // 000's WindowedSincF32::new: refuses by 1 or 2, or writes the table.
 pub fn new(settings: Settings, table: &mut [f32]) -> Built
     ensures { λ r. ⌜ r ≡ builtBy (verdict settings (length (now (table .entry)))) settings ⌝ }
-    ensures { λ r. ⌜ now (table .exit) ≡ tableAfter (verdict settings (length (now (table .entry)))) (tableF32Of settings) (now (table .entry)) ⌝ }
+    ensures { λ r. ⌜
+        now (table .exit)
+        ≡ tableAfter (verdict settings (length (now (table .entry)))) (tableF32Of settings) (now (table .entry))
+        ⌝ }
 {
     new_in(settings, Mode::Ported, &mut table[..])
 }
@@ -122,8 +126,18 @@ pub fn for_max_rate(
     beta: f64,
     table: &mut [f32],
 ) -> Built
-    ensures { λ r. ⌜ r ≡ builtBy (rateVerdict (forRate taps phases «max_rate» passband beta) «max_rate» passband (length (now (table .entry)))) (forRate taps phases «max_rate» passband beta) ⌝ }
-    ensures { λ r. ⌜ now (table .exit) ≡ tableAfter (rateVerdict (forRate taps phases «max_rate» passband beta) «max_rate» passband (length (now (table .entry)))) (tableF32Of (forRate taps phases «max_rate» passband beta)) (now (table .entry)) ⌝ }
+    ensures { λ r. ⌜
+        r
+        ≡ builtBy
+        (rateVerdict (forRate taps phases «max_rate» passband beta) «max_rate» passband (length (now (table .entry))))
+        (forRate taps phases «max_rate» passband beta)
+        ⌝ }
+    ensures { λ r. ⌜
+        now (table .exit)
+        ≡ tableAfter
+        (rateVerdict (forRate taps phases «max_rate» passband beta) «max_rate» passband (length (now (table .entry))))
+        (tableF32Of (forRate taps phases «max_rate» passband beta)) (now (table .entry))
+        ⌝ }
 {
     for_max_rate_in(
         taps,

@@ -32,7 +32,8 @@ loop-again c =
     let n = c .before in
     let p = n .before .before .before in
     let s = p .before .before .args in
-    let more = goes-on (s .kind) (s .samples .now) (p .loop .i) _ (omega arith) (sym (n .fits2 .ensures) ∙ c .if1 .taken) in
+    let more =
+    goes-on (s .kind) (s .samples .now) (p .loop .i) _ (omega arith) (sym (n .fits2 .ensures) ∙ c .if1 .taken) in
     (omega arith, rw add-one (p .loop .inv .1 ∙ rw add-one at more))
 
 returns-2 : tie.Need-returns-2 Inv-loop μ-loop

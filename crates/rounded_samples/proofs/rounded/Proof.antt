@@ -1,4 +1,5 @@
--- `rounded_samples::rounded` meets its contract: the stored digits, then the whole number that they mean. Assumes nothing.
+-- `rounded_samples::rounded` meets its contract: the stored digits, then the whole number that they mean.
+-- Assumes nothing.
 use borrow.Author.Needs.{needs}
 use mathlib.Core.Path.{ap, _∙_}
 use lib.Dec.{lit≤}

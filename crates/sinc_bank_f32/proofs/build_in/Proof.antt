@@ -1,4 +1,5 @@
--- `sinc_bank_f32::build_in` meets its contract: by the number of sets and by the length, or by the bank that `write_sets` leaves. Assumes nothing.
+-- `sinc_bank_f32::build_in` meets its contract: by the number of sets and by the length, or by the bank that
+-- `write_sets` leaves. Assumes nothing.
 use borrow.Author.Needs.{needs}
 use borrow.Author.Tests.{eq-eqb, ne-eqb}
 use mathlib.Core.Path.{_≡_, refl, sym, _∙_, ap}
@@ -21,19 +22,27 @@ returns c =
 
 -- where there is a set the rate is in range
 ok : (c : tie.Else1) → bankOk (c .before .before .before .args .max-rate) ≡ true
-ok c = let s = c .before in some (s .before .before .args .max-rate) (s .steps .result) (s .steps .ensures) (λ z. omega (arith, z, c .if1 .left))
+ok c =
+    let s = c .before in
+    some (s .before .before .args .max-rate) (s .steps .result) (s .steps .ensures)
+    (λ z. omega (arith, z, c .if1 .left))
 
 count : (c : tie.Else1) → c .before .steps .result ≡ stepsOf (c .before .before .before .args .max-rate)
 count c = rw (ok c) at (c .before .steps .ensures)
 
-need : (c : tie.After-bank-length) → c .bank-length .result ≡ stepsOf (c .before .before .before .before .args .max-rate) * setLength
+need : (c : tie.After-bank-length)
+    → c .bank-length .result ≡ stepsOf (c .before .before .before .before .args .max-rate) * setLength
 need c = rw (ok (c .before)) at (c .bank-length .ensures)
 
 returns-2 : tie.Need-returns-2
 returns-2 c =
     let l = c .before in
     let a = l .before .before .before .before .args in
-    rw (ok (l .before), ne-eqb (length (now (a .sets))) (stepsOf (a .max-rate) * setLength) (λ z. omega (arith, z, need l, c .if2 .taken))) (refl, refl)
+    rw (
+      ok (l .before),
+      ne-eqb (length (now (a .sets))) (stepsOf (a .max-rate) * setLength)
+          (λ z. omega (arith, z, need l, c .if2 .taken)),
+    ) (refl, refl)
 
 write-sets-requires : tie.Need-write-sets-requires
 write-sets-requires c κs =
@@ -47,7 +56,13 @@ returns-3 c =
     let e = w .before .before in
     let l = e .before in
     let a = l .before .before .before .before .args in
-    rw (ok (l .before), eq-eqb (length (now (a .sets))) (stepsOf (a .max-rate) * setLength) (omega (arith, e .if2 .left, need l))) (ap Sets (count (l .before)), w .write-sets .ensures)
+    rw (
+      ok (l .before),
+      eq-eqb (length (now (a .sets))) (stepsOf (a .max-rate) * setLength) (omega (arith, e .if2 .left, need l)),
+    )
+    (ap Sets (count (l .before)), w .write-sets .ensures)
 
 pub build-in-spec : {M : Type 1} → statement M
-build-in-spec = tie.close (tie.spec (λ c κs. search needs) returns (λ c κs. search needs) returns-2 write-sets-requires (λ c. search needs) returns-3)
+build-in-spec =
+    tie.close (tie.spec (λ c κs. search needs) returns (λ c κs. search needs) returns-2 write-sets-requires
+    (λ c. search needs) returns-3)

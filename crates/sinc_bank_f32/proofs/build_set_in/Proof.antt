@@ -1,4 +1,5 @@
--- `sinc_bank_f32::build_set_in` meets its contract: by the two tests, or by the set that `write_set` leaves. Assumes nothing.
+-- `sinc_bank_f32::build_set_in` meets its contract: by the two tests, or by the set that `write_set` leaves.
+-- Assumes nothing.
 use borrow.Author.Needs.{needs}
 use borrow.Author.Tests.{not-true, not-false, eq-eqb, ne-eqb}
 use mathlib.Core.Path.{_≡_, refl, sym, _∙_}
@@ -37,4 +38,5 @@ returns-3 c =
     rw (ok (e .before), eq-eqb (length xs) setLength (omega (arith, e .if2 .left))) (refl, w .write-set .ensures)
 
 pub build-set-in-spec : {M : Type 1} → statement M
-build-set-in-spec = tie.close (tie.spec (λ c κs. search needs) returns returns-2 write-set-requires (λ c. search needs) returns-3)
+build-set-in-spec =
+    tie.close (tie.spec (λ c κs. search needs) returns returns-2 write-set-requires (λ c. search needs) returns-3)

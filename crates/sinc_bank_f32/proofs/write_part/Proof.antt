@@ -1,4 +1,5 @@
--- `sinc_bank_f32::write_part` meets its contract: no refusal is due to the part that is lent, so it comes back as the table. Assumes nothing.
+-- `sinc_bank_f32::write_part` meets its contract: no refusal is due to the part that is lent,
+-- so it comes back as the table. Assumes nothing.
 use borrow.Author.Needs.{needs}
 use mathlib.Core.Path.{_≡_, refl, _∙_, ap}
 use mathlib.Core.List.{List, _++_}
@@ -24,9 +25,14 @@ returns c =
     let s = forRate (a .taps) (a .phases) (a .rate) passband (a .beta) in
     let xs = now (a .set) in
     let lent = take (a .end - a .start) (drop (a .start) xs) in
-    let long : length lent ≡ a .end - a .start = length-part xs (a .start) (a .end - a .start) (a .end - a .start) refl (omega (arith, b .pre .0, b .pre .1)) in
-    let none : rateVerdict s (a .rate) passband (length lent) ≡ 0 = ap (λ (n : ℕ). rateVerdict s (a .rate) passband n) long ∙ b .pre .2 in
-    ap (λ (ys : List Float). take (a .start) xs ++ (ys ++ drop (a .end - a .start) (drop (a .start) xs))) (w .for-max-rate-in .ensures .1 ∙ ap (λ (v : ℕ). tableAfter v (tableF32In (a .mode) s) lent) none)
+    let long : length lent ≡ a .end - a .start =
+    length-part xs (a .start) (a .end - a .start) (a .end - a .start) refl (omega (arith, b .pre .0, b .pre .1)) in
+    let none : rateVerdict s (a .rate) passband (length lent) ≡ 0 =
+    ap (λ (n : ℕ). rateVerdict s (a .rate) passband n) long ∙ b .pre .2 in
+    ap (λ (ys : List Float). take (a .start) xs ++ (ys ++ drop (a .end - a .start) (drop (a .start) xs)))
+    (w .for-max-rate-in .ensures .1 ∙ ap (λ (v : ℕ). tableAfter v (tableF32In (a .mode) s) lent) none)
 
 pub write-part-spec : {M : Type 1} → statement M
-write-part-spec = tie.close (tie.spec (λ c. search needs) (λ c. search needs) (λ c. search needs) (λ c. search needs) (λ c κs. search needs) (λ c. search needs) returns)
+write-part-spec =
+    tie.close (tie.spec (λ c. search needs) (λ c. search needs) (λ c. search needs) (λ c. search needs)
+    (λ c κs. search needs) (λ c. search needs) returns)

@@ -1,4 +1,5 @@
--- `sinc_bank_f32::write_set` meets its contract: none of the three tables is refused, and one behind the other they are the set. Assumes nothing.
+-- `sinc_bank_f32::write_set` meets its contract: none of the three tables is refused, and one behind the other they are
+-- the set. Assumes nothing.
 use borrow.Author.Needs.{needs}
 use mathlib.Core.Path.{_≡_, refl, _∙_, ap}
 use mathlib.Core.Bool.{false}
@@ -20,8 +21,11 @@ use Rattle.sinc_bank_f32.proofs.write_set.Tie as tie
 write-part-requires : tie.Need-write-part-requires
 unfolding ofBits le
 write-part-requires c κs =
-    let b = c .before .before in
-    (omega arith, omega (arith, b .pre .1), unrefused 80 2048 (b .args .rate) (fin false 3 (pos 2)) 163920 (b .pre .0) refl refl refl refl)
+    let b = c .before .before in (
+      omega arith,
+      omega (arith, b .pre .1),
+      unrefused 80 2048 (b .args .rate) (fin false 3 (pos 2)) 163920 (b .pre .0) refl refl refl refl,
+    )
 
 -- the slice keeps its length
 first-long : (c : tie.After-write-part) → length (c .write-part .last .1 .1 .1 .1 .0) ≡ setLength
@@ -30,14 +34,20 @@ first-long c =
     let b = c .before .before .before in
     let r = b .args .rate in
     let m = b .args .mode in
-    ap length (c .write-part .ensures) ∙ sections.same-length 0 163920 (tableF32In m (normalAt r)) (now (b .args .set)) (omega arith) (omega (arith, b .pre .1)) (normal-long m r) ∙ b .pre .1
+    ap length (c .write-part .ensures)
+    ∙ sections.same-length 0 163920 (tableF32In m (normalAt r)) (now (b .args .set)) (omega arith)
+    (omega (arith, b .pre .1)) (normal-long m r)
+    ∙ b .pre .1
 
 write-part-requires-2 : tie.Need-write-part-requires-2
 unfolding ofBits le
 write-part-requires-2 c κs =
     let u = c .before .before .before in
-    let b = u .before .before .before in
-    (omega arith, omega (arith, first-long u), unrefused 96 4096 (b .args .rate) (fin false 7 (pos 1)) 393312 (b .pre .0) refl refl refl refl)
+    let b = u .before .before .before in (
+      omega arith,
+      omega (arith, first-long u),
+      unrefused 96 4096 (b .args .rate) (fin false 7 (pos 1)) 393312 (b .pre .0) refl refl refl refl,
+    )
 
 second-long : (c : tie.After-write-part2) → length (c .write-part2 .last .1 .1 .1 .1 .0) ≡ setLength
 unfolding ofBits
@@ -45,14 +55,20 @@ second-long c =
     let u = c .before .before .before .before in
     let r = u .before .before .before .args .rate in
     let m = u .before .before .before .args .mode in
-    ap length (c .write-part2 .ensures) ∙ sections.same-length 163920 557232 (tableF32In m (hqAt r)) (u .write-part .last .1 .1 .1 .1 .0) (omega arith) (omega (arith, first-long u)) (hq-long m r) ∙ first-long u
+    ap length (c .write-part2 .ensures)
+    ∙ sections.same-length 163920 557232 (tableF32In m (hqAt r)) (u .write-part .last .1 .1 .1 .1 .0) (omega arith)
+    (omega (arith, first-long u)) (hq-long m r)
+    ∙ first-long u
 
 write-part-requires-3 : tie.Need-write-part-requires-3
 unfolding ofBits le
 write-part-requires-3 c κs =
     let v = c .before .before .before in
-    let b = v .before .before .before .before .before .before .before in
-    (omega arith, omega (arith, second-long v), unrefused 128 4096 (b .args .rate) (fin false 1 (pos 4)) 524416 (b .pre .0) refl refl refl refl)
+    let b = v .before .before .before .before .before .before .before in (
+      omega arith,
+      omega (arith, second-long v),
+      unrefused 128 4096 (b .args .rate) (fin false 1 (pos 4)) 524416 (b .pre .0) refl refl refl refl,
+    )
 
 returns : tie.Need-returns
 unfolding setIn ofBits
@@ -63,8 +79,12 @@ returns c =
     let b = u .before .before .before in
     let r = b .args .rate in
     let m = b .args .mode in
-    sections.three 163920 557232 1081648 (tableF32In m (normalAt r)) (tableF32In m (hqAt r)) (tableF32In m (ultraAt r)) (now (b .args .set)) (u .write-part .last .1 .1 .1 .1 .0) (v .write-part2 .last .1 .1 .1 .1 .0) (w .write-part3 .last .1 .1 .1 .1 .0)
-    (lit≤ tt) (lit≤ tt) (b .pre .1) (normal-long m r) (hq-long m r) (ultra-long m r) (u .write-part .ensures) (v .write-part2 .ensures) (w .write-part3 .ensures)
+    sections.three 163920 557232 1081648 (tableF32In m (normalAt r)) (tableF32In m (hqAt r)) (tableF32In m (ultraAt r))
+    (now (b .args .set)) (u .write-part .last .1 .1 .1 .1 .0) (v .write-part2 .last .1 .1 .1 .1 .0)
+    (w .write-part3 .last .1 .1 .1 .1 .0)
+    (lit≤ tt) (lit≤ tt) (b .pre .1) (normal-long m r) (hq-long m r) (ultra-long m r) (u .write-part .ensures)
+    (v .write-part2 .ensures) (w .write-part3 .ensures)
 
 pub write-set-spec : {M : Type 1} → statement M
-write-set-spec = tie.close (tie.spec write-part-requires write-part-requires-2 write-part-requires-3 (λ c. search needs) returns)
+write-set-spec =
+    tie.close (tie.spec write-part-requires write-part-requires-2 write-part-requires-3 (λ c. search needs) returns)

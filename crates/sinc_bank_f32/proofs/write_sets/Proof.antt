@@ -24,7 +24,8 @@ abbrev set : Mode → Float → ℕ → List Float
 set mode top i = setIn mode (rateOf top (stepsOf top) (i + 1))
 
 -- a set of the bank has its own rate, which is in range
-own-rate : (top : Float) (n i : ℕ) (r : Float) → bankOk top ≡ true → n ≡ stepsOf top → i < n → r ≡ setRateOf top i → (r ≡ rateOf top (stepsOf top) (i + 1)) × (bankOk r ≡ true)
+own-rate : (top : Float) (n i : ℕ) (r : Float) → bankOk top ≡ true → n ≡ stepsOf top → i < n → r ≡ setRateOf top i
+    → (r ≡ rateOf top (stepsOf top) (i + 1)) × (bankOk r ≡ true)
 own-rate top n i r ok e h q =
     let own : r ≡ rateOf top (stepsOf top) (i + 1) = rw (ok, lt-ltb i (stepsOf top) (omega arith)) at q in
     (own, ap bankOk own ∙ set-in-range top ok (i + 1) (omega arith))
@@ -41,22 +42,36 @@ begun c = c .before .before .before
 below : (c : tie.In-loop Inv-loop μ-loop) → c .before .loop .i < begun c .args .n
 below c = c .loop-test .taken
 
-inside : (c : tie.In-loop Inv-loop μ-loop) → let a = begun c .args in c .before .loop .i * a .width + a .width ≤ length (now (a .sets))
-inside c = let a = begun c .args in omega (arith, row-end (set (a .mode) (a .max-rate)) (a .width) (a .n) (c .before .loop .i) (below c), begun c .pre .3)
+inside : (c : tie.In-loop Inv-loop μ-loop) → let a = begun c .args in
+    c .before .loop .i * a .width + a .width ≤ length (now (a .sets))
+inside c =
+    let a = begun c .args in
+    omega (
+      arith,
+      row-end (set (a .mode) (a .max-rate)) (a .width) (a .n) (c .before .loop .i) (below c),
+      begun c .pre .3,
+    )
 
 -- the rate that the code holds
-rate : (c : tie.After-set-rate Inv-loop μ-loop) → let a = begun (c .before) .args in (c .set-rate .result ≡ rateOf (a .max-rate) (stepsOf (a .max-rate)) (c .before .before .loop .i + 1)) × (bankOk (c .set-rate .result) ≡ true)
+rate : (c : tie.After-set-rate Inv-loop μ-loop) → let a = begun (c .before) .args in
+    (c .set-rate .result ≡ rateOf (a .max-rate) (stepsOf (a .max-rate)) (c .before .before .loop .i + 1))
+    × (bankOk (c .set-rate .result) ≡ true)
 rate c =
     let b = begun (c .before) in
-    own-rate (b .args .max-rate) (b .args .n) (c .before .before .loop .i) (c .set-rate .result) (b .pre .0) (b .pre .1) (below (c .before)) (c .set-rate .ensures)
+    own-rate (b .args .max-rate) (b .args .n) (c .before .before .loop .i) (c .set-rate .result) (b .pre .0) (b .pre .1)
+    (below (c .before)) (c .set-rate .ensures)
 
 write-set-requires : tie.Need-write-set-requires Inv-loop μ-loop
 write-set-requires c κs =
     let r = c .before in
     let l = r .before .before in
     let b = begun (r .before) in
-    let a = b .args in
-    (rate r .1, length-lent (set (a .mode) (a .max-rate)) (a .width) (a .n) (l .loop .sets) (l .loop .i) (l .loop .inv) (below (r .before)) ∙ b .pre .2)
+    let a = b .args in (
+      rate r .1,
+      length-lent (set (a .mode) (a .max-rate)) (a .width) (a .n) (l .loop .sets) (l .loop .i) (l .loop .inv)
+          (below (r .before))
+          ∙ b .pre .2,
+    )
 
 -- from the end of the loop's body back to its test
 abbrev turn : tie.After-slice-known2 Inv-loop μ-loop → tie.In-loop Inv-loop μ-loop
@@ -70,7 +85,9 @@ loop-again c =
     let l = i .before in
     let b = begun i in
     let a = b .args in
-    filled-more (set (a .mode) (a .max-rate)) (a .width) (a .n) (l .loop .sets) (l .loop .i) (l .loop .inv) (below i) (w .write-set .last .1 .0) (w .write-set .ensures ∙ ap (setIn (a .mode)) (rate r .0)) (set-long _ _ ∙ sym (b .pre .2))
+    filled-more (set (a .mode) (a .max-rate)) (a .width) (a .n) (l .loop .sets) (l .loop .i) (l .loop .inv) (below i)
+    (w .write-set .last .1 .0) (w .write-set .ensures ∙ ap (setIn (a .mode)) (rate r .0))
+    (set-long _ _ ∙ sym (b .pre .2))
 
 returns : tie.Need-returns Inv-loop μ-loop
 unfolding bankIn
@@ -78,7 +95,9 @@ returns c =
     let l = c .before in
     let b = l .before .before in
     let a = b .args in
-    filled (set (a .mode) (a .max-rate)) (a .width) (a .n) (l .loop .sets) (l .loop .i) (l .loop .inv) (omega (arith, c .loop-test .left, l .loop .inv .most)) ∙ ap (rows (set (a .mode) (a .max-rate))) (b .pre .1)
+    filled (set (a .mode) (a .max-rate)) (a .width) (a .n) (l .loop .sets) (l .loop .i) (l .loop .inv)
+    (omega (arith, c .loop-test .left, l .loop .inv .most))
+    ∙ ap (rows (set (a .mode) (a .max-rate))) (b .pre .1)
 
 pub write-sets-spec : {M : Type 1} → statement M
 write-sets-spec =

@@ -1,4 +1,5 @@
--- `sizes::times` meets its contract: a product fits exactly where one factor is at most the largest word over the other.
+-- `sizes::times` meets its contract: a product fits exactly where one factor is at most the largest word over the
+-- other.
 -- Assumes nothing.
 use borrow.Author.Needs.{needs}
 use Prim.Native.Nat.{ℕ, _≤_, _<_, _*_, _/_}

@@ -25,7 +25,8 @@ returns-2 c =
     let by = tagBy (start .args .wrapped) in
     let h = in-hand by b _ (w .walk .result) (p .part-of .result .now) _
     (l .low-first-u32 .ensures) (w .walk .ensures) (p .part-of .ensures) (t .tag-of .ensures) in
-    c .finish .ensures ∙ found-is by b (w .walk .result) _ _ h _ _ (c .before .before .is-wave2 .ensures) (c .before .within .ensures)
+    c .finish .ensures
+    ∙ found-is by b (w .walk .result) _ _ h _ _ (c .before .before .is-wave2 .ensures) (c .before .within .ensures)
 
 pub read-by-spec : {M : Type 1} → statement M
 read-by-spec =

@@ -16,7 +16,8 @@ returns-3 c =
     let sizes = c .before .before in
     let tests = sizes .before .before in
     simp (le-leb _ _ (tests .before .if1 .left), le-leb _ _ (tests .if2 .left))
-    (c .turn .ensures ∙ rw (c .before .riff-sought .ensures, sizes .before .low-first-u32 .ensures, sizes .low-first-u322 .ensures))
+    (c .turn .ensures
+    ∙ rw (c .before .riff-sought .ensures, sizes .before .low-first-u32 .ensures, sizes .low-first-u322 .ensures))
 
 pub turn-spec : {M : Type 1} → statement M
 turn-spec = tie.close

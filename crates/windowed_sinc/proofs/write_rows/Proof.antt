@@ -22,7 +22,8 @@ abbrev row : List Float → Settings → ℕ → List Float
 row window s = rowOf s (at window)
 
 abbrev Inv-loop : tie.InvT-loop
-Inv-loop table₀ settings window taps phases phase₀ table phase = Filled (row window settings) taps (phases + 1) table phase
+Inv-loop table₀ settings window taps phases phase₀ table phase =
+    Filled (row window settings) taps (phases + 1) table phase
 
 abbrev μ-loop : tie.MeasureT-loop
 μ-loop table₀ settings window taps phases phase₀ table phase = phases + 1 - phase
@@ -35,7 +36,8 @@ lent c = fitting _ _ (c .pre .0)
 abbrev begun : tie.In-loop Inv-loop μ-loop → tie.Start Inv-loop μ-loop
 begun c = c .before .before .before .before
 
-inside : (c : tie.In-loop Inv-loop μ-loop) → let s = begun c .args .settings in c .before .loop .phase * s .taps + s .taps ≤ length (now (begun c .args .table))
+inside : (c : tie.In-loop Inv-loop μ-loop) → let s = begun c .args .settings in
+    c .before .loop .phase * s .taps + s .taps ≤ length (now (begun c .args .table))
 inside c = row-inside (lent (begun c)) _ (omega (arith, c .loop-test .taken))
 
 loop-again : tie.Need-loop-again Inv-loop μ-loop
@@ -46,14 +48,22 @@ loop-again c =
     let s = b .args .settings in
     let v = now (b .args .window) in
     let p = l .loop .phase in
-    let w = length-lent (row v s) (s .taps) (s .phases + 1) (l .loop .table) p (l .loop .inv) (omega (arith, i .loop-test .taken)) in
-    filled-more (row v s) (s .taps) (s .phases + 1) (l .loop .table) p (l .loop .inv) (omega (arith, i .loop-test .taken)) _
-    (c .before .before .write-row .ensures ∙ row-lent s v (lentRow (s .taps) (l .loop .table) p) p (lent b .settings) (b .pre .1) (omega (arith, i .loop-test .taken)) w)
+    let w =
+    length-lent (row v s) (s .taps) (s .phases + 1) (l .loop .table) p (l .loop .inv)
+    (omega (arith, i .loop-test .taken)) in
+    filled-more (row v s) (s .taps) (s .phases + 1) (l .loop .table) p (l .loop .inv)
+    (omega (arith, i .loop-test .taken)) _
+    (c .before .before .write-row .ensures
+    ∙ row-lent s v (lentRow (s .taps) (l .loop .table) p) p (lent b .settings) (b .pre .1)
+    (omega (arith, i .loop-test .taken)) w)
     (length-row s (at v) p)
 
 returns : tie.Need-returns Inv-loop μ-loop
 unfolding tableUnder
-returns c = let l = c .before in filled _ _ _ (l .loop .table) (l .loop .phase) (l .loop .inv) (omega (arith, c .loop-test .left, l .loop .inv .most))
+returns c =
+    let l = c .before in
+    filled _ _ _ (l .loop .table) (l .loop .phase) (l .loop .inv)
+    (omega (arith, c .loop-test .left, l .loop .inv .most))
 
 pub write-rows-spec : {M : Type 1} → statement M
 write-rows-spec =

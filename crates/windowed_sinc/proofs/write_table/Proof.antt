@@ -1,4 +1,5 @@
--- `windowed_sinc::write_table` meets its contract: the front of the scratch is Kaiser's window, and the rows are written under it. Assumes nothing.
+-- `windowed_sinc::write_table` meets its contract: the front of the scratch is Kaiser's window,
+-- and the rows are written under it. Assumes nothing.
 use borrow.Author.Needs.{needs}
 use mathlib.Core.Path.{_∙_}
 use native.Mathlib.Omega.{arith}

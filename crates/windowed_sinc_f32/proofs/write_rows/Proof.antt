@@ -23,7 +23,8 @@ abbrev row : List Float → Settings → ℕ → List Float
 row window s phase = map narrowed (rowOf s (at window) phase)
 
 abbrev Inv-loop : tie.InvT-loop
-Inv-loop table₀ settings window taps phases phase₀ table phase = Filled (row window settings) taps (phases + 1) table phase
+Inv-loop table₀ settings window taps phases phase₀ table phase =
+    Filled (row window settings) taps (phases + 1) table phase
 
 abbrev μ-loop : tie.MeasureT-loop
 μ-loop table₀ settings window taps phases phase₀ table phase = phases + 1 - phase
@@ -36,15 +37,20 @@ lent c = fitting _ _ (c .pre .0)
 abbrev begun : tie.In-loop Inv-loop μ-loop → tie.Start Inv-loop μ-loop
 begun c = c .before .before .before .before
 
-inside : (c : tie.In-loop Inv-loop μ-loop) → let s = begun c .args .settings in c .before .loop .phase * s .taps + s .taps ≤ length (now (begun c .args .table))
+inside : (c : tie.In-loop Inv-loop μ-loop) → let s = begun c .args .settings in
+    c .before .loop .phase * s .taps + s .taps ≤ length (now (begun c .args .table))
 inside c = row-inside (lent (begun c)) _ (omega (arith, c .loop-test .taken))
 
 write-row-requires : tie.Need-write-row-requires Inv-loop μ-loop
 write-row-requires c κs =
     let i = c .before in
     let b = begun i in
-    let l = i .before .loop in
-    (lent b .settings, b .pre .1, omega (arith, i .loop-test .taken), length-lent _ _ _ (l .table) (l .phase) (l .inv) (omega (arith, i .loop-test .taken)))
+    let l = i .before .loop in (
+      lent b .settings,
+      b .pre .1,
+      omega (arith, i .loop-test .taken),
+      length-lent _ _ _ (l .table) (l .phase) (l .inv) (omega (arith, i .loop-test .taken)),
+    )
 
 loop-again : tie.Need-loop-again Inv-loop μ-loop
 loop-again c =
@@ -52,7 +58,9 @@ loop-again c =
     let l = i .before .loop in
     let s = begun i .args .settings in
     let v = now (begun i .args .window) in
-    filled-more _ _ _ (l .table) (l .phase) (l .inv) (omega (arith, i .loop-test .taken)) _ (c .before .before .write-row .ensures) (length-map (rowOf s (at v) (l .phase)) narrowed ∙ length-row s (at v) (l .phase))
+    filled-more _ _ _ (l .table) (l .phase) (l .inv) (omega (arith, i .loop-test .taken)) _
+    (c .before .before .write-row .ensures)
+    (length-map (rowOf s (at v) (l .phase)) narrowed ∙ length-row s (at v) (l .phase))
 
 returns : tie.Need-returns Inv-loop μ-loop
 unfolding tableUnder
@@ -60,7 +68,9 @@ returns c =
     let l = c .before in
     let s = l .before .before .before .args .settings in
     let v = now (l .before .before .before .args .window) in
-    filled _ _ _ (l .loop .table) (l .loop .phase) (l .loop .inv) (omega (arith, c .loop-test .left, l .loop .inv .most)) ∙ sym (map-rows narrowed (rowOf s (at v)) (s .phases + 1))
+    filled _ _ _ (l .loop .table) (l .loop .phase) (l .loop .inv)
+    (omega (arith, c .loop-test .left, l .loop .inv .most))
+    ∙ sym (map-rows narrowed (rowOf s (at v)) (s .phases + 1))
 
 pub write-rows-spec : {M : Type 1} → statement M
 write-rows-spec =

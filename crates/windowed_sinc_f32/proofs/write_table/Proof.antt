@@ -1,4 +1,5 @@
--- `windowed_sinc_f32::write_table` meets its contract: the front of the scratch is Kaiser's window, and the rows are written under it. Assumes nothing.
+-- `windowed_sinc_f32::write_table` meets its contract: the front of the scratch is Kaiser's window,
+-- and the rows are written under it. Assumes nothing.
 use borrow.Author.Needs.{needs}
 use mathlib.Core.Path.{ap, _∙_}
 use mathlib.Core.List.{map}

@@ -24,4 +24,5 @@ pub weave-spec : {M : Type 1} → statement M
 weave-spec =
     tie.close
     (tie.spec Inv-loop μ-loop (λ c. unwritten) (λ c κs. search needs) (λ c. search needs) (λ c. search needs)
-    (λ c. search needs) loop-less loop-again (λ c. search needs) (λ c. all-written (c .before .loop .inv) (omega arith)))
+    (λ c. search needs) loop-less loop-again (λ c. search needs)
+    (λ c. all-written (c .before .loop .inv) (omega arith)))

@@ -1,4 +1,5 @@
--- `fugnadri_bank::modes::fugnadri_bank_build_in` meets its contract, by its two cases: a number that names a mode, and one that names none.
+-- `fugnadri_bank::modes::fugnadri_bank_build_in` meets its contract, by its two cases: a number that names a mode,
+-- and one that names none.
 -- Assumes nothing.
 use borrow.Author.Needs.{needs}
 use mathlib.Core.Path.{_≡_, refl, sym, _∙_}
@@ -9,7 +10,11 @@ returns : tie.Need-returns
 returns c =
     let n = c .before .before .before in
     let k = n .before .before in
-    rw (sym (k .before .before .known .ensures) ∙ k .before .if1 .taken, ← k .of-code .ensures, ← n .build-in .ensures .0)
+    rw (
+      sym (k .before .before .known .ensures) ∙ k .before .if1 .taken,
+      ← k .of-code .ensures,
+      ← n .build-in .ensures .0,
+    )
     (c .number .ensures, n .build-in .ensures .1)
 
 returns-2 : tie.Need-returns-2

@@ -1,4 +1,5 @@
--- `fugnadri_bank::modes::fugnadri_bank_build_set_in` meets its contract, by its two cases: a number that names a mode, and one that names none.
+-- `fugnadri_bank::modes::fugnadri_bank_build_set_in` meets its contract, by its two cases: a number that names a mode,
+-- and one that names none.
 -- Assumes nothing.
 use borrow.Author.Needs.{needs}
 use mathlib.Core.Path.{_≡_, refl, sym, _∙_}
@@ -9,7 +10,8 @@ returns : tie.Need-returns
 returns c =
     let n = c .before .before in
     let k = n .before .before in
-    rw (sym (k .before .before .known .ensures) ∙ k .before .if1 .taken, ← k .of-code .ensures) (n .build-set-in .ensures)
+    rw (sym (k .before .before .known .ensures) ∙ k .before .if1 .taken, ← k .of-code .ensures)
+    (n .build-set-in .ensures)
 
 returns-2 : tie.Need-returns-2
 returns-2 c = rw (sym (c .before .known .ensures) ∙ c .if1 .left) (refl, refl)
@@ -17,4 +19,5 @@ returns-2 c = rw (sym (c .before .known .ensures) ∙ c .if1 .left) (refl, refl)
 pub fugnadri-bank-build-set-in-spec : {M : Type 1} → statement M
 fugnadri-bank-build-set-in-spec =
     tie.close
-    (tie.spec (λ c κs. search needs) (λ c κs. search needs) (λ c κs. search needs) (λ c. search needs) returns returns-2)
+    (tie.spec (λ c κs. search needs) (λ c κs. search needs) (λ c κs. search needs)
+    (λ c. search needs) returns returns-2)

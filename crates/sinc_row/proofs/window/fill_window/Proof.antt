@@ -24,7 +24,9 @@ kaiser-requires c κs =
     (s .pre .0, omega arith, b .sum .ensures)
 
 mul-window : tie.Need-mul-window Inv-loop μ-loop
-mul-window c = let s = c .before .before .before .before .before in scaled-fits _ (length (now (s .args .window))) 8 (omega arith) (s .good .0 .1)
+mul-window c =
+    let s = c .before .before .before .before .before in
+    scaled-fits _ (length (now (s .args .window))) 8 (omega arith) (s .good .0 .1)
 
 returns : tie.Need-returns Inv-loop μ-loop
 returns c =

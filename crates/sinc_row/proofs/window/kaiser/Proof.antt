@@ -1,4 +1,5 @@
--- `sinc_row::window::kaiser` meets its contract: the counts are floats exactly, and each step's answer is the definition's. Assumes nothing.
+-- `sinc_row::window::kaiser` meets its contract: the counts are floats exactly, and each step's answer is the
+-- definition's. Assumes nothing.
 use borrow.Author.Needs.{needs}
 use Prim.Native.Nat.{_-_}
 use native.Mathlib.Omega.{arith}
@@ -19,7 +20,8 @@ sub-normalized : tie.Need-sub-normalized
 sub-normalized c = omega (arith, inside (c .before .before) .least-taps)
 
 int-to-float-normalized-2 : tie.Need-int-to-float-normalized-2
-int-to-float-normalized-2 c = let s = c .before .before .before in exact (s .args .settings .taps - 1) (omega (arith, inside s .most-taps))
+int-to-float-normalized-2 c =
+    let s = c .before .before .before in exact (s .args .settings .taps - 1) (omega (arith, inside s .most-taps))
 
 returns : tie.Need-returns
 unfolding windowIn ofBits
@@ -29,4 +31,6 @@ returns c =
     rw (c .sum .ensures, r .square-root .ensures, r .before .max .ensures, s .pre .2)
 
 pub kaiser-spec : {M : Type 1} → statement M
-kaiser-spec = tie.close (tie.spec int-to-float-normalized sub-normalized int-to-float-normalized-2 (λ c κs. search needs) (λ c κs. search needs) (λ c κs. search needs) returns)
+kaiser-spec =
+    tie.close (tie.spec int-to-float-normalized sub-normalized int-to-float-normalized-2 (λ c κs. search needs)
+    (λ c κs. search needs) (λ c κs. search needs) returns)

@@ -14,7 +14,8 @@ returns : tie.Need-returns
 returns c = rw (← c .before .window-ready .ensures, not-true (c .before .window-ready .result) (c .if1 .taken))
 
 -- what the test says
-passed : (c : tie.Else1) → let a = c .before .before .before .args in windowReady (a .settings) (length (now (a .window))) ≡ true
+passed : (c : tie.Else1) → let a = c .before .before .before .args in
+    windowReady (a .settings) (length (now (a .window))) ≡ true
 passed c = sym (c .before .window-ready .ensures) ∙ not-false _ (c .if1 .left)
 
 fill-window-requires : tie.Need-fill-window-requires
@@ -27,4 +28,5 @@ returns-2 : tie.Need-returns-2
 returns-2 c = let f = c .before .before in rw (passed (f .before .before)) (f .fill-window .ensures)
 
 pub write-window-in-spec : {M : Type 1} → statement M
-write-window-in-spec = tie.close (tie.spec (λ c κs. search needs) returns fill-window-requires (λ c. search needs) returns-2)
+write-window-in-spec =
+    tie.close (tie.spec (λ c κs. search needs) returns fill-window-requires (λ c. search needs) returns-2)

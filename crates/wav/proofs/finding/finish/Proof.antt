@@ -14,7 +14,9 @@ returns : tie.Need-returns
 returns c =
     let d = c .before in
     let a = d .before .before .before .before .before .args in
-    let e = in-order (a .wave) (a .inside) (a .tag) (a .f .now) (a .walked) (d .before .format-ok .ensures) (d .first .ensures) in
+    let e =
+    in-order (a .wave) (a .inside) (a .tag) (a .f .now) (a .walked) (d .before .format-ok .ensures)
+    (d .first .ensures) in
     refused _ (waveOf (a .tag) (a .f .now) (a .walked)) (c .if1 .taken)
     ∙ ap (λ (k : ℕ). answered k (waveOf (a .tag) (a .f .now) (a .walked))) e
 
@@ -23,16 +25,29 @@ cast-channels c =
     let u = c .before .before .before .before in
     let d = u .before in
     let a = d .before .before .before .before .before .args in
-    let e = in-order (a .wave) (a .inside) (a .tag) (a .f .now) (a .walked) (d .before .format-ok .ensures) (d .first .ensures) in
-    omega (arith, few-channels (a .wave) (a .inside) (a .tag) (a .f .now) (a .walked) (sym e ∙ u .if1 .left), c .before .two2 .ensures .0)
+    let e =
+    in-order (a .wave) (a .inside) (a .tag) (a .f .now) (a .walked) (d .before .format-ok .ensures)
+    (d .first .ensures) in
+    omega (
+      arith,
+      few-channels (a .wave) (a .inside) (a .tag) (a .f .now) (a .walked) (sym e ∙ u .if1 .left),
+      c .before .two2 .ensures .0,
+    )
 
 returns-2 : tie.Need-returns-2
 returns-2 c =
     let u = c .before .before .before .before in
     let d = u .before in
     let a = d .before .before .before .before .before .args in
-    let e = in-order (a .wave) (a .inside) (a .tag) (a .f .now) (a .walked) (d .before .format-ok .ensures) (d .first .ensures) in
-    rw (c .before .before .kind-of .ensures, c .before .before .before .two .ensures .0, c .before .two2 .ensures .0, c .low-first-u32 .ensures)
+    let e =
+    in-order (a .wave) (a .inside) (a .tag) (a .f .now) (a .walked) (d .before .format-ok .ensures)
+    (d .first .ensures) in
+    rw (
+      c .before .before .kind-of .ensures,
+      c .before .before .before .two .ensures .0,
+      c .before .two2 .ensures .0,
+      c .low-first-u32 .ensures,
+    )
     (taken _ (waveOf (a .tag) (a .f .now) (a .walked)) (sym e ∙ u .if1 .left))
 
 pub finish-spec : {M : Type 1} → statement M
