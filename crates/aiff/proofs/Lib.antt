@@ -1,0 +1,3 @@
+pub mod Names
+pub mod Passed
+pub mod InHand
