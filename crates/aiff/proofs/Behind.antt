@@ -47,7 +47,7 @@ unfolding isAiff
 small-refused b h = rw (lt-leb 4 (formSize b) h, and-false, and-false, and-false)
 
 -- where a file holds its FORM, the FORM's end is the walk's
-walk-held : (b : List ℕ) → 8 + formSize b ≤ length b
+pub walk-held : (b : List ℕ) → 8 + formSize b ≤ length b
     → walkIn b ≡ walkTo formSought (formChunk b) (8 + formSize b)
 walk-held b h =
     let e : endIn b (8 + formSize b) ≡ 8 + formSize b = omega arith in
