@@ -1,43 +1,51 @@
-/* fugnadri.h: every function that Fugnadri's static libraries export, for C.
+/* fugnadri.h: every function that Fugnadri's static libraries export, for C. Version 0.2.0.
  *
- * Libraries (x86-64, System V calls): libfugnadri.a, libfugnadri_wander.a, libfugnadri_numbers.a, libfugnadri_tables.a, libfugnadri_bank.a,
- * libfugnadri_wav.a, libfugnadri_wav_write.a, libfugnadri_aiff.a, libfugnadri_residual.a;
- * `rt staticlib NAME` makes each. They want `memset` and nothing else of a C library, allocate nothing, keep nothing between calls and may be called by
- * any thread that owns what it lends.
+ * The libraries are x86-64 code for Linux (System V calls), and `rt staticlib NAME` makes each: libfugnadri.a,
+ * libfugnadri_wander.a, libfugnadri_numbers.a, libfugnadri_tables.a, libfugnadri_bank.a, libfugnadri_wav.a,
+ * libfugnadri_wav_write.a, libfugnadri_aiff.a, libfugnadri_residual.a. They want `memset` and nothing else of a C
+ * library, allocate nothing, keep nothing between calls, and may be called by any thread that owns what it lends.
  *
- * Lent memory: a slice is a pointer to its first element and a length in elements. A pointer is never null (of an empty slice it may be any other
- * aligned address) and what is written through must not overlap anything else that is lent in the same call.
+ * Lent memory: a slice is a pointer to its first element and a length in elements. A pointer is never null; that of an
+ * empty slice may be any other aligned address. What is written through must not overlap anything else that is lent in
+ * the same call.
  *
- * Answers: where a function returns uint8_t, that is the refusal's number, 0 for none. A refused call writes 0 through each pointer to an answer (a
- * sample, a value, offsets, a choice of sets, a file's part or length) and leaves a state, also one that it was to open, and every lent element as they were.
- * Each function is proved to answer as said for all arguments.
+ * Answers: where a function returns uint8_t, that is the refusal's number, 0 for none. A refused call writes 0 through
+ * each pointer to an answer (a sample, a value, offsets, a choice of sets, a file's part or length). It leaves a state,
+ * also one that it was to open, and every lent element as they were. Each function is proved to answer as said for all
+ * arguments.
  *
- *   1  a setting or an argument is outside its range      5  the delay is NaN, infinite or below zero
- *   2  a lent ring or table has not the needed length     6  the delay is above 2^36
- *   3  a field of the state is outside its range          7  the playback rate is NaN
- *   4  the input sample is NaN or infinite                8  2^36 samples were accepted already
- *
+ *   1  a setting or an argument is outside its range
+ *   2  a lent ring, table, bank or stretch has not the needed length
+ *   3  a field of the state is outside its range
+ *   4  the input sample is NaN or infinite
+ *   5  the delay is NaN, infinite or below zero
+ *   6  the delay is above 2^36
+ *   7  the playback rate is NaN
+ *   8  2^36 samples were accepted already
  *   9  the file is not RIFF WAVE, or its RIFF size is under 4
  *  10  a chunk of the file, or its RIFF or FORM, runs past the end
  *  11  the file has no `fmt ` before its first `data`
  *  12  the file has no `data`
- *  13  the samples are of a kind that is not read or written, the file's `fmt ` is under 16 bytes, or its sizes do not agree
- *  14  the buffer is shorter than the file
- *  15  a sample is out of range or NaN
- *
+ *  13  the samples are of a kind that is not read or written, the file's `fmt ` is under 16 bytes, or its sizes do not
+ *      agree
+ *  14  the buffer is shorter than the file that is to be written
+ *  15  a sample that is to be written is NaN or does not fit
  *  20  the file is not AIFF, or its FORM size is under 4
  *  21  `COMM` or `SSND` is missing or too short, its offset lies past the end, or it has fewer frames than it says
- *  22  the rate is not a whole number from 8000 to 768000
+ *  22  the AIFF's rate is not a whole number from 8000 to 768000
  *
- * They are tested in this order, but for an AIFF file: 20, 10, 21, 13, 21 for the frames, 22. `maximum`, `margin`, taps, phases, rates and the fade length are settings (1) wherever they are handed in.
- * Of the NaNs only two patterns are handed out, as a float too: 7FF8000000000000, and 7FC00000 for float. A name that ends
- * in _bits is the same call with floats as IEEE 754 patterns.
+ * They are tested in this order, and the first that is due is given; of an AIFF file in the order 20, 10, 21, 13, 21
+ * for the frames, 22. `maximum`, `margin`, taps, phases, rates and the fade length are settings (1) wherever they are
+ * handed in. Of the NaNs only two patterns are handed out, as a float too: 7FF8000000000000, and 7FC00000 for float. A
+ * name that ends in _bits is the same call with floats as IEEE 754 patterns.
  */
 #ifndef FUGNADRI_H
 #define FUGNADRI_H
 
 #include <stddef.h>
 #include <stdint.h>
+
+#define FUGNADRI_VERSION "0.2.0"
 
 #ifdef __cplusplus
 extern "C" {
@@ -64,37 +72,50 @@ enum {
     FUGNADRI_SOUND_RATE = 22
 };
 
-/* ---- libfugnadri.a: delay readers without a table ----------------------------------------------------------------------------------------
+/* ---- libfugnadri.a: delay readers without a table -------------------------------------------------------------------
  *
- * A reader is `maximum` (the longest delay, in samples), `margin` (the kernel's), `accepted` (how many samples it has accepted) and a ring, whose
- * length is maximum + 2 * margin + 8 raised to the next power of two, at most 2^24. Open it once; hand the four on as the last call left them. */
+ * A reader is `maximum` (the longest delay, in samples), `margin` (the kernel's), `accepted` (how many samples it has
+ * accepted) and a ring, whose length is maximum + 2 * margin + 8 raised to the next power of two, at most 2^24. Open it
+ * once; hand the four on as the last call left them. */
 
 /* Zeroes the ring and the count. Refused by 1 or 2; reset by 3 too. */
 uint8_t fugnadri_open(size_t maximum, size_t margin, uint64_t *accepted, double *ring, size_t ring_len);
 uint8_t fugnadri_reset(size_t maximum, size_t margin, uint64_t *accepted, double *ring, size_t ring_len);
 
-/* One call: `input` is stored, `accepted` grows by 1, `*sample` is what the kernel reads `delay` samples behind it. Refused by 1 to 6 or 8.
- * cubic: four points. lagrange: `taps` even, 2 to 16, else 1. farrow8: eight points. */
-uint8_t fugnadri_cubic_process(size_t maximum, size_t margin, uint64_t *accepted, double *ring, size_t ring_len, double input, double delay, double *sample);
-uint8_t fugnadri_cubic_process_bits(size_t maximum, size_t margin, uint64_t *accepted, double *ring, size_t ring_len, double input, double delay, uint64_t *sample);
-uint8_t fugnadri_lagrange_process(size_t maximum, size_t margin, uint64_t *accepted, double *ring, size_t ring_len, double input, double delay, uint64_t taps, double *sample);
-uint8_t fugnadri_lagrange_process_bits(size_t maximum, size_t margin, uint64_t *accepted, double *ring, size_t ring_len, double input, double delay, uint64_t taps, uint64_t *sample);
-uint8_t fugnadri_farrow8_process(size_t maximum, size_t margin, uint64_t *accepted, double *ring, size_t ring_len, double input, double delay, double *sample);
-uint8_t fugnadri_farrow8_process_bits(size_t maximum, size_t margin, uint64_t *accepted, double *ring, size_t ring_len, double input, double delay, uint64_t *sample);
+/* One call: `input` is stored, `accepted` grows by 1, `*sample` is what the kernel reads `delay` samples behind it.
+ * Refused by 1 to 6 or 8. cubic: four points. lagrange: `taps` even, 2 to 16, else 1. farrow8: eight points. */
+uint8_t fugnadri_cubic_process(size_t maximum, size_t margin, uint64_t *accepted, double *ring, size_t ring_len,
+    double input, double delay, double *sample);
+uint8_t fugnadri_cubic_process_bits(size_t maximum, size_t margin, uint64_t *accepted, double *ring, size_t ring_len,
+    double input, double delay, uint64_t *sample);
+uint8_t fugnadri_lagrange_process(size_t maximum, size_t margin, uint64_t *accepted, double *ring, size_t ring_len,
+    double input, double delay, uint64_t taps, double *sample);
+uint8_t fugnadri_lagrange_process_bits(size_t maximum, size_t margin, uint64_t *accepted, double *ring, size_t ring_len,
+    double input, double delay, uint64_t taps, uint64_t *sample);
+uint8_t fugnadri_farrow8_process(size_t maximum, size_t margin, uint64_t *accepted, double *ring, size_t ring_len,
+    double input, double delay, double *sample);
+uint8_t fugnadri_farrow8_process_bits(size_t maximum, size_t margin, uint64_t *accepted, double *ring, size_t ring_len,
+    double input, double delay, uint64_t *sample);
 
-/* A kernel over a slice at a position from -2^36 to 2^36; before the start and past the end stands zero. `count` is source_len for a plain slice;
- * with another count the slice is a ring that has accepted so many samples. Refused by 1: the position, or the taps. */
+/* A kernel over a slice at a position from -2^36 to 2^36; before the start and past the end stands zero. `count` is
+ * source_len for a plain slice; with another count the slice is a ring that has accepted so many samples. Refused by 1:
+ * the position, or the taps. */
 uint8_t fugnadri_cubic_sample(const double *source, size_t source_len, uint64_t count, double position, double *sample);
-uint8_t fugnadri_cubic_sample_bits(const double *source, size_t source_len, uint64_t count, double position, uint64_t *sample);
-uint8_t fugnadri_lagrange_sample(const double *source, size_t source_len, uint64_t count, double position, uint64_t taps, double *sample);
-uint8_t fugnadri_lagrange_sample_bits(const double *source, size_t source_len, uint64_t count, double position, uint64_t taps, uint64_t *sample);
-uint8_t fugnadri_farrow8_sample(const double *source, size_t source_len, uint64_t count, double position, double *sample);
-uint8_t fugnadri_farrow8_sample_bits(const double *source, size_t source_len, uint64_t count, double position, uint64_t *sample);
+uint8_t fugnadri_cubic_sample_bits(const double *source, size_t source_len, uint64_t count, double position,
+    uint64_t *sample);
+uint8_t fugnadri_lagrange_sample(const double *source, size_t source_len, uint64_t count, double position,
+    uint64_t taps, double *sample);
+uint8_t fugnadri_lagrange_sample_bits(const double *source, size_t source_len, uint64_t count, double position,
+    uint64_t taps, uint64_t *sample);
+uint8_t fugnadri_farrow8_sample(const double *source, size_t source_len, uint64_t count, double position,
+    double *sample);
+uint8_t fugnadri_farrow8_sample_bits(const double *source, size_t source_len, uint64_t count, double position,
+    uint64_t *sample);
 
-/* ---- libfugnadri_wander.a: modulation ----------------------------------------------------------------------------------------------------
+/* ---- libfugnadri_wander.a: modulation -------------------------------------------------------------------------------
  *
- * The engine's state is 15 words: the sample rate, the two phases, then six for each generator; a float is its pattern. Sample rate 8000 to
- * 768000. A refusal by 1 is for an argument or the kept sample rate, by 3 for any other word. */
+ * The engine's state is 15 words: the sample rate, the two phases, then six for each generator; a float is its pattern.
+ * Sample rate 8000 to 768000. A refusal by 1 is for an argument or the kept sample rate, by 3 for any other word. */
 
 /* Refused by 1. The words may hold anything before; a refusal leaves them. */
 uint8_t fugnadri_engine_new(double sample_rate, uint64_t seed, uint64_t words[15]);
@@ -102,22 +123,28 @@ uint8_t fugnadri_engine_new(double sample_rate, uint64_t seed, uint64_t words[15
 uint8_t fugnadri_engine_set_sample_rate(uint64_t words[15], double sample_rate);
 uint8_t fugnadri_engine_set_seed(uint64_t words[15], uint64_t seed);
 uint8_t fugnadri_engine_reset(uint64_t words[15]);
-/* The two sides' delay offsets in samples, then one step. All eight finite, rates -1000 to 1000, depths -1200 to 1200; shapes are clamped to
- * -1..1, drift and stereo to 0..1. Refused by 1 or 3. */
-uint8_t fugnadri_engine_next(uint64_t words[15], double wow_rate_hz, double wow_depth_cents, double wow_shape, double flutter_rate_hz, double flutter_depth_cents, double flutter_shape, double drift_amount, double stereo_amount, double *left, double *right);
+/* The two sides' delay offsets in samples, then one step. All eight finite, rates -1000 to 1000, depths -1200 to 1200;
+ * shapes are clamped to -1..1, drift and stereo to 0..1. Refused by 1 or 3. */
+uint8_t fugnadri_engine_next(uint64_t words[15], double wow_rate_hz, double wow_depth_cents, double wow_shape,
+    double flutter_rate_hz, double flutter_depth_cents, double flutter_shape, double drift_amount, double stereo_amount,
+    double *left, double *right);
 
-/* What stands outside the engine; each refused by 1 alone. Depths, rates and sample rates as above; the phase of advance_phase at least 0 and below
- * 2 pi, the others' -51 to 51; min_rate_hz 0.001 to 1000; shape finite. An empty list of depths gives -0.0. */
+/* What stands outside the engine; each refused by 1 alone. Depths, rates and sample rates as above; the phase of
+ * advance_phase at least 0 and below 2 pi, the others' -51 to 51; min_rate_hz 0.001 to 1000; shape finite. An empty
+ * list of depths gives -0.0. */
 uint8_t fugnadri_speed_delta(double depth_cents, double *result);
 uint8_t fugnadri_advance_phase(double phase, double rate_hz, double sample_rate, double *result);
 uint8_t fugnadri_shape_primitive(double phase, double shape, double *result);
-uint8_t fugnadri_oscillator_delay(double phase, double rate_hz, double depth_cents, double shape, double sample_rate, double *result);
-uint8_t fugnadri_maximum_delay_excursion_samples(double max_depth_cents, double min_rate_hz, double sample_rate, double *result);
+uint8_t fugnadri_oscillator_delay(double phase, double rate_hz, double depth_cents, double shape, double sample_rate,
+    double *result);
+uint8_t fugnadri_maximum_delay_excursion_samples(double max_depth_cents, double min_rate_hz, double sample_rate,
+    double *result);
 uint8_t fugnadri_maximum_rate_delta(const double *depths_cents, size_t depths_cents_len, double *result);
 
-/* ---- libfugnadri_numbers.a: numbers -------------------------------------------------------------------------------------------------------- */
+/* ---- libfugnadri_numbers.a: numbers ------------------------------------------------------------------------------ */
 
-/* Sine and cosine of a magnitude up to 256, 2^x of one up to 1: refused by 1 beyond, and at NaN. _value hands the value out, 0.0 where refused. */
+/* Sine and cosine of a magnitude up to 256, 2^x of one up to 1: refused by 1 beyond, and at NaN. _value hands the value
+ * out, 0.0 where refused. */
 uint8_t fugnadri_sine(double x, double *result);
 double fugnadri_sine_value(double x);
 uint8_t fugnadri_cosine(double x, double *result);
@@ -159,131 +186,178 @@ double fugnadri_float_of(uint64_t n);
 uint32_t fugnadri_bits_of_f32(float a);
 float fugnadri_float_of_f32(uint32_t n);
 
-/* ---- libfugnadri_tables.a: the windowed sinc ---------------------------------------------------------------------------------------------
+/* ---- libfugnadri_tables.a: the windowed sinc ------------------------------------------------------------------------
  *
- * A table of taps and phases has (phases + 1) * taps elements. Taps even, 4 to 128; phases 2 to 4096; cutoff 1/1024 to 1; beta 0 to 20. */
+ * A table of taps and phases has (phases + 1) * taps elements. Taps even, 4 to 128; phases 2 to 4096; cutoff 1/1024 to
+ * 1; beta 0 to 20. */
 
 /* Build a table. for_max_rate: rate 1 to 2, passband above 0 to 1, cutoff = passband / max_rate. Refused by 1 or 2. */
-uint8_t fugnadri_windowed_sinc_new(size_t taps, size_t phases, double cutoff, double beta, double *table, size_t table_len);
-uint8_t fugnadri_windowed_sinc_for_max_rate(size_t taps, size_t phases, double max_rate, double passband, double beta, double *table, size_t table_len);
-uint8_t fugnadri_windowed_sinc_f32_new(size_t taps, size_t phases, double cutoff, double beta, float *table, size_t table_len);
-uint8_t fugnadri_windowed_sinc_f32_for_max_rate(size_t taps, size_t phases, double max_rate, double passband, double beta, float *table, size_t table_len);
+uint8_t fugnadri_windowed_sinc_new(size_t taps, size_t phases, double cutoff, double beta, double *table,
+    size_t table_len);
+uint8_t fugnadri_windowed_sinc_for_max_rate(size_t taps, size_t phases, double max_rate, double passband, double beta,
+    double *table, size_t table_len);
+uint8_t fugnadri_windowed_sinc_f32_new(size_t taps, size_t phases, double cutoff, double beta, float *table,
+    size_t table_len);
+uint8_t fugnadri_windowed_sinc_f32_for_max_rate(size_t taps, size_t phases, double max_rate, double passband,
+    double beta, float *table, size_t table_len);
 
 /* A table's reading of a slice, as the kernels' above. Refused by 1 or 2. */
-uint8_t fugnadri_windowed_sinc_sample(const double *table, size_t table_len, size_t taps, size_t phases, const double *source, size_t source_len, uint64_t count, double position, double *sample);
-uint8_t fugnadri_windowed_sinc_sample_bits(const double *table, size_t table_len, size_t taps, size_t phases, const double *source, size_t source_len, uint64_t count, double position, uint64_t *sample);
-uint8_t fugnadri_windowed_sinc_f32_sample(const float *table, size_t table_len, size_t taps, size_t phases, const float *source, size_t source_len, uint64_t count, double position, float *sample);
-uint8_t fugnadri_windowed_sinc_f32_sample_bits(const float *table, size_t table_len, size_t taps, size_t phases, const float *source, size_t source_len, uint64_t count, double position, uint32_t *sample);
+uint8_t fugnadri_windowed_sinc_sample(const double *table, size_t table_len, size_t taps, size_t phases,
+    const double *source, size_t source_len, uint64_t count, double position, double *sample);
+uint8_t fugnadri_windowed_sinc_sample_bits(const double *table, size_t table_len, size_t taps, size_t phases,
+    const double *source, size_t source_len, uint64_t count, double position, uint64_t *sample);
+uint8_t fugnadri_windowed_sinc_f32_sample(const float *table, size_t table_len, size_t taps, size_t phases,
+    const float *source, size_t source_len, uint64_t count, double position, float *sample);
+uint8_t fugnadri_windowed_sinc_f32_sample_bits(const float *table, size_t table_len, size_t taps, size_t phases,
+    const float *source, size_t source_len, uint64_t count, double position, uint32_t *sample);
 
 /* The readers over a table; a double reader is opened by fugnadri_open. Refused as the readers above. */
 uint8_t fugnadri_open_f32(size_t maximum, size_t margin, uint64_t *accepted, float *ring, size_t ring_len);
 uint8_t fugnadri_reset_f32(size_t maximum, size_t margin, uint64_t *accepted, float *ring, size_t ring_len);
-uint8_t fugnadri_windowed_sinc_process(size_t maximum, size_t margin, uint64_t *accepted, double *ring, size_t ring_len, double input, double delay, const double *table, size_t table_len, size_t taps, size_t phases, double *sample);
-uint8_t fugnadri_windowed_sinc_process_bits(size_t maximum, size_t margin, uint64_t *accepted, double *ring, size_t ring_len, double input, double delay, const double *table, size_t table_len, size_t taps, size_t phases, uint64_t *sample);
-uint8_t fugnadri_windowed_sinc_f32_process(size_t maximum, size_t margin, uint64_t *accepted, float *ring, size_t ring_len, float input, double delay, const float *table, size_t table_len, size_t taps, size_t phases, float *sample);
-uint8_t fugnadri_windowed_sinc_f32_process_bits(size_t maximum, size_t margin, uint64_t *accepted, float *ring, size_t ring_len, float input, double delay, const float *table, size_t table_len, size_t taps, size_t phases, uint32_t *sample);
+uint8_t fugnadri_windowed_sinc_process(size_t maximum, size_t margin, uint64_t *accepted, double *ring, size_t ring_len,
+    double input, double delay, const double *table, size_t table_len, size_t taps, size_t phases, double *sample);
+uint8_t fugnadri_windowed_sinc_process_bits(size_t maximum, size_t margin, uint64_t *accepted, double *ring,
+    size_t ring_len, double input, double delay, const double *table, size_t table_len, size_t taps, size_t phases,
+    uint64_t *sample);
+uint8_t fugnadri_windowed_sinc_f32_process(size_t maximum, size_t margin, uint64_t *accepted, float *ring,
+    size_t ring_len, float input, double delay, const float *table, size_t table_len, size_t taps, size_t phases,
+    float *sample);
+uint8_t fugnadri_windowed_sinc_f32_process_bits(size_t maximum, size_t margin, uint64_t *accepted, float *ring,
+    size_t ring_len, float input, double delay, const float *table, size_t table_len, size_t taps, size_t phases,
+    uint32_t *sample);
 
-/* ---- libfugnadri_bank.a: the bank, and the reader whose quality may change -----------------------------------------------------------------
+/* ---- libfugnadri_bank.a: the bank, and the reader whose quality may change ------------------------------------------
  *
- * A bank of a rate from 1 to 2 is fugnadri_bank_length(max_rate) floats: sets of 1081648, each with three tables. A quality is 0 Draft, 1 Normal,
- * 2 Hq, 3 Ultra. */
+ * A bank of a rate from 1 to 2 is fugnadri_bank_length(max_rate) floats: sets of 1081648, each with three tables. A
+ * quality is 0 Draft, 1 Normal, 2 Hq, 3 Ultra. */
 
-/* How many floats, how many sets (0 out of range), and the rate of a set, counted from 0 (0.0 where there is no such set). */
+/* How many floats, how many sets (0 out of range), and the rate of a set, counted from 0 (0.0 where there is no such
+ * set). */
 size_t fugnadri_bank_length(double max_rate);
 size_t fugnadri_bank_steps(double max_rate);
 double fugnadri_bank_set_rate(double max_rate, size_t set);
-/* Which sets a rate reads, counted from 0: `which` is 0 for the safe one alone, 1 for the tighter alone, 2 for both, mixed by `blend`. Refused by
- * 1 (max_rate) or 7 (rate), and then all four are zero. */
+/* Which sets a rate reads, counted from 0: `which` is 0 for the safe one alone, 1 for the tighter alone, 2 for both,
+ * mixed by `blend`. Refused by 1 (max_rate) or 7 (rate), and then all four are zero. */
 uint8_t fugnadri_bank_choose(double max_rate, double rate, size_t *safe, size_t *tighter, uint8_t *which, float *blend);
 /* Build one set of a rate, or the whole bank. Refused by 1 or 2. */
 uint8_t fugnadri_bank_build_set(double rate, float *set, size_t set_len);
 uint8_t fugnadri_bank_build(double max_rate, float *sets, size_t sets_len);
 
-/* A quality reader's state is a reader's and current, target, crossfade_position; crossfade_samples, 0 to 16777216, is the fade's length. Opening
- * is refused by 1 or 2, and then leaves the four as they were; reset by 3 too. */
-uint8_t fugnadri_quality_open(size_t maximum, size_t margin, uint8_t quality, uint32_t crossfade_samples, uint64_t *accepted, uint8_t *current, uint8_t *target, uint32_t *crossfade_position, float *ring, size_t ring_len);
-uint8_t fugnadri_quality_reset(size_t maximum, size_t margin, uint64_t *accepted, uint8_t *current, uint8_t *target, uint32_t *crossfade_position, uint32_t crossfade_samples, float *ring, size_t ring_len);
-/* One call at the bank's rate, or at a rate of its own, which is clamped. Refused by 1 to 6 or 8, with a rate of its own by 7 too; a refused call
- * forgets the quality that it asked for. */
-uint8_t fugnadri_quality_process(size_t maximum, size_t margin, uint64_t *accepted, uint8_t *current, uint8_t *target, uint32_t *crossfade_position, uint32_t crossfade_samples, float *ring, size_t ring_len, const float *sets, size_t sets_len, double max_rate, float input, double delay, uint8_t quality, float *sample);
-uint8_t fugnadri_quality_process_bits(size_t maximum, size_t margin, uint64_t *accepted, uint8_t *current, uint8_t *target, uint32_t *crossfade_position, uint32_t crossfade_samples, float *ring, size_t ring_len, const float *sets, size_t sets_len, double max_rate, float input, double delay, uint8_t quality, uint32_t *sample);
-uint8_t fugnadri_quality_process_rate_aware(size_t maximum, size_t margin, uint64_t *accepted, uint8_t *current, uint8_t *target, uint32_t *crossfade_position, uint32_t crossfade_samples, float *ring, size_t ring_len, const float *sets, size_t sets_len, double max_rate, float input, double delay, uint8_t quality, double playback_rate, float *sample);
-uint8_t fugnadri_quality_process_rate_aware_bits(size_t maximum, size_t margin, uint64_t *accepted, uint8_t *current, uint8_t *target, uint32_t *crossfade_position, uint32_t crossfade_samples, float *ring, size_t ring_len, const float *sets, size_t sets_len, double max_rate, float input, double delay, uint8_t quality, double playback_rate, uint32_t *sample);
+/* A quality reader's state is a reader's and current, target, crossfade_position; crossfade_samples, 0 to 16777216, is
+ * the fade's length. Opening is refused by 1 or 2, and then leaves the four as they were; reset by 3 too. */
+uint8_t fugnadri_quality_open(size_t maximum, size_t margin, uint8_t quality, uint32_t crossfade_samples,
+    uint64_t *accepted, uint8_t *current, uint8_t *target, uint32_t *crossfade_position, float *ring, size_t ring_len);
+uint8_t fugnadri_quality_reset(size_t maximum, size_t margin, uint64_t *accepted, uint8_t *current, uint8_t *target,
+    uint32_t *crossfade_position, uint32_t crossfade_samples, float *ring, size_t ring_len);
+/* One call at the bank's rate, or at a rate of its own, which is clamped. Refused by 1 to 6 or 8, with a rate of its
+ * own by 7 too; a refused call forgets the quality that it asked for. */
+uint8_t fugnadri_quality_process(size_t maximum, size_t margin, uint64_t *accepted, uint8_t *current, uint8_t *target,
+    uint32_t *crossfade_position, uint32_t crossfade_samples, float *ring, size_t ring_len, const float *sets,
+    size_t sets_len, double max_rate, float input, double delay, uint8_t quality, float *sample);
+uint8_t fugnadri_quality_process_bits(size_t maximum, size_t margin, uint64_t *accepted, uint8_t *current,
+    uint8_t *target, uint32_t *crossfade_position, uint32_t crossfade_samples, float *ring, size_t ring_len,
+    const float *sets, size_t sets_len, double max_rate, float input, double delay, uint8_t quality, uint32_t *sample);
+uint8_t fugnadri_quality_process_rate_aware(size_t maximum, size_t margin, uint64_t *accepted, uint8_t *current,
+    uint8_t *target, uint32_t *crossfade_position, uint32_t crossfade_samples, float *ring, size_t ring_len,
+    const float *sets, size_t sets_len, double max_rate, float input, double delay, uint8_t quality,
+    double playback_rate, float *sample);
+uint8_t fugnadri_quality_process_rate_aware_bits(size_t maximum, size_t margin, uint64_t *accepted, uint8_t *current,
+    uint8_t *target, uint32_t *crossfade_position, uint32_t crossfade_samples, float *ring, size_t ring_len,
+    const float *sets, size_t sets_len, double max_rate, float input, double delay, uint8_t quality,
+    double playback_rate, uint32_t *sample);
 
-/* ---- libfugnadri_wav.a: RIFF WAVE files ----------------------------------------------------------------------------
+/* ---- libfugnadri_wav.a: RIFF WAVE files -----------------------------------------------------------------------------
  *
  * A file that lies in memory: `*start` and `*size` are the bytes of its first `data`, `*kind` is 0 for PCM of 16 bits,
  * 1 for PCM of 24, 2 for IEEE float of 32; `*channels` is 1 or 2. Refused by 9 to 13, and then all five are 0. */
-uint8_t fugnadri_wav_read(const uint8_t *file, size_t file_len, uint8_t *kind, uint8_t *channels, uint32_t *rate, size_t *start, size_t *size);
+uint8_t fugnadri_wav_read(const uint8_t *file, size_t file_len, uint8_t *kind, uint8_t *channels, uint32_t *rate,
+    size_t *start, size_t *size);
 
-/* The same, but that a kind wrapped as WAVE_FORMAT_EXTENSIBLE (tag FFFE, as sox and ffmpeg write 24 bits and more) is read by
- * the kind inside: a `fmt ` of 40 bytes or more, an extension of 22 or more, all bits valid, and the standard tail. */
-uint8_t fugnadri_wav_read_wrapped(const uint8_t *file, size_t file_len, uint8_t *kind, uint8_t *channels, uint32_t *rate, size_t *start, size_t *size);
+/* The same, but that a kind wrapped as WAVE_FORMAT_EXTENSIBLE (tag FFFE, as sox and ffmpeg write 24 bits and more) is
+ * read by the kind inside: a `fmt ` of 40 bytes or more, an extension of 22 or more, all bits valid, and the standard
+ * tail. */
+uint8_t fugnadri_wav_read_wrapped(const uint8_t *file, size_t file_len, uint8_t *kind, uint8_t *channels,
+    uint32_t *rate, size_t *start, size_t *size);
 
-/* What a file says of its samples, to explain a refusal: the size of its first `fmt `, the tag, channels, block size and bits
- * that stand there, and the size of its first `data`; zeros where there is none. It refuses nothing. */
-void fugnadri_wav_told(const uint8_t *file, size_t file_len, size_t *size, uint32_t *tag, uint32_t *channels, uint32_t *block, uint32_t *bits, size_t *samples);
+/* What a file says of its samples, to explain a refusal: the size of its first `fmt `, the tag, channels, block size
+ * and bits that stand there, and the size of its first `data`; zeros where there is none. It refuses nothing. */
+void fugnadri_wav_told(const uint8_t *file, size_t file_len, size_t *size, uint32_t *tag, uint32_t *channels,
+    uint32_t *block, uint32_t *bits, size_t *samples);
 
-/* One channel, counted from 0, of a part: PCM as whole multiples of 2^-15 or 2^-23, float as it is stored. `out` has an element
- * for each frame. Refused by 1 (kind, channels, channel) or 2 (broken frames, or another number of them), and then nothing
- * is written. */
-uint8_t fugnadri_wav_samples(uint8_t kind, uint8_t channels, uint8_t channel, const uint8_t *part, size_t part_len, double *out, size_t out_len);
-uint8_t fugnadri_wav_samples_f32(uint8_t kind, uint8_t channels, uint8_t channel, const uint8_t *part, size_t part_len, float *out, size_t out_len);
+/* One channel, counted from 0, of a part: PCM as whole multiples of 2^-15 or 2^-23, float as it is stored. `out` has an
+ * element for each frame. Refused by 1 (kind, channels, channel) or 2 (broken frames, or another number of them), and
+ * then nothing is written. */
+uint8_t fugnadri_wav_samples(uint8_t kind, uint8_t channels, uint8_t channel, const uint8_t *part, size_t part_len,
+    double *out, size_t out_len);
+uint8_t fugnadri_wav_samples_f32(uint8_t kind, uint8_t channels, uint8_t channel, const uint8_t *part, size_t part_len,
+    float *out, size_t out_len);
 
-/* The same as whole numbers in units of 2^-23, as the residual takes them: 24 bits as they are stored, 16 bits times 256. A
- * float's kind is refused by 1. */
-uint8_t fugnadri_wav_whole(uint8_t kind, uint8_t channels, uint8_t channel, const uint8_t *part, size_t part_len, int32_t *out, size_t out_len);
+/* The same as whole numbers in units of 2^-23, as the residual takes them: 24 bits as they are stored, 16 bits times
+ * 256. A float's kind is refused by 1. */
+uint8_t fugnadri_wav_whole(uint8_t kind, uint8_t channels, uint8_t channel, const uint8_t *part, size_t part_len,
+    int32_t *out, size_t out_len);
 
-/* ---- libfugnadri_aiff.a: AIFF files -----------------------------------------------------------------------------------
+/* ---- libfugnadri_aiff.a: AIFF files ---------------------------------------------------------------------------------
  *
- * A file that lies in memory: `*start` and `*size` are the bytes of its frames, behind the offset of its first `SSND`; `*kind`
- * is 0 for PCM of 16 bits, 1 for PCM of 24, the high byte first; `*channels` is 1 or 2, `*rate` 8000 to 768000. AIFC is not
- * read. Refused by 20, 10, 21, 13, 21 (frames) or 22, and then all five are 0. */
-uint8_t fugnadri_aiff_read(const uint8_t *file, size_t file_len, uint8_t *kind, uint8_t *channels, uint32_t *rate, size_t *start, size_t *size);
+ * A file that lies in memory: `*start` and `*size` are the bytes of its frames, behind the offset of its first `SSND`;
+ * `*kind` is 0 for PCM of 16 bits, 1 for PCM of 24, the high byte first; `*channels` is 1 or 2, `*rate` 8000 to 768000.
+ * AIFC is not read. Refused by 20, 10, 21, 13, 21 (frames) or 22, and then all five are 0. */
+uint8_t fugnadri_aiff_read(const uint8_t *file, size_t file_len, uint8_t *kind, uint8_t *channels, uint32_t *rate,
+    size_t *start, size_t *size);
 
-/* What a file says of its samples, to explain a refusal: the size of its first `COMM`, the channels, frames and bits that stand
- * there, the rate as it stands (its sign and exponent, its digits), the size of its first `SSND` and its offset; zeros where
- * there is none. It refuses nothing. */
-void fugnadri_aiff_told(const uint8_t *file, size_t file_len, size_t *comm, uint32_t *channels, uint32_t *frames, uint32_t *bits, uint32_t *exponent, uint64_t *digits, size_t *ssnd, uint32_t *offset);
+/* What a file says of its samples, to explain a refusal: the size of its first `COMM`, the channels, frames and bits
+ * that stand there, the rate as it stands (its sign and exponent, its digits), the size of its first `SSND` and its
+ * offset; zeros where there is none. It refuses nothing. */
+void fugnadri_aiff_told(const uint8_t *file, size_t file_len, size_t *comm, uint32_t *channels, uint32_t *frames,
+    uint32_t *bits, uint32_t *exponent, uint64_t *digits, size_t *ssnd, uint32_t *offset);
 
-/* One channel, counted from 0, of such a part, as whole multiples of 2^-15 or 2^-23, and as whole numbers in units of 2^-23, as
- * the residual takes them. `out` has an element for each frame. Refused by 1 (kind, a float's among them, channels, channel)
- * or 2 (broken frames, or another number of them), and then nothing is written. */
-uint8_t fugnadri_aiff_samples(uint8_t kind, uint8_t channels, uint8_t channel, const uint8_t *part, size_t part_len, double *out, size_t out_len);
-uint8_t fugnadri_aiff_samples_f32(uint8_t kind, uint8_t channels, uint8_t channel, const uint8_t *part, size_t part_len, float *out, size_t out_len);
-uint8_t fugnadri_aiff_whole(uint8_t kind, uint8_t channels, uint8_t channel, const uint8_t *part, size_t part_len, int32_t *out, size_t out_len);
+/* One channel, counted from 0, of such a part: as whole multiples of 2^-15 or 2^-23, and as whole numbers in units of
+ * 2^-23, as the residual takes them. `out` has an element for each frame. Refused by 1 (kind, a float's among them,
+ * channels, channel) or 2 (broken frames, or another number of them), and then nothing is written. */
+uint8_t fugnadri_aiff_samples(uint8_t kind, uint8_t channels, uint8_t channel, const uint8_t *part, size_t part_len,
+    double *out, size_t out_len);
+uint8_t fugnadri_aiff_samples_f32(uint8_t kind, uint8_t channels, uint8_t channel, const uint8_t *part, size_t part_len,
+    float *out, size_t out_len);
+uint8_t fugnadri_aiff_whole(uint8_t kind, uint8_t channels, uint8_t channel, const uint8_t *part, size_t part_len,
+    int32_t *out, size_t out_len);
 
 /* ---- libfugnadri_wav_write.a: RIFF WAVE files written ---------------------------------------------------------------
  *
- * `kind` is as above, the rate 8000 to 768000, the channels 1 or 2. Samples are those of all channels, frame by frame. Each is
- * rounded to nearest, ties to even: PCM to whole multiples of 2^-15 or 2^-23, float to 32 bits. One that is NaN, or whose
- * rounded value does not fit (PCM: -1 to just below 1; float: infinite), is refused by 15 and not clipped. */
+ * `kind` is as above, the rate 8000 to 768000, the channels 1 or 2. Samples are those of all channels, frame by frame.
+ * Each is rounded to nearest, ties to even: PCM to whole multiples of 2^-15 or 2^-23, float to 32 bits. One that is
+ * NaN, or whose rounded value does not fit (PCM: -1 to just below 1; float: infinite), is refused by 15 and not
+ * clipped. */
 
-/* How long the file of `count` samples is, over all channels: 44 bytes of header for PCM, 58 for float, the samples, and a pad
- * byte behind an odd number of bytes. 0 where it is refused by 1 or 13 whatever the rate. */
+/* How long the file of `count` samples is, over all channels: 44 bytes of header for PCM, 58 for float, the samples,
+ * and a pad byte behind an odd number of bytes. 0 where it is refused by 1 or 13 whatever the rate. */
 size_t fugnadri_wav_file_length(uint8_t kind, uint8_t channels, size_t count);
 
-/* The file into `out`; `*written` is its length, and what stands behind it stays as it was. Refused by 1 (the rate, broken
- * frames, a file past 32 bits), 13 (the kind, the channels), 14 (`out` is shorter than the file) or 15, in this order, and
- * then nothing is written but 0 to `*written`. */
-uint8_t fugnadri_wav_write(uint8_t kind, uint8_t channels, uint32_t rate, const double *samples, size_t samples_len, uint8_t *out, size_t out_len, size_t *written);
-uint8_t fugnadri_wav_write_f32(uint8_t kind, uint8_t channels, uint32_t rate, const float *samples, size_t samples_len, uint8_t *out, size_t out_len, size_t *written);
+/* The file into `out`; `*written` is its length, and what stands behind it stays as it was. Refused by 1 (the rate,
+ * broken frames, a file past 32 bits), 13 (the kind, the channels), 14 (`out` is shorter than the file) or 15, in this
+ * order, and then nothing is written but 0 to `*written`. */
+uint8_t fugnadri_wav_write(uint8_t kind, uint8_t channels, uint32_t rate, const double *samples, size_t samples_len,
+    uint8_t *out, size_t out_len, size_t *written);
+uint8_t fugnadri_wav_write_f32(uint8_t kind, uint8_t channels, uint32_t rate, const float *samples, size_t samples_len,
+    uint8_t *out, size_t out_len, size_t *written);
 
-/* The same piece by piece: the bytes before `count` samples, into 44 or 58 bytes (refused by 1, 2 or 13), then block by block
- * the samples, into 2, 3 or 4 bytes each (refused by 2, 13 or 15; an unknown kind has no length that could be wrong). A pad
- * byte behind an odd number of bytes is the caller's. A refused call writes nothing. */
+/* The same piece by piece: the bytes before `count` samples, into 44 or 58 bytes (refused by 1, 2 or 13), then block by
+ * block the samples, into 2, 3 or 4 bytes each (refused by 2, 13 or 15; an unknown kind has no length that could be
+ * wrong). A pad byte behind an odd number of bytes is the caller's. A refused call writes nothing. */
 uint8_t fugnadri_wav_header(uint8_t kind, uint8_t channels, uint32_t rate, size_t count, uint8_t *out, size_t out_len);
 uint8_t fugnadri_wav_store(uint8_t kind, const double *samples, size_t samples_len, uint8_t *out, size_t out_len);
 uint8_t fugnadri_wav_store_f32(uint8_t kind, const float *samples, size_t samples_len, uint8_t *out, size_t out_len);
 
-/* ---- libfugnadri_residual.a: the residual in whole numbers ---------------------------------------------------------------------------------
+/* ---- libfugnadri_residual.a: the residual in whole numbers ----------------------------------------------------------
  *
- * A report: how many samples were compared, the largest absolute difference, whether it has a place (0 or 1) and the place where it stands first,
- * counted from 0 at the first sample of all calls, and the sum of the squared differences as high * 2^64 + low. Start with six zeros; hand the six
- * on as the last call left them; cutting the stretches differently gives the same report. Refused by 1 (a value outside -2^23 to 2^23 - 1), 2
- * (unequal lengths), 3 (the report: number above 2^36, largest above 2^24 - 1, a place when empty, one missing or not below the number when not, or
- * a sum outside largest squared to number * largest squared) or 8 (past 2^36 samples), in this order, and then the six are as they were. */
-uint8_t fugnadri_residual_compare(uint64_t *number, uint32_t *largest, uint8_t *placed, uint64_t *place, uint64_t *high, uint64_t *low, const int32_t *a, size_t a_len, const int32_t *b, size_t b_len);
+ * A report: how many samples were compared, the largest absolute difference, whether it has a place (0 or 1) and the
+ * place where it stands first, counted from 0 at the first sample of all calls, and the sum of the squared differences
+ * as high * 2^64 + low. Start with six zeros; hand the six on as the last call left them; cutting the stretches
+ * differently gives the same report. Refused by 1 (a value outside -2^23 to 2^23 - 1), 2 (unequal lengths), 3 (the
+ * report: number above 2^36, largest above 2^24 - 1, a place when empty, one missing or not below the number when not,
+ * or a sum outside largest squared to number * largest squared) or 8 (past 2^36 samples), in this order, and then the
+ * six are as they were. */
+uint8_t fugnadri_residual_compare(uint64_t *number, uint32_t *largest, uint8_t *placed, uint64_t *place, uint64_t *high,
+    uint64_t *low, const int32_t *a, size_t a_len, const int32_t *b, size_t b_len);
 
 #ifdef __cplusplus
 }

@@ -1,5 +1,6 @@
-# oracle/rust.sh: what oracle/run, oracle/store, bench/run and host/test share. Sourced, with `root` (the repository) and `me` (the command) set.
-# Builds Rust for x86-64 and runs it: plainly on x86-64, by oracle/fetch-rust and the kit's emulator on Arm. Writes below target/oracle alone.
+# oracle/rust.sh: what oracle/run, oracle/store, bench/run and host/test share. Sourced, with `root` (the repository)
+# and `me` (the command) set. Builds Rust for x86-64 and runs it: plainly on x86-64, by oracle/fetch-rust and the kit's
+# emulator on Arm. Writes below target/oracle alone.
 
 out=$root/target/oracle
 # cargo's release profile: opt-level 3, no fast-math, no target features beyond x86-64's own
@@ -90,7 +91,8 @@ build_host() {
     build rlib host "$root/host/src/lib.rs" --cfg compare -L "native=$root/target/staticlib" $(doors | sed 's/^/-l static=/')
 }
 
-# The original, in release mode, from a copy below target/ with the edits that docs/ORACLE.md lists: as the crate `wow_dsp`.
+# The original, in release mode, as the crate `wow_dsp`: from a copy below target/ with the edits that docs/ORACLE.md
+# lists.
 build_original() {
     copy=$out/original
     rm -rf "$copy" && mkdir -p "$copy"

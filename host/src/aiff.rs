@@ -1,8 +1,8 @@
 //! AIFF files that lie in memory: the part that holds samples, what they are, and each channel's samples.
 //!
-//! [`read`] takes big-endian PCM of 16 and 24 bits, of one or two channels, at a rate that is a whole number from 8000 to
-//! 768000. AIFC is refused by 20, any other file by 10, 13, 21 or 22; [`told`] says what it tells of itself. What a sample
-//! is worth is what it is in a WAV file.
+//! [`read`] takes big-endian PCM of 16 and 24 bits, of one or two channels, at a rate that is a whole number from 8000
+//! to 768000. AIFC is refused by 20, any other file by 10, 13, 21 or 22; [`told`] says what it tells of itself. What a
+//! sample is worth is what it is in a WAV file.
 
 use crate::{boundary as b, wav::SampleKind, Refusal};
 
@@ -38,8 +38,8 @@ impl Sound<'_> {
         self.part.len().checked_div(self.kind.width() * usize::from(self.channels)).unwrap_or(0)
     }
 
-    /// A channel's samples, counted from 0, as whole multiples of 2^-15 or 2^-23. A channel that is not there is refused
-    /// by 1, and so is a float kind, which no AIFF has.
+    /// A channel's samples, counted from 0, as whole multiples of 2^-15 or 2^-23. A channel that is not there is
+    /// refused by 1, and so is a float kind, which no AIFF has.
     pub fn channel(&self, channel: u8) -> Result<Vec<f64>, Refusal> {
         self.filled(channel, b::aiff_samples)
     }

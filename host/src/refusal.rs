@@ -1,4 +1,5 @@
-//! Why a call was refused: 01's numbers 1 to 8, and those of document 02's Wishes: 9 to 15 of WAV files, 20 to 22 of AIFF.
+//! Why a call was refused: 01's numbers 1 to 8, and those of document 02's Wishes: 9 to 15 of WAV files, 20 to 22 of
+//! AIFF.
 
 use std::{error::Error, fmt};
 
@@ -38,7 +39,8 @@ pub enum Refusal {
     Sample = 15,
     /// The file is not AIFF, or its FORM size is under 4.
     NotAiff = 20,
-    /// The AIFF's `COMM` or `SSND` is missing or too short, its offset lies past the end, or it has fewer frames than it says.
+    /// The AIFF's `COMM` or `SSND` is missing or too short, its offset lies past the end, or it has fewer frames than
+    /// it says.
     Sound = 21,
     /// The AIFF's rate is not a whole number from 8000 to 768000.
     SoundRate = 22,
@@ -96,14 +98,14 @@ impl fmt::Display for Refusal {
             NoFormat => "the file does not say what its samples are, before them: save it anew as WAV",
             NoData => "the file has no samples: save it anew as WAV",
             Kind => {
-                "the file's samples are of another kind, or its sizes do not agree (`wav::told` or `aiff::told` says what it \
-                 tells): save it as PCM of 16 or 24 bits or float of 32, one or two channels"
+                "the file's samples are of another kind, or its sizes do not agree (`wav::told` or `aiff::told` says \
+                 what it tells): save it as PCM of 16 or 24 bits or float of 32, one or two channels"
             }
             Room => "the buffer is shorter than the file: lend as many bytes as `wav::file_length` says",
             NotAiff => "the file is not AIFF: hand in an AIFF file from its first byte on, and no AIFC",
             Sound => {
-                "the file does not say what its samples are, or has fewer of them than it says (`aiff::told` says what it \
-                 tells): save it anew as AIFF"
+                "the file does not say what its samples are, or has fewer of them than it says (`aiff::told` says what \
+                 it tells): save it anew as AIFF"
             }
             SoundRate => "the file's rate is not a whole number from 8000 to 768000: save it anew at such a rate",
             Sample => {

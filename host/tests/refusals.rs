@@ -13,7 +13,10 @@ fn said<T>(call: impl FnOnce() -> T) -> String {
 #[test]
 fn each_says_its_number_and_what_to_do() {
     use Refusal::*;
-    let all = [Setting, Length, State, Input, Delay, LongDelay, Rate, Full, NotWave, Overrun, NoFormat, NoData, Kind];
+    let all = [
+        Setting, Length, State, Input, Delay, LongDelay, Rate, Full, NotWave, Overrun, NoFormat, NoData, Kind, Room,
+        Sample,
+    ];
     for (n, refusal) in all.into_iter().enumerate() {
         assert_eq!(usize::from(refusal.number()), n + 1);
         assert!(refusal.to_string().starts_with(&format!("refused by {}: ", n + 1)));

@@ -1,5 +1,5 @@
--- W12h, W12i. Bytes behind the FORM's end do not show, and neither do those of the `SSND`'s block size. By the walk, which
--- looks at nothing behind the end, and by the fields that are read. Assumes nothing.
+-- W12h, W12i. Bytes behind the FORM's end do not show, and neither do those of the `SSND`'s block size. By the walk,
+-- which looks at nothing behind the end, and by the fields that are read. Assumes nothing.
 use mathlib.Core.Path.{_≡_, refl, sym, ap, _∙_}
 use mathlib.Core.Bool.{Bool, true, false, not, _&&_}
 use mathlib.Core.List.{List, _++_}
@@ -21,7 +21,8 @@ use Rattle.wav.proofs.Alike.{same-part}
 use Rattle.wav.proofs.Passed.{both-hold}
 use Rattle.aiff.specs.declared.Found.{Found}
 use Rattle.aiff.specs.declared.Found.the-variants as found
-use Rattle.aiff.specs.Aiff.{formSize, walkIn, headOf, commOf, ssndOf, isAiff, within, testsOf, soundOf, answered, foundOf, foundIn}
+use Rattle.aiff.specs.Aiff.{formSize, walkIn, headOf, commOf, ssndOf, isAiff, within, testsOf, soundOf, answered}
+use Rattle.aiff.specs.Aiff.{foundOf, foundIn}
 
 -- W12i. The first four bytes of an `SSND` are all of it that counts.
 pub block-ignored : (aiff held : Bool) (end : ℕ) (c s t : List ℕ) (w : Walked) → take 4 s ≡ take 4 t
@@ -68,7 +69,8 @@ module _ (b c : List ℕ) (same : take (8 + formSize b) b ≡ take (8 + formSize
   walk-same =
       let s = size-same in
       walk-held b held
-      ∙ ap (λ (cs : List Chunk). seenOf formSought n (upTo formSought cs)) (same-chunks (formChunk b) (formChunk c) n alike 12)
+      ∙ ap (λ (cs : List Chunk). seenOf formSought n (upTo formSought cs))
+      (same-chunks (formChunk b) (formChunk c) n alike 12)
       ∙ ap (λ (k : ℕ). walkTo formSought (formChunk c) (8 + k)) s
       ∙ sym (walk-held c (omega arith))
 

@@ -1,5 +1,5 @@
--- What `read`, `chunks_told` and `finish` have in hand is what the definitions name, and an answer by its number. Assumes
--- nothing.
+-- What `read`, `chunks_told` and `finish` have in hand is what the definitions name, and an answer by its number.
+-- Assumes nothing.
 use mathlib.Core.Path.{_≡_, refl, sym, ap, _∙_}
 use mathlib.Core.Bool.{Bool, true, false, not, _&&_}
 use mathlib.Core.List.{List, [], _∷_}
@@ -18,7 +18,9 @@ use Rattle.sample_kind.specs.declared.SampleKind.{SampleKind}
 use Rattle.aiff.specs.declared.Found.the-variants as found
 use Rattle.aiff.specs.declared.Sound.{Sound}
 use Rattle.aiff.specs.declared.Told.{Told}
-use Rattle.aiff.specs.Aiff.{formSize, walkIn, headOf, commOf, ssndOf, channels, frames, bits, rate, offset, lengthOf, isAiff, inside, within, hasParts, listed, kindOf, testsOf, soundOf, soundIn, answered, foundOf, foundIn, toldIn}
+use Rattle.aiff.specs.Aiff.{formSize, walkIn, headOf, commOf, ssndOf, channels, frames, bits, rate, offset}
+use Rattle.aiff.specs.Aiff.{lengthOf, isAiff, inside, within, hasParts, listed, kindOf, testsOf, soundOf, soundIn}
+use Rattle.aiff.specs.Aiff.{answered, foundOf, foundIn, toldIn}
 
 pub refused : (k : ℕ) (f : Sound) → (k ≡ 0 → ⊥) → found.Refused k ≡ answered k f
 refused zero f h = absurd (h refl)
@@ -87,7 +89,8 @@ module _ (b : List ℕ) (w : Walked) (c s : List ℕ) (h : InHand b w c s) where
       → foundOf aiff (leb (8 + size) (length b)) (8 + size) c s w ≡ foundIn b
   found-is aiff size e k =
       rw (e, k, h .comm-is, h .ssnd-is)
-      (ap (λ (v : Walked). foundOf (isAiff b) (leb (8 + formSize b) (length b)) (8 + formSize b) (commOf b) (ssndOf b) v)
+      (ap
+      (λ (v : Walked). foundOf (isAiff b) (leb (8 + formSize b) (length b)) (8 + formSize b) (commOf b) (ssndOf b) v)
       (h .walk-is)
       ∙ ap (λ (t : Bool). answered (firstOf (testsOf (isAiff b) t (commOf b) (ssndOf b) (walkIn b))) (soundIn b))
       (inside-is b))

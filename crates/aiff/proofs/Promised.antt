@@ -22,7 +22,8 @@ use Rattle.sample_kind.specs.Kinds.{widthOf, frameOf}
 use Rattle.wav.proofs.Passed.{both-hold}
 use Rattle.aiff.specs.declared.Found.the-variants as found
 use Rattle.aiff.specs.declared.Sound.{Sound}
-use Rattle.aiff.specs.Aiff.{formSize, walkIn, commOf, ssndOf, channels, frames, bits, rate, kindOf, isAiff, within, tests, verdict, soundIn, answered, foundIn}
+use Rattle.aiff.specs.Aiff.{formSize, walkIn, commOf, ssndOf, channels, frames, bits, rate, kindOf, isAiff}
+use Rattle.aiff.specs.Aiff.{within, tests, verdict, soundIn, answered, foundIn}
 use Rattle.aiff.specs.Accepted.{Accepted}
 use Rattle.aiff.proofs.Passed.{all-passed}
 use Rattle.aiff.proofs.Once.{once}

@@ -70,8 +70,8 @@ lengthOf c = frames c * frameOf (kindOf (bits c)) (channels c)
 unfoldable pub isAiff : List ℕ → Bool
 isAiff b = leb 12 (length b) && (eqb (number 4 b 0) formId && (eqb (number 4 b 8) aiffId && leb 4 (formSize b)))
 
--- 10. No walked chunk runs past the end. Then the `SSND` does not either: that is asked apart, for a walk that is lent by
--- turns may be any.
+-- 10. No walked chunk runs past the end. Then the `SSND` does not either: that is asked apart, for a walk that is lent
+-- by turns may be any.
 abbrev pub inside : ℕ → Walked → Bool
 inside end w = not (w .overruns) && leb (w .samples .body + w .samples .size) end
 

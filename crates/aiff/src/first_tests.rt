@@ -19,10 +19,7 @@ pub fn is_aiff(file: &[u8]) -> bool
         file.len() >= 12,
         both(
             low_first_u32(file, 0) == 0x4d52_4f46,
-            both(
-                low_first_u32(file, 8) == 0x4646_4941,
-                four(file, 4) >= 4,
-            ),
+            both(low_first_u32(file, 8) == 0x4646_4941, four(file, 4) >= 4),
         ),
     )
 }

@@ -28,8 +28,8 @@ pub enum Found {
     Refused(u8),
 }
 
-// What the first `COMM` says, its size, the size of the first `SSND` and its offset; zeros where there is none. The rate
-// as it stands: the sign and the exponent, and the digits.
+// What the first `COMM` says, its size, the size of the first `SSND` and its offset; zeros where there is none. The
+// rate as it stands: the sign and the exponent, and the digits.
 pub struct Told {
     pub comm: usize,
     pub channels: u32,

@@ -1,5 +1,5 @@
--- W12f. A WAV and an AIFF of the same stored numbers give the same floats, in either format, and the same whole numbers:
--- what a number means is said once. Assumes nothing.
+-- W12f. A WAV and an AIFF of the same stored numbers give the same floats, in either format, and the same whole
+-- numbers: what a number means is said once. Assumes nothing.
 use mathlib.Core.Path.{_≡_, sym, ap, _∙_}
 use mathlib.Core.Bool.{Bool, true, true≢false}
 use mathlib.Core.List.{List}
@@ -30,8 +30,8 @@ same-sample f Float32 p a b at e = absurd (true≢false (sym p))
 module _ (kind : SampleKind) (pcm : wav.isPcm kind ≡ true) (channels channel n : ℕ) (a b : List ℕ)
     (long : length a ≡ length b)
     (same : (k : ℕ) → k < n
-        → bigNumber (widthOf kind) a (k * frameOf kind channels + frameOf kind channel)
-        ≡ number (widthOf kind) b (k * frameOf kind channels + frameOf kind channel)) where
+    → bigNumber (widthOf kind) a (k * frameOf kind channels + frameOf kind channel)
+    ≡ number (widthOf kind) b (k * frameOf kind channels + frameOf kind channel)) where
   pub same-floats : (f : Format) (xs : List Float)
       → filled f kind channels channel a n xs ≡ wave.filled f kind channels channel b n xs
   same-floats f xs =

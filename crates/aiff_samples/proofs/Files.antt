@@ -1,5 +1,5 @@
--- W12c at the file: where samples were found the part can be filled from, with a channel that is there and an element for
--- each frame. Assumes nothing.
+-- W12c at the file: where samples were found the part can be filled from, with a channel that is there and an element
+-- for each frame. Assumes nothing.
 use mathlib.Core.Path.{_≡_, refl, _∙_}
 use mathlib.Core.Bool.{Bool, true, false, cond}
 use mathlib.Core.List.{List}

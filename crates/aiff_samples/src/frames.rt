@@ -18,7 +18,8 @@ pub(crate) fn frames(kind: SampleKind, channels: u8, first: usize, part: &[u8], 
     requires { ⌜ (isPcm kind ≡ true) × Framed kind channels first (length (now part)) (length (now out)) ⌝ }
     ensures { λ _. ⌜
         now (out .exit)
-        ≡ framesOf (sampleOf binary64 kind (now (part .entry))) (frameOf kind channels) first (length (now (out .entry)))
+        ≡ framesOf (sampleOf binary64 kind (now (part .entry))) (frameOf kind channels) first
+        (length (now (out .entry)))
         ⌝ }
 {
     match kind {

@@ -1,5 +1,5 @@
-// W12. The samples of an AIFF's part, whose high byte comes first: one channel's, frame by frame, into a lent slice. What
-// a sample means is Wish 1's.
+// W12. The samples of an AIFF's part, whose high byte comes first: one channel's, frame by frame, into a lent slice.
+// What a sample means is Wish 1's.
 pub mod filling;
 mod frames; // the loops into f64, one for each kind
 mod frames_f32; // into f32

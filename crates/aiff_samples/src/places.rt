@@ -1,5 +1,5 @@
-// The number of two or three bytes at a place of the part, the high byte first, where all of them are there: no length is
-// tested, so that a loop over the frames is taken several samples at a time.
+// The number of two or three bytes at a place of the part, the high byte first, where all of them are there: no length
+// is tested, so that a loop over the frames is taken several samples at a time.
 ghost use mathlib.Core.Path.{_≡_};
 ghost use Prim.Native.Nat.{_+_, _≤_};
 ghost use lib.ListN.{length};

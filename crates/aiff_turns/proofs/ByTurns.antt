@@ -50,7 +50,8 @@ module _ (b : List ℕ) where
       let end = 8 + formSize b in
       let e = walks b end ∙ sym (walk-held b h) in
       ap (λ (w : Walked).
-      finishedOf w end (headOf 18 b (w .format .body) (w .format .size)) (headOf 8 b (w .samples .body) (w .samples .size)))
+      finishedOf w end (headOf 18 b (w .format .body) (w .format .size))
+      (headOf 8 b (w .samples .body) (w .samples .size)))
       e
       ∙ ap (λ (t : Bool). foundOf true t end (commOf b) (ssndOf b) (walkIn b)) (sym (le-leb end (length b) h))
       ∙ found-is b (walkIn b) (commOf b) (ssndOf b) (record { walk-is = refl; comm-is = refl; ssnd-is = refl }) true

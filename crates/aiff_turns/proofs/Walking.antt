@@ -1,5 +1,5 @@
--- The walk by turns: as long as 8 bytes are left each turn is a chunk more, and at the end it has seen what the whole walk
--- sees. By the law of a walk whose chunks are lent. Assumes nothing.
+-- The walk by turns: as long as 8 bytes are left each turn is a chunk more, and at the end it has seen what the whole
+-- walk sees. By the law of a walk whose chunks are lent. Assumes nothing.
 use mathlib.Core.Path.{_≡_, refl, ap, _∙_}
 use mathlib.Core.List.{List}
 use Prim.Native.Nat.{ℕ, _+_, _-_, _≤_, _<_}

@@ -1,5 +1,5 @@
--- W12. An AIFF file by turns: what its beginning tells, a chunk more by its first 8 bytes, and the answer from the walk and
--- the first bytes of `COMM` and `SSND`. Definitions only.
+-- W12. An AIFF file by turns: what its beginning tells, a chunk more by its first 8 bytes, and the answer from the walk
+-- and the first bytes of `COMM` and `SSND`. Definitions only.
 use Prim.Native.Nat.{ℕ, zero, suc, _+_, _-_}
 use mathlib.Core.Bool.{Bool, true, cond, _&&_}
 use mathlib.Core.List.{List, [], _∷_}
@@ -46,7 +46,8 @@ turnsOf b end = turnsBy (λ (w : Walking). turnedBy w end (take 8 (drop (end - w
 abbrev pub byTurns : ℕ → ℕ → List ℕ → Found
 byTurns zero end b =
     let w = turnsOf b end end (begun end) .seen in
-    finishedOf w end (headOf 18 b (w .format .body) (w .format .size)) (headOf 8 b (w .samples .body) (w .samples .size))
+    finishedOf w end (headOf 18 b (w .format .body) (w .format .size))
+    (headOf 8 b (w .samples .body) (w .samples .size))
 byTurns (suc k) end b = found.Refused (suc k)
 
 -- The answer, from what is lent turn by turn.

@@ -1,6 +1,6 @@
-// W12. An AIFF file read by turns, where it is too long to be held: its first 12 bytes and its length, then the 8 bytes at
-// the head of each chunk, then the first 18 bytes of `COMM` and the first 8 of `SSND`, fewer where they have fewer. The
-// answer is the one of the whole file.
+// W12. An AIFF file read by turns, where it is too long to be held: its first 12 bytes and its length, then the 8 bytes
+// at the head of each chunk, then the first 18 bytes of `COMM` and the first 8 of `SSND`, fewer where they have fewer.
+// The answer is the one of the whole file.
 ghost use mathlib.Core.Path.{_≡_};
 ghost use mathlib.Core.List.{[], _∷_};
 ghost use Rattle.refusal_order.specs.Order.{_unless_, firstOf};

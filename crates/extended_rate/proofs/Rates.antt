@@ -1,5 +1,5 @@
--- W12e. Which rate a number is, over the exponent of a 1: the only one that meets the equation, and none where no number
--- in range does. Then the two ways to an exponent of a 1: halving and doubling. Assumes nothing.
+-- W12e. Which rate a number is, over the exponent of a 1: the only one that meets the equation, and none where no
+-- number in range does. Then the two ways to an exponent of a 1: halving and doubling. Assumes nothing.
 use mathlib.Core.Path.{_≡_, refl, sym, ap, _∙_}
 use mathlib.Core.Logic.{_↔_}
 use mathlib.Core.Bool.{Bool, true, false, true≢false, cond, _&&_}

@@ -9,8 +9,8 @@ use lib.Dec.{eqb, leb, ltb}
 abbrev pub inRange : ℕ → Bool
 inRange rate = leb 8000 rate && leb rate 768000
 
--- A number is such a rate: no sign, in range, and the equation on whole numbers, over the exponent of a 1. An exponent of
--- ones, which infinity and the NaNs have, and digits that are not normalised need no word of their own.
+-- A number is such a rate: no sign, in range, and the equation on whole numbers, over the exponent of a 1. An exponent
+-- of ones, which infinity and the NaNs have, and digits that are not normalised need no word of their own.
 abbrev pub isRateBy : ℕ → ℕ → ℕ → ℕ → Bool
 isRateBy one field digits rate =
     ltb field 0x8000 && (inRange rate && eqb (digits * 2 ^ field) (rate * 2 ^ one))

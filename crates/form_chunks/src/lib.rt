@@ -1,5 +1,6 @@
-// W12. The walk over the chunks of an AIFF file: Wish 1's walk, with sizes whose high byte comes first. `COMM` and `SSND`
-// are sought, the first of each counts, and nothing ends the walk before the FORM does. Any bytes and any end are taken.
+// W12. The walk over the chunks of an AIFF file: Wish 1's walk, with sizes whose high byte comes first. `COMM` and
+// `SSND` are sought, the first of each counts, and nothing ends the walk before the FORM does. Any bytes and any end
+// are taken.
 ghost use mathlib.Core.Path.{_≡_};
 ghost use Prim.Native.Nat.{_+_, _<_, min};
 ghost use Rattle.riff_chunks.specs.Walk.{walkTo};

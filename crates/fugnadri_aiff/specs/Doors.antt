@@ -1,5 +1,5 @@
--- W12. What stands in the exports' contracts: an answer as a number and plain numbers, zeros where it is a refusal, and a
--- kind by its code. A record has all that its export may write, so that one equation gives it. Definitions only.
+-- W12. What stands in the exports' contracts: an answer as a number and plain numbers, zeros where it is a refusal, and
+-- a kind by its code. A record has all that its export may write, so that one equation gives it. Definitions only.
 use Prim.Native.Nat.{ℕ}
 use mathlib.Core.Bool.{cond}
 use lib.Dec.{leb}

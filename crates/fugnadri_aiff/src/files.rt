@@ -1,5 +1,5 @@
-// W12. A file read: the refusal's number, 0 for none, and what was found, zeros where it is refused. What its `COMM` and
-// its `SSND` tell, refused or not, is for who explains a refusal.
+// W12. A file read: the refusal's number, 0 for none, and what was found, zeros where it is refused. What its `COMM`
+// and its `SSND` tell, refused or not, is for who explains a refusal.
 ghost use mathlib.Core.Path.{_≡_};
 ghost use Rattle.aiff.specs.Aiff.{foundIn, toldIn};
 ghost use Rattle.fugnadri_aiff.specs.Doors.{numberOf, soundOf, leaves, leftBy, tells};

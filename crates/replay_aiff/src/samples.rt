@@ -1,9 +1,9 @@
 // One channel's samples as f64, as f32 and as whole numbers of 2^-23: the three refusals' numbers, 0 for none, then for
 // each frame the three as patterns.
-use aiff_samples::filling;
 use crate::said::end_of_line;
 use crate::said::number;
 use crate::said::pattern;
+use aiff_samples::filling;
 use patterns::bits_of;
 use patterns::bits_of_f32;
 use replay_lines::within;

@@ -38,7 +38,9 @@ fn comm(r: &mut Random, bits: u16, channels: u16, frames: u32) -> Vec<u8> {
         _ => {}
     }
     let rate = r.pick(&[8000, 44100, 48000, 96000, 768000, 7999, 768001, 44100, 48000]);
-    let mut body = [channels.to_be_bytes().to_vec(), frames.to_be_bytes().to_vec(), bits.to_be_bytes().to_vec()].concat();
+    let mut body = channels.to_be_bytes().to_vec();
+    body.extend(frames.to_be_bytes());
+    body.extend(bits.to_be_bytes());
     body.extend(extended(r, rate));
     body.resize(if r.one_in(32) { (r.word() % 24) as usize } else { r.pick(&[18, 18, 19, 22]) }, 7);
     body

@@ -16,7 +16,8 @@ returns-3 c =
     let sizes = c .before .before in
     let tests = sizes .before .before in
     simp (le-leb _ _ (tests .before .if1 .left), le-leb _ _ (tests .if2 .left))
-    (c .turn .ensures ∙ rw (c .before .form-sought .ensures, sizes .before .low-first-u32 .ensures, sizes .four .ensures))
+    (c .turn .ensures
+    ∙ rw (c .before .form-sought .ensures, sizes .before .low-first-u32 .ensures, sizes .four .ensures))
 
 pub turn-spec : {M : Type 1} → statement M
 turn-spec = tie.close

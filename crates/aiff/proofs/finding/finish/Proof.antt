@@ -1,5 +1,5 @@
--- `aiff::finding::finish` meets its contract: what the calls ensure, and where no refusal is due the channels are one or
--- two and the part begins before the end, so that both fit their words. Assumes nothing.
+-- `aiff::finding::finish` meets its contract: what the calls ensure, and where no refusal is due the channels are one
+-- or two and the part begins before the end, so that both fit their words. Assumes nothing.
 use borrow.Author.Needs.{needs}
 use mathlib.Core.Path.{_≡_, sym, ap, _∙_}
 use mathlib.Core.Bool.{Bool, not, _&&_}
@@ -33,11 +33,13 @@ paced c =
     let p = e .before .two .ensures .0 in
     let q = e .eight .ensures in
     c .rate-of .ensures
-    ∙ ap (λ (n : ℕ). rateOf n (e .eight .result)) p ∙ ap (rateOf (bigNumber 2 (started (e .before .before) .args .c .now) 8)) q
+    ∙ ap (λ (n : ℕ). rateOf n (e .eight .result)) p
+    ∙ ap (rateOf (bigNumber 2 (started (e .before .before) .args .c .now) 8)) q
 
 due : (c : tie.After-first) →
     let a = started (measured c) .args in
-    c .first .result ≡ firstOf (testsOf (a .aiff) (a .held && inside (a .end) (a .walked)) (a .c .now) (a .s .now) (a .walked))
+    c .first .result
+    ≡ firstOf (testsOf (a .aiff) (a .held && inside (a .end) (a .walked)) (a .c .now) (a .s .now) (a .walked))
 due c =
     let l = c .before .before in
     let n = l .before in

@@ -12,6 +12,6 @@ returns c =
     (rw (k, n) at (f .fill .ensures .0), rw (k, n) at (f .fill .ensures .1))
 
 pub fugnadri-aiff-samples-spec : {M : Type 1} → statement M
-fugnadri-aiff-samples-spec = 
+fugnadri-aiff-samples-spec =
     tie.close
     (tie.spec (λ c κs. search needs) (λ c κs. search needs) (λ c κs. search needs) (λ c. search needs) returns)

@@ -12,6 +12,6 @@ returns c =
     (rw (k, n) at (f .fill-f32 .ensures .0), rw (k, n) at (f .fill-f32 .ensures .1))
 
 pub fugnadri-aiff-samples-f32-spec : {M : Type 1} → statement M
-fugnadri-aiff-samples-f32-spec = 
+fugnadri-aiff-samples-f32-spec =
     tie.close
     (tie.spec (λ c κs. search needs) (λ c κs. search needs) (λ c κs. search needs) (λ c. search needs) returns)
