@@ -1,6 +1,6 @@
-//! One channel's samples of a WAVE file's part, or of an AIFF's, an answer being a sample. The Rust is a loop over the frames whose
-//! bytes are a constant, which a compiler takes several samples at a time. No float is a NaN: the Rust hands a NaN's
-//! pattern on, the port the one NaN.
+//! One channel's samples of a WAVE file's part, or of an AIFF's, an answer being a sample. The Rust is a loop over the
+//! frames whose bytes are a constant, which a compiler takes several samples at a time. No float is a NaN: the Rust hands
+//! a NaN's pattern on, the port the one NaN.
 
 use crate::random::Random;
 use crate::Workload;
