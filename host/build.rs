@@ -2,7 +2,8 @@
 
 use std::{env, path::PathBuf, process::exit};
 
-const LIBRARIES: [&str; 8] = [
+const LIBRARIES: [&str; 9] = [
+    "fugnadri_aiff",
     "fugnadri_wav",
     "fugnadri_wav_write",
     "fugnadri_residual",

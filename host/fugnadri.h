@@ -2,8 +2,8 @@
  *
  * The libraries are x86-64 code for Linux (System V calls), and `rt staticlib NAME` makes each: libfugnadri.a,
  * libfugnadri_wander.a, libfugnadri_numbers.a, libfugnadri_tables.a, libfugnadri_bank.a, libfugnadri_wav.a,
- * libfugnadri_wav_write.a, libfugnadri_residual.a. They want `memset` and nothing else of a C library, allocate
- * nothing, keep nothing between calls, and may be called by any thread that owns what it lends.
+ * libfugnadri_wav_write.a, libfugnadri_aiff.a, libfugnadri_residual.a. They want `memset` and nothing else of a C
+ * library, allocate nothing, keep nothing between calls, and may be called by any thread that owns what it lends.
  *
  * Lent memory: a slice is a pointer to its first element and a length in elements. A pointer is never null; that of an
  * empty slice may be any other aligned address. What is written through must not overlap anything else that is lent in
@@ -23,18 +23,21 @@
  *   7  the playback rate is NaN
  *   8  2^36 samples were accepted already
  *   9  the file is not RIFF WAVE, or its RIFF size is under 4
- *  10  a chunk of the file, or its RIFF, runs past the end
+ *  10  a chunk of the file, or its RIFF or FORM, runs past the end
  *  11  the file has no `fmt ` before its first `data`
  *  12  the file has no `data`
  *  13  the samples are of a kind that is not read or written, the file's `fmt ` is under 16 bytes, or its sizes do not
  *      agree
  *  14  the buffer is shorter than the file that is to be written
  *  15  a sample that is to be written is NaN or does not fit
+ *  20  the file is not AIFF, or its FORM size is under 4
+ *  21  `COMM` or `SSND` is missing or too short, its offset lies past the end, or it has fewer frames than it says
+ *  22  the AIFF's rate is not a whole number from 8000 to 768000
  *
- * They are tested in this order, and the first that is due is given. `maximum`, `margin`, taps, phases, rates and the
- * fade length are settings (1) wherever they are handed in. Of the NaNs only two patterns are handed out, as a float
- * too: 7FF8000000000000, and 7FC00000 for float. A name that ends in _bits is the same call with floats as IEEE 754
- * patterns.
+ * They are tested in this order, and the first that is due is given; of an AIFF file in the order 20, 10, 21, 13, 21
+ * for the frames, 22. `maximum`, `margin`, taps, phases, rates and the fade length are settings (1) wherever they are
+ * handed in. Of the NaNs only two patterns are handed out, as a float too: 7FF8000000000000, and 7FC00000 for float. A
+ * name that ends in _bits is the same call with floats as IEEE 754 patterns.
  */
 #ifndef FUGNADRI_H
 #define FUGNADRI_H
@@ -63,7 +66,10 @@ enum {
     FUGNADRI_NO_DATA = 12,
     FUGNADRI_KIND = 13,
     FUGNADRI_ROOM = 14,
-    FUGNADRI_SAMPLE = 15
+    FUGNADRI_SAMPLE = 15,
+    FUGNADRI_NOT_AIFF = 20,
+    FUGNADRI_SOUND = 21,
+    FUGNADRI_SOUND_RATE = 22
 };
 
 /* ---- libfugnadri.a: delay readers without a table -------------------------------------------------------------------
@@ -304,6 +310,30 @@ uint8_t fugnadri_wav_samples_f32(uint8_t kind, uint8_t channels, uint8_t channel
 /* The same as whole numbers in units of 2^-23, as the residual takes them: 24 bits as they are stored, 16 bits times
  * 256. A float's kind is refused by 1. */
 uint8_t fugnadri_wav_whole(uint8_t kind, uint8_t channels, uint8_t channel, const uint8_t *part, size_t part_len,
+    int32_t *out, size_t out_len);
+
+/* ---- libfugnadri_aiff.a: AIFF files ---------------------------------------------------------------------------------
+ *
+ * A file that lies in memory: `*start` and `*size` are the bytes of its frames, behind the offset of its first `SSND`;
+ * `*kind` is 0 for PCM of 16 bits, 1 for PCM of 24, the high byte first; `*channels` is 1 or 2, `*rate` 8000 to 768000.
+ * AIFC is not read. Refused by 20, 10, 21, 13, 21 (frames) or 22, and then all five are 0. */
+uint8_t fugnadri_aiff_read(const uint8_t *file, size_t file_len, uint8_t *kind, uint8_t *channels, uint32_t *rate,
+    size_t *start, size_t *size);
+
+/* What a file says of its samples, to explain a refusal: the size of its first `COMM`, the channels, frames and bits
+ * that stand there, the rate as it stands (its sign and exponent, its digits), the size of its first `SSND` and its
+ * offset; zeros where there is none. It refuses nothing. */
+void fugnadri_aiff_told(const uint8_t *file, size_t file_len, size_t *comm, uint32_t *channels, uint32_t *frames,
+    uint32_t *bits, uint32_t *exponent, uint64_t *digits, size_t *ssnd, uint32_t *offset);
+
+/* One channel, counted from 0, of such a part: as whole multiples of 2^-15 or 2^-23, and as whole numbers in units of
+ * 2^-23, as the residual takes them. `out` has an element for each frame. Refused by 1 (kind, a float's among them,
+ * channels, channel) or 2 (broken frames, or another number of them), and then nothing is written. */
+uint8_t fugnadri_aiff_samples(uint8_t kind, uint8_t channels, uint8_t channel, const uint8_t *part, size_t part_len,
+    double *out, size_t out_len);
+uint8_t fugnadri_aiff_samples_f32(uint8_t kind, uint8_t channels, uint8_t channel, const uint8_t *part, size_t part_len,
+    float *out, size_t out_len);
+uint8_t fugnadri_aiff_whole(uint8_t kind, uint8_t channels, uint8_t channel, const uint8_t *part, size_t part_len,
     int32_t *out, size_t out_len);
 
 /* ---- libfugnadri_wav_write.a: RIFF WAVE files written ---------------------------------------------------------------

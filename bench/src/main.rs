@@ -30,7 +30,7 @@ use std::hint::black_box;
 use std::time::Instant;
 
 /// A file of workloads/ each, by name: making one may take seconds.
-const WORKLOADS: [(&str, fn() -> Workload); 48] = [
+const WORKLOADS: [(&str, fn() -> Workload); 56] = [
     ("narrow", workloads::narrow::workload),
     ("fused32", workloads::fused32::workload),
     ("fused64", workloads::fused64::workload),
@@ -72,6 +72,14 @@ const WORKLOADS: [(&str, fn() -> Workload); 48] = [
     ("wav_float_one_nan", workloads::wav::float_one_nan),
     ("wav_float_one_nan_stereo", workloads::wav::float_one_nan_stereo),
     ("wav_float_f32", workloads::wav::float_f32),
+    ("aiff_pcm16", workloads::wav::aiff16_f64),
+    ("aiff_pcm16_stereo", workloads::wav::aiff16_stereo),
+    ("aiff_pcm16_f32", workloads::wav::aiff16_f32),
+    ("aiff_pcm24", workloads::wav::aiff24_f64),
+    ("aiff_pcm24_stereo", workloads::wav::aiff24_stereo),
+    ("aiff_pcm24_f32", workloads::wav::aiff24_f32),
+    ("aiff_whole16", workloads::wav::aiff_whole16),
+    ("aiff_whole24", workloads::wav::aiff_whole24),
     ("residual", workloads::residual::workload),
     ("store_pcm16", workloads::wav_store::pcm16),
     ("store_pcm16_f32", workloads::wav_store::pcm16_f32),

@@ -4,6 +4,9 @@
 //! signatures in crates/fugnadri* before it builds, and its subjects call every one; oracle/ and bench/ build
 //! this file as a crate of its own. Each function there is total (no `requires`), so a call is safe at every argument.
 
+#[path = "boundary/aiff.rs"]
+mod aiff;
+pub use aiff::*;
 #[path = "boundary/bank.rs"]
 mod bank;
 pub use bank::*;

@@ -7,13 +7,14 @@
 //!   one line of Cargo.toml: `wow-dsp = { package = "fugnadri-host", path = "fugnadri/host" }`.
 //! - [`strict`]: the same names, and a `Result` with a [`Refusal`] wherever a call can be refused. After a refusal everything is as it was.
 //!
-//! Beyond the original: [`wav`] reads the transfer desk's files.
+//! Beyond the original: [`wav`] reads the transfer desk's files, and [`aiff`] the lender's.
 //!
 //! Not taken over: the two oversampled readers and their filters, and kernels that a user writes ([`Kernel`] is closed; a source may be anyone's).
 //! Sine, cosine and powers of two are the port's own (docs/ELEMENTARY.md); docs/DIFFERENCES.md lists every difference.
 //!
 //! What is proved is what the libraries do with what they are handed. This crate itself is plain Rust: it chooses lengths, lends, and hands on.
 
+pub mod aiff;
 #[allow(dead_code, unused_imports, clippy::too_many_arguments)]
 mod boundary;
 #[cfg(compare)]

@@ -1,4 +1,5 @@
-//! Why a call was refused: 01's numbers 1 to 8, and 9 to 15 of document 02's Wishes 1 and 2.
+//! Why a call was refused: 01's numbers 1 to 8, and those of document 02's Wishes: 9 to 15 of WAV files, 20 to 22 of
+//! AIFF.
 
 use std::{error::Error, fmt};
 
@@ -24,7 +25,7 @@ pub enum Refusal {
     Full = 8,
     /// The file is not RIFF WAVE, or its RIFF size is under 4.
     NotWave = 9,
-    /// A chunk of the file, or its RIFF, runs past the end.
+    /// A chunk of the file, or its RIFF or FORM, runs past the end.
     Overrun = 10,
     /// The file has no `fmt ` before its first `data`.
     NoFormat = 11,
@@ -36,6 +37,13 @@ pub enum Refusal {
     Room = 14,
     /// A sample that is to be written is out of range or NaN.
     Sample = 15,
+    /// The file is not AIFF, or its FORM size is under 4.
+    NotAiff = 20,
+    /// The AIFF's `COMM` or `SSND` is missing or too short, its offset lies past the end, or it has fewer frames than
+    /// it says.
+    Sound = 21,
+    /// The AIFF's rate is not a whole number from 8000 to 768000.
+    SoundRate = 22,
 }
 
 use Refusal::*;
@@ -64,8 +72,11 @@ impl Refusal {
             13 => Kind,
             14 => Room,
             15 => Sample,
+            20 => NotAiff,
+            21 => Sound,
+            22 => SoundRate,
             other => unreachable!(
-                "the static libraries refuse by 1 to 15, not by {other}: this crate was written for others"
+                "the static libraries refuse by 1 to 15 and 20 to 22, not by {other}: this crate was written for others"
             ),
         })
     }
@@ -87,10 +98,16 @@ impl fmt::Display for Refusal {
             NoFormat => "the file does not say what its samples are, before them: save it anew as WAV",
             NoData => "the file has no samples: save it anew as WAV",
             Kind => {
-                "the file's samples are of another kind, or its sizes do not agree (`wav::told` says what it tells): \
-                 save it as PCM of 16 or 24 bits or float of 32, one or two channels"
+                "the file's samples are of another kind, or its sizes do not agree (`wav::told` or `aiff::told` says \
+                 what it tells): save it as PCM of 16 or 24 bits or float of 32, one or two channels"
             }
             Room => "the buffer is shorter than the file: lend as many bytes as `wav::file_length` says",
+            NotAiff => "the file is not AIFF: hand in an AIFF file from its first byte on, and no AIFC",
+            Sound => {
+                "the file does not say what its samples are, or has fewer of them than it says (`aiff::told` says what \
+                 it tells): save it anew as AIFF"
+            }
+            SoundRate => "the file's rate is not a whole number from 8000 to 768000: save it anew at such a rate",
             Sample => {
                 "a sample is NaN, or does not fit once it is rounded (PCM holds -1 to just below 1): \
                  make the samples quieter, or write float of 32"

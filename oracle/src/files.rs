@@ -1,6 +1,7 @@
-//! `files tone FOLDER` writes a tone for every kind, number of channels and rate; `files write FOLDER` writes it as WAV by
-//! the static libraries; `files compare FOLDER` reads the WAV files that oracle/files had made of it, compares what the
-//! static libraries and what each program read with the tone, and so what each program read from the files written here.
+//! `files tone FOLDER` writes a tone for every kind, number of channels and rate; `files write FOLDER` writes it as WAV
+//! by the static libraries; `files compare FOLDER` reads the WAV and AIFF files that oracle/files had made of it, compares
+//! what the static libraries and what each program read with the tone, and so what each program read from the files
+//! written here.
 // The emulator that runs this on Arm cannot open what Rust's own `main` opens.
 #![no_main]
 
@@ -85,6 +86,9 @@ struct Seen {
     plain: usize,
     wrapped: usize,
     samples: usize,
+    /// Of the AIFF files.
+    sounds: usize,
+    counted: usize,
     /// Of the files that are written here.
     opened: usize,
     heard: usize,
@@ -151,10 +155,44 @@ fn compared(file: &[u8], theirs: &[u8], high_first: bool, of: (usize, u32, u32),
     None
 }
 
+/// What is wrong with an AIFF file, if something is.
+fn sound(file: &[u8], of: (usize, u32, u32), seen: &mut Seen) -> Option<String> {
+    let (kind, channels, rate) = of;
+    let (number, w) = b::aiff_read(file);
+    if number != 0 {
+        return Some(format!("refused by {number}: {:?}", b::aiff_told(file)));
+    }
+    if (usize::from(w.kind), u32::from(w.channels), w.rate) != of {
+        return Some(format!("{w:?} for kind {kind}, {channels} channels, rate {rate}"));
+    }
+    let bits = KINDS[kind].1;
+    let (meant, part) = (tone(bits, channels, rate), &file[w.start..w.start + w.length]);
+    let (mut wide, mut narrow, mut whole) = (vec![0.0; FRAMES], vec![0.0f32; FRAMES], vec![0; FRAMES]);
+    for c in 0..w.channels {
+        let numbers = [
+            b::aiff_samples(w.kind, w.channels, c, part, &mut wide),
+            b::aiff_samples_f32(w.kind, w.channels, c, part, &mut narrow),
+            b::aiff_whole(w.kind, w.channels, c, part, &mut whole),
+        ];
+        let same = |k: usize, n: i32| {
+            let x = value(bits, n);
+            wide[k].to_bits() == x.to_bits() && narrow[k] == x as f32 && whole[k] == n << (24 - bits)
+        };
+        let meant = meant.iter().skip(c.into()).step_by(w.channels.into());
+        if numbers != [0; 3] || !meant.enumerate().all(|(k, n)| same(k, *n)) {
+            return Some(format!("channel {c} is read as another tone"));
+        }
+        seen.counted += FRAMES;
+    }
+    seen.sounds += 1;
+    None
+}
+
 fn compare(folder: &Path) -> Result<i32> {
     let known: BTreeMap<String, (usize, u32, u32)> =
         each().map(|(name, kind, c, rate)| (name, (kind, c, rate))).collect();
-    let (list, opened) = (fs::read_to_string(folder.join("list"))?, fs::read_to_string(folder.join("opened"))?);
+    let lines = |name: &str| fs::read_to_string(folder.join(name));
+    let (list, sounds, opened) = (lines("list")?, lines("sounds")?, lines("opened")?);
     let pair = |line: &str| {
         let (program, name) = line.split_once(' ').expect("a program and a tone");
         (program.to_string(), name.to_string())
@@ -166,6 +204,14 @@ fn compare(folder: &Path) -> Result<i32> {
         let high_first = program == "sndfile-convert";
         if let Some(what) = compared(&read("wav")?, &read("theirs")?, high_first, known[&name], seen) {
             println!("{program} {name}: {what}");
+            seen.wrong += 1;
+        }
+    }
+    for (program, name) in sounds.lines().map(pair) {
+        let file = fs::read(folder.join(format!("{program}-{name}.aiff")))?;
+        let seen = programs.entry(program.clone()).or_default();
+        if let Some(what) = sound(&file, known[&name], seen) {
+            println!("{program} {name}.aiff: {what}");
             seen.wrong += 1;
         }
     }
@@ -184,6 +230,7 @@ fn compare(folder: &Path) -> Result<i32> {
     }
     for (program, s) in &programs {
         println!("{program:<16} {:>3} plain, {:>3} wrapped, {:>7} samples", s.plain, s.wrapped, s.samples);
+        println!("{:<16} {:>3} AIFF, {:>7} samples", "", s.sounds, s.counted);
         println!("{:<16} {:>3} written here, {:>7} samples; {} files differ", "", s.opened, s.heard, s.wrong);
     }
     Ok(i32::from(programs.is_empty() || programs.values().any(|s| s.wrong > 0)))

@@ -8,6 +8,8 @@
 
 mod random;
 mod hostile {
+    pub mod aiff;
+    pub mod aiff_files;
     pub mod bank;
     pub mod draw;
     pub mod memory;
@@ -29,7 +31,7 @@ mod hostile {
     pub mod wav_write;
 }
 
-use hostile::{bank, numbers, on_purpose, outside, pool::Memory, readers, residual, tables, tally::Tally, turn::Turn, wander, watch, wav, wav_write};
+use hostile::{aiff, bank, numbers, on_purpose, outside, pool::Memory, readers, residual, tables, tally::Tally, turn::Turn, wander, watch, wav, wav_write};
 use std::time::{Duration, Instant};
 
 /// An export, and one hostile call of it, which gives the number that it answered: 0 for none, and where there is none.
@@ -37,7 +39,7 @@ pub type Export = (&'static str, fn(&mut Turn) -> u8);
 
 fn exports() -> Vec<Export> {
     let readers = [wander::EXPORTS, readers::EXPORTS, tables::EXPORTS, bank::EXPORTS].concat();
-    let files = [wav::EXPORTS, residual::EXPORTS, wav_write::EXPORTS].concat();
+    let files = [wav::EXPORTS, aiff::EXPORTS, residual::EXPORTS, wav_write::EXPORTS].concat();
     [numbers::EXPORTS, outside::EXPORTS, &readers, &files].concat()
 }
 

@@ -1,4 +1,4 @@
-//! One channel's samples of a WAVE file's part, an answer being a sample. The Rust is a loop over the frames whose
+//! One channel's samples of a WAVE file's part, or of an AIFF's, an answer being a sample. The Rust is a loop over the frames whose
 //! bytes are a constant, which a compiler takes several samples at a time. No float is a NaN: the Rust hands a NaN's
 //! pattern on, the port the one NaN; beside that stands a Rust that tests each float and hands out the one NaN too.
 //! Floats are below 2 in size, as sound is; those of the workloads `…_any` are of any size.
@@ -87,3 +87,22 @@ fill!(float_any, f64, wav_samples, 2, 4, 1, ANY, |b| float(b) as f64);
 fill!(float_any_stereo, f64, wav_samples, 2, 4, 2, ANY, |b| float(b) as f64);
 fill!(float_one_nan, f64, wav_samples, 2, 4, 1, SOUND, |b| one_nan(float(b)));
 fill!(float_one_nan_stereo, f64, wav_samples, 2, 4, 2, SOUND, |b| one_nan(float(b)));
+
+// an AIFF's part, whose samples have the high byte first
+
+fn high16(bytes: &[u8]) -> i32 {
+    i16::from_be_bytes([bytes[0], bytes[1]]) as i32
+}
+
+fn high24(bytes: &[u8]) -> i32 {
+    i32::from_be_bytes([bytes[0], bytes[1], bytes[2], 0]) >> 8
+}
+
+fill!(aiff16_f64, f64, aiff_samples, 0, 2, 1, ANY, |b| high16(b) as f64 * TO_15);
+fill!(aiff16_stereo, f64, aiff_samples, 0, 2, 2, ANY, |b| high16(b) as f64 * TO_15);
+fill!(aiff16_f32, f32, aiff_samples_f32, 0, 2, 1, ANY, |b| high16(b) as f32 * TO_15 as f32);
+fill!(aiff24_f64, f64, aiff_samples, 1, 3, 1, ANY, |b| high24(b) as f64 * TO_23);
+fill!(aiff24_stereo, f64, aiff_samples, 1, 3, 2, ANY, |b| high24(b) as f64 * TO_23);
+fill!(aiff24_f32, f32, aiff_samples_f32, 1, 3, 1, ANY, |b| high24(b) as f32 * TO_23 as f32);
+fill!(aiff_whole16, i32, aiff_whole, 0, 2, 1, ANY, |b| high16(b) * 256);
+fill!(aiff_whole24, i32, aiff_whole, 1, 3, 1, ANY, |b| high24(b));

@@ -9,4 +9,5 @@ pub mod Elementary
 pub mod Files
 pub mod Formats
 pub mod WrappedFormats
+pub mod Sounds
 pub mod Residual

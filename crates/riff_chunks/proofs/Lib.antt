@@ -3,6 +3,7 @@ pub mod Steps
 pub mod Seen
 pub mod Rest
 pub mod ByTurns
+pub mod Lent
 pub mod Short
 pub mod Walks
 pub mod Found

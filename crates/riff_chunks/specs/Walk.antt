@@ -1,6 +1,6 @@
 -- W1. The walk over a file's chunks, from the first behind the file's 12 bytes of beginning on: two identifiers are
 -- sought, the first of each counts, and the second may end the walk. Definitions only.
-use Prim.Native.Nat.{ℕ, _+_, _-_, _%_, min}
+use Prim.Native.Nat.{ℕ, zero, suc, _+_, _-_, _%_, min}
 use mathlib.Core.Bool.{Bool, true, false, cond, _&&_, _||_}
 use mathlib.Core.List.{List, [], _∷_}
 use lib.Dec.{eqb, ltb}
@@ -78,3 +78,8 @@ noted s w c over =
 abbrev pub turned : Sought → Walking → Chunk → Walking
 turned s w c =
     record { left = leftAfter s c (w .left - 8); seen = noted s (w .seen) c (ltb (w .left - 8) (c .size)) }
+
+-- So many turns, each by a step: for a walk whose chunks are lent one after the other.
+unfoldable pub turnsBy : (Walking → Walking) → ℕ → Walking → Walking
+turnsBy step zero w = w
+turnsBy step (suc n) w = turnsBy step n (step w)

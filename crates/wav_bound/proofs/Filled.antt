@@ -42,13 +42,13 @@ last : {xs : List Float} {ss : List ℤ} {x : Float} {s : ℤ} → WholeSamples 
 last none w = also w none
 last (also v h) w = also v (last h w)
 
-both : (f : ℕ → Float) (g : ℕ → ℤ) → ((k : ℕ) → WholeSample (f k) (g k)) → (n : ℕ)
+pub both : (f : ℕ → Float) (g : ℕ → ℤ) → ((k : ℕ) → WholeSample (f k) (g k)) → (n : ℕ)
     → WholeSamples (listOf f n) (listOf g n)
 unfolding listOf
 both f g h zero = none
 both f g h (suc n) = last (both f g h n) (h n)
 
-in-24 : (z : ℤ) → mag z < 2 ^ 23 → in24 z ≡ true
+pub in-24 : (z : ℤ) → mag z < 2 ^ 23 → in24 z ≡ true
 in-24 (pos n) h = le-leb n 8388607 (omega arith)
 in-24 (negsuc n) h = rw (le-leb n 8388607 (omega arith))
 
@@ -61,7 +61,7 @@ unfolding all24
 also-24 [] z h e = rw e
 also-24 (y ∷ zs) z h e = behind (in24 y) h (λ k. also-24 zs z k e)
 
-every-24 : (g : ℕ → ℤ) → ((k : ℕ) → in24 (g k) ≡ true) → (n : ℕ) → all24 (listOf g n) ≡ true
+pub every-24 : (g : ℕ → ℤ) → ((k : ℕ) → in24 (g k) ≡ true) → (n : ℕ) → all24 (listOf g n) ≡ true
 unfolding listOf all24
 every-24 g h zero = refl
 every-24 g h (suc n) = also-24 (listOf g n) (g n) (every-24 g h n) (h n)

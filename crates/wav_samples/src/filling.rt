@@ -74,6 +74,13 @@ pub fn fill_whole(kind: SampleKind, channels: u8, channel: u8, part: &[u8], out:
     0
 }
 
+// What is refused where whole numbers are made, or floats of a layout that has PCM alone.
+pub fn whole_refusal(kind: SampleKind, channels: u8, channel: u8, size: usize, n: usize) -> u8
+    ensures { λ r. ⌜ r ≡ wholeVerdict kind channels channel size n ⌝ }
+{
+    refusal(is_pcm(kind), kind, channels, channel, size, n)
+}
+
 fn is_pcm(kind: SampleKind) -> bool
     ensures { λ r. ⌜ r ≡ isPcm kind ⌝ }
 {

@@ -9,7 +9,7 @@ use Rattle.refusal_order.specs.Order.{_unless_, firstOf}
 use Rattle.riff_chunks.specs.declared.Chunk.{Chunk}
 use Rattle.riff_chunks.specs.declared.Walked.{Walked}
 use Rattle.riff_chunks.specs.declared.Walking.{Walking}
-use Rattle.riff_chunks.specs.Walk.{riffSought, begun, turned}
+use Rattle.riff_chunks.specs.Walk.{riffSought, begun, turned, turnsBy}
 use Rattle.wav.specs.declared.Found.{Found}
 use Rattle.wav.specs.declared.Found.the-variants as found
 use Rattle.wav_format.specs.Format.{number}
@@ -40,9 +40,8 @@ abbrev pub finishedOf : Walked → List ℕ → Found
 finishedOf w f = foundOf true (not (w .overruns)) (wrappedTag f (w .format .size)) f w
 
 -- ---- a whole file by turns: each turn is lent the 8 bytes at its place
-unfoldable pub turnsOf : List ℕ → ℕ → ℕ → Walking → Walking
-turnsOf b end zero w = w
-turnsOf b end (suc n) w = turnsOf b end n (turnedBy w end (take 8 (drop (end - w .left) b)))
+abbrev pub turnsOf : List ℕ → ℕ → ℕ → Walking → Walking
+turnsOf b end = turnsBy (λ (w : Walking). turnedBy w end (take 8 (drop (end - w .left) b)))
 
 abbrev pub byTurns : ℕ → ℕ → List ℕ → Found
 byTurns zero end b =

@@ -16,7 +16,7 @@ ghost use Prim.Native.Nat.{_≤_};
 ghost use lib.ListN.{length, take, drop};
 
 // Up to count bytes of s from a place on: fewer where s ends before.
-fn part(s: &[u8], at: usize, count: usize) -> &[u8]
+pub fn part(s: &[u8], at: usize, count: usize) -> &[u8]
     ensures { λ r. ⌜ now r ≡ take count (drop at (now (s .entry))) ⌝ }
     ensures { λ r. ⌜ length (now r) ≤ count ⌝ }
 {

@@ -21,7 +21,7 @@ pub struct WavePart {
 }
 
 /// Nothing of it is 0, so that what is not written shows.
-const UNWRITTEN: WavePart =
+pub(crate) const UNWRITTEN: WavePart =
     WavePart { kind: u8::MAX, channels: u8::MAX, rate: u32::MAX, start: usize::MAX, length: usize::MAX };
 
 pub fn wav_read(file: &[u8]) -> (u8, WavePart) {

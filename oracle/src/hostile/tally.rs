@@ -3,7 +3,7 @@
 use crate::Export;
 
 /// None, and the refusals' numbers up to the highest.
-const ANSWERS: usize = 16;
+const ANSWERS: usize = 23;
 
 pub struct Tally(Vec<[u64; ANSWERS]>);
 

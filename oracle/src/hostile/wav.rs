@@ -80,7 +80,7 @@ fn whole(kind: u8, part: &[u8], k: usize) -> i32 {
 type Fill<T> = fn(u8, u8, u8, &[u8], &mut [T]) -> u8;
 
 /// One channel of a part, whose kind's code is `last` at most.
-fn samples<T: Value>(t: &mut Turn, pool: &'static [T], call: Fill<T>, last: u8, of: fn(u8, &[u8], usize) -> T) -> u8 {
+pub fn samples<T: Value>(t: &mut Turn, pool: &'static [T], call: Fill<T>, last: u8, of: fn(u8, &[u8], usize) -> T) -> u8 {
     let memory = t.memory;
     let r = &mut t.random;
     let (kind, channels) = (r.count(0, 2) as u8, r.count(1, 2) as u8);

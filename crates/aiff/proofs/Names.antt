@@ -1,0 +1,13 @@
+-- W12. The identifiers are their letters, `FORM` and `AIFF`: so AIFC is none of it. Assumes nothing.
+use mathlib.Core.Path.{_≡_, refl}
+use mathlib.Core.List.{[], _∷_}
+use Rattle.word_bytes.specs.Bytes.{bytesValue}
+use Rattle.aiff.specs.Aiff.{formId, aiffId}
+
+pub form-letters : formId ≡ bytesValue (70 ∷ 79 ∷ 82 ∷ 77 ∷ [])
+unfolding bytesValue
+form-letters = refl
+
+pub aiff-letters : aiffId ≡ bytesValue (65 ∷ 73 ∷ 70 ∷ 70 ∷ [])
+unfolding bytesValue
+aiff-letters = refl

@@ -1,0 +1,2 @@
+pub mod Aiff
+pub mod Accepted

@@ -1,0 +1,3 @@
+pub mod Names
+pub mod Either
+pub mod Inside

@@ -1,0 +1,17 @@
+// Numbers on standard output, each with a blank behind it.
+use libc::STDOUT_FILENO;
+
+pub fn number(n: u64) {
+    io::print_decimal(STDOUT_FILENO, n);
+    io::write_all(STDOUT_FILENO, b" ");
+}
+
+// In so many hex digits at least.
+pub fn pattern(n: u64, digits: usize) {
+    io::print_hex(STDOUT_FILENO, n, digits);
+    io::write_all(STDOUT_FILENO, b" ");
+}
+
+pub fn end_of_line() {
+    io::write_all(STDOUT_FILENO, b"\n");
+}
