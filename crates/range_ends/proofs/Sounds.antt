@@ -4,11 +4,12 @@ use mathlib.Core.List.{[], _∷_, _++_, map}
 use Prim.Native.Nat.{ℕ, _-_, _^_}
 use lib.ListN.{take}
 use Rattle.word_bytes.specs.Bytes.{lowBytes}
-use Rattle.range_ends.specs.Sounds.{formLetters, aiffLetters, aifcLetters, commLetters, nameLetters, highBytes, part}
+use Rattle.range_ends.specs.Sounds.{formLetters, aiffLetters, aifcLetters, commLetters, nameLetters, highBytes}
+use Rattle.range_ends.specs.Sounds.{part}
 use Rattle.range_ends.specs.Sounds.{fieldsAt, fields, told, held, sized, sound, soundRefused, soundRate}
 
--- The order. Each file has a fault fewer than the one above it: its letters, a chunk past the end, an offset past the end,
--- three channels, a frame too many, no rate.
+-- The order. Each file has a fault fewer than the one above it: its letters, a chunk past the end,
+-- an offset past the end, three channels, a frame too many, no rate.
 pub order : soundRefused (formLetters ++ (highBytes 4 12 ++ (aifcLetters ++ part nameLetters 1 [])))
     ∷ soundRefused (sound (part commLetters 18 (fieldsAt 3 9 16 0 0) ++ (held 5 4 ++ part nameLetters 1 [])))
     ∷ soundRefused (sound (part commLetters 18 (fieldsAt 3 9 16 0 0) ++ held 5 4))
@@ -21,8 +22,8 @@ pub order : soundRefused (formLetters ++ (highBytes 4 12 ++ (aifcLetters ++ part
 unfolding soundRefused lowBytes
 order = refl
 
--- 20, 10. One file of 54 bytes by the FORM size that it says: under 4; from 4 on there is no chunk; a `COMM` and an `SSND`
--- that run past it; all of it; one byte more than the file has.
+-- 20, 10. One file of 54 bytes by the FORM size that it says: under 4; from 4 on there is no chunk;
+-- a `COMM` and an `SSND` that run past it; all of it; one byte more than the file has.
 pub sizes : map (λ (n : ℕ). soundRefused (sized n (told 0 ++ held 0 0)))
     (0 ∷ 3 ∷ 4 ∷ 11 ∷ 12 ∷ 30 ∷ 37 ∷ 38 ∷ 45 ∷ 46 ∷ 47 ∷ (2 ^ 32 - 1) ∷ [])
     ≡ 20 ∷ 20 ∷ 21 ∷ 21 ∷ 10 ∷ 21 ∷ 21 ∷ 10 ∷ 10 ∷ 0 ∷ 10 ∷ 10 ∷ []
@@ -55,7 +56,8 @@ unfolding soundRefused lowBytes
 frames = refl
 
 -- 13. One or two channels, of 16 or 24 bits.
-pub channels : map (λ (n : ℕ). soundRefused (sound (part commLetters 18 (fields n 0 24) ++ held 0 0))) (0 ∷ 1 ∷ 2 ∷ 3 ∷ [])
+pub channels : map (λ (n : ℕ). soundRefused (sound (part commLetters 18 (fields n 0 24) ++ held 0 0)))
+    (0 ∷ 1 ∷ 2 ∷ 3 ∷ [])
     ≡ 13 ∷ 0 ∷ 0 ∷ 13 ∷ []
 unfolding soundRefused lowBytes
 channels = refl

@@ -1,5 +1,5 @@
--- The walk by turns: as long as 8 bytes are left each turn is a chunk more, and at the end it has seen what the whole walk
--- sees. By the laws of a walk's turns in riff_chunks. Assumes nothing.
+-- The walk by turns: as long as 8 bytes are left each turn is a chunk more, and at the end it has seen what the whole
+-- walk sees. By the laws of a walk's turns in riff_chunks. Assumes nothing.
 use mathlib.Core.Path.{_≡_, refl, ap, _∙_}
 use mathlib.Core.List.{List}
 use Prim.Native.Nat.{ℕ, _+_, _-_, _≤_, _<_}
@@ -24,12 +24,15 @@ module _ (b : List ℕ) (end : ℕ) where
   head-is : (left : ℕ) → chunkBy end left (take 8 (drop (end - left) b)) ≡ riff (end - left)
   head-is left =
       let at = drop (end - left) b in
-      let first : take 4 (drop 0 (take 8 at)) ≡ take 4 at = same-part 8 (take 8 at) at (take-take 8 8 at (omega arith)) 0 4 (omega arith) in
+      let first : take 4 (drop 0 (take 8 at)) ≡ take 4 at =
+      same-part 8 (take 8 at) at (take-take 8 8 at (omega arith)) 0 4 (omega arith) in
       let second : take 4 (drop 4 (take 8 at)) ≡ take 4 (drop (end - left + 4) b) =
-      same-part 8 (take 8 at) at (take-take 8 8 at (omega arith)) 4 4 (omega arith) ∙ ap (take 4) (drop-drop 4 (end - left) b) in
+      same-part 8 (take 8 at) at (take-take 8 8 at (omega arith)) 4 4 (omega arith)
+      ∙ ap (take 4) (drop-drop 4 (end - left) b) in
       rw (first, second)
 
-  next : (w : Walking) → 8 ≤ w .left → w .left ≤ end → turnedBy w end (take 8 (drop (end - w .left) b)) ≡ turned riffSought w (riff (end - w .left))
+  next : (w : Walking) → 8 ≤ w .left → w .left ≤ end
+      → turnedBy w end (take 8 (drop (end - w .left) b)) ≡ turned riffSought w (riff (end - w .left))
   next w l h = simp (le-leb 8 (w .left) l, le-leb (w .left) end h) (ap (turned riffSought w) (head-is (w .left)))
 
   over : (w : Walking) → w .left < 8 → turnedBy w end (take 8 (drop (end - w .left) b)) ≡ w

@@ -1,5 +1,5 @@
--- `aiff_samples::places::exchanged` meets its contract: in the product each byte stands twice, and the bytes between the
--- first and the last are the two exchanged. Assumes nothing.
+-- `aiff_samples::places::exchanged` meets its contract: in the product each byte stands twice,
+-- and the bytes between the first and the last are the two exchanged. Assumes nothing.
 use borrow.Author.Needs.{needs}
 use mathlib.Core.Path.{_≡_, ap, _∙_}
 use Prim.Native.Nat.{ℕ, _+_, _*_, _/_, _%_, _<_}
