@@ -1,5 +1,5 @@
 -- How many bytes the parts of a picture can have, so that a program knows how large a slice cuts none of them off: 900
--- and five for each byte of the names for the head, 1024 for a panel's beginning, 210 for a stretch, 100 for the ends.
+-- and five for each byte of the names for the head, 1200 for a panel's beginning, 210 for a stretch, 250 for the ends.
 -- By the digits of a word, of which there are at most 20. Assumes nothing.
 use mathlib.Core.Path.{_≡_}
 use mathlib.Core.List.{List, [], _∷_, _++_}
@@ -14,7 +14,7 @@ use Rattle.report_lines.proofs.Room.{either, short-length}
 use Rattle.picture.specs.Names.{escapedByte, escaped}
 use Rattle.picture.specs.Bars.{bitsOf, numberText, edge, barText, stretchText}
 use Rattle.picture.specs.Page.{legendText, scalesText, titleText, headText, tailText}
-use Rattle.picture.specs.Panel.{gridText, labelsText, timesText, panelText, panelEndText}
+use Rattle.picture.specs.Panel.{gridText, labelsText, decibelsText, timesText, panelText, panelEndText}
 
 short-number : (before : List ℕ) (n : ℕ) → length (numberText before n) ≤ length before + 20
 unfolding numberText
@@ -58,7 +58,7 @@ short-title : (first second : List ℕ) → length (titleText first second) ≤ 
 unfolding ascii titleText
 short-title first second = simp length-append (omega (arith, short-name first, short-name second))
 
-short-legend : length legendText ≤ 300
+short-legend : length legendText ≤ 325
 unfolding ascii legendText
 short-legend = omega arith
 
@@ -88,7 +88,11 @@ short-labels : length labelsText ≤ 260
 unfolding ascii labelsText
 short-labels = omega arith
 
-pub short-panel : (channel frames rate : ℕ) → length (panelText channel frames rate) ≤ 1024
+short-decibels : length decibelsText ≤ 270
+unfolding ascii decibelsText
+short-decibels = omega arith
+
+pub short-panel : (channel frames rate : ℕ) → length (panelText channel frames rate) ≤ 1200
 unfolding ascii panelText
 short-panel channel frames rate =
     let channel-word = ascii ")\">\n<text x=\"0\" y=\"-252\" font-weight=\"bold\">channel " in
@@ -97,14 +101,14 @@ short-panel channel frames rate =
       arith,
       short-number (ascii "<g transform=\"translate(90 ") (channel * 300 + 90),
       short-number channel-word channel,
-      short-grid,
       short-labels,
+      short-decibels,
       short-times frames rate,
     ))
 
-pub short-panel-end : length panelEndText ≤ 100
+pub short-panel-end : length panelEndText ≤ 250
 unfolding ascii panelEndText
-short-panel-end = omega arith
+short-panel-end = simp length-append (omega (arith, short-grid))
 
 pub short-tail : length tailText ≤ 100
 unfolding ascii tailText

@@ -11,13 +11,13 @@ legendText =
     ascii "<rect x=\"90\" y=\"46\" width=\"14\" height=\"14\" fill=\"#c4c4c4\"/>\n" ++
     (ascii "<text x=\"110\" y=\"58\">light: the largest sample of a stretch, in either file</text>\n" ++
     (ascii "<rect x=\"480\" y=\"46\" width=\"14\" height=\"14\" fill=\"#000\"/>\n" ++
-    ascii "<text x=\"500\" y=\"58\">dark, in front: the largest difference of the stretch</text>\n"))
+    ascii "<text x=\"500\" y=\"58\">dark, in front: the largest difference; where it meets light they part</text>\n"))
 
 -- What the two directions mean.
 unfoldable pub scalesText : List ℕ
 scalesText =
-    ascii "<text x=\"90\" y=\"80\">Upwards: how many bits it has. One bit more is twice as large, " ++
-    (ascii "24 are full scale, 0 is silence or no difference.</text>\n" ++
+    ascii "<text x=\"90\" y=\"80\">Upwards: how many bits it has, 0 for silence or no difference; " ++
+    (ascii "on the right the same in decibels beside full scale.</text>\n" ++
     (ascii "<text x=\"90\" y=\"98\">From left to right: time since the first frame compared, " ++
     ascii "in hours:minutes:seconds.</text>\n"))
 

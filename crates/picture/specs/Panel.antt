@@ -20,6 +20,15 @@ labelsText =
     (ascii "<text x=\"-10\" y=\"-115\">12</text>\n<text x=\"-10\" y=\"-75\">8</text>\n" ++
     ascii "<text x=\"-10\" y=\"-35\">4</text>\n<text x=\"-10\" y=\"5\">0</text>\n</g>\n"))
 
+-- The same in decibels beside full scale, 2^23: a number of b bits lies below 2^b, which stands 6.02 × (b - 23) dB
+-- above it.
+unfoldable pub decibelsText : List ℕ
+decibelsText =
+    ascii "<text x=\"1010\" y=\"-252\">dB</text>\n<text x=\"1010\" y=\"-235\">+6</text>\n" ++
+    (ascii "<text x=\"1010\" y=\"-195\">-18</text>\n<text x=\"1010\" y=\"-155\">-42</text>\n" ++
+    (ascii "<text x=\"1010\" y=\"-115\">-66</text>\n<text x=\"1010\" y=\"-75\">-90</text>\n" ++
+    ascii "<text x=\"1010\" y=\"-35\">-114</text>\n"))
+
 -- The time at the beginning, in the middle and at the end.
 unfoldable pub timesText : ℕ → ℕ → List ℕ
 timesText frames rate =
@@ -37,13 +46,15 @@ panelText channel frames rate =
     numberText (ascii "<g transform=\"translate(90 ") (channel * 300 + 90) ++
     (numberText (ascii ")\">\n<text x=\"0\" y=\"-252\" font-weight=\"bold\">channel ") channel ++
     (ascii "</text>\n<text x=\"-10\" y=\"-252\" text-anchor=\"end\">bits</text>\n" ++
-    (gridText ++
     (labelsText ++
+    (decibelsText ++
     (timesText frames rate ++
     ascii "<g transform=\"scale(1 -1)\">\n")))))
 
--- The end of a panel: its axes, over the bars.
+-- The end of a panel: its lines and axes, over the bars.
 unfoldable pub panelEndText : List ℕ
 panelEndText =
-    ascii "</g>\n<path fill=\"none\" stroke=\"#000\" " ++
-    ascii "d=\"M0 -240V6M0 0H1000M500 0V6M1000 0V6\"/>\n</g>\n"
+    ascii "</g>\n" ++
+    (gridText ++
+    (ascii "<path fill=\"none\" stroke=\"#000\" " ++
+    ascii "d=\"M0 -240V6M0 0H1000M500 0V6M1000 0V6\"/>\n</g>\n"))

@@ -2,7 +2,7 @@
 ghost use mathlib.Core.Path.{_≡_};
 ghost use lib.ListN.{length};
 ghost use Rattle.text.specs.Text.{putAt, placeAfter};
-ghost use Rattle.picture.specs.Panel.{gridText, labelsText, timesText};
+ghost use Rattle.picture.specs.Panel.{gridText, labelsText, decibelsText, timesText};
 use report_lines::put_length;
 
 // A dotted line at every fourth bit.
@@ -47,6 +47,29 @@ pub(crate) fn put_labels(out: &mut [u8], at: usize) -> usize
         three,
         b"<text x=\"-10\" y=\"-35\">4</text>\n<text x=\"-10\" y=\"5\">0</text>\n</g>\n",
     )
+}
+
+// The same in decibels beside full scale, 2^23.
+pub(crate) fn put_decibels(out: &mut [u8], at: usize) -> usize
+    ensures { λ r. ⌜ r ≡ placeAfter (length (now (out .entry))) at decibelsText ⌝ }
+    ensures { λ r. ⌜ now (out .exit) ≡ putAt (now (out .entry)) at decibelsText ⌝ }
+{
+    let one = text::put(
+        out,
+        at,
+        b"<text x=\"1010\" y=\"-252\">dB</text>\n<text x=\"1010\" y=\"-235\">+6</text>\n",
+    );
+    let two = text::put(
+        out,
+        one,
+        b"<text x=\"1010\" y=\"-195\">-18</text>\n<text x=\"1010\" y=\"-155\">-42</text>\n",
+    );
+    let three = text::put(
+        out,
+        two,
+        b"<text x=\"1010\" y=\"-115\">-66</text>\n<text x=\"1010\" y=\"-75\">-90</text>\n",
+    );
+    text::put(out, three, b"<text x=\"1010\" y=\"-35\">-114</text>\n")
 }
 
 // The time at the beginning, in the middle and at the end.

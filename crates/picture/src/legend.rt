@@ -27,7 +27,7 @@ pub(crate) fn put_legend(out: &mut [u8], at: usize) -> usize
     text::put(
         out,
         three,
-        b"<text x=\"500\" y=\"58\">dark, in front: the largest difference of the stretch</text>\n",
+        b"<text x=\"500\" y=\"58\">dark, in front: the largest difference; where it meets light they part</text>\n",
     )
 }
 
@@ -39,12 +39,12 @@ pub(crate) fn put_scales(out: &mut [u8], at: usize) -> usize
     let one = text::put(
         out,
         at,
-        b"<text x=\"90\" y=\"80\">Upwards: how many bits it has. One bit more is twice as large, ",
+        b"<text x=\"90\" y=\"80\">Upwards: how many bits it has, 0 for silence or no difference; ",
     );
     let two = text::put(
         out,
         one,
-        b"24 are full scale, 0 is silence or no difference.</text>\n",
+        b"on the right the same in decibels beside full scale.</text>\n",
     );
     let three = text::put(
         out,

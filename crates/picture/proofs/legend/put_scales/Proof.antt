@@ -16,8 +16,8 @@ returns c =
     let two = three .before .before .before .before .before in
     let one = two .before .before .before .before .before in
     let s = one .before .before .before .before .args in
-    let text-one = ascii "<text x=\"90\" y=\"80\">Upwards: how many bits it has. One bit more is twice as large, " in
-    let text-two = ascii "24 are full scale, 0 is silence or no difference.</text>\n" in
+    let text-one = ascii "<text x=\"90\" y=\"80\">Upwards: how many bits it has, 0 for silence or no difference; " in
+    let text-two = ascii "on the right the same in decibels beside full scale.</text>\n" in
     let text-three = ascii "<text x=\"90\" y=\"98\">From left to right: time since the first frame compared, " in
     let text-four = ascii "in hours:minutes:seconds.</text>\n" in
     let from-three = text-three ++ text-four in

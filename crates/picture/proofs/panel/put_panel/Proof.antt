@@ -6,7 +6,7 @@ use denote.Ref.{now}
 use Rattle.text.specs.Text.{ascii}
 use Rattle.text.proofs.Texts.{then}
 use Rattle.picture.specs.Bars.{numberText}
-use Rattle.picture.specs.Panel.{gridText, labelsText, panelText, timesText}
+use Rattle.picture.specs.Panel.{labelsText, decibelsText, panelText, timesText}
 use Rattle.picture.proofs.panel.put_panel.Statement.{statement}
 use Rattle.picture.proofs.panel.put_panel.Tie as tie
 
@@ -27,16 +27,16 @@ returns c =
     let text-six = timesText (s .frames) (s .rate) in
     let text-seven = ascii "<g transform=\"scale(1 -1)\">\n" in
     let from-six = text-six ++ text-seven in
-    let from-five = labelsText ++ from-six in
-    let from-four = gridText ++ from-five in
+    let from-five = decibelsText ++ from-six in
+    let from-four = labelsText ++ from-five in
     let from-three = text-three ++ from-four in
     let from-two = text-two ++ from-three in
     then (now (s .out)) text-one from-two (s .at) (one .put-number .ensures)
     (then (one .put-number .last .0) text-two from-three (one .put-number .result) (two .put-number2 .ensures)
     (then (two .put-number2 .last .0) text-three from-four (two .put-number2 .result) (three .put .ensures)
-    (then (three .put .last .0) gridText from-five (three .put .result) (four .put-grid .ensures)
-    (then (four .put-grid .last .0) labelsText from-six (four .put-grid .result) (five .put-labels .ensures)
-    (then (five .put-labels .last .0) text-six text-seven (five .put-labels .result)
+    (then (three .put .last .0) labelsText from-five (three .put .result) (four .put-labels .ensures)
+    (then (four .put-labels .last .0) decibelsText from-six (four .put-labels .result) (five .put-decibels .ensures)
+    (then (five .put-decibels .last .0) text-six text-seven (five .put-decibels .result)
     (six .put-times .ensures) (seven .put2 .ensures))))))
 
 pub put-panel-spec : {M : Type 1} → statement M
