@@ -43,7 +43,7 @@ headsNeed b size =
     (missing (length b) (walkedFrom riffSought (chunkIn b) (endOf b size) 12)) 0
 
 -- How many of the file's first bytes are to be handed in for the reading to go on; 0 where enough are at hand.
-abbrev pub needsOf : List ℕ → ℕ → ℕ
+unfoldable pub needsOf : List ℕ → ℕ → ℕ
 needsOf b size = cond (eqb (openingNeeds b size) 0) (headsNeed b size) (openingNeeds b size)
 
 -- ---- the answer
