@@ -69,9 +69,9 @@ allSmall (e ∷ es) = leb (e .size) largest && allSmall es
 abbrev pub smallSizes : List ℕ → Bool
 smallSizes b = leb (dataSize64 b) largest && allSmall (tableOf b)
 
--- A chunk's size from its identifier and its 32-bit size.
+-- A chunk's size from its identifier and its 32-bit size. `ds64` itself stands before the table, and has none there.
 abbrev pub size64 : List ℕ → ℕ → ℕ
-size64 b id = cond (eqb id dataId) (dataSize64 b) (sizeIn id (tableOf b))
+size64 b id = cond (eqb id dataId) (dataSize64 b) (cond (eqb id ds64Id) full (sizeIn id (tableOf b)))
 
 abbrev pub trueSize : List ℕ → ℕ → ℕ → ℕ
 trueSize b id field = cond (isLong b && eqb field full) (size64 b id) field

@@ -45,6 +45,9 @@ fn size_64(opening: &[u8], id: u32) -> usize
     if id == 0x6174_6164 {
         return low_first(opening, 28) as usize;
     }
+    if id == 0x3436_7364 {
+        return 0xffff_ffff;
+    }
     size_in(opening, entry_count(opening), id)
 }
 

@@ -9,9 +9,15 @@ returns : tie.Need-returns
 returns c = simp (eq-eqb _ _ (c .before .if1 .taken)) (c .low-first .ensures)
 
 returns-2 : tie.Need-returns-2
-returns-2 c = simp (ne-eqb _ _ (c .before .before .if1 .left)) (c .size-in .ensures ∙ rw (c .before .entry-count .ensures .0))
+returns-2 c = simp (ne-eqb _ _ (c .before .if1 .left), eq-eqb _ _ (c .if2 .taken))
+
+returns-3 : tie.Need-returns-3
+returns-3 c =
+    let i = c .before .before in
+    simp (ne-eqb _ _ (i .before .if1 .left), ne-eqb _ _ (i .if2 .left))
+    (c .size-in .ensures ∙ rw (c .before .entry-count .ensures .0))
 
 pub size-64-spec : {M : Type 1} → statement M
 size-64-spec =
     tie.close
-    (tie.spec (λ c κs. search needs) returns (λ c κs. search needs) (λ c κs. search needs) returns-2)
+    (tie.spec (λ c κs. search needs) returns returns-2 (λ c κs. search needs) (λ c κs. search needs) returns-3)
