@@ -24,30 +24,30 @@ asked n made reach later m p z = by (leb reach n) refl (sym (rw m) ∙ z)
     by true e h = (leb-true reach n e, sym (rw e) ∙ h)
     by false e h = let r : reach ≡ 0 = sym (rw e) ∙ h in absurd (omega arith)
 
-unmade : (n : ℕ) (made : Bool) (reach later : ℕ) → made ≡ false → asks n made reach later ≡ 0
+pub unmade : (n : ℕ) (made : Bool) (reach later : ℕ) → made ≡ false → asks n made reach later ≡ 0
 unmade n made reach later e = rw e
 
-met : (n : ℕ) (made : Bool) (reach later : ℕ) → reach ≤ n → later ≡ 0 → asks n made reach later ≡ 0
+pub met : (n : ℕ) (made : Bool) (reach later : ℕ) → reach ≤ n → later ≡ 0 → asks n made reach later ≡ 0
 met n true reach later h z = rw (le-leb reach n h) z
 met n false reach later h z = refl
 
 -- the steps of an opening, the last first
-abbrev tableOf : List ℕ → ℕ → ℕ
+abbrev pub tableOf : List ℕ → ℕ → ℕ
 tableOf b size = asks (length b) (leb 4 (trueRiff b size)) (48 + 12 * entryCount b) 0
 
-abbrev fixedOf : List ℕ → ℕ → ℕ
+abbrev pub fixedOf : List ℕ → ℕ → ℕ
 fixedOf b size = asks (length b) (hasDs64 b size) 48 (tableOf b size)
 
-abbrev headOf : List ℕ → ℕ → ℕ
+abbrev pub headOf : List ℕ → ℕ → ℕ
 headOf b size = asks (length b) (hasLetters b && (isLong b && leb 20 size)) 20 (fixedOf b size)
 
-met-12 : (b : List ℕ) (size : ℕ) → 12 ≤ length b → headOf b size ≡ 0 → openingNeeds b size ≡ 0
+pub met-12 : (b : List ℕ) (size : ℕ) → 12 ≤ length b → headOf b size ≡ 0 → openingNeeds b size ≡ 0
 met-12 b size = met (length b) (leb 12 size) 12 (headOf b size)
 
-met-20 : (b : List ℕ) (size : ℕ) → 20 ≤ length b → fixedOf b size ≡ 0 → headOf b size ≡ 0
+pub met-20 : (b : List ℕ) (size : ℕ) → 20 ≤ length b → fixedOf b size ≡ 0 → headOf b size ≡ 0
 met-20 b size = met (length b) (hasLetters b && (isLong b && leb 20 size)) 20 (fixedOf b size)
 
-met-48 : (b : List ℕ) (size : ℕ) → 48 ≤ length b → tableOf b size ≡ 0 → fixedOf b size ≡ 0
+pub met-48 : (b : List ℕ) (size : ℕ) → 48 ≤ length b → tableOf b size ≡ 0 → fixedOf b size ≡ 0
 met-48 b size = met (length b) (hasDs64 b size) 48 (tableOf b size)
 
 and-false : (a : Bool) → a && false ≡ false
