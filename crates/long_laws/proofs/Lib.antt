@@ -1,3 +1,5 @@
 pub mod Openings
 pub mod Missing
 pub mod Whole
+pub mod Longer
+pub mod Behind

@@ -50,7 +50,7 @@ met-20 b size = met (length b) (hasLetters b && (isLong b && leb 20 size)) 20 (f
 pub met-48 : (b : List ℕ) (size : ℕ) → 48 ≤ length b → tableOf b size ≡ 0 → fixedOf b size ≡ 0
 met-48 b size = met (length b) (hasDs64 b size) 48 (tableOf b size)
 
-and-false : (a : Bool) → a && false ≡ false
+pub and-false : (a : Bool) → a && false ≡ false
 and-false true = refl
 and-false false = refl
 
