@@ -3,3 +3,4 @@ pub mod Missing
 pub mod Whole
 pub mod Longer
 pub mod Behind
+pub mod AsBefore
