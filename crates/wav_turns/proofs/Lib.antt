@@ -1,3 +1,4 @@
+pub mod Iterated
 pub mod Walking
 pub mod Fields
 pub mod ByTurns

@@ -40,9 +40,12 @@ abbrev pub finishedOf : Walked → List ℕ → Found
 finishedOf w f = foundOf true (not (w .overruns)) (wrappedTag f (w .format .size)) f w
 
 -- ---- a whole file by turns: each turn is lent the 8 bytes at its place
-unfoldable pub turnsOf : List ℕ → ℕ → ℕ → Walking → Walking
-turnsOf b end zero w = w
-turnsOf b end (suc n) w = turnsOf b end n (turnedBy w end (take 8 (drop (end - w .left) b)))
+unfoldable pub times : (Walking → Walking) → ℕ → Walking → Walking
+times step zero w = w
+times step (suc n) w = times step n (step w)
+
+abbrev pub turnsOf : List ℕ → ℕ → ℕ → Walking → Walking
+turnsOf b end = times (λ (w : Walking). turnedBy w end (take 8 (drop (end - w .left) b)))
 
 abbrev pub byTurns : ℕ → ℕ → List ℕ → Found
 byTurns zero end b =
