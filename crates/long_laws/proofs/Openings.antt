@@ -91,10 +91,10 @@ module _ (b c : List ℕ) (size : ℕ) (longer : length b ≤ length c)
         let count = same-count b c (length b) same h in
         record {
           needs =
-            met-12 c size (omega arith)
-            (met-20 c size (omega arith)
-            (met-48 c size (omega arith)
-            (met (length c) (leb 4 (trueRiff c size)) (48 + 12 * entryCount c) 0 (omega (arith, table, count, longer)) refl)));
+              met-12 c size (omega arith)
+              (met-20 c size (omega arith)
+              (met-48 c size (omega arith)
+              (met (length c) (leb 4 (trueRiff c size)) (48 + 12 * entryCount c) 0 (omega (arith, table, count, longer)) refl)));
           due = rw (riff, p, q, l, m, d, e, same-small b c (length b) same h table);
           ends = λ y. ap (λ (n : ℕ). 8 + n) riff;
           sizes = λ y. same-size b c (length b) same h table;
@@ -162,9 +162,9 @@ module _ (b c : List ℕ) (size : ℕ) (longer : length b ≤ length c)
         let m = sym longs ∙ l in
         let r = same 4 4 (omega arith) in
         record {
-          needs = 
-            met-12 c size (omega arith)
-            (unmade (length c) (hasLetters c && (isLong c && leb 20 size)) 20 (fixedOf c size) (rw (q, m)));
+          needs =
+              met-12 c size (omega arith)
+              (unmade (length c) (hasLetters c && (isLong c && leb 20 size)) 20 (fixedOf c size) (rw (q, m)));
           due = rw (p, q, l, m, s, r);
           ends = λ y. rw (l, m, r);
           sizes = λ y id field. rw (l, m);
