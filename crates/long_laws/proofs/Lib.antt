@@ -4,3 +4,4 @@ pub mod Whole
 pub mod Longer
 pub mod Behind
 pub mod AsBefore
+pub mod Order

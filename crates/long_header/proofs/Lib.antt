@@ -1,0 +1,5 @@
+pub mod Bounds
+pub mod Letters
+pub mod Placed
+pub mod Assembled
+pub mod Accepted
