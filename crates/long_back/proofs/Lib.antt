@@ -1,1 +1,4 @@
 pub mod Places
+pub mod Walk
+pub mod Read
+pub mod Back
