@@ -3,3 +3,5 @@ pub mod Letters
 pub mod Placed
 pub mod Assembled
 pub mod Accepted
+pub mod Order
+pub mod Ends

@@ -5,3 +5,4 @@ pub mod Longer
 pub mod Behind
 pub mod AsBefore
 pub mod Order
+pub mod Ends
