@@ -2,3 +2,4 @@ pub mod Places
 pub mod Walk
 pub mod Read
 pub mod Back
+pub mod Same
