@@ -1,6 +1,6 @@
--- W10d, W10e. What `header_of` writes is read back by `read_header`, RIFF or past it, with sizes up to 2^40; and a file that
--- fits RIFF has Wish 2's header. RIFF's case is Wish 2's own law, Wish 1's reading and the bytes before the samples.
--- Assumes nothing.
+-- W10d, W10e. What `header_of` writes is read back by `read_header`, RIFF or past it, with sizes up to 2^40; and a
+-- file that fits RIFF has Wish 2's header. RIFF's case is Wish 2's own law, Wish 1's reading and the bytes before the
+-- samples. Assumes nothing.
 use mathlib.Core.Path.{_≡_, refl, sym, ap, _∙_}
 use mathlib.Core.Bool.{Bool, true, false, true≢false, cond, _&&_, _||_}
 use mathlib.Core.List.{List, [], _∷_, _++_, append-nil}
@@ -32,7 +32,8 @@ use Rattle.wav_back.proofs.Read.{read-plain as riff-plain}
 use Rattle.wav_back.proofs.Read.{read-wrapped as riff-wrapped}
 use Rattle.long_header.specs.declared.Form.{Form}
 use Rattle.long_header.specs.declared.Form.the-variants.{Rf64, Bw64}
-use Rattle.long_header.specs.LongHeader.{longHeaderLength, headerLengthFor, fileLengthFor, openingOf, longHeaderOf, headerFor}
+use Rattle.long_header.specs.LongHeader.{longHeaderLength, headerLengthFor, fileLengthFor, openingOf, longHeaderOf}
+use Rattle.long_header.specs.LongHeader.{headerFor}
 use Rattle.long_header.specs.Refusals.{sizeOk, fileTests, fileVerdictFor}
 use Rattle.long_back.proofs.Read.{Fits, longWave, read-plain, read-wrapped}
 
@@ -41,7 +42,8 @@ pub riff-header : (form : Form) (kind : SampleKind) (channels rate count : ℕ) 
     → headerFor form kind channels rate count ≡ headerOf kind channels rate count
 riff-header form kind channels rate count f = rw f
 
-pub riff-length : (kind : SampleKind) (count : ℕ) → fitsRiff kind count ≡ true → fileLengthFor kind count ≡ fileLength kind count
+pub riff-length : (kind : SampleKind) (count : ℕ) → fitsRiff kind count ≡ true
+    → fileLengthFor kind count ≡ fileLength kind count
 riff-length kind count f = rw f
 
 -- What is read of a file of so many samples.
@@ -56,7 +58,8 @@ waveOfAny kind channels rate count =
     }
 
 -- RIFF's letters are not RF64's
-not-long : (kind : SampleKind) (channels rate count : ℕ) (rest : List ℕ) → isLong (headerOf kind channels rate count ++ rest) ≡ false
+not-long : (kind : SampleKind) (channels rate count : ℕ) (rest : List ℕ)
+    → isLong (headerOf kind channels rate count ++ rest) ≡ false
 unfolding lowBytes bytesValue headerOf
 not-long Pcm16 channels rate count rest = refl
 not-long Pcm24 channels rate count rest = refl
@@ -75,7 +78,8 @@ module _ (kind : SampleKind) (channels rate count : ℕ) (p : Planned kind chann
 
   -- the header alone, by a reading that finds the file as Wish 1 does
   riff-read : (told : List ℕ → ℕ → ℕ) → foundBy told file ≡ found.Wave (waveFor kind channels rate count)
-      → headerBy told (headerOf kind channels rate count) (fileLength kind count) ≡ found.Wave (waveFor kind channels rate count)
+      → headerBy told (headerOf kind channels rate count) (fileLength kind count)
+      ≡ found.Wave (waveFor kind channels rate count)
   unfolding file
   riff-read told e =
       let whole = as-before told file (not-long kind channels rate count behind) ∙ e in
@@ -108,7 +112,8 @@ frames : (channels count : ℕ) → oneOrTwo channels ≡ true → wholeFrames c
 frames channels count o h = eqb-true (count % channels) 0 (rw o at h)
 
 -- ---- both cases
-module _ (form : Form) (kind : SampleKind) (channels rate count : ℕ) (z : fileVerdictFor kind channels rate count ≡ 0) where
+module _ (form : Form) (kind : SampleKind) (channels rate count : ℕ) (z : fileVerdictFor kind channels rate count
+    ≡ 0) where
   test : (k : ℕ) → testOf (lineOf (fileTests kind channels rate count) k) ≡ true
   test = none (fileTests kind channels rate count) refl .0 z
 
@@ -131,20 +136,26 @@ module _ (form : Form) (kind : SampleKind) (channels rate count : ℕ) (z : file
 
   -- by either reading
   either : (told : List ℕ → ℕ → ℕ)
-      → ((p : Planned kind channels rate count) → foundBy told (file kind channels rate count p) ≡ found.Wave (waveFor kind channels rate count))
-      → (headerBy told (longHeaderOf form kind channels rate count ++ []) (longHeaderLength kind + sizeOf kind count + padOf kind count)
+      → ((p : Planned kind channels rate count)
+      → foundBy told (file kind channels rate count p) ≡ found.Wave (waveFor kind channels rate count))
+      → (headerBy told (longHeaderOf form kind channels rate count ++ [])
+      (longHeaderLength kind + sizeOf kind count + padOf kind count)
       ≡ found.Wave (longWave kind channels rate count))
-      → headerBy told (headerFor form kind channels rate count) (fileLengthFor kind count) ≡ found.Wave (waveOfAny kind channels rate count)
+      → headerBy told (headerFor form kind channels rate count) (fileLengthFor kind count)
+      ≡ found.Wave (waveOfAny kind channels rate count)
   either told short long = by (fitsRiff kind count) refl
     where
       by : (t : Bool) → fitsRiff kind count ≡ t
-          → headerBy told (headerFor form kind channels rate count) (fileLengthFor kind count) ≡ found.Wave (waveOfAny kind channels rate count)
+          → headerBy told (headerFor form kind channels rate count) (fileLengthFor kind count)
+          ≡ found.Wave (waveOfAny kind channels rate count)
       by true f = rw f (riff-read kind channels rate count (plan f) told (short (plan f)))
       by false f =
           let size = longHeaderLength kind + sizeOf kind count + padOf kind count in
-          rw f (ap (λ (b : List ℕ). headerBy told b size) (sym (append-nil (longHeaderOf form kind channels rate count))) ∙ long)
+          rw f (ap (λ (b : List ℕ). headerBy told b size) (sym (append-nil
+          (longHeaderOf form kind channels rate count))) ∙ long)
 
-  held : (p : Planned kind channels rate count) → sizeOf kind count + padOf kind count ≤ length (behind kind channels rate count p)
+  held : (p : Planned kind channels rate count)
+      → sizeOf kind count + padOf kind count ≤ length (behind kind channels rate count p)
   unfolding behind
   held p = simp length-replicate (omega arith)
 

@@ -1,5 +1,6 @@
--- W10d. A written RF64 or BW64 is read back by its header: the same kind, channels and rate, the samples behind the header
--- and as many bytes of them, by both readings and whatever stands behind. From the walk and the fields. Assumes nothing.
+-- W10d. A written RF64 or BW64 is read back by its header: the same kind, channels and rate, the samples behind the
+-- header and as many bytes of them, by both readings and whatever stands behind. From the walk and the fields.
+-- Assumes nothing.
 use mathlib.Core.Path.{_≡_, refl, sym, ap, _∙_}
 use mathlib.Core.Bool.{Bool, true, false, not, cond, _&&_}
 use mathlib.Core.List.{List, [], _∷_, _++_}
@@ -34,7 +35,8 @@ use Rattle.wav_back.proofs.Fields.{tag-is, channels-are, rate-is, block-is, bit
 use Rattle.wav_back.proofs.Places.{middle}
 use Rattle.long_header.specs.declared.Form.{Form}
 use Rattle.long_header.specs.LongHeader.{longHeaderLength, longHeaderOf}
-use Rattle.long_back.proofs.Places.{bytes, riffOf, is-long, letters, riff-full, ds64-there, ds64-size, no-entries, true-riff, true-data, body-same}
+use Rattle.long_back.proofs.Places.{bytes, riffOf, is-long, letters, riff-full, ds64-there, ds64-size}
+use Rattle.long_back.proofs.Places.{no-entries, true-riff, true-data, body-same}
 use Rattle.long_back.proofs.Walk.{seen, walked, walked-is, seen-is, heads-there}
 
 -- What is read of a file of so many samples past RIFF.
@@ -50,7 +52,8 @@ pub record Fits (kind : SampleKind) (channels rate count : ℕ) : Type 0 where
   pub whole : count % channels ≡ 0
   pub small : sizeOf kind count ≤ 2 ^ 40
 
-module _ (form : Form) (kind : SampleKind) (channels rate' count : ℕ) (rest : List ℕ) (p : Fits kind channels rate' count) where
+module _ (form : Form) (kind : SampleKind) (channels rate' count : ℕ) (rest : List ℕ)
+    (p : Fits kind channels rate' count) where
   abbrev pub b : List ℕ
   b = bytes channels rate' count rest form kind
 
@@ -116,7 +119,8 @@ module _ (form : Form) (kind : SampleKind) (channels rate' count : ℕ) (rest : 
     walk : walkIn b size ≡ seen kind count
     walk =
         ap (walkTo riffSought (chunkIn b)) end-is
-        ∙ ap (seenOf riffSought size) (walked-is channels rate' count rest form size kind (omega (arith, p .small)) (omega arith))
+        ∙ ap (seenOf riffSought size) (walked-is channels rate' count rest form size kind (omega (arith, p .small))
+        (omega arith))
         ∙ seen-is kind count size (omega arith)
 
     heads : missing (length b) (walkedFrom riffSought (chunkIn b) (endOf b size) 12) ≡ 0

@@ -1,5 +1,5 @@
--- W10e. A file that fits RIFF is written with Wish 2's bytes: the same refusal or length, and the same buffer. By the tests,
--- of which the one for 19 holds and the one for 32 bits too. Assumes nothing.
+-- W10e. A file that fits RIFF is written with Wish 2's bytes: the same refusal or length, and the same buffer. By the
+-- tests, of which the one for 19 holds and the one for 32 bits too. Assumes nothing.
 use mathlib.Core.Path.{_≡_, refl, sym, ap, _∙_}
 use mathlib.Core.Bool.{Bool, true, false, _&&_}
 use mathlib.Core.List.{List}
@@ -27,9 +27,11 @@ module _ (form : Form) (kind : SampleKind) (channels rate : ℕ) (samples : List
       let n = length samples in
       le-leb (sizeOf kind n) (2 ^ 40) (omega (arith, leb-true (fileLength kind n - 8) (2 ^ 32 - 1) f))
 
-  pub same-verdict : (room : ℕ) → any.verdict kind channels rate samples room ≡ riff.verdict kind channels rate samples room
+  pub same-verdict : (room : ℕ) → any.verdict kind channels rate samples room
+      ≡ riff.verdict kind channels rate samples room
   same-verdict room = rw (small, f, and-true (wholeFrames channels (length samples)))
 
-  pub same-bytes : (old : List ℕ) → any.written form kind channels rate samples old ≡ riff.written kind channels rate samples old
+  pub same-bytes : (old : List ℕ) → any.written form kind channels rate samples old
+      ≡ riff.written kind channels rate samples old
   unfolding any.fileOf riff.fileOf
   same-bytes old = rw (small, f, and-true (wholeFrames channels (length samples)))

@@ -1,5 +1,5 @@
--- W10d. The walk over a written RF64 or BW64: `ds64`, `fmt `, for float `fact`, then `data`, none of which runs past the
--- end. Chunk after chunk, kind by kind. Assumes nothing.
+-- W10d. The walk over a written RF64 or BW64: `ds64`, `fmt `, for float `fact`, then `data`, none of which runs past
+-- the end. Chunk after chunk, kind by kind. Assumes nothing.
 use mathlib.Core.Path.{_≡_, refl, ap, _∙_}
 use mathlib.Core.Bool.{true, false, cond}
 use mathlib.Core.List.{List, [], _∷_}
@@ -18,7 +18,8 @@ use Rattle.wav_header.specs.Header.{sizeOf}
 use Rattle.wav_header.specs.Fields.{formatSize}
 use Rattle.long_header.specs.declared.Form.{Form}
 use Rattle.long_header.specs.LongHeader.{longHeaderLength}
-use Rattle.long_back.proofs.Places.{ds64Chunk, fmtChunk, factChunk, dataChunk, bytes, ds64-at, fmt-at, fact-at, data-at}
+use Rattle.long_back.proofs.Places.{ds64Chunk, fmtChunk, factChunk, dataChunk, bytes, ds64-at, fmt-at, fact-at}
+use Rattle.long_back.proofs.Places.{data-at}
 
 -- What a walk over a written file sees.
 abbrev pub seen : SampleKind → ℕ → Walked
@@ -68,7 +69,8 @@ module _ (channels rate count : ℕ) (rest : List ℕ) (form : Form) (end : ℕ)
       ∙ ap (λ (cs : List Chunk). fmtChunk Float32 ∷ cs)
       (step (b Float32) end 74 factChunk (fact-at channels rate count rest form) (omega arith)
       ∙ ap (λ (cs : List Chunk). factChunk ∷ cs)
-      (step (b Float32) end 86 (dataChunk Float32 count) (data-at channels rate count rest form Float32 h) (omega arith))))
+      (step (b Float32) end 86 (dataChunk Float32 count) (data-at channels rate count rest form Float32 h)
+      (omega arith))))
 
 -- none of them runs past an end that holds the samples
 pub seen-is : (kind : SampleKind) (count end : ℕ) → longHeaderLength kind + sizeOf kind count ≤ end

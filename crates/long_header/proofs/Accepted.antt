@@ -17,7 +17,8 @@ use Rattle.long_header.specs.declared.Form.{Form}
 use Rattle.long_header.specs.LongHeader.{headerLengthFor, longHeaderLength, longHeaderOf, headerFor}
 use Rattle.long_header.specs.Refusals.{headerTestsFor, headerVerdictFor, headerAfter, Room}
 
-module _ (kind : SampleKind) (channels rate count room : ℕ) (z : headerVerdictFor kind channels rate count room ≡ 0) where
+module _ (kind : SampleKind) (channels rate count room : ℕ) (z : headerVerdictFor kind channels rate count room
+    ≡ 0) where
   pub holds : headerLengthFor kind count ≤ room
   holds = leb-true (headerLengthFor kind count) room (none (headerTestsFor kind channels rate count room) refl .0 z 3)
 
@@ -36,7 +37,8 @@ module _ (kind : SampleKind) (channels rate count room : ℕ) (z : headerVerdict
 -- the header in a block of its length, by whether the file fits RIFF
 module _ (form : Form) (kind : SampleKind) (channels rate count : ℕ) (old : List ℕ)
     (r : Room kind channels rate count (headerLengthFor kind count) (length old)) where
-  pub riff-is : fitsRiff kind count ≡ true → headerIn kind channels rate count old ≡ headerFor form kind channels rate count
+  pub riff-is : fitsRiff kind count ≡ true
+      → headerIn kind channels rate count old ≡ headerFor form kind channels rate count
   riff-is f =
       let long : length old ≡ headerLength kind = r .exact ∙ rw f in
       let due : headerVerdict kind channels rate count (length old) ≡ 0 =

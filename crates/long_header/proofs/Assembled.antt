@@ -18,10 +18,12 @@ use Rattle.long_header.specs.Parts.{sized}
 module _ (channels rate count : ℕ) where
   abbrev opening : Form → SampleKind → List ℕ
   opening form kind =
-      openingOf form (longHeaderLength kind + sizeOf kind count + padOf kind count - 8) (sizeOf kind count) (count / channels)
+      openingOf form (longHeaderLength kind + sizeOf kind count + padOf kind count - 8) (sizeOf kind count)
+      (count / channels)
 
   computed : (form : Form) (kind : SampleKind)
-      → sized kind (opening form kind ++ drop 12 (headerOf kind channels rate 0)) ≡ longHeaderOf form kind channels rate count
+      → sized kind (opening form kind ++ drop 12 (headerOf kind channels rate 0))
+      ≡ longHeaderOf form kind channels rate count
   unfolding lowBytes openingOf headerOf longHeaderOf
   computed Rf64 Pcm16 = refl
   computed Rf64 Pcm24 = refl

@@ -25,6 +25,7 @@ module _ (kind : SampleKind) (channels rate count room : ℕ) where
   write-none = none (headerTestsFor kind channels rate count room) refl
 
 pub refused-keeps : (form : Form) (kind : SampleKind) (channels rate count : ℕ) (old : List ℕ)
-    → (headerVerdictFor kind channels rate count (length old) ≡ 0 → ⊥) → headerAfter form kind channels rate count old ≡ old
+    → (headerVerdictFor kind channels rate count (length old) ≡ 0 → ⊥)
+    → headerAfter form kind channels rate count old ≡ old
 refused-keeps form kind channels rate count old h =
     sym (kept (headerVerdictFor kind channels rate count (length old)) _ _ old refl h)

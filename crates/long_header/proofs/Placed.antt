@@ -19,7 +19,8 @@ use Rattle.wav_header.proofs.Long.{length-header}
 use Rattle.long_header.specs.LongHeader.{full, longHeaderLength}
 use Rattle.long_header.specs.Parts.{over, sized, Tail}
 
-pub over-is : (xs ys : List ℕ) (at k : ℕ) → k ≡ 4 → at + 4 ≤ length xs → ys ≡ lowBytes (length (take k (drop at xs))) full
+pub over-is : (xs ys : List ℕ) (at k : ℕ) → k ≡ 4 → at + 4 ≤ length xs
+    → ys ≡ lowBytes (length (take k (drop at xs))) full
     → take at xs ++ (ys ++ drop k (drop at xs)) ≡ over xs at
 over-is xs ys at k e h w =
     let l : length (take k (drop at xs)) ≡ 4 = simp (length-take, length-drop) (omega arith) in
@@ -71,7 +72,8 @@ sized-pcm Pcm16 xs h = refl
 sized-pcm Pcm24 xs h = refl
 sized-pcm Float32 xs h = absurd (omega (arith, h))
 
-pub sized-float : (kind : SampleKind) (xs : List ℕ) → (headerLength kind ≡ 44 → ⊥) → over (over xs 82) 90 ≡ sized kind xs
+pub sized-float : (kind : SampleKind) (xs : List ℕ) → (headerLength kind ≡ 44 → ⊥)
+    → over (over xs 82) 90 ≡ sized kind xs
 sized-float Pcm16 xs h = absurd (h refl)
 sized-float Pcm24 xs h = absurd (h refl)
 sized-float Float32 xs h = refl

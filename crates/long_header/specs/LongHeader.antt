@@ -1,6 +1,7 @@
--- W10. The bytes before the samples of a WAV file of any length up to 2^40 bytes of samples. Where the file fits RIFF they
--- are Wish 2's; past it they are RF64's of EBU Tech 3306 or BW64's of ITU-R BS.2088: the 32-bit sizes of the RIFF, of `fact`
--- and of `data` at FFFFFFFF, and the true ones in `ds64`, which comes first and has no table. Definitions only.
+-- W10. The bytes before the samples of a WAV file of any length up to 2^40 bytes of samples. Where the file fits RIFF
+-- they are Wish 2's; past it they are RF64's of EBU Tech 3306 or BW64's of ITU-R BS.2088: the 32-bit sizes of the
+-- RIFF, of `fact` and of `data` at FFFFFFFF, and the true ones in `ds64`, which comes first and has no table.
+-- Definitions only.
 use Prim.Native.Nat.{ℕ, _+_, _-_, _/_, _^_}
 use mathlib.Core.Bool.{Bool, cond}
 use mathlib.Core.List.{List, [], _∷_, _++_}
@@ -53,7 +54,8 @@ openingOf form riff size frames =
 
 unfoldable pub longHeaderOf : Form → SampleKind → ℕ → ℕ → ℕ → List ℕ
 longHeaderOf form kind channels rate count =
-    openingOf form (longHeaderLength kind + sizeOf kind count + padOf kind count - 8) (sizeOf kind count) (count / channels)
+    openingOf form (longHeaderLength kind + sizeOf kind count + padOf kind count - 8) (sizeOf kind count)
+    (count / channels)
     ++ chunkOf fmtName (formatOf kind channels rate) ++ longFact kind ++ dataName ++ lowBytes 4 full
 
 -- W10e. A file that fits RIFF has Wish 2's header.

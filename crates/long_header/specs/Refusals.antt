@@ -1,4 +1,5 @@
--- W10. Which refusal is due where a header of any length is written, and what the lent block then holds. Definitions only.
+-- W10. Which refusal is due where a header of any length is written, and what the lent block then holds. Definitions
+-- only.
 use Prim.Native.Nat.{ℕ, _+_, _^_, _≤_}
 use mathlib.Core.Path.{_≡_}
 use mathlib.Core.Bool.{Bool, true, cond, _&&_}

@@ -1,5 +1,5 @@
-// W10. The bytes of a WAV file before its samples, for any number of them up to 2^40 bytes: RIFF where the file fits it, and
-// past that RF64 or BW64, as the caller chooses.
+// W10. The bytes of a WAV file before its samples, for any number of them up to 2^40 bytes: RIFF where the file fits
+// it, and past that RF64 or BW64, as the caller chooses.
 mod long; // the header past RIFF
 mod opening; // its first 48 bytes
 mod tests; // what is refused

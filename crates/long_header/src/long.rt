@@ -1,5 +1,5 @@
-// W10. The header past RIFF. The header of an empty file gives the chunks behind `ds64`; the opening is put before them, and
-// their sizes are written over.
+// W10. The header past RIFF. The header of an empty file gives the chunks behind `ds64`; the opening is put before
+// them, and their sizes are written over.
 ghost use mathlib.Core.Path.{_≡_};
 ghost use mathlib.Core.List.{_++_};
 ghost use Prim.Native.Nat.{_+_, _≤_};

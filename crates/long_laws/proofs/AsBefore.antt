@@ -1,5 +1,5 @@
--- W10a. RIFF files read as before: with the whole file at hand, one that begins neither with RF64 nor with BW64 is answered
--- as Wish 1 answers it, by either reading. Assumes nothing.
+-- W10a. RIFF files read as before: with the whole file at hand, one that begins neither with RF64 nor with BW64 is
+-- answered as Wish 1 answers it, by either reading. Assumes nothing.
 use mathlib.Core.Path.{_≡_, refl, sym, ap, _∙_}
 use mathlib.Core.Bool.{Bool, true, false, not, cond, _&&_, _||_}
 use mathlib.Core.List.{List, [], _∷_}
@@ -50,7 +50,8 @@ module _ (tagOf : List ℕ → ℕ → ℕ) (b : List ℕ) (plain : isLong b ≡
 
   -- the tests that Wish 1 does not make pass
   judged : headerBy tagOf b size
-      ≡ judgedBy tagOf (wav.isWave b) (leb (8 + riffSize b) size && not (walkIn b size .overruns)) (walkIn b size) (fmtIn b size)
+      ≡ judgedBy tagOf (wav.isWave b) (leb (8 + riffSize b) size && not (walkIn b size .overruns)) (walkIn b size)
+      (fmtIn b size)
   judged = rw (le-leb (length b) size (omega arith), nothing-asked b size (omega arith), wave-same, plain)
 
   walk-same : 8 + riffSize b ≤ size → walkIn b size ≡ wav.walkIn b
@@ -72,7 +73,8 @@ module _ (tagOf : List ℕ → ℕ → ℕ) (b : List ℕ) (plain : isLong b ≡
           judged
           ∙ ap
           (λ (v : Walked).
-          judgedBy tagOf (wav.isWave b) (leb (8 + riffSize b) size && not (v .overruns)) v (partOf b (v .format .body) (v .format .size)))
+          judgedBy tagOf (wav.isWave b) (leb (8 + riffSize b) size && not (v .overruns)) v (partOf b
+          (v .format .body) (v .format .size)))
           (walk-same (leb-true (8 + riffSize b) size e))
       by false e =
           judged

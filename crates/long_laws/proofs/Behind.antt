@@ -74,7 +74,8 @@ module _ (b : List ℕ) (size : ℕ) (d : hasDs64 b size ≡ true) (found : walk
       by =
           let there = ap (λ (s : Spot). s .found) (sym spot) ∙ found in
           let place = ap (λ (s : Spot). s .body) spot in
-          let reached = behind riffSought (chunkIn b) (λ at. refl) end dataId end (leb (after c + 8) end) (after c) there in
+          let reached = behind riffSought (chunkIn b) (λ at. refl) end dataId end (leb (after c + 8) end)
+          (after c) there in
           let o = own in
           let least = leb-true 28 (ds64Size b) (both-hold (leb 28 (ds64Size b)) _ (p .1) .0) in
           omega arith
@@ -105,7 +106,8 @@ module _ (tagOf : List ℕ → ℕ → ℕ) (b : List ℕ) (size : ℕ) (z : ver
 
   behind-12 : 20 ≤ start
   behind-12 =
-      behind riffSought (chunkIn b) (λ at. refl) (endOf b size) dataId (endOf b size) (leb (12 + 8) (endOf b size)) 12 (test 7)
+      behind riffSought (chunkIn b) (λ at. refl) (endOf b size) dataId (endOf b size) (leb (12 + 8)
+      (endOf b size)) 12 (test 7)
 
   room : 12 + 8 ≤ endOf b size
   room =
@@ -141,7 +143,8 @@ module _ (tagOf : List ℕ → ℕ → ℕ) (b : List ℕ) (size : ℕ) (z : ver
 
   opened : Opens prefix b size
   opened =
-      opens prefix b size (omega (arith, long-prefix, reached)) (λ k at h. numbers k at (omega (arith, long-prefix))) opening
+      opens prefix b size (omega (arith, long-prefix, reached)) (λ k at h. numbers k at (omega
+      (arith, long-prefix))) opening
 
   prefix-enough : needsOf prefix size ≡ 0
   prefix-enough =
@@ -156,11 +159,18 @@ module _ (tagOf : List ℕ → ℕ → ℕ) (b : List ℕ) (size : ℕ) (z : ver
 
       alike : Alike (chunkIn b) (chunkIn prefix) start
       alike at h =
-          sym (rw (opened .sizes y (number 4 prefix at) (number 4 prefix (at + 4)), numbers 4 at (omega arith), numbers 4 (at + 4) (omega arith)))
+          sym (rw (
+            opened .sizes y (number 4 prefix at) (number 4 prefix (at + 4)),
+            numbers 4 at
+                (omega arith),
+            numbers 4 (at + 4) (omega arith),
+          ))
 
-      chunks : walkedFrom riffSought (chunkIn b) (endOf b size) 12 ≡ walkedFrom riffSought (chunkIn prefix) (endOf b size) 12
+      chunks : walkedFrom riffSought (chunkIn b) (endOf b size) 12
+          ≡ walkedFrom riffSought (chunkIn prefix) (endOf b size) 12
       chunks =
-          same-up-to (chunkIn b) (chunkIn prefix) (endOf b size) riffSought refl (λ at. refl) start alike 12 (test 7) (omega arith)
+          same-up-to (chunkIn b) (chunkIn prefix) (endOf b size) riffSought refl (λ at. refl) start alike 12 (test 7)
+          (omega arith)
 
   decides : (c : List ℕ) → start ≤ length c → length c ≤ size → prefix ≡ take start c
       → headerBy tagOf c size ≡ headerBy tagOf prefix size
@@ -171,7 +181,8 @@ module _ (tagOf : List ℕ → ℕ → ℕ) (b : List ℕ) (size : ℕ) (z : ver
       prefix-enough
 
 -- W10b. Where samples are found the bytes before them decide.
-pub header-decides : (tagOf : List ℕ → ℕ → ℕ) (b c : List ℕ) (size : ℕ) (w : Wave) → headerBy tagOf b size ≡ found.Wave w
+pub header-decides : (tagOf : List ℕ → ℕ → ℕ) (b c : List ℕ) (size : ℕ) (w : Wave)
+    → headerBy tagOf b size ≡ found.Wave w
     → take (w .start) b ≡ take (w .start) c → w .start ≤ length c → length c ≤ size
     → headerBy tagOf c size ≡ found.Wave w
 header-decides tagOf b c size w e same h inside =

@@ -77,7 +77,8 @@ unfolding lowBytes bytesValue chunksFrom overrun first upTo formatOk entriesFrom
 past-the-file = refl
 
 -- one byte of a head too few, and how many are needed; the letters alone
-pub one-missing : (headerIn (take 79 (header rf64 28 76 4 full)) 84 ≡ found.Refused 2) × (needsOf (take 79 (header rf64 28 76 4 full)) 84 ≡ 80)
+pub one-missing : (headerIn (take 79 (header rf64 28 76 4 full)) 84
+    ≡ found.Refused 2) × (needsOf (take 79 (header rf64 28 76 4 full)) 84 ≡ 80)
 unfolding lowBytes bytesValue chunksFrom overrun first upTo formatOk entriesFrom sizeIn allSmall missing needsOf
 one-missing = (refl, refl)
 

@@ -48,7 +48,8 @@ module _ (tagOf : List ℕ → ℕ → ℕ) (b : List ℕ) (size : ℕ) (h : len
       → missing (length b) (walkedFrom riffSought (chunkIn b) (endOf b size) 12) ≡ 0
       → judgedBy tagOf true (not (walkIn b size .overruns)) (walkIn b size) (fmtIn b size) ≡ headerBy tagOf b size
   walked-is t m =
-      walk-tells b size tagOf (hand-passes b size h o) t m (walkIn b size) (fmtIn b size) (tagIn tagOf b size) refl refl refl
+      walk-tells b size tagOf (hand-passes b size h o) t m (walkIn b size) (fmtIn b size)
+      (tagIn tagOf b size) refl refl refl
 
 module _ (tagOf : List ℕ → ℕ → ℕ) (b c : List ℕ) (size : ℕ) (longer : length b ≤ length c) (inside : length c ≤ size)
     (same : take (length b) b ≡ take (length b) c) (enough : needsOf b size ≡ 0) where
@@ -70,7 +71,8 @@ module _ (tagOf : List ℕ → ℕ → ℕ) (b c : List ℕ) (size : ℕ) (longe
   walks : firstOf (openingTests b size) ≡ 0 → headerBy tagOf c size ≡ headerBy tagOf b size
   walks z =
       sym (walked-is tagOf c size inside (opening .needs) (sym (opening .due) ∙ z) none-missing)
-      ∙ sym (ap (λ (v : Walked). judgedBy tagOf true (not (v .overruns)) v (partOf c (v .format .body) (v .format .size))) walk)
+      ∙ sym (ap (λ (v : Walked). judgedBy tagOf true (not (v .overruns)) v (partOf c (v .format .body)
+      (v .format .size))) walk)
       ∙ sym (body-matters tagOf true (not (walkIn b size .overruns)) (walkIn b size) (fmtIn b size)
       (partOf c (walkIn b size .format .body) (walkIn b size .format .size)) body)
       ∙ walked-is tagOf b size (omega arith) first z at-hand
@@ -83,7 +85,12 @@ module _ (tagOf : List ℕ → ℕ → ℕ) (b c : List ℕ) (size : ℕ) (longe
 
       alike : Alike (chunkIn b) (chunkIn c) (length b)
       alike at h =
-          rw (opening .sizes z (number 4 b at) (number 4 b (at + 4)), numbers 4 at (omega arith), numbers 4 (at + 4) (omega arith))
+          rw (
+            opening .sizes z (number 4 b at) (number 4 b (at + 4)),
+            numbers 4 at (omega arith),
+            numbers 4 (at + 4)
+                (omega arith),
+          )
 
       chunks : walkedFrom riffSought (chunkIn b) end 12 ≡ walkedFrom riffSought (chunkIn c) end 12
       chunks = same-at-hand riffSought (chunkIn b) (λ at. refl) end (length b) (chunkIn c) alike 12 at-hand

@@ -1,5 +1,5 @@
--- W10b. An opening that is enough tells the same in every longer one: step by step, as far as it asks, the bytes that are
--- looked at are at hand. Assumes nothing.
+-- W10b. An opening that is enough tells the same in every longer one: step by step, as far as it asks, the bytes that
+-- are looked at are at hand. Assumes nothing.
 use mathlib.Core.Path.{_≡_, refl, sym, ap, _∙_}
 use mathlib.Core.Bool.{Bool, true, false, true≢false, cond, _&&_, _||_}
 use mathlib.Core.List.{List, [], _∷_}
@@ -94,7 +94,8 @@ module _ (b c : List ℕ) (size : ℕ) (longer : length b ≤ length c)
               met-12 c size (omega arith)
               (met-20 c size (omega arith)
               (met-48 c size (omega arith)
-              (met (length c) (leb 4 (trueRiff c size)) (48 + 12 * entryCount c) 0 (omega (arith, table, count, longer)) refl)));
+              (met (length c) (leb 4 (trueRiff c size)) (48 + 12 * entryCount c) 0 (omega
+              (arith, table, count, longer)) refl)));
           due = rw (riff, p, q, l, m, d, e, same-small b c (length b) same h table);
           ends = λ y. ap (λ (n : ℕ). 8 + n) riff;
           sizes = λ y. same-size b c (length b) same h table;
@@ -127,7 +128,8 @@ module _ (b c : List ℕ) (size : ℕ) (longer : length b ≤ length c)
         by false d =
             let e = sym alike ∙ d in
             without s h p q l m d e
-            (met-12 c size (omega arith) (met-20 c size (omega arith) (unmade (length c) (hasDs64 c size) 48 (tableOf c size) e)))
+            (met-12 c size (omega arith) (met-20 c size (omega arith) (unmade (length c) (hasDs64 c size) 48
+            (tableOf c size) e)))
         by true d =
             let a = asked (length b) (hasDs64 b size) 48 (tableOf b size) d (omega arith) z in
             with-table s p q l m d (sym alike ∙ d) (a .0) (leb 4 (trueRiff b size)) refl (a .1)
@@ -139,7 +141,8 @@ module _ (b c : List ℕ) (size : ℕ) (longer : length b ≤ length c)
         (met-12 c size (omega arith)
         (unmade (length c) (hasLetters c && (isLong c && leb 20 size)) 20 (fixedOf c size) (rw (q, m, e))))
     long true e z =
-        let a = asked (length b) (hasLetters b && (isLong b && leb 20 size)) 20 (fixedOf b size) (rw (p, l, e)) (omega arith) z in
+        let a = asked (length b) (hasLetters b && (isLong b && leb 20 size)) 20 (fixedOf b size) (rw (p, l, e))
+        (omega arith) z in
         with-ds64 (hasDs64 b size) refl (a .0) (a .1)
 
   -- the letters are at hand
@@ -177,7 +180,8 @@ module _ (b c : List ℕ) (size : ℕ) (longer : length b ≤ length c)
       by : (t : Bool) → leb 12 size ≡ t → Opens b c size
       by false s =
           let nine : firstOf (openingTests b size) ≡ 9 = rw s in
-          refused-both b c size (nine ∙ rw s) (λ y. absurd (omega (arith, nine, y))) (unmade (length c) (leb 12 size) 12 (headOf c size) s)
+          refused-both b c size (nine ∙ rw s) (λ y. absurd (omega (arith, nine, y))) (unmade (length c)
+          (leb 12 size) 12 (headOf c size) s)
       by true s =
           let a = asked (length b) (leb 12 size) 12 (headOf b size) s (omega arith) z in
           with-letters s (a .0) (a .1) (hasLetters b) (isLong b) refl refl

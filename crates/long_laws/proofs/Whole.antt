@@ -1,5 +1,5 @@
--- W10f. With the whole file at hand nothing is asked for: 2 is due only where a byte below the file's length is missing.
--- Assumes nothing.
+-- W10f. With the whole file at hand nothing is asked for: 2 is due only where a byte below the file's length is
+-- missing. Assumes nothing.
 use mathlib.Core.Path.{_≡_, refl, sym, _∙_}
 use mathlib.Core.Bool.{Bool, true, false, cond, _&&_}
 use mathlib.Core.List.{List}

@@ -1,5 +1,5 @@
--- W10c. By turns a file gives the answer of the whole file at once, from any opening that is enough. By the opening, the
--- walk, and the fields of `fmt `. Assumes nothing.
+-- W10c. By turns a file gives the answer of the whole file at once, from any opening that is enough. By the opening,
+-- the walk, and the fields of `fmt `. Assumes nothing.
 use mathlib.Core.Path.{_≡_, refl, sym, ap, _∙_}
 use mathlib.Core.Bool.{Bool, true, false, not, cond}
 use mathlib.Core.List.{List}
@@ -75,7 +75,8 @@ module _ (o b : List ℕ) (size : ℕ) (whole : length b ≡ size) (shorter : le
       ∙ ap (λ (v : Walked). finishedOf v (take 40 (partOf b (v .format .body) (v .format .size))))
       (all-turns o b (endOf b size) (opening .sizes z))
       ∙ rw (same-tag (fmtIn b size) (walkIn b size .format .size))
-      (same-found (fmtIn b size) true (not (walkIn b size .overruns)) (wrappedTag (fmtIn b size) (walkIn b size .format .size))
+      (same-found (fmtIn b size) true (not (walkIn b size .overruns)) (wrappedTag (fmtIn b size)
+      (walkIn b size .format .size))
       (walkIn b size)
       ∙ walked-is wrappedTag b size (omega arith) (opening .needs) y
       (to-the-end riffSought (chunkIn b) (λ at. refl) (endOf b size) (length b) (omega (arith, held)) 12))

@@ -1,6 +1,6 @@
--- W10c. A WAV file of any length by turns: what its opening tells, a chunk more by its first 8 bytes, and the answer from the
--- walk and the first bytes of `fmt `. The opening is lent again at every turn, as the table of a `ds64` may hold the chunk's
--- size. Definitions only.
+-- W10c. A WAV file of any length by turns: what its opening tells, a chunk more by its first 8 bytes, and the answer
+-- from the walk and the first bytes of `fmt `. The opening is lent again at every turn, as the table of a `ds64` may
+-- hold the chunk's size. Definitions only.
 use Prim.Native.Nat.{ℕ, zero, suc, _+_, _-_}
 use mathlib.Core.Bool.{Bool, cond}
 use mathlib.Core.List.{List}

@@ -30,8 +30,10 @@ module _ (b : List ℕ) (end : ℕ) where
     at-head : 8 ≤ w .left
         → missing (length b) (walkedFrom riffSought (chunkIn b) end 12)
         ≡ missing (length b)
-        (chunkIn b (end - w .left) ∷ rest riffSought (chunkIn b) end (turned riffSought w (chunkIn b (end - w .left)) .left))
-    at-head h = r .asks ∙ ap (missing (length b)) (next riffSought (chunkIn b) (λ at. refl) end (w .left) h (r .on .inside))
+        (chunkIn b (end - w .left) ∷ rest riffSought (chunkIn b) end (turned riffSought w (chunkIn b
+        (end - w .left)) .left))
+    at-head h = r .asks ∙ ap (missing (length b)) (next riffSought (chunkIn b) (λ at. refl) end (w .left) h
+        (r .on .inside))
 
     pub one-more : (c : Chunk) → 8 ≤ w .left → end - w .left + 8 ≤ length b → c ≡ chunkIn b (end - w .left)
         → Reaching b end (turned riffSought w c)

@@ -19,7 +19,8 @@ use Rattle.wav.proofs.InHand.{refused}
 use Rattle.wav_opening.specs.declared.Begun.{Begun}
 use Rattle.wav_opening.specs.Opening.{endOf, isWave, sizesThere, sizesSmall, riffHeld, openingNeeds, handTests}
 use Rattle.wav_opening.specs.Opening.{openingTests, toldOf, begunOf}
-use Rattle.long_wav.specs.Reading.{chunkIn, walkIn, fmtIn, missing, needsOf, tagIn, tests, verdict, waveIn, headerBy}
+use Rattle.long_wav.specs.Reading.{chunkIn, walkIn, fmtIn, missing, needsOf, tagIn, tests, verdict, waveIn}
+use Rattle.long_wav.specs.Reading.{headerBy}
 
 -- ---- the table, by its tests; `more` are those behind 10
 abbrev all : Bool → Bool → Bool → Bool → Bool → Bool → Bool → List Test → ℕ
@@ -79,7 +80,8 @@ module _ (b : List ℕ) (size : ℕ) where
     behind =
         11 unless walkIn b size .format .found
         ∷ 12 unless walkIn b size .samples .found
-        ∷ 13 unless formatOk (tagIn tagOf b size) (fmtIn b size) (walkIn b size .format .size) (walkIn b size .samples .size)
+        ∷ 13 unless formatOk (tagIn tagOf b size) (fmtIn b size) (walkIn b size .format .size)
+        (walkIn b size .samples .size)
         ∷ []
 
     due-by-hand : (firstOf (handTests b size) ≡ 0 → ⊥) → verdict tagOf b size ≡ firstOf (handTests b size)
@@ -99,7 +101,8 @@ module _ (b : List ℕ) (size : ℕ) where
 
     pub refused-early : (k : Begun) → k ≡ begunOf b size → (k .refusal ≡ 0 → ⊥)
         → found.Refused (k .refusal) ≡ headerBy tagOf b size
-    refused-early k e h = refused (k .refusal) (waveIn tagOf b size) h ∙ ap (λ (n : ℕ). answered n (waveIn tagOf b size)) due
+    refused-early k e h = refused (k .refusal) (waveIn tagOf b size) h
+        ∙ ap (λ (n : ℕ). answered n (waveIn tagOf b size)) due
       where
         by : (t : Bool) → eqb (firstOf (handTests b size)) 0 ≡ t → k .refusal ≡ verdict tagOf b size
         by true z =
@@ -136,7 +139,9 @@ module _ (b : List ℕ) (size : ℕ) where
           → t ≡ tagOf f (w .format .size) → foundOf true (not (w .overruns)) t f w ≡ headerBy tagOf b size
       walk-tells h w f t p q r =
           let body : f ≡ fmtIn b size = q ∙ ap (λ (v : Walked). partOf b (v .format .body) (v .format .size)) p in
-          let tag : t ≡ tagIn tagOf b size = r ∙ rw body (ap (λ (v : Walked). tagOf (fmtIn b size) (v .format .size)) p) in
+          let tag : t ≡ tagIn tagOf b size = r
+          ∙ rw body (ap (λ (v : Walked). tagOf (fmtIn b size) (v .format .size)) p) in
           rw (body, tag)
           (ap (λ (v : Walked). foundOf true (not (v .overruns)) (tagIn tagOf b size) (fmtIn b size) v) p
-          ∙ sym (ap (λ (n : ℕ). answered n (waveIn tagOf b size)) (passed true (eq-eqb (needsOf b size) 0 (needs-heads ∙ h)))))
+          ∙ sym (ap (λ (n : ℕ). answered n (waveIn tagOf b size)) (passed true (eq-eqb (needsOf b size) 0
+          (needs-heads ∙ h)))))

@@ -1,5 +1,6 @@
--- W10. A WAV file of any length by its first bytes: which refusal is due, and where none is, the part that holds samples
--- and what they are. Definitions only. How the tag is told from the body of a `fmt ` and its size is a parameter.
+-- W10. A WAV file of any length by its first bytes: which refusal is due, and where none is, the part that holds
+-- samples and what they are. Definitions only. How the tag is told from the body of a `fmt ` and its size is a
+-- parameter.
 use Prim.Native.Nat.{ℕ, _+_}
 use mathlib.Core.Bool.{Bool, true, false, not, cond, _&&_}
 use mathlib.Core.List.{List, [], _∷_}
@@ -62,7 +63,8 @@ tests tagOf b size =
     ∷ 10 unless (riffHeld b size && not (walkIn b size .overruns))
     ∷ 11 unless walkIn b size .format .found
     ∷ 12 unless walkIn b size .samples .found
-    ∷ 13 unless formatOk (tagIn tagOf b size) (fmtIn b size) (walkIn b size .format .size) (walkIn b size .samples .size)
+    ∷ 13 unless formatOk (tagIn tagOf b size) (fmtIn b size) (walkIn b size .format .size)
+    (walkIn b size .samples .size)
     ∷ []
 
 abbrev pub verdict : (List ℕ → ℕ → ℕ) → List ℕ → ℕ → ℕ

@@ -17,7 +17,8 @@ pub(crate) struct Reached {
 }
 
 pub(crate) fn heads_of(prefix: &[u8], end: usize) -> Reached
-    ensures { λ r. ⌜ r .asked ≡ missing (length (now (prefix .entry))) (walkedFrom riffSought (chunkIn (now (prefix .entry))) end 12) ⌝ }
+    ensures { λ r. ⌜ r .asked ≡ missing (length (now (prefix .entry))) (walkedFrom riffSought (chunkIn (now
+        (prefix .entry))) end 12) ⌝ }
     ensures { λ r. ⌜ (r .asked ≡ 0 → r .seen ≡ walkTo riffSought (chunkIn (now (prefix .entry))) end) ⌝ }
 {
     let sought = riff_sought();

@@ -27,17 +27,20 @@ none : (xs : List ℕ) (end pad file : ℕ) → pad ≡ 0 → file ≡ end → x
 unfolding lowBytes
 none xs end pad file p f = rw (p, f) (sym (take-append-drop end xs))
 
-module _ (kind : SampleKind) (count : ℕ) (xs : List ℕ) (end : ℕ) (e : end ≡ headerLengthFor kind count + sizeOf kind count)
+module _ (kind : SampleKind) (count : ℕ) (xs : List ℕ) (end : ℕ) (e : end
+    ≡ headerLengthFor kind count + sizeOf kind count)
     (held : fileLengthFor kind count ≤ length xs) where
   pub pad-one : end < fileLengthFor kind count → set xs end 0 ≡ padded kind count xs
   pad-one h =
       rw e
-      (one xs (headerLengthFor kind count + sizeOf kind count) (padOf kind count) (fileLengthFor kind count) (omega arith)
+      (one xs (headerLengthFor kind count + sizeOf kind count) (padOf kind count) (fileLengthFor kind count)
+      (omega arith)
       (omega arith) (omega arith))
 
   pub pad-none : fileLengthFor kind count ≤ end → xs ≡ padded kind count xs
   pad-none h =
-      none xs (headerLengthFor kind count + sizeOf kind count) (padOf kind count) (fileLengthFor kind count) (omega arith)
+      none xs (headerLengthFor kind count + sizeOf kind count) (padOf kind count) (fileLengthFor kind count)
+      (omega arith)
       (omega arith)
 
 -- samples of s bytes behind h bytes, a head of h bytes before them, a pad of p bytes behind them

@@ -17,7 +17,8 @@ use Rattle.wav_header.proofs.Planned.{both-hold}
 use Rattle.wav_header.proofs.Long.{length-header as length-riff}
 use Rattle.long_header.specs.declared.Form.{Form}
 use Rattle.long_header.specs.declared.Form.the-variants.{Rf64, Bw64}
-use Rattle.long_header.specs.LongHeader.{headerLengthFor, longHeaderLength, fileLengthFor, openingOf, longHeaderOf, headerFor}
+use Rattle.long_header.specs.LongHeader.{headerLengthFor, longHeaderLength, fileLengthFor, openingOf, longHeaderOf}
+use Rattle.long_header.specs.LongHeader.{headerFor}
 use Rattle.long_header.specs.Refusals.{fileTests, fileVerdictFor, headerVerdictFor, lengthFor64}
 
 length-long : (form : Form) (kind : SampleKind) (channels rate count : ℕ)
@@ -49,5 +50,6 @@ module _ (kind : SampleKind) (channels rate count : ℕ) (h : fileVerdictFor kin
   pub length-planned : lengthFor64 kind channels count ≡ fileLengthFor kind count
   length-planned = rw (both-hold (rateOk rate) (wholeFrames channels count) (test 0) .1, test 1, test 2)
 
-  pub header-planned : (room : ℕ) → room ≡ headerLengthFor kind count → headerVerdictFor kind channels rate count room ≡ 0
+  pub header-planned : (room : ℕ) → room ≡ headerLengthFor kind count
+      → headerVerdictFor kind channels rate count room ≡ 0
   header-planned room e = rw (test 0, test 1, test 2, le-leb (headerLengthFor kind count) room (omega arith))

@@ -57,7 +57,8 @@ pub verdict-is : (kind : SampleKind) (channels rate : ℕ) (samples : List Float
     → verdict kind channels rate samples room
     ≡ orLater (earlyVerdict kind channels rate (length samples) room) (cond (allFit kind samples) 0 15)
 verdict-is kind channels rate samples room =
-    four-then-one (rateOk rate && wholeFrames channels (length samples)) (sizeOk kind (length samples)) (oneOrTwo channels)
+    four-then-one (rateOk rate && wholeFrames channels (length samples)) (sizeOk kind (length samples))
+    (oneOrTwo channels)
     (leb (fileLengthFor kind (length samples)) room) (allFit kind samples)
 
 -- ---- what is due by the calls of a write

@@ -1,5 +1,5 @@
-// W10e. Samples written as a WAV file of any length up to 2^40 bytes of them into a lent buffer, RIFF where it fits and past
-// that RF64 or BW64, or a refusal by number that leaves the buffer as it was.
+// W10e. Samples written as a WAV file of any length up to 2^40 bytes of them into a lent buffer, RIFF where it fits
+// and past that RF64 or BW64, or a refusal by number that leaves the buffer as it was.
 ghost use mathlib.Core.Path.{_≡_};
 ghost use lib.ListN.{length};
 ghost use Rattle.long_write.specs.Writing.{answerOf, written};
@@ -21,8 +21,8 @@ pub enum Written {
     Refused(u8),
 }
 
-// Refuses by 1, 19, 13, 14 or 15, or writes the file. The samples go first, as only they can still be refused: so one look
-// at them is enough, and a refusal finds nothing written.
+// Refuses by 1, 19, 13, 14 or 15, or writes the file. The samples go first, as only they can still be refused: so one
+// look at them is enough, and a refusal finds nothing written.
 pub fn write(
     form: Form,
     kind: SampleKind,

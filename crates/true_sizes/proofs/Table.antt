@@ -1,5 +1,5 @@
--- W10. What is asked of the table, by its entries: before the first, at the next, behind it, and behind the last. A loop
--- over the entries cites these laws, whatever it asks. Assumes nothing.
+-- W10. What is asked of the table, by its entries: before the first, at the next, behind it, and behind the last. A
+-- loop over the entries cites these laws, whatever it asks. Assumes nothing.
 use mathlib.Core.Path.{_≡_, refl, ap, _∙_}
 use mathlib.Core.List.{List, [], _∷_}
 use Prim.Native.Nat.{ℕ, suc, _+_, _-_, _*_, _≤_, _<_}

@@ -1,6 +1,6 @@
--- W10. The first bytes of a WAV file of any length: its letters and, where it is RF64 or BW64, its `ds64`; what they tell
--- of 9, 18, 19 and the RIFF's size. `size` is the file's length, a number that is handed in, and b is as many of its first
--- bytes as are at hand. Definitions only. Bytes that are missing count as 0.
+-- W10. The first bytes of a WAV file of any length: its letters and, where it is RF64 or BW64, its `ds64`; what they
+-- tell of 9, 18, 19 and the RIFF's size. `size` is the file's length, a number that is handed in, and b is as many of
+-- its first bytes as are at hand. Definitions only. Bytes that are missing count as 0.
 use Prim.Native.Nat.{ℕ, _+_, _*_}
 use mathlib.Core.Bool.{Bool, true, cond, not, _&&_, _||_}
 use mathlib.Core.List.{List, [], _∷_}

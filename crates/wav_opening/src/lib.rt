@@ -1,10 +1,18 @@
-// W10. The first bytes of a WAV file of any length: letters and `ds64`, what they tell, and how many of them are needed.
-// Bytes that are missing count as 0, so that any slice is taken.
+// W10. The first bytes of a WAV file of any length: letters and `ds64`, what they tell, and how many of them are
+// needed. Bytes that are missing count as 0, so that any slice is taken.
 ghost use mathlib.Core.Path.{_≡_};
 ghost use mathlib.Core.Bool.{_||_};
 ghost use mathlib.Core.List.{[], _∷_};
 ghost use Rattle.refusal_order.specs.Order.{_unless_, firstOf};
-ghost use Rattle.wav_opening.specs.Opening.{hasLetters, hasDs64, usesDs64, trueRiff, isWave, sizesThere, sizesSmall};
+ghost use Rattle.wav_opening.specs.Opening.{
+  hasLetters,
+  hasDs64,
+  usesDs64,
+  trueRiff,
+  isWave,
+  sizesThere,
+  sizesSmall,
+};
 ghost use Rattle.wav_opening.specs.Opening.{riffHeld, openingNeeds, handTests, openingTests, toldOf, begunOf};
 ghost use Rattle.wav_opening.specs.Opening.{asks as Opening·asks};
 use refusal_order::both;

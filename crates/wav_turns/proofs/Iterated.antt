@@ -1,5 +1,5 @@
--- A walk by turns, for any layout: as long as 8 bytes are left each turn is a chunk more, and at the end it has seen what
--- the whole walk sees. By the laws of a walk's turns in riff_chunks. Assumes nothing.
+-- A walk by turns, for any layout: as long as 8 bytes are left each turn is a chunk more, and at the end it has seen
+-- what the whole walk sees. By the laws of a walk's turns in riff_chunks. Assumes nothing.
 use mathlib.Core.Path.{_≡_, refl, ap, _∙_}
 use mathlib.Core.Bool.{Bool, true, false}
 use Prim.Native.Nat.{ℕ, zero, suc, _-_, _≤_, _<_}

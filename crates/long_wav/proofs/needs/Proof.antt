@@ -29,7 +29,8 @@ returns-3 c =
     let n = t .before .before in
     let a = n .before .before .args in
     let r = sym (ap (λ (g : Begun). g .refusal) (t .told .ensures)) ∙ c .before .if2 .left in
-    let e : t .told .result .end ≡ endOf (a .prefix .now) (a .length) = ap (λ (g : Begun). g .end) (t .told .ensures) ∙ rw r in
+    let e : t .told .result .end ≡ endOf (a .prefix .now) (a .length) = ap (λ (g : Begun). g .end)
+    (t .told .ensures) ∙ rw r in
     c .heads-of .ensures .0
     ∙ rw e (sym (asked-heads (a .prefix .now) (a .length) (sym (n .opening-needs .ensures) ∙ t .before .if1 .left) r))
 

@@ -11,7 +11,8 @@ returns : tie.Need-returns
 returns c =
     let k = c .before .before in
     let a = k .before .before .args in
-    refused-early (a .prefix .now) (a .length) (tagBy (a .wrapped)) (k .begin .result) (k .begin .ensures) (c .if1 .taken)
+    refused-early (a .prefix .now) (a .length) (tagBy (a .wrapped)) (k .begin .result) (k .begin .ensures)
+    (c .if1 .taken)
 
 returns-2 : tie.Need-returns-2
 returns-2 c =

@@ -60,7 +60,8 @@ unfolding sizeIn
 returns-2 c =
     let l = c .before in
     let a = l .before .before .args in
-    sym (all-passed (sizeIn (a .id)) (a .opening .now) (a .count) (l .loop .k) (l .loop .at) (l .loop .inv) (omega arith))
+    sym (all-passed (sizeIn (a .id)) (a .opening .now) (a .count) (l .loop .k) (l .loop .at) (l .loop .inv)
+    (omega arith))
 
 pub size-in-spec : {M : Type 1} → statement M
 size-in-spec =

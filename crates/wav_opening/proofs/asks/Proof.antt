@@ -5,10 +5,18 @@ use Rattle.wav_opening.proofs.asks.Statement.{statement}
 use Rattle.wav_opening.proofs.asks.Tie as tie
 
 returns : tie.Need-returns
-returns c = rw (c .before .if1 .taken, lt-leb (c .before .before .args .reach) (c .before .before .args .n) (c .if2 .taken))
+returns c = rw (
+  c .before .if1 .taken,
+  lt-leb (c .before .before .args .reach) (c .before .before .args .n)
+      (c .if2 .taken),
+)
 
 returns-2 : tie.Need-returns-2
-returns-2 c = rw (c .before .if1 .taken, le-leb (c .before .before .args .reach) (c .before .before .args .n) (c .if2 .left))
+returns-2 c = rw (
+  c .before .if1 .taken,
+  le-leb (c .before .before .args .reach) (c .before .before .args .n)
+      (c .if2 .left),
+)
 
 returns-3 : tie.Need-returns-3
 returns-3 c = search needs

@@ -1,4 +1,5 @@
--- `wav_opening::riff_held` meets its contract: a RIFF that ends in the file leaves 8 bytes of its length. Assumes nothing.
+-- `wav_opening::riff_held` meets its contract: a RIFF that ends in the file leaves 8 bytes of its length. Assumes
+-- nothing.
 use borrow.Author.Needs.{needs}
 use mathlib.Core.Path.{_≡_, refl, sym, _∙_}
 use mathlib.Core.Bool.{Bool, true, false}
@@ -23,7 +24,8 @@ returns c =
     sym (lt-leb (8 + trueRiff (a .opening .now) (a .length)) (a .length) (omega arith))
 
 returns-2 : tie.Need-returns-2
-returns-2 c = rw (← c .true-riff .ensures) (moved (c .true-riff .result) (c .before .before .before .args .length) (omega arith))
+returns-2 c = rw (← c .true-riff .ensures) (moved (c .true-riff .result) (c .before .before .before .args .length)
+    (omega arith))
 
 pub riff-held-spec : {M : Type 1} → statement M
 riff-held-spec = tie.close (tie.spec returns (λ c κs. search needs) returns-2)

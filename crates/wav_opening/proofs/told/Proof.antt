@@ -1,4 +1,5 @@
--- `wav_opening::told` meets its contract, by its two cases: where nothing is refused the RIFF ends in the file. Assumes nothing.
+-- `wav_opening::told` meets its contract, by its two cases: where nothing is refused the RIFF ends in the file.
+-- Assumes nothing.
 use borrow.Author.Needs.{needs}
 use mathlib.Core.Path.{_≡_, refl, sym, ap, _∙_}
 use mathlib.Core.Bool.{Bool, true}
@@ -24,7 +25,12 @@ add-end : tie.Need-add-t6
 add-end c =
     let i = c .before in
     let a = i .before .before .before .args in
-    omega (arith, held (a .opening .now) (a .length) _ (i .before .first-refusal .ensures) (i .if1 .left), c .true-riff .ensures)
+    omega (
+      arith,
+      held (a .opening .now) (a .length) _ (i .before .first-refusal .ensures)
+          (i .if1 .left),
+      c .true-riff .ensures,
+    )
 
 returns-2 : tie.Need-returns-2
 returns-2 c =

@@ -19,5 +19,6 @@ returns-2 c =
 pub true-riff-spec : {M : Type 1} → statement M
 true-riff-spec =
     tie.close
-    (tie.spec (λ c κs. search needs) (λ c κs. search needs) (λ c κs. search needs) (λ c κs. search needs) returns (λ c. search needs)
+    (tie.spec (λ c κs. search needs) (λ c κs. search needs) (λ c κs. search needs) (λ c κs. search needs) returns
+    (λ c. search needs)
     returns-2)

@@ -66,7 +66,14 @@ returns c =
     let h = r .before .before in
     let w = h .before in
     let s = w .before .before in
-    rw (z .put-sizes .ensures, f .put-front .ensures, r .put-rest .ensures, h .header-length .ensures, w .width .ensures)
+    rw (
+      z .put-sizes .ensures,
+      f .put-front .ensures,
+      r .put-rest .ensures,
+      h .header-length .ensures,
+      w .width
+          .ensures,
+    )
     (assembled (s .args .channels) (s .args .rate) (s .args .count) (s .args .form) (s .args .kind) (s .args .out .now)
     (omega (arith, s .pre .exact)))
 

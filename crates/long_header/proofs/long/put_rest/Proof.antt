@@ -9,9 +9,11 @@ returns : tie.Need-returns
 returns c =
     let s = c .before .before .before .before .before in
     let a = s .args in
-    tail-is (a .kind) (a .channels) (a .rate) (a .out .now) _ _ refl (s .pre) (c .before .before .write-header .ensures .1)
+    tail-is (a .kind) (a .channels) (a .rate) (a .out .now) _ _ refl (s .pre)
+    (c .before .before .write-header .ensures .1)
 
 pub put-rest-spec : {M : Type 1} → statement M
 put-rest-spec =
     tie.close
-    (tie.spec (λ c. search needs) (λ c. search needs) (λ c. search needs) (λ c κs. search needs) (λ c. search needs) returns)
+    (tie.spec (λ c. search needs) (λ c. search needs) (λ c. search needs) (λ c κs. search needs)
+    (λ c. search needs) returns)

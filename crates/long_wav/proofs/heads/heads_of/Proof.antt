@@ -65,7 +65,8 @@ loop-again c =
     let l = t .before .before in
     let start = l .before .before .before .before in
     rw (c .turn .ensures, l .before .before .riff-sought .ensures)
-    (one-more (start .args .prefix .now) (start .args .end) (l .loop .walking) (l .loop .inv) (c .before .chunk-at .result)
+    (one-more (start .args .prefix .now) (start .args .end) (l .loop .walking) (l .loop .inv)
+    (c .before .chunk-at .result)
     (t .if1 .taken) (e .if2 .left) (c .before .chunk-at .ensures))
 
 returns-2 : tie.Need-returns-2 Inv-loop μ-loop

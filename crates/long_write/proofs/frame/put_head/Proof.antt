@@ -14,8 +14,10 @@ returns c =
     let h = w .before .before in
     let s = h .before .before in
     let a = s .args in
-    let e : h .header-length-for .result - 0 ≡ headerLengthFor (a .kind) (a .count) = omega (arith, h .header-length-for .ensures) in
-    head-is (a .form) (a .kind) (a .channels) (a .rate) (a .count) (a .out .now) _ _ (s .pre) e (w .header-of .ensures .1)
+    let e : h .header-length-for .result - 0
+    ≡ headerLengthFor (a .kind) (a .count) = omega (arith, h .header-length-for .ensures) in
+    head-is (a .form) (a .kind) (a .channels) (a .rate) (a .count) (a .out .now) _ _ (s .pre) e
+    (w .header-of .ensures .1)
 
 pub put-head-spec : {M : Type 1} → statement M
 put-head-spec =

@@ -10,7 +10,8 @@ returns : tie.Need-returns
 returns c =
     let r = c .before in
     let a = r .before .before .before .args in
-    left-early (a .form) (a .kind) (a .channels) (a .rate) (a .samples .now) (a .out .now) _ (r .early .ensures) (c .if1 .taken)
+    left-early (a .form) (a .kind) (a .channels) (a .rate) (a .samples .now) (a .out .now) _ (r .early .ensures)
+    (c .if1 .taken)
 
 mul-end : tie.Need-mul-end
 mul-end c =
@@ -19,7 +20,8 @@ mul-end c =
     let a = e .before .before .before .before .args in
     omega (
       arith,
-      end-small (a .form) (a .kind) (a .channels) (a .rate) (a .samples .now) (a .out .now) _ (e .before .early .ensures)
+      end-small (a .form) (a .kind) (a .channels) (a .rate) (a .samples .now) (a .out .now) _
+          (e .before .early .ensures)
           (e .if1 .left) _ _ (h .header-length-for .ensures) (c .width .ensures),
     )
 
@@ -30,7 +32,8 @@ add-end c =
     let a = e .before .before .before .before .args in
     omega (
       arith,
-      end-small (a .form) (a .kind) (a .channels) (a .rate) (a .samples .now) (a .out .now) _ (e .before .early .ensures)
+      end-small (a .form) (a .kind) (a .channels) (a .rate) (a .samples .now) (a .out .now) _
+          (e .before .early .ensures)
           (e .if1 .left) _ _ (h .header-length-for .ensures) (c .width .ensures),
     )
 
@@ -74,7 +77,8 @@ returns-3 c =
     let h = w .before in
     let e = h .before in
     let a = e .before .before .before .before .args in
-    all-written (a .form) (a .kind) (a .channels) (a .rate) (a .samples .now) (a .out .now) _ (e .before .early .ensures)
+    all-written (a .form) (a .kind) (a .channels) (a .rate) (a .samples .now) (a .out .now) _
+    (e .before .early .ensures)
     (e .if1 .left) _ _ (h .header-length-for .ensures) (w .width .ensures) _ _
     (t .store-f32 .ensures .0) (t .store-f32 .ensures .1) (f .if2 .left)
     _ _ (l .finish .ensures .0) (l .finish .ensures .1)
