@@ -10,7 +10,7 @@ use Rattle.wav.specs.declared.Wave.{Wave}
 use Rattle.wav_format.specs.Format.{channels, rate, bits, kindOf, formatOk}
 use Rattle.wav.specs.Wave.{walkIn, partOf, fmtOf, isWave, within, tagIn, answered, foundBy}
 
-abbrev judged : ℕ → Bool → Bool → Walked → List ℕ → Found
+abbrev pub judged : ℕ → Bool → Bool → Walked → List ℕ → Found
 judged t is fit v f =
     answered
     (firstOf
@@ -33,11 +33,11 @@ pub by-tag : (f g : List ℕ → ℕ → ℕ) (b : List ℕ) → tagIn f b ≡ t
 by-tag f g b e = ap (λ (t : ℕ). judged t (isWave b) (within b) (walkIn b) (fmtOf b)) e
 
 module _ (tagOf : List ℕ → ℕ → ℕ) where
-  abbrev judgedBy : Bool → Bool → Walked → List ℕ → Found
+  abbrev pub judgedBy : Bool → Bool → Walked → List ℕ → Found
   judgedBy is fit v f = judged (tagOf f (v .format .size)) is fit v f
 
   -- the body matters only where the first four tests pass
-  body-matters : (is fit : Bool) (v : Walked) (f g : List ℕ)
+  pub body-matters : (is fit : Bool) (v : Walked) (f g : List ℕ)
       → (fit ≡ true → v .format .found ≡ true → v .samples .found ≡ true → f ≡ g)
       → judgedBy is fit v f ≡ judgedBy is fit v g
   body-matters false fit v f g h = refl

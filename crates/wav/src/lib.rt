@@ -97,7 +97,7 @@ pub fn part(file: &[u8], wave: Wave) -> &[u8]
 }
 
 // Up to size bytes of s from a place on: fewer where s ends before.
-fn part_of(s: &[u8], start: usize, size: usize) -> &[u8]
+pub fn part_of(s: &[u8], start: usize, size: usize) -> &[u8]
     ensures { λ r. ⌜ now r ≡ partOf (now (s .entry)) start size ⌝ }
 {
     if s.len() <= start {

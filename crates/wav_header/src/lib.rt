@@ -12,10 +12,11 @@ use refusal_order::both;
 use sample_kind::SampleKind;
 use tests::count_ok;
 use tests::first_of_file;
+pub use tests::fits_riff;
 use tests::header_refusal;
-use tests::one_or_two;
-use tests::rate_ok;
-use tests::whole_frames;
+pub use tests::one_or_two;
+pub use tests::rate_ok;
+pub use tests::whole_frames;
 
 pub fn header_length(kind: SampleKind) -> usize
     ensures { λ r. ⌜ r ≡ headerLength kind ⌝ }

@@ -8,13 +8,13 @@ use crate::header_length;
 use refusal_order::both;
 use sample_kind::SampleKind;
 
-pub(crate) fn rate_ok(rate: u32) -> bool
+pub fn rate_ok(rate: u32) -> bool
     ensures { λ r. ⌜ r ≡ rateOk rate ⌝ }
 {
     both(8000 <= rate, rate <= 768000)
 }
 
-pub(crate) fn one_or_two(channels: u8) -> bool
+pub fn one_or_two(channels: u8) -> bool
     ensures { λ r. ⌜ r ≡ oneOrTwo channels ⌝ }
 {
     if channels == 1 { true } else { channels == 2 }
@@ -27,14 +27,14 @@ pub(crate) fn count_ok(kind: SampleKind, channels: u8, count: usize) -> bool
 }
 
 // One channel's samples are always whole frames.
-pub(crate) fn whole_frames(channels: u8, count: usize) -> bool
+pub fn whole_frames(channels: u8, count: usize) -> bool
     ensures { λ r. ⌜ r ≡ wholeFrames channels count ⌝ }
 {
     if channels == 2 { count % 2 == 0 } else { true }
 }
 
 // A count of 2^32 or more is out before it is multiplied, so that no product passes a word.
-fn fits_riff(kind: SampleKind, count: usize) -> bool
+pub fn fits_riff(kind: SampleKind, count: usize) -> bool
     ensures { λ r. ⌜ r ≡ fitsRiff kind count ⌝ }
 {
     if count >= 0x1_0000_0000 {

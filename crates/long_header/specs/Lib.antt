@@ -1,0 +1,3 @@
+pub mod LongHeader
+pub mod Refusals
+pub mod Parts

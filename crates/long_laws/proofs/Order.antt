@@ -1,0 +1,19 @@
+-- W10f. A header's refusals, each exactly when its test is the first that fails, and none exactly when all tests
+-- hold. From the laws over any table. Assumes nothing.
+use mathlib.Core.Path.{_≡_, refl}
+use mathlib.Core.Logic.{_↔_}
+use mathlib.Core.Bool.{true}
+use mathlib.Core.List.{List}
+use Prim.Native.Nat.{ℕ, suc}
+use Rattle.refusal_order.specs.Order.{First, numberOf, testOf, lineOf}
+use Rattle.refusal_order.proofs.First.{exactly, none}
+use Rattle.long_wav.specs.Reading.{tests, verdict}
+
+module _ (tagOf : List ℕ → ℕ → ℕ) (b : List ℕ) (size : ℕ) where
+  pub read-exactly : (n : ℕ)
+      → verdict tagOf b size ≡ suc n
+      ↔ ((k : ℕ) × (First (tests tagOf b size) k × numberOf (lineOf (tests tagOf b size) k) ≡ suc n))
+  read-exactly n = exactly (tests tagOf b size) n
+
+  pub read-none : verdict tagOf b size ≡ 0 ↔ ((k : ℕ) → testOf (lineOf (tests tagOf b size) k) ≡ true)
+  read-none = none (tests tagOf b size) refl

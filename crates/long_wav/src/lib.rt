@@ -1,0 +1,62 @@
+// W10. WAV of any length, RIFF or past four gigabytes as RF64 and BW64, read by its first bytes: the file's length is a
+// number that is handed in, and of its bytes only those up to the first byte of `data` are looked at.
+ghost use mathlib.Core.Path.{_≡_};
+ghost use Rattle.wav_format.specs.Tags.{tagBy};
+ghost use Rattle.long_wav.specs.Reading.{needsOf, headerBy, headerIn, headerWrapped};
+
+mod heads; // the walk over the heads that are at hand
+
+use heads::heads_of;
+use wav::Found;
+use wav_format::tag_of;
+use wav_opening::begin;
+use wav_opening::opening_needs;
+use wav_opening::told;
+
+// A file of `length` bytes by its first ones. 2: more of them are needed, and `needs` says how many.
+pub fn read_header(prefix: &[u8], length: usize) -> Found
+    ensures { λ r. ⌜ r ≡ headerIn (now (prefix .entry)) length ⌝ }
+{
+    read_by(false, prefix, length)
+}
+
+// The same, but that a kind wrapped as WAVE_FORMAT_EXTENSIBLE, tag FFFE, is read by the tag inside.
+pub fn read_header_wrapped(prefix: &[u8], length: usize) -> Found
+    ensures { λ r. ⌜ r ≡ headerWrapped (now (prefix .entry)) length ⌝ }
+{
+    read_by(true, prefix, length)
+}
+
+// How many of the file's first bytes are to be handed in for the reading to go on; 0 where enough are at hand.
+pub fn needs(prefix: &[u8], length: usize) -> usize
+    ensures { λ r. ⌜ r ≡ needsOf (now (prefix .entry)) length ⌝ }
+{
+    let opening = opening_needs(prefix, length);
+    if opening != 0 {
+        return opening;
+    }
+    let begun = told(prefix, length);
+    if begun.refusal != 0 {
+        return 0;
+    }
+    let reached = heads_of(prefix, begun.end);
+    reached.asked
+}
+
+fn read_by(wrapped: bool, prefix: &[u8], length: usize) -> Found
+    ensures { λ r. ⌜ r ≡ headerBy (tagBy wrapped) (now (prefix .entry)) length ⌝ }
+{
+    let begun = begin(prefix, length);
+    if begun.refusal != 0 {
+        return Found::Refused(begun.refusal);
+    }
+    let reached = heads_of(prefix, begun.end);
+    if reached.asked != 0 {
+        return Found::Refused(2);
+    }
+    let walked = reached.seen;
+    let format = walked.format;
+    let f = wav::part_of(prefix, format.body, format.size);
+    let tag = tag_of(wrapped, f, format.size);
+    wav::finish(true, !walked.overruns, tag, f, walked)
+}

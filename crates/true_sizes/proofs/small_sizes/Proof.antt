@@ -1,0 +1,12 @@
+-- `true_sizes::small_sizes` meets its contract: what the calls ensure, put together. Assumes nothing.
+use borrow.Author.Needs.{needs}
+use Rattle.true_sizes.proofs.small_sizes.Statement.{statement}
+use Rattle.true_sizes.proofs.small_sizes.Tie as tie
+
+returns : tie.Need-returns
+returns c = cc
+
+pub small-sizes-spec : {M : Type 1} → statement M
+small-sizes-spec =
+    tie.close
+    (tie.spec (λ c κs. search needs) (λ c κs. search needs) (λ c κs. search needs) (λ c κs. search needs) returns)
