@@ -30,6 +30,8 @@
  *      agree
  *  14  the buffer is shorter than the file that is to be written
  *  15  a sample that is to be written is NaN or does not fit
+ *  18  the RF64 or BW64 file's ds64 is missing or not first (no function of these libraries gives 18 or 19 yet)
+ *  19  a size of the file is above 2^40 bytes
  *  20  the file is not AIFF, or its FORM size is under 4
  *  21  `COMM` or `SSND` is missing or too short, its offset lies past the end, or it has fewer frames than it says
  *  22  the AIFF's rate is not a whole number from 8000 to 768000
@@ -67,6 +69,8 @@ enum {
     FUGNADRI_KIND = 13,
     FUGNADRI_ROOM = 14,
     FUGNADRI_SAMPLE = 15,
+    FUGNADRI_NO_SIZES = 18,
+    FUGNADRI_LARGE_SIZE = 19,
     FUGNADRI_NOT_AIFF = 20,
     FUGNADRI_SOUND = 21,
     FUGNADRI_SOUND_RATE = 22

@@ -1,4 +1,4 @@
-//! Why a call was refused: 01's numbers 1 to 8, and those of document 02's Wishes: 9 to 15 of WAV files, 20 to 22 of
+//! Why a call was refused: 01's numbers 1 to 8, and those of document 02's Wishes: 9 to 15, 18 and 19 of WAV files, 20 to 22 of
 //! AIFF.
 
 use std::{error::Error, fmt};
@@ -37,6 +37,10 @@ pub enum Refusal {
     Room = 14,
     /// A sample that is to be written is out of range or NaN.
     Sample = 15,
+    /// The RF64 or BW64 file's `ds64` is missing or not first.
+    NoSizes = 18,
+    /// A size in the file's `ds64`, or of the samples that are to be written, is above 2^40 bytes.
+    LargeSize = 19,
     /// The file is not AIFF, or its FORM size is under 4.
     NotAiff = 20,
     /// The AIFF's `COMM` or `SSND` is missing or too short, its offset lies past the end, or it has fewer frames than
@@ -72,11 +76,13 @@ impl Refusal {
             13 => Kind,
             14 => Room,
             15 => Sample,
+            18 => NoSizes,
+            19 => LargeSize,
             20 => NotAiff,
             21 => Sound,
             22 => SoundRate,
             other => unreachable!(
-                "the static libraries refuse by 1 to 15 and 20 to 22, not by {other}: this crate was written for others"
+                "the static libraries refuse by 1 to 15 and 18 to 22, not by {other}: this crate was written for others"
             ),
         })
     }
@@ -102,6 +108,8 @@ impl fmt::Display for Refusal {
                  what it tells): save it as PCM of 16 or 24 bits or float of 32, one or two channels"
             }
             Room => "the buffer is shorter than the file: lend as many bytes as `wav::file_length` says",
+            NoSizes => "the RF64 file's `ds64` is missing or not its first chunk: save the transfer anew",
+            LargeSize => "a size of the file is above 2^40 bytes: cut the side in two",
             NotAiff => "the file is not AIFF: hand in an AIFF file from its first byte on, and no AIFC",
             Sound => {
                 "the file does not say what its samples are, or has fewer of them than it says (`aiff::told` says what \

@@ -19,7 +19,9 @@ returns c =
     let text-one = ascii "<rect x=\"90\" y=\"46\" width=\"14\" height=\"14\" fill=\"#c4c4c4\"/>\n" in
     let text-two = ascii "<text x=\"110\" y=\"58\">light: the largest sample of a stretch, in either file</text>\n" in
     let text-three = ascii "<rect x=\"480\" y=\"46\" width=\"14\" height=\"14\" fill=\"#000\"/>\n" in
-    let text-four = ascii "<text x=\"500\" y=\"58\">dark, in front: the largest difference; where it meets light they part</text>\n" in
+    let text-four =
+    ascii
+    "<text x=\"500\" y=\"58\">dark, in front: the largest difference; where it meets light they part</text>\n" in
     let from-three = text-three ++ text-four in
     let from-two = text-two ++ from-three in
     then (now (s .out)) text-one from-two (s .at) (one .put .ensures)
