@@ -1,4 +1,4 @@
-// O3. The kernels of `kernels`, with the sample handed out as a pattern.
+// O3. The kernels of `kernels`, with the sample handed out as a bit pattern.
 ghost use mathlib.Core.Path.{_≡_};
 ghost use mathlib.Core.Bool.{_&&_, cond};
 ghost use lib.Ieee.{binary64};

@@ -1,6 +1,6 @@
--- N1, N3. A quality as its number, and a reader's state as plain numbers. A number above 3 names no quality: as the
--- requested one it is an argument, refused by 1; in a state it is a field, refused by 3, after 1 and 2. Definitions
--- only.
+-- N1, N3. A quality as its number, and a reader's state as plain numbers. A number above 3 is not a quality. As the
+-- requested one it is an argument and refused by 1; in a state it is a field and refused by 3, after 1 and 2.
+-- Definitions only.
 use Prim.Native.Nat.{ℕ}
 use mathlib.Core.Bool.{Bool, true, false, _&&_, cond}
 use lib.Dec.{leb}
@@ -57,7 +57,7 @@ stateOf maximum margin accepted current target crossfade-position crossfade-samp
 abbrev pub fieldsOk : Coded → Bool
 fieldsOk s = codeOk (s .current) && codeOk (s .target)
 
--- The refusal when a quality number is above 3: 1 if it is the requested one; otherwise 3, unless v, the refusal due
--- without it, is already 1 or 2.
+-- The refusal when a quality number is above 3: 1 if it is the requested one; otherwise 3, unless v, the refusal that
+-- the call has without it, is already 1 or 2.
 abbrev pub oddNumber : Bool → ℕ → ℕ
 oddNumber asked v = cond asked (cond (leb 1 v && leb v 2) v 3) 1

@@ -1,5 +1,5 @@
--- What a call of a quality reader through pointers leaves, and what an opening or a reset leaves: of the state the
--- four numbers that it changes. Definitions only.
+-- What a call of a quality reader through pointers leaves, and what an opening or a reset leaves. Of the state it is
+-- the four numbers that may change. Definitions only.
 use Prim.Native.Nat.{ℕ, zero, suc}
 use mathlib.Core.Bool.{true}
 use mathlib.Core.List.{List}
@@ -27,19 +27,19 @@ changed accepted current target crossfade-position = record {
 abbrev pub changedOf : Coded → Changed
 changedOf s = changed (s .accepted) (s .current) (s .target) (s .«crossfade_position»)
 
--- What process_sample_rate_aware gives.
+-- What a call of process_sample_rate_aware leaves.
 abbrev pub leftBy : List Float → Float → Coded → List Float → Float → Float → ℕ → Float → Left Float Changed
 leftBy sets max-rate s xs x y q playback-rate =
     let c = calledOf sets max-rate s xs x y q playback-rate in
     leaves (c .number) (c .sample) (changedOf (c .state)) (ringCalled sets max-rate s xs x y q playback-rate)
 
--- Reset, which asks for no quality.
+-- What a reset leaves, which has no quality as an argument.
 abbrev pub resetLeft : Coded → List Float → Renewed Changed
 resetLeft s xs =
     let c = renewedOf true s (length xs) in
     renews (c .number) (changedOf (c .state)) (ringRenewed true s xs)
 
--- Opening: a refusal keeps what stood there.
+-- What an opening leaves: a refusal keeps what stood there.
 abbrev pub unlessRefused : ℕ → Changed → Changed → Changed
 unlessRefused zero before after = after
 unlessRefused (suc k) before after = before

@@ -1,4 +1,5 @@
-// A quality as its number, a quality reader's state as plain numbers, and the refusal where a number names no quality.
+// A quality as its number, a quality reader's state as plain numbers, and the refusal of a number that is not a
+// quality.
 ghost use mathlib.Core.Path.{_≡_};
 ghost use mathlib.Core.Bool.{_&&_, cond};
 ghost use Rattle.quality_codes.specs.Codes.{modeOf, decoded, coded, fieldsOk, oddNumber};
@@ -62,8 +63,8 @@ fn number(test: bool, a: u8, b: u8) -> u8
     if test { a } else { b }
 }
 
-// The refusal when a quality number is above 3: 1 if it is the requested one; otherwise 3, unless `v`, the refusal due
-// without it, is already 1 or 2.
+// The refusal when a quality number is above 3: 1 if it is the requested one; otherwise 3, unless `v`, the refusal that
+// the call has without it, is already 1 or 2.
 pub(crate) fn odd(asked: bool, v: u8) -> u8
     ensures { λ r. ⌜ r ≡ oddNumber asked v ⌝ }
 {

@@ -1,10 +1,10 @@
-// The quality reader's call, opening and reset on plain numbers.
-// A quality is its place in the original's list, from 0; a number above 3 names none.
+// The quality reader's call, opening and reset on plain numbers. A quality is its place in the original's list, from 0;
+// a number above 3 is not a quality.
 mod calls; // a call
 mod codes; // a quality and a state as numbers
-mod draft; // a call that is plain in Draft
+mod draft; // the fast path for calls in Draft
 mod lent; // whether a bank has its length
-mod plainly; // its tests
+mod plainly; // the tests of that fast path
 mod renewing; // opening and reset
 mod through; // a call whose numbers come and go through pointers
 

@@ -1,5 +1,5 @@
-// Fast path: true only if all qualities are Draft and no refusal is due. Returns at the first failing test; `due` works
-// out the number.
+// Fast path: true only if all qualities are Draft and nothing is refused. Returns at the first failing test; `due`
+// works out the number.
 ghost use mathlib.Core.Path.{_≡_};
 ghost use mathlib.Core.Bool.{true, false, not};
 ghost use Prim.Native.Nat.{_*_, _^_, _<_, _≤_};
@@ -16,7 +16,7 @@ use super::lent;
 use constants::LIMIT;
 use constants::LIMIT_F64;
 
-// Whether all three qualities are Draft and the fade's numbers in range.
+// Whether all three qualities are Draft and the numbers of the fade are in range.
 fn draft(
     current: u8,
     target: u8,
@@ -73,7 +73,7 @@ fn filled(maximum: usize, margin: usize, len: usize, max_rate: f64, lent: usize)
     false
 }
 
-// Whether the call is plain in Draft and no refusal is due.
+// Whether all qualities are Draft and nothing is refused.
 pub(crate) fn plain(
     maximum: usize,
     margin: usize,

@@ -21,13 +21,13 @@ struct Words {
     second: u64,
 }
 
-// What a line leaves of the change of quality, and its answer.
+// The state of the change of quality after a line, and the answer.
 struct Turn {
     fade: Fade,
     words: Words,
 }
 
-// No answer of the original looks like a refusal.
+// No answer of the original looks like this word for a refusal.
 fn refused(no: u8) -> Words {
     Words {
         first: replay_lines::refused(no),
@@ -35,7 +35,7 @@ fn refused(no: u8) -> Words {
     }
 }
 
-// Three small numbers in one word, two hex digits each.
+// Packs three small numbers into one word, two hex digits each.
 fn packed(a: u8, b: u8, c: u8) -> u64 {
     a as u64 * 65536 + b as u64 * 256 + c as u64
 }
@@ -62,7 +62,7 @@ fn call(before: Fade, source: &mut [f32], letter: u8, a: u64, b: u64, c: u64) ->
     }
 }
 
-// The next 53 bytes, where there are so many.
+// The next 53 bytes, a line, if there are so many.
 fn hear() -> Heard {
     let mut text = [0u8; 53];
     let n = io::read_full(STDIN_FILENO, &mut text);
@@ -76,7 +76,8 @@ fn say(first: u64, second: u64) {
     io::write_all(STDOUT_FILENO, b"\n");
 }
 
-// Line after line: as many as a u64 counts, which no input outlasts.
+// Goes line after line. The loop counts down from the largest u64, because the language demands that it ends; no input
+// is that long.
 fn run(source: &mut [f32]) {
     let mut fade = quality_fade::open(QualityMode::Draft, 0);
     let mut heard = hear();

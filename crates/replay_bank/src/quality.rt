@@ -1,4 +1,5 @@
-// Q1, Q2. A change of quality: a line opens, asks or resets, and its two words are what that leaves.
+// Q1, Q2. A change of quality. A line opens, requests a quality or resets, and its two words are the state that is
+// left.
 use super::Turn;
 use super::Words;
 use super::packed;
@@ -8,7 +9,8 @@ use quality_mode::Named;
 use quality_mode::QualityMode;
 use quality_mode::code;
 
-// Current, target and whether the call was mixed; the place, and the weight that the target had.
+// The first word is the current and the target quality and whether the call was mixed, the second the position and the
+// weight of the target.
 fn left(fade: Fade, mixed: u8, weight: u32) -> Turn {
     let current = fade.current;
     let target = fade.target;
