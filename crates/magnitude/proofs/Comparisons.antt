@@ -1,5 +1,5 @@
--- The order of floats: total but for a NaN, and what it says of two numbers' magnitudes, each times the other's
--- denominator. Assumes nothing.
+-- The order of floats: it is total except for a NaN. And what it shows of the magnitudes of two numbers, each times the
+-- other's denominator. Assumes nothing.
 use mathlib.Core.Path.{_≡_, sym}
 use mathlib.Core.Bool.{Bool, true, false, not, _&&_, _||_}
 use mathlib.Core.Logic.{inl, inr}

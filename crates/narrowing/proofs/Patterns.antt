@@ -1,4 +1,4 @@
--- An f64 of the pattern b, as units; and the pattern of the nearest f32, where that is normal or an infinity:
+-- The f64 with the pattern b, as units, and the pattern of the nearest f32 if that is normal or an infinity. These are
 -- two cases of `magnitude`. Assumes nothing.
 use mathlib.Core.Path.{_≡_, refl, sym, ap, _∙_, subst}
 use mathlib.Core.Logic.{_⊎_, inl, inr}
@@ -20,7 +20,7 @@ use Rattle.rounding.proofs.NearestWhole.{closest-by-add, closest-shift}
 use Rattle.rounding.proofs.Pack.{pack}
 use Rattle.rounding.proofs.Patterns.{unpacked}
 
--- b is `count` of the unit 2 ^ `exponent`, in smallest values of f64
+-- In smallest values of f64, b is `count` of the unit 2 ^ `exponent`.
 abbrev pub exponent : ℕ → ℕ
 exponent b = b / 2 ^ 52 - 1
 

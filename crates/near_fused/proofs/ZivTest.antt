@@ -1,6 +1,5 @@
--- Ziv's test: where the roundings of two numbers do not ascend from the lower to the upper, they are one float,
--- and what lies between the two rounds to it, unless it is zero.
--- Assumes nothing.
+-- Ziv's test: if the roundings of two numbers do not ascend from the lower to the upper, they are one float, and what
+-- lies between the two numbers rounds to it, unless it is zero. Assumes nothing.
 use mathlib.Core.Path.{_≡_, sym, ap, _∙_, subst}
 use mathlib.Core.Bool.{Bool, true, false, not}
 use Prim.Native.Nat.{ℕ, zero, suc, _+_, _*_, _<_}

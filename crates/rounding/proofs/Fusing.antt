@@ -1,5 +1,5 @@
--- `fused` of three values given by fractions, and where nothing is multiplied or added: a product of zero is exact,
--- and a zero added to a product leaves it. What `fused` gives is a value of the format. Assumes nothing.
+-- `fused` of three values that are given as fractions, and where nothing has to be multiplied or added: a product of
+-- zero is exact, and adding a zero leaves the product. The result of `fused` is a value of the format. Assumes nothing.
 use mathlib.Core.Path.{_≡_, refl, sym, ap, _∙_, subst}
 use mathlib.Core.Bool.{Bool, true, false}
 use Prim.Native.Nat.{ℕ, _*_, _<_}

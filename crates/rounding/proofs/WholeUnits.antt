@@ -1,4 +1,5 @@
--- v of the format's smallest values, a whole number, rounded: `near` of the unit 2 ^ `places`. Assumes nothing.
+-- A whole number v of the format's smallest values, rounded: the result is `near` of the unit 2 ^ `places`. Assumes
+-- nothing.
 use mathlib.Core.Path.{_≡_, sym, ap, _∙_, subst}
 use mathlib.Core.Bool.{Bool, cond}
 use Prim.Native.Nat.{ℕ, _+_, _-_, _*_, _^_, _≤_, _<_}
