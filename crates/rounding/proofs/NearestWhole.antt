@@ -55,7 +55,7 @@ closest-ge a d w D h = le-trans (le-div-iff-mul-le D .1 h) (nearest-ge (a / d) (
 pub closest-le : (a d w : ℕ) → 0 < d → a < w * d → closest a d ≤ w
 closest-le a d w D h = le-trans (nearest-le (a / d) (compare (a % d * 2) d)) (div-lt-iff-lt-mul D .1 h)
 
--- an even multiple of the divisor goes through
+-- An even multiple of the divisor can be added before or after.
 nearest-shift : (w q : ℕ) (o : Ordering) → nearest (w * 2 + q) o ≡ w * 2 + nearest q o
 nearest-shift w q Ordering·lt = refl
 nearest-shift w q Ordering·eq = omega arith

@@ -1,5 +1,5 @@
--- `sinc_settings::table_refusal` meets its contract: the length of a table in range fits, and each answer rewrites with
--- the tests that led there. Assumes nothing.
+-- `sinc_settings::table_refusal` meets its contract: the length of a table in range fits, and each answer follows from
+-- the tests that led to it. Assumes nothing.
 use borrow.Author.Needs.{needs}
 use borrow.Author.Tests.{eq-eqb, ne-eqb}
 use mathlib.Core.Path.{_≡_, sym, _∙_}

@@ -1,4 +1,4 @@
--- `stored_samples::narrow_samples::stored24_f32` meets its contract, by the law over the format and the width: an f32
+-- `stored_samples::narrow_samples::stored24_f32` meets its contract, by the law for any format and the width: an f32
 -- that fits is a number, and an f64 too. Assumes nothing.
 use borrow.Author.Needs.{needs}
 use mathlib.Core.Path.{_≡_}
