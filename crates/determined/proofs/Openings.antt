@@ -1,4 +1,4 @@
--- C1. Each contract of an opening or a reset determines the answer, with the state in it, and every element of the
+-- C1. Each contract of an opening or a reset determines the answer, including the state in it, and every element of the
 -- ring. Assumes nothing.
 use contract.Lifetimes.{Lfts}
 use denote.Ref.{now}

@@ -1,5 +1,5 @@
--- Q1, Q2. Over a run of calls the qualities go as the accepted calls ask, one after the other:
--- so what holds of runs of steps of quality_fade holds of the reader. Assumes nothing.
+-- Q1, Q2. Over a run of calls the qualities change as the accepted calls request. So what holds for runs of steps of
+-- quality_fade holds for the reader. Assumes nothing.
 use mathlib.Core.Path.{_≡_, refl, _∙_, ap}
 use mathlib.Core.Bool.{true, false}
 use mathlib.Core.List.{List, [], _∷_, _++_}
@@ -19,7 +19,7 @@ use Rattle.runs.proofs.Calls.{accepted-taken, accepted-refused, by-calls, by-ac
 use Rattle.quality_runs.specs.Runs.{Call, Reader, afterBy, due, run, accepted, turns, asked}
 use Rattle.quality_runs.proofs.Calls.{stays}
 
--- the qualities that the run leaves, and the turns that its accepted calls take
+-- The qualities that the run leaves, and the mixing steps of its accepted calls.
 pub faded : (r : Reader) (cs : List Call)
     → fadePart (run r cs .state) ≡ leftOf (fadePart (r .state)) (asked (accepted r cs))
 unfolding leftOf
@@ -43,7 +43,7 @@ turned =
     (ap (λ (l : List Turn). stepOf (fadePart (r .state)) (c .quality) ∷ l) ih))
     (λ r c cs k e ih. rw (turns-by r c cs (suc k) e, accepted-refused due afterBy stays r c cs k e) ih)
 
--- Q1. Where the accepted calls of a run ask for a quality other than the target and the current, N and k times over,
+-- Q1. If the accepted calls of a run request, N + k times over, a quality other than the target and the current one,
 -- exactly the first N of them are mixed.
 pub exactly : (r : Reader) (cs : List Call) (q : QualityMode) (k : ℕ)
     → let s = fadePart (r .state) in

@@ -1,6 +1,5 @@
--- G2, N3, Q3. A call leaves a state in its ranges where it was in them, over whole runs too;
--- and so do opening and reset, which leave nothing to fade.
--- Assumes nothing.
+-- G2, N3, Q3. A call leaves a state in range if it was in range, also over whole runs. So do opening and reset, which
+-- leave nothing to fade. Assumes nothing.
 use mathlib.Core.Path.{_≡_, refl, _∙_}
 use mathlib.Core.Bool.{Bool, true, _&&_}
 use mathlib.Core.List.{List, [], _∷_}
@@ -29,7 +28,7 @@ use Rattle.quality_variable_delay.specs.declared.QualityVariableDelayF32.{Quali
 use Rattle.runs.specs.Calls.{runOf}
 use Rattle.quality_runs.specs.Runs.{Call, Reader, afterBy, due, after, run}
 
--- the tests of 1 to 3
+-- The tests for 1 to 3.
 module _ (s n e a p : Bool) where
   record Valid : Type 0 where
     settings : s ≡ true
@@ -52,7 +51,7 @@ module _ (s n e a p : Bool) where
   sound : Valid → lowestOf (s && n) e (a && p) true true true true true ≡ 0
   sound v = rw (v .settings, v .fits, v .long, v .counts, v .placed)
 
--- what the five tests of a state and its ring's length say
+-- What the five tests of a state and its ring's length show.
 abbrev inRange : QualityVariableDelayF32 → ℕ → Type 0
 inRange d len =
     Valid (settingsOk (d .maximum) (d .margin)) (lengthOk (d .«crossfade_samples»))
@@ -83,7 +82,7 @@ taken-kept d xs x q v l =
       placed = fade.both (lengthOk (stepOf s q .state .«crossfade_samples»)) (placeOk (stepOf s q .state)) faded .1;
     }
 
--- no refusal 1 to 3 is due of a state and a ring that a call leaves, where none was due before
+-- If there was no refusal 1 to 3 before a call, there is none for the state and the ring that it leaves.
 pub kept : (r : Reader) (c : Call) → resetVerdict (r .state) (length (r .ring)) ≡ 0
     → resetVerdict (after r c .state) (length (after r c .ring)) ≡ 0
 kept r c h = go (due r c) refl
@@ -104,7 +103,7 @@ run-kept r (c ∷ cs) h = run-kept (after r c) cs (kept r c h)
 
 -- ---- opening and reset
 
--- Q3. what a reset leaves is in its ranges
+-- Q3. What a reset leaves is in range.
 pub reset-kept : (d : QualityVariableDelayF32) (len : ℕ) → resetVerdict d len ≡ 0 → resetVerdict (renewed d) len ≡ 0
 reset-kept d len h =
     let v = in-range d len h in
@@ -118,11 +117,11 @@ reset-kept d len h =
           (open-valid (d .«target_quality») (d .«crossfade_samples») (v .fits)) .1;
     }
 
--- a reset of what a reset leaves changes nothing
+-- Resetting what a reset has left changes nothing.
 pub reset-again : (d : QualityVariableDelayF32) → renewed (renewed d) ≡ renewed d
 reset-again d = refl
 
--- Q3. opening leaves its one quality, and only 1 and 2 can be due
+-- Q3. Opening leaves its one quality, and only 1 and 2 are possible.
 pub opens : (maximum margin crossfade : ℕ) (q : QualityMode)
     → renewed (fresh maximum margin q crossfade) ≡ fresh maximum margin q crossfade
 opens maximum margin crossfade q = refl
