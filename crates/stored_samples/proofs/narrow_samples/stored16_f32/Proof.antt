@@ -1,4 +1,4 @@
--- `stored_samples::narrow_samples::stored16_f32` meets its contract, by the law for any format and the width. Assumes
+-- `stored_samples::narrow_samples::stored16_f32` meets its contract, by the law for any format and width. Assumes
 -- nothing.
 use borrow.Author.Needs.{needs}
 use mathlib.Core.Path.{_≡_}
