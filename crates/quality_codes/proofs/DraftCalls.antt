@@ -1,5 +1,5 @@
--- What a call on plain numbers gives where all three qualities are Draft and nothing is refused:
--- it stores, reads a cubic and counts. Assumes nothing.
+-- What a call on plain numbers gives if all three qualities are Draft and nothing is refused: it stores the sample,
+-- reads a cubic and counts. Assumes nothing.
 use mathlib.Core.Path.{_≡_}
 use mathlib.Core.Bool.{true}
 use mathlib.Core.List.{List}
@@ -30,7 +30,7 @@ pub placed : {current target crossfade-position n : ℕ} → current ≡ 0 → t
 unfolding placeOk
 placed c t h = rw (c, t) (le-leb _ _ h)
 
--- what `read` asks for
+-- What `read` needs.
 pub ready : (lent : ℕ) (max-rate : Float)
     (maximum margin accepted current target crossfade-position crossfade-samples len : ℕ) (x y playback-rate : Float)
     → dueOf lent max-rate
@@ -72,7 +72,7 @@ module _ (sets : List Float) (max-rate : Float) (maximum margin accepted crossfa
   unfolding chosenAt
   at-zero = rw (none, turned)
 
--- at the numbers that the code holds
+-- The same at the numbers that the code holds.
 module _ (sets : List Float) (max-rate : Float)
     (maximum margin accepted current target crossfade-position crossfade-samples : ℕ) (xs : List Float) (x y : Float)
     (q : ℕ) (playback-rate : Float) (c : current ≡ 0) (t : target ≡ 0) (a : q ≡ 0) (none : dueOf (length sets) max-rate

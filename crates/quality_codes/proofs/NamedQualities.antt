@@ -1,5 +1,5 @@
--- What a call on plain numbers gives where every number names a quality, and where one does not;
--- what stood is kept by a refusal. Assumes nothing.
+-- What a call on plain numbers gives if every number is a quality, and if one is not. A refusal keeps what stood there.
+-- Assumes nothing.
 use mathlib.Core.Path.{_≡_, refl}
 use mathlib.Core.Bool.{Bool, true, false}
 use mathlib.Core.List.{List}
@@ -26,7 +26,7 @@ ring-served b xs ys h = rw h
 pub ring-not-served : (b : Bool) (xs ys : List Float) → b ≡ false → ys ≡ pickRing b xs ys
 ring-not-served b xs ys h = rw h
 
--- an opening that was refused, and one that was not; n is the number that was found
+-- An opening that was refused, and one that was not; n is the number that was found.
 pub kept : (m : ℕ) {n : ℕ} (before after : Changed) {xs ys : List Float}
     → n ≡ m → (n ≡ 0 → ⊥) → xs ≡ ys → renews n before xs ≡ renews m (unlessRefused m before after) ys
 kept zero before after e h x = absurd (h e)
@@ -37,8 +37,8 @@ pub given : (m : ℕ) {n : ℕ} (before after : Changed) {w : Changed} {xs ys : 
 given zero before after e z w x = rw (w, x)
 given (suc k) before after e z w x = absurd (omega arith)
 
--- D1c. A quality that went in as a number comes out as the same number, so that a refused call leaves both numbers of
--- the state.
+-- D1c. A quality that goes in as a number comes out as the same number, so that a refused call leaves both numbers of
+-- the state as they were.
 pub same-code : (c : ℕ) → codeOk c ≡ true → codeOf (modeOf c) ≡ c
 same-code zero h = refl
 same-code (suc zero) h = refl

@@ -1,5 +1,5 @@
--- G2, G6, N1 to N9. The reader whose quality may change at the ends of its ranges, and the order of its refusals:
--- computed. Assumes nothing.
+-- G2, G6, N1 to N9. The reader whose quality may change at the ends of its ranges, and the order of its refusals, by
+-- computing. Assumes nothing.
 use mathlib.Core.Path.{_≡_, refl}
 use mathlib.Core.Bool.{false}
 use mathlib.Core.List.{[], _∷_, map}
@@ -9,8 +9,9 @@ use Rattle.quality_codes.specs.Codes.{stateOf}
 use Rattle.range_ends.specs.Floats.{f32, f64, one, above-limit, across, fromZero, finiteEnds, finiteEndsF32}
 use Rattle.range_ends.specs.Readers.{asked, renewed, faded}
 
--- N9. Each call has a fault fewer than the one above it: maximum delay, crossfade and the bank's rate by 1; the lengths
--- of ring and bank by 2; count and fade place by 3; then the sample, the delay twice, the rate, and a full state.
+-- N9. Each call has one fault fewer than the one above it: maximum delay, crossfade and the bank's rate give 1; the
+-- lengths of ring and bank give 2; count and fade position give 3; then the sample, the delay twice, the rate, and a
+-- full state.
 pub order : asked (stateOf 16777209 0 (2 ^ 36 + 1) 0 1 16777217 16777217) 7 0 nan nan (inf false) nan
     ∷ asked (stateOf 0 0 (2 ^ 36 + 1) 0 1 16777217 16777217) 7 0 nan nan (inf false) nan
     ∷ asked (stateOf 0 0 (2 ^ 36 + 1) 0 1 9 9) 7 0 nan nan (inf false) nan
@@ -40,7 +41,7 @@ pub reset-order : renewed (stateOf 16777209 0 (2 ^ 36 + 1) 0 1 16777217 16777217
 unfolding renewed
 reset-order = refl
 
--- G2, N1. The crossfade is 0 to 16777216 samples: of a call, and of a reset, which an opening is.
+-- G2, N1. The crossfade is from 0 to 16777216 samples, in a call and in a reset, which an opening is.
 pub crossfades : map (faded 0 0 0) (0 ∷ 16777215 ∷ 16777216 ∷ 16777217 ∷ (2 ^ 32 - 1) ∷ []) ≡ 0 ∷ 0 ∷ 0 ∷ 1 ∷ 1 ∷ []
 unfolding asked f64
 crossfades = refl
@@ -51,7 +52,8 @@ pub reset-crossfades : map (λ (n : ℕ). renewed (stateOf 0 0 0 0 0 n n) 8)
 unfolding renewed
 reset-crossfades = refl
 
--- G2, N3. The fade place is 0 to the length, and below it where current and target differ; at length 0 they do not.
+-- G2, N3. The fade position is from 0 to the length, and below it if current and target differ; at length 0 they do
+-- not.
 pub places : map (λ (p : ℕ). faded 2 2 p 9) (0 ∷ 9 ∷ 10 ∷ []) ≡ 0 ∷ 0 ∷ 3 ∷ []
 unfolding asked f64
 places = refl
@@ -68,7 +70,7 @@ pub reset-places : map (λ (p : ℕ). renewed (stateOf 0 0 0 2 3 p 9) 8) (0 ∷ 
 unfolding renewed
 reset-places = refl
 
--- G6, N1, N2. The bank's rate is 1 to 2, and its sets are lent to the element.
+-- G6, N1, N2. The bank's rate is from 1 to 2, and its sets have exactly their length.
 pub bank-rates : map (λ t. asked (stateOf 0 0 0 0 0 0 0) 8 1081648 t one one one)
     (across 0x3ff0_0000_0000_0000 0x4000_0000_0000_0000)
     ≡ 1 ∷ 0 ∷ 2 ∷ 1 ∷ 1 ∷ 1 ∷ 1 ∷ []
@@ -87,7 +89,7 @@ pub counts : map (λ (n : ℕ). asked (stateOf 0 0 n 0 0 0 0) 8 1081648 one one 
 unfolding asked f64
 counts = refl
 
--- N4 to N7. Any rate that is no NaN is accepted, an infinite one too.
+-- N4 to N7. Any rate that is not a NaN is accepted, also an infinite one.
 pub inputs : map (λ x. asked (stateOf 0 0 0 0 0 0 0) 8 1081648 one x one one) finiteEndsF32 ≡ 0 ∷ 0 ∷ 4 ∷ 4 ∷ 4 ∷ []
 unfolding asked f64 f32
 inputs = refl

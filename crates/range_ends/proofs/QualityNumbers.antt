@@ -1,6 +1,6 @@
--- N1, N3, N9. A quality's number: 0 to 3 name one. Another gives 1 where it is asked for, whatever else is due, and 3
--- in a state, after 1 and 2 and before 4 to 8. Computed; of a bank that is lent only its length counts. Assumes
--- nothing.
+-- N1, N3, N9. The number of a quality is 0 to 3. Another number gives 1 if it is the requested one, whatever else is
+-- wrong, and 3 in a state, after 1 and 2 and before 4 to 8. By computing; of a lent bank only the length counts.
+-- Assumes nothing.
 use mathlib.Core.Path.{_≡_, refl}
 use mathlib.Core.List.{List, [], _∷_, map}
 use Prim.Native.Nat.{ℕ}
@@ -18,7 +18,7 @@ use Rattle.range_ends.specs.Readers.{renewed}
 pub named : map (λ (q : ℕ). numberOf (namedOf q)) (0 ∷ 3 ∷ 4 ∷ 255 ∷ []) ≡ 0 ∷ 0 ∷ 1 ∷ 1 ∷ []
 named = refl
 
--- Opening asks for one.
+-- Opening has a quality as an argument.
 pub opened : map (λ (q : ℕ). renewedOf (codeOk q) (freshOf 0 0 q 9) 8 .number) (0 ∷ 3 ∷ 4 ∷ 255 ∷ [])
     ≡ 0 ∷ 0 ∷ 1 ∷ 1 ∷ []
 unfolding lengthFor placeOk size
@@ -32,7 +32,7 @@ pub open-order : renewedOf (codeOk 4) (freshOf 0 0 4 9) 7 .number
 unfolding lengthFor placeOk size
 open-order = refl
 
--- A reset asks for none. Each state has a fault fewer than the one above it.
+-- A reset has none. Each state has one fault fewer than the one above it.
 pub reset-order : renewed (stateOf 16777209 0 0 4 4 9 9) 7
     ∷ renewed (stateOf 0 0 0 4 4 9 9) 7
     ∷ renewed (stateOf 0 0 0 4 4 9 9) 8
@@ -44,7 +44,7 @@ pub reset-order : renewed (stateOf 16777209 0 0 4 4 9 9) 7
 unfolding renewed
 reset-order = refl
 
--- A call does, the number behind the delay.
+-- A call has one, as the number behind the delay.
 pub order : (sets : List Float) → length sets ≡ 1081648
     → calledOf sets one (stateOf 16777209 0 0 4 4 9 9) (zeros 7) nan nan 4 nan .number
     ∷ calledOf sets one (stateOf 16777209 0 0 4 4 9 9) (zeros 7) nan nan 3 nan .number

@@ -1,4 +1,4 @@
--- `remainder::rem_euclid` meets its contract: by the laws of the fast paths, whose results are not below zero, or by
+-- `remainder::rem_euclid` meets its contract, by the laws of the fast paths, whose results are not below zero, or by
 -- `remainder`. Assumes nothing.
 use borrow.Author.Needs.{needs}
 use denote.Floats.{passes}

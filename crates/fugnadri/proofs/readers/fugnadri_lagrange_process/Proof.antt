@@ -1,5 +1,5 @@
--- `fugnadri::readers::fugnadri_lagrange_process` meets its contract: what the reader gives, handed out.
--- Assumes nothing.
+-- `fugnadri::readers::fugnadri_lagrange_process` meets its contract: it hands out what the reader gives. Assumes
+-- nothing.
 use borrow.Author.Needs.{needs}
 use Rattle.answer.specs.Answers.{numberOf, valueOf}
 use Rattle.answer_parts.proofs.LeftByExports.{left}

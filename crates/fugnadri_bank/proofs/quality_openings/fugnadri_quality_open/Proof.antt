@@ -1,5 +1,5 @@
--- `fugnadri_bank::quality_openings::fugnadri_quality_open` meets its contract: refused, what stood there is kept;
--- opened, it is what the reset gives. Assumes nothing.
+-- `fugnadri_bank::quality_openings::fugnadri_quality_open` meets its contract: a refusal keeps what stood there, and
+-- otherwise the reset's result is written. Assumes nothing.
 use borrow.Author.Needs.{needs}
 use mathlib.Core.Path.{ap}
 use Rattle.quality_codes.specs.Left.{changedOf}

@@ -1,4 +1,4 @@
--- `quality_codes::codes::decode` meets its contract: both qualities are `mode`'s. Assumes nothing.
+-- `quality_codes::codes::decode` meets its contract: `mode` gives both qualities. Assumes nothing.
 use Rattle.quality_codes.proofs.codes.decode.Statement.{statement}
 use Rattle.quality_codes.proofs.codes.decode.Tie as tie
 

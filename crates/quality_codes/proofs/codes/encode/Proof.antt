@@ -1,4 +1,4 @@
--- `quality_codes::codes::encode` meets its contract: both numbers are `code`'s. Assumes nothing.
+-- `quality_codes::codes::encode` meets its contract: `code` gives both numbers. Assumes nothing.
 use Rattle.quality_codes.proofs.codes.encode.Statement.{statement}
 use Rattle.quality_codes.proofs.codes.encode.Tie as tie
 

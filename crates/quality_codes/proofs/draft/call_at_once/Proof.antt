@@ -1,5 +1,5 @@
--- `quality_codes::draft::call_at_once` meets its contract: a call that is plain in Draft by the law of `DraftCalls`,
--- any other by `call_through`. Assumes nothing.
+-- `quality_codes::draft::call_at_once` meets its contract: a call on the fast path by the law of `DraftCalls`, any
+-- other by `call_through`. Assumes nothing.
 use borrow.Author.Needs.{needs}
 use mathlib.Core.Path.{_≡_}
 use mathlib.Core.Bool.{true}
@@ -19,7 +19,7 @@ use Rattle.quality_codes.proofs.draft.call_at_once.Tie as tie
 abbrev start : tie.Then1 → tie.Start
 start c = c .before .before .before .before .before .before .before .before
 
--- the tests passed
+-- The tests have passed.
 told : (c : tie.Then1) → let a = start c .args in
     (now (a .current) ≡ 0) × (now (a .target) ≡ 0) × (a .quality ≡ 0)
     × (dueOf (length (now (a .sets))) (a .max-rate)

@@ -1,4 +1,4 @@
--- `quality_codes::plainly::draft` meets its contract: its tests, one after the other. Assumes nothing.
+-- `quality_codes::plainly::draft` meets its contract, by its tests one after the other. Assumes nothing.
 use mathlib.Core.Bool.{false≢true}
 use borrow.Author.Tests.{leb-true}
 use Rattle.quality_codes.proofs.plainly.draft.Statement.{statement}

@@ -1,5 +1,5 @@
--- `quality_codes::plainly::plain` meets its contract: where its tests pass nothing is to be refused,
--- by quality_variable_delay's law. Assumes nothing.
+-- `quality_codes::plainly::plain` meets its contract: if its tests pass nothing is refused, by quality_variable_delay's
+-- law. Assumes nothing.
 use borrow.Author.Needs.{needs}
 use borrow.Author.Tests.{le-leb}
 use mathlib.Core.Bool.{false≢true}
