@@ -1,6 +1,6 @@
-// W12. An AIFF file read step by step, for files that are too long to be held: first its first 12 bytes and its length,
-// then the 8 bytes at the head of each chunk, then the first 18 bytes of `COMM` and the first 8 of `SSND`, fewer if
-// they have fewer. The answer is that of the whole file.
+// W12. An AIFF file read step by step, for files that are too long to be held. It takes the first 12 bytes and the
+// length, then the 8 bytes at the head of each chunk, then the first 18 bytes of `COMM` and the first 8 of `SSND`,
+// fewer if they have fewer. The answer is that of the whole file.
 ghost use mathlib.Core.Path.{_≡_};
 ghost use mathlib.Core.List.{[], _∷_};
 ghost use Rattle.refusal_order.specs.Order.{_unless_, firstOf};

@@ -47,8 +47,8 @@ pub record Part (v : Float) (f : Frac) : Type 0 where
 abbrev pub powerFraction : Frac → Frac
 powerFraction x = expFraction (times (val ln2) x)
 
--- How near the power of two is: x is moved by 1 towards zero where it is beyond 1/2, and the fraction doubled or
--- halved.
+-- How near the power of two is: if x is beyond 1/2 in size it is moved by 1 towards zero, and the fraction is doubled
+-- or halved.
 pub record PowerClose (x v : Float) : Type 0 where
   pub middle : T (not (lt half x)) → T (not (lt x (neg half))) → Part v (powerFraction (val x))
   pub above : T (lt half x) → Part v (times (frac 2 0 1) (powerFraction (plus (val x) (frac 0 1 1))))

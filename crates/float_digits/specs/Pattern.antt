@@ -19,7 +19,7 @@ plain (fin s (suc m) e) = true
 abbrev pub placeOf : ℕ → ℕ
 placeOf n = n % 2 ^ 63 / 2 ^ 52 - 1
 
--- The digits: the 52 below the exponent's field, and before them a 1 where the field is not 0.
+-- The digits: the 52 below the exponent field, and before them a 1 if the field is not 0.
 abbrev pub digitsOf : ℕ → ℕ
 digitsOf n = n % 2 ^ 63 - placeOf n * 2 ^ 52
 

@@ -5,8 +5,8 @@ ghost use mathlib.Core.Path.{_≡_};
 ghost use lib.Ieee.{binary64, sub};
 ghost use Rattle.lagrange_factors.specs.Lanes.{aboveOf, belowOf, turned, passed};
 
-// K7. The distances of the nodes from the first: upwards here, downwards in the next function. They depend only on how
-// far two nodes lie apart.
+// K7. The distances of the nodes from the first: upwards here, downwards in the next function. They serve for any two
+// nodes, because a difference depends only on how far two nodes lie apart.
 pub fn above(own: [f64; 8]) -> [f64; 8]
     ensures { λ r. ⌜ r ≡ aboveOf own ⌝ }
 {

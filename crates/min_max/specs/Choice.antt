@@ -15,6 +15,6 @@ larger x y = chosen (lt y x) x y
 unfoldable pub smaller : Float → Float → Float
 smaller x y = chosen (lt x y) x y
 
--- `clamp`: a NaN stays a NaN, and -0.0 stays where low is 0.0.
+-- The original's `clamp`: a NaN stays a NaN, and -0.0 stays -0.0 even if low is 0.0.
 unfoldable pub clamped : Float → Float → Float → Float
 clamped x low high = cond (lt x low) low (cond (lt high x) high x)

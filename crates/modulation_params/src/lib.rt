@@ -1,4 +1,4 @@
-// The original's ModulationParams (001): the eight settings as one record, its default, and what is in range (G7, F9).
+// The original's ModulationParams (001): the eight settings as one record, their defaults and their ranges (G7, F9).
 ghost use mathlib.Core.Path.{_≡_};
 ghost use mathlib.Core.Bool.{_&&_};
 ghost use Rattle.modulation_params.specs.Settings.{paramsOk, defaultParams};

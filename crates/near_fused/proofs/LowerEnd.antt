@@ -53,7 +53,7 @@ finite-low s r (inf true) fs fr t fy l X Y = never-least r fr (subst (λ (z : Fl
 finite-low s r (inf false) {y} fs fr t fy l X Y = top-inf y fy (mono-above {x = inf false} tt l X Y)
 finite-low s r (fin b m e) fs fr t fy l X Y = tt
 
--- ---- what lies at or above zero and does not exceed a zero is zero
+-- ---- if the upper end is zero, so is the lower one
 zero-not-above : (r : Float) → val r .p + val r .n ≡ 0 → T (above r) → T (finite r) → ⊥
 zero-not-above nan z a f = f
 zero-not-above (inf s) z a f = f

@@ -76,7 +76,7 @@ pub fn oscillator_delay(
     )
 }
 
-// The largest delay, in samples, that one oscillator can cause, whatever its shape.
+// An upper bound, in samples, for how far one oscillator moves the delay, whatever its shape.
 pub fn maximum_delay_excursion_samples(
     max_depth_cents: f64,
     min_rate_hz: f64,
@@ -95,8 +95,8 @@ pub fn maximum_delay_excursion_samples(
     )
 }
 
-// M4. The largest speed-up that oscillators of these depths can cause together at the maximum drift, when their powers
-// add.
+// M4. An upper bound for the speed-up that oscillators of these depths cause together at full drift, when they are
+// blended at constant power.
 pub fn maximum_rate_delta(depths_cents: &[f64]) -> Answer
     ensures { λ r. ⌜ r ≡ rateDeltaOf (now («depths_cents» .entry)) ⌝ }
 {

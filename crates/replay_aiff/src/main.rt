@@ -1,9 +1,9 @@
-// W12. Replays a stored list of small and damaged AIFF files. A line of standard input is a file: the number of its
-// bytes in four hex digits, a blank, and two digits for each byte. A line is written for each, of 20 numbers: what
-// `aiff::read` answers (the refusal's number, 0 for none; the kind's code, channels, rate, start and length, zeros
-// where it is refused), what reading the same file step by step answers (turns.rt), and what `aiff::chunks_told` gives.
-// If nothing is refused a line follows for each channel, with its samples (samples.rt). oracle/lists/aiff.py makes the
-// list, from document 02's text. A trailing part of a line is ignored.
+// W12. The program that replays a stored list of small and damaged AIFF files. A line of standard input is a file: the
+// number of its bytes in four hex digits, a blank, and two digits for each byte. A line is written for each, of 20
+// numbers: what `aiff::read` answers (the refusal's number, 0 for none; the kind's code, channels, rate, start and
+// length, zeros where it is refused), what reading the same file step by step answers (turns.rt), and what
+// `aiff::chunks_told` gives. If nothing is refused a line follows for each channel, with its samples (samples.rt).
+// oracle/lists/aiff.py makes the list, from document 02's text. A trailing part of a line is ignored.
 mod heard; // a file from standard input
 mod said; // numbers on standard output
 mod samples; // a channel's samples

@@ -72,7 +72,7 @@ module _ (f : Format) (s : Bool) (num den : ℕ) (D : 0 < den) where
       round-at f s num den k D lo hi
       ∙ ap (λ (z : ℕ). units f s z k) (closest-unique (num * 2 ^ low f) (den * 2 ^ k) q (mul-pos D (pow-pos k)) a b)
 
-  -- If no whole number below q can be nearer, or none above it, then q is on that side.
+  -- If q units lie less than one unit above w units, q is at most w.
   at-most : (q w u : ℕ) → q * u < w * u + u → q ≤ w
   at-most q w u h = le-of-suc-le-suc (lt-of-mul-lt-mul-right u (subst (λ (z : ℕ). q * u < z) (sym (suc-mul w u)) h))
 

@@ -1,6 +1,6 @@
 // The original's SmoothRandom (001): a generator, the two targets that it drew last, and the way from one to the other.
-// Each method takes the state by value and hands it back, with the number where there is one (F8). A state that is out
-// of range is refused and handed back as it was (N3).
+// Each method takes the state by value and returns the new one, with the number that it draws, if any (F8). A state
+// that is out of range is refused and handed back as it was (N3).
 mod draws; // the numbers that are made of the generator
 mod drift; // a step from one target towards the next
 mod seeds; // a new state from a seed, a new seed, and the start again

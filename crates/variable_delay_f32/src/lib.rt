@@ -57,8 +57,8 @@ pub fn reset(state: VariableDelay, ring: &mut [f32]) -> Opened
     })
 }
 
-// N1 to N6, N8. The number of the refusal, in 01's order, 0 for none. Most calls are accepted, and fewer tests can tell
-// that.
+// N1 to N6, N8. The number of the refusal, in 01's order, 0 for none. Most calls are accepted, and fewer tests are
+// enough to show that.
 pub fn refusal(
     state: VariableDelay,
     own: bool,

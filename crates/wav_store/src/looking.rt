@@ -11,8 +11,8 @@ use stored_samples::fits_float;
 use stored_samples::fits16;
 use stored_samples::fits24;
 
-// 0 if some sample does not fit; 1 if all do; 2 if they are to be stored as floats and all are at least 2^-125, which
-// takes fewer steps.
+// 0 if some sample does not fit; 1 if all do; 2 if they are to be stored as floats and their digits show that all are
+// at least 2^-125, so that storing them takes fewer steps.
 pub(crate) fn seen(kind: SampleKind, samples: &[f64]) -> u8
     ensures { λ r. ⌜ Seen kind (now (samples .entry)) r ⌝ }
 {

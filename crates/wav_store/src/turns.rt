@@ -1,5 +1,6 @@
-// W2. Sixteen samples at a time, read before they are written, so that a compiler takes several at once. If all of them
-// are at least 2^-125 they take fewer steps, so that a silence slows down only its own blocks.
+// W2. Sixteen samples at a time, read before they are written, so that a compiler takes several at once. If their
+// digits show that all of them are at least 2^-125 they take fewer steps, so that a silence slows down only its own
+// blocks.
 ghost use mathlib.Core.Path.{_≡_};
 ghost use mathlib.Core.Bool.{true};
 ghost use Prim.Native.Nat.{_+_, _≤_};

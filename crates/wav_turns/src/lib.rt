@@ -1,4 +1,4 @@
-// W1. A RIFF WAVE file read step by step, for files that are too long to be held: first its first 12 bytes and its
+// W1. A RIFF WAVE file read step by step, for files that are too long to be held. It takes the first 12 bytes and the
 // length, then the 8 bytes at the head of each chunk that is walked, then the first 40 bytes of `fmt `. The answer is
 // that of the whole file, by the reading that accepts wrapped kinds.
 ghost use mathlib.Core.Path.{_≡_};

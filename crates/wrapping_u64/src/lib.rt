@@ -16,7 +16,7 @@ pub fn wrapping_mul(a: u64, b: u64) -> u64
     std::num::wrapping_add_u64(al * bl, (mixed & 0xffff_ffff) << 32)
 }
 
-// F6. A shift by 64 or more gives 0. Rust's `<<` would panic there, and Rattle's demands a proof that n is below 64.
+// F6. A shift by 64 or more gives 0. The language's own `<<` is defined only for an n below 64.
 pub fn shl(a: u64, n: u64) -> u64
     ensures { λ r. ⌜ r ≡ a * 2 ^ n % 2 ^ 64 ⌝ }
 {
