@@ -21,7 +21,7 @@ use Rattle.bank_choice.proofs.CoarseSteps.{unit}
 abbrev pub high : Float
 high = fin false 8388607 (negsuc 22)
 
--- ---- a quotient from there on stays there as an f32
+-- ---- a quotient from that number on is not below it as an f32
 single : round binary32 false 8388607 8388608 ≡ high
 unfolding round
 single = refl

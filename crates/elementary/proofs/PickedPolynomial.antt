@@ -88,7 +88,7 @@ cosine-short x h e = (
   record { near = λ t. rw e (cosine-close x h); far = λ t. absurd (clash (atMost 1 x) h t) },
 )
 
--- ---- beyond
+-- ---- |x| > 1
 pub sine-long : {x v : Float} {q : ℕ} {r : Float} → T (not (atMost 1 x)) → Settled x q r → v ≡ pick q r
     → (v ≡ sineAt x) × SineClose x v
 unfolding sineAt

@@ -16,7 +16,7 @@ use Rattle.float_digits.proofs.Jams.{jam-cut}
 use Rattle.fused64.specs.Wide.{val, lower}
 use Rattle.fused64.specs.Word.{Heads, Tells, Cutoff}
 
--- ---- all three
+-- ---- one test for all three fields
 or-ge-l : (x y : ℕ) → x ≤ bitOr x y
 or-ge-l x y = omega (arith, or-add-and x y, and-le-r x y)
 
@@ -37,7 +37,7 @@ heads f g h l =
       third = omega arith;
     }
 
--- ---- cut to a word
+-- ---- a product is cut to a word
 sticky-same : (q r r' : ℕ) → (r ≡ 0 → r' ≡ 0) → (r' ≡ 0 → r ≡ 0) → withSticky q r ≡ withSticky q r'
 sticky-same q r r' f g = elim (eq-zero-or-pos r) [
   | inl z ↦ rw (eq-eqb r 0 z, eq-eqb r' 0 (f z))

@@ -24,7 +24,7 @@ pub all-of : (bs : List Bool) → T (all bs) → All bs
 all-of [] h = tt
 all-of (b ∷ bs) h = (and-l b (all bs) h, all-of bs (and-r b (all bs) h))
 
--- ---- the pieces from a by b on
+-- ---- the pieces that begin with a and b
 abbrev pub passed : (Float → Float → Bool) → Float → Float → List Float → Bool
 passed test a b [] = test a b
 passed test a b (c ∷ cs) = finite b && (test a b && passed test b c cs)

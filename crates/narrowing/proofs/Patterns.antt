@@ -74,7 +74,7 @@ over-code b lo hi = record { small = le-refl 0x7f80_0000; reads = λ s. of-inf s
         ∙ ap (λ (z : ℕ). round binary32 s (count b * 2 ^ z) (2 ^ 1074)) e
         ∙ normal-over s (count b) k (omega arith) (omega arith) (omega arith)
 
--- ---- normal
+-- ---- a normal f32
 pub normal-code : (b : ℕ) → 0x3810_0000_0000_0000 ≤ b → b < 0x47f0_0000_0000_0000
     → Rounds b ((b - 0x3800_0000_0000_0000 + (0x0fff_ffff + bitAnd (b / 2 ^ 29) 1)) / 2 ^ 29)
 normal-code b lo hi =

@@ -71,7 +71,7 @@ module _ (U : Unit) (v mu vh mh : Float) (K : Factors U v mu vh mh)
   vl-size : Near U (2 ^ 58 + 34) (val vl) nil
   vl-size = near-chain U 33 (2 ^ 58 + 1) vl-near (K .v-rest)
 
-  -- ---- vh * ml
+  -- ---- the product vh * ml
   first-mag : Near U (2 ^ 59 + 64) (times (val vh) (val ml)) nil
   first-mag =
       near-of U (2 ^ 83) (1 + 2 ^ 53) (2 ^ 59 + 64) (2 ^ 77) (lit< tt) (lit≤ tt) (mag-times (K .vh-size) ml-size)
@@ -89,7 +89,7 @@ module _ (U : Unit) (v mu vh mh : Float) (K : Factors U v mu vh mh)
   first-size : Near U (2 ^ 59 + 129) (val a1) nil
   first-size = near-chain U 65 (2 ^ 59 + 64) first-near first-mag
 
-  -- ---- vl * mu
+  -- ---- the product vl * mu
   second-mag : Near U (2 ^ 58 + 34) (times (val vl) (val mu)) nil
   second-mag = near-of U (2 ^ 58 + 34) 1 (2 ^ 58 + 34) 1 (lit< tt) (lit≤ tt) (mag-times vl-size (K .mu-size))
 

@@ -41,7 +41,7 @@ enclosed {x} {l} {u} L X U h k p t =
     let px = between l x u pl p lx xu in
     equal-positive x u (rounded-fits X) (rounded-fits U) px p xu (le-trans-positive u l x p pl px t lx)
 
--- ---- and below it
+-- ---- the test, below zero
 pub no-nan : (s : Bool) (m : ℕ) (e : ℤ) → T (le (fin s m e) nan) → ⊥
 unfolding le lt eq
 no-nan s m e h = h

@@ -137,7 +137,7 @@ module _ (x : Float) (h : T (atMost 1 x)) (f : T (fits binary64 x))
             (flip (rw (mul-comm (val x .d) (2 ^ 45)) (rw (mul-one (val x .p + val x .n)) at v)));
       }
 
--- ---- both
+-- ---- both ranges together
 pub sine-close : (x : Float) → T (fits binary64 x) → T (atMost 1 x)
     → Rounds (val x .d * 2 ^ 45) (val x .p + val x .n) (sineNear x) (sineFraction (val x))
 sine-close x f h =

@@ -83,7 +83,7 @@ module _ (f : Format) (s : Bool) (m : ℕ) (e : ℤ) (t : Bool) (n : ℕ) (d : �
       added-nothing false true a k A =
           sum-less f false true a 0 k refl A ∙ ap (λ (x : ℕ). round f false x k) (sub-zero a)
 
--- ---- what it gives
+-- ---- the result is a value of the format
 sum-fits : (f : Format) (s : Bool) (a : ℕ) (t : Bool) (b c : ℕ) → T (fits f (sum f s a t b c))
 sum-fits f s a t b c = rw (sum-is f s a t b c) (round-fits f (sum-sign s a t b) (sum-size s a t b) c)
 

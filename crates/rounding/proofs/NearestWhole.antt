@@ -18,7 +18,7 @@ div-is n w d r e h = ap (λ (x : ℕ). x / d) e ∙ digits-div w h
 mod-is : (n w d r : ℕ) → n ≡ w * d + r → r < d → n % d ≡ r
 mod-is n w d r e h = ap (λ (x : ℕ). x % d) e ∙ digits-mod w h
 
--- ---- half the divisor less one is added, and one more where the quotient is odd
+-- ---- half the divisor less one is added, and one more if the quotient is odd
 by-add : (a u q r : ℕ) (o : Ordering) → 0 < u → a ≡ q * (u + u) + r → r < u + u → Cmp o (r * 2) (u + u)
     → nearest q o ≡ (a + (u - 1 + q % 2)) / (u + u)
 by-add a u q r o U w R h = go o h (q % 2) refl (mod-lt q (zero-lt-suc 1))

@@ -34,7 +34,7 @@ lt-is (fin s m e) nan h k = absurd k
 lt-is (fin s m e) (inf t) h k = absurd k
 lt-is (fin s m e) (fin t n d) h k = below-is s t (m * up e) (down e) (n * up d) (down d)
 
--- ---- less, or level
+-- ---- below, or equal
 less-or : (a b : ℕ) (u : Bool) → (T u → a ≡ b) → (a ≡ b → T u) → ltb a b || (u && true) ≡ leb a b
 less-or a b u f g =
     same-test (ltb a b || (u && true)) (leb a b) (λ t. le→leb a b (out (ltb a b) u (ltb→lt a b) f t))

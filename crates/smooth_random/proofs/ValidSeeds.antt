@@ -76,7 +76,7 @@ drawn-valid r w h =
       seed-some = k .seed-some;
     })
 
--- ---- what changes nothing
+-- ---- calls that change nothing
 pub set-held : (r : SmoothRandom) (seed : ℕ) → seedOf seed ≡ r .«initial_seed» → setSeedOf r seed ≡ r
 set-held r seed e = rw (eq-eqb (seedOf seed) (r .«initial_seed») e)
 

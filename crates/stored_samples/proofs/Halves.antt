@@ -11,7 +11,7 @@ use lib.Ieee.Positive.{first-pos}
 use Rattle.interval.proofs.Signed.{ring}
 use Rattle.rounding.proofs.WithinHalfDivisor.{closest-near, closest-unique, closest-most}
 
--- ---- q and a half
+-- ---- the nearest to q and a half
 half-of : (q : ℕ) → closest (q * 2 + 1) 2 ≡ q + q % 2
 half-of q =
     let d : (q * 2 + 1) / 2 ≡ q = omega arith in
