@@ -1,7 +1,7 @@
 //! One channel's samples of a WAVE file's part, or of an AIFF's, an answer being a sample. The Rust is a loop over the frames whose
 //! bytes are a constant, which a compiler takes several samples at a time. No float is a NaN: the Rust hands a NaN's
 //! pattern on, the port the one NaN; beside that stands a Rust that tests each float and hands out the one NaN too.
-//! Floats are below 2 in size, as sound is; those of the workloads `…_any` are of any size.
+//! Floats are below 2 in size, as sound is; those of the workloads `…_any` and `…_one_nan` are of any size.
 
 use crate::random::Random;
 use crate::Workload;
@@ -85,8 +85,8 @@ fill!(float_stereo, f64, wav_samples, 2, 4, 2, SOUND, |b| float(b) as f64);
 fill!(float_f32, f32, wav_samples_f32, 2, 4, 1, ANY, |b| float(b));
 fill!(float_any, f64, wav_samples, 2, 4, 1, ANY, |b| float(b) as f64);
 fill!(float_any_stereo, f64, wav_samples, 2, 4, 2, ANY, |b| float(b) as f64);
-fill!(float_one_nan, f64, wav_samples, 2, 4, 1, SOUND, |b| one_nan(float(b)));
-fill!(float_one_nan_stereo, f64, wav_samples, 2, 4, 2, SOUND, |b| one_nan(float(b)));
+fill!(float_one_nan, f64, wav_samples, 2, 4, 1, ANY, |b| one_nan(float(b)));
+fill!(float_one_nan_stereo, f64, wav_samples, 2, 4, 2, ANY, |b| one_nan(float(b)));
 
 // an AIFF's part, whose samples have the high byte first
 

@@ -5,22 +5,41 @@ use crate::{random::Random, Export};
 use boundary::{self as b, Reader, Width};
 use std::mem::ManuallyDrop;
 
-pub const EXPORTS: &[Export] = &[
-    ("fugnadri_open", |t| opened(t, t.memory.doubles, f64::open)),
-    ("fugnadri_reset", |t| opened(t, t.memory.doubles, f64::reset)),
-    ("fugnadri_cubic_process", |t| process(t, |r, input, delay, _, v: &mut f64| r.cubic(input, delay, v))),
-    ("fugnadri_cubic_process_bits", |t| process(t, |r, input, delay, _, v: &mut u64| r.cubic_bits(input, delay, v))),
-    ("fugnadri_lagrange_process", |t| process(t, |r, input, delay, taps, v: &mut f64| r.lagrange(input, delay, taps, v))),
-    ("fugnadri_lagrange_process_bits", |t| process(t, |r, input, delay, taps, v: &mut u64| r.lagrange_bits(input, delay, taps, v))),
-    ("fugnadri_farrow8_process", |t| process(t, |r, input, delay, _, v: &mut f64| r.farrow8(input, delay, v))),
-    ("fugnadri_farrow8_process_bits", |t| process(t, |r, input, delay, _, v: &mut u64| r.farrow8_bits(input, delay, v))),
-    ("fugnadri_cubic_sample", |t| sample(t, |s, count, at, _, v: &mut f64| b::cubic_sample(s, count, at, v))),
-    ("fugnadri_cubic_sample_bits", |t| sample(t, |s, count, at, _, v: &mut u64| b::cubic_sample_bits(s, count, at, v))),
-    ("fugnadri_lagrange_sample", |t| sample(t, |s, count, at, taps, v: &mut f64| b::lagrange_sample(s, count, at, taps, v))),
-    ("fugnadri_lagrange_sample_bits", |t| sample(t, |s, count, at, taps, v: &mut u64| b::lagrange_sample_bits(s, count, at, taps, v))),
-    ("fugnadri_farrow8_sample", |t| sample(t, |s, count, at, _, v: &mut f64| b::farrow8_sample(s, count, at, v))),
-    ("fugnadri_farrow8_sample_bits", |t| sample(t, |s, count, at, _, v: &mut u64| b::farrow8_sample_bits(s, count, at, v))),
-];
+/// A kernel's four exports. The number behind the delay or the position is its taps, for those that take them.
+pub struct Kernel {
+    pub name: &'static str,
+    pub process: fn(&mut Reader, f64, f64, u64, &mut f64) -> u8,
+    pub process_bits: fn(&mut Reader, f64, f64, u64, &mut u64) -> u8,
+    pub sample: fn(&[f64], u64, f64, u64, &mut f64) -> u8,
+    pub sample_bits: fn(&[f64], u64, f64, u64, &mut u64) -> u8,
+}
+
+/// A line for each kernel makes its exports' hostile calls and its entry for the NaNs that are made on purpose.
+macro_rules! kernels {
+    ($($name:literal: $process:expr, $process_bits:expr, $sample:expr, $sample_bits:expr;)*) => {
+        pub const EXPORTS: &[Export] = &[
+            ("fugnadri_open", |t| opened(t, t.memory.doubles, f64::open)),
+            ("fugnadri_reset", |t| opened(t, t.memory.doubles, f64::reset)),
+            $(
+                (concat!("fugnadri_", $name, "_process"), |t| process(t, $process)),
+                (concat!("fugnadri_", $name, "_process_bits"), |t| process(t, $process_bits)),
+                (concat!("fugnadri_", $name, "_sample"), |t| sample(t, $sample)),
+                (concat!("fugnadri_", $name, "_sample_bits"), |t| sample(t, $sample_bits)),
+            )*
+        ];
+        pub const KERNELS: &[Kernel] = &[$(
+            Kernel { name: $name, process: $process, process_bits: $process_bits, sample: $sample, sample_bits: $sample_bits },
+        )*];
+    };
+}
+
+kernels! {
+    "cubic": |r, input, delay, _, v| r.cubic(input, delay, v), |r, input, delay, _, v| r.cubic_bits(input, delay, v),
+        |s, count, at, _, v| b::cubic_sample(s, count, at, v), |s, count, at, _, v| b::cubic_sample_bits(s, count, at, v);
+    "lagrange": Reader::lagrange, Reader::lagrange_bits, b::lagrange_sample, b::lagrange_sample_bits;
+    "farrow8": |r, input, delay, _, v| r.farrow8(input, delay, v), |r, input, delay, _, v| r.farrow8_bits(input, delay, v),
+        |s, count, at, _, v| b::farrow8_sample(s, count, at, v), |s, count, at, _, v| b::farrow8_sample_bits(s, count, at, v);
+}
 
 /// What a call of a reader leaves: one sample more, or everything as it was.
 pub fn left<T: Copy>(t: &Turn, number: u8, ring: &Lent<T>, before: u64, after: u64, input: T) {

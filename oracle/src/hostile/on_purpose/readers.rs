@@ -1,26 +1,21 @@
 //! NaNs of the readers and the kernels, without a table and with one.
 
 use super::{Made, Value};
-use boundary::{self as b, Reader, Width};
+use crate::hostile::readers::{Kernel, KERNELS};
+use boundary::{Reader, Width};
 
 impl Made {
     /// Rings and slices that hold nothing else: the weights have both signs, so that infinities make a NaN too.
     pub fn readers(&mut self, odd: f64) {
         let reader = || Reader { maximum: 8, margin: 0, accepted: 40, ring: vec![odd; 16] };
-        self.by("cubic_process", |v| reader().cubic(0.5, 6.3, v));
-        self.by("cubic_process_bits", |v| reader().cubic_bits(0.5, 6.3, v));
-        self.by("farrow8_process", |v| reader().farrow8(0.5, 6.3, v));
-        self.by("farrow8_process_bits", |v| reader().farrow8_bits(0.5, 6.3, v));
         let source = [odd; 16];
-        self.by("cubic_sample", |v| b::cubic_sample(&source, 16, 7.3, v));
-        self.by("cubic_sample_bits", |v| b::cubic_sample_bits(&source, 16, 7.3, v));
-        self.by("farrow8_sample", |v| b::farrow8_sample(&source, 16, 7.3, v));
-        self.by("farrow8_sample_bits", |v| b::farrow8_sample_bits(&source, 16, 7.3, v));
-        for taps in [4, 6, 8, 16] {
-            self.by("lagrange_process", |v| reader().lagrange(0.5, 6.3, taps, v));
-            self.by("lagrange_process_bits", |v| reader().lagrange_bits(0.5, 6.3, taps, v));
-            self.by("lagrange_sample", |v| b::lagrange_sample(&source, 16, 7.3, taps, v));
-            self.by("lagrange_sample_bits", |v| b::lagrange_sample_bits(&source, 16, 7.3, taps, v));
+        for Kernel { name, process, process_bits, sample, sample_bits } in KERNELS {
+            for taps in [4, 6, 8, 16] {
+                self.by(&format!("{name}_process"), |v| process(&mut reader(), 0.5, 6.3, taps, v));
+                self.by(&format!("{name}_process_bits"), |v| process_bits(&mut reader(), 0.5, 6.3, taps, v));
+                self.by(&format!("{name}_sample"), |v| sample(&source, 16, 7.3, taps, v));
+                self.by(&format!("{name}_sample_bits"), |v| sample_bits(&source, 16, 7.3, taps, v));
+            }
         }
     }
 
