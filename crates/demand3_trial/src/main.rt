@@ -1,7 +1,8 @@
-// The program that tries the bound of docs/DEMAND3.md on many calls. Whole samples and delays, random ones and ones
-// that look bad for rounding, go through the cubic reader, and beside each answer the exact value is worked out in
-// whole numbers from the samples alone. It writes how many calls were made, how many answers were no samples or lay
-// further than 2^-50 away, and the largest distance seen, in 2^-54. The ring is 64 long.
+// The program that tries the bound of docs/DEMAND3.md on many calls.
+// Whole samples and delays, random ones and ones that look bad for rounding, go through the cubic reader, and beside
+// each answer the exact value is worked out in whole numbers from the samples alone. It writes how many calls were
+// made, how many answers were no samples or lay further than 2^-50 away, and the largest distance seen, in 2^-54. The
+// ring is 64 long.
 mod distance;
 mod exact;
 mod kinds;

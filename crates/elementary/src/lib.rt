@@ -1,5 +1,6 @@
-// Sine, cosine and powers of two (E1 to E5). They are the port's own, and they do not divide, since a rendering needs a
-// dozen cosines for each sample. docs/ELEMENTARY.md has the steps.
+// Sine, cosine and powers of two (E1 to E5).
+// They are the port's own, and they do not divide, since a rendering needs a dozen cosines for each sample.
+// docs/ELEMENTARY.md has the steps.
 mod quarters; // arguments beyond 1 in size, by quarter turns
 mod values; // the values, for arguments in range
 

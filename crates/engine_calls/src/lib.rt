@@ -1,5 +1,5 @@
-// The engine's calls (001) on a state of 15 words (M1, M2, M5). Each returns the refusal number, 0 for none; a refused
-// call leaves the words exactly as they were (D1c).
+// The engine's calls (001) on a state of 15 words (M1, M2, M5).
+// Each returns the refusal number, 0 for none; a refused call leaves the words exactly as they were (D1c).
 ghost use mathlib.Core.Path.{_≡_};
 ghost use Rattle.modulation_engine.specs.Engine.{openedOf, setSampleRateOf, setSeedOf, resetOf};
 ghost use Rattle.engine_calls.specs.Left.{renews, renewedBy, steps, steppedBy};

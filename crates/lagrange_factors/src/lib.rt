@@ -1,6 +1,6 @@
-// Two rounds of the original's inner loop over Lagrange weights, for eight nodes at once (000). The differences of two
-// nodes are computed and not written as constants: the compiler would turn a division by a power of two into a product
-// and no longer work on two lanes at a time.
+// Two rounds of the original's inner loop over Lagrange weights, for eight nodes at once (000).
+// The differences of two nodes are computed and not written as constants: the compiler would turn a division by a power
+// of two into a product and no longer work on two lanes at a time.
 ghost use mathlib.Core.Path.{_≡_};
 ghost use lib.Ieee.{binary64, sub};
 ghost use Rattle.lagrange_factors.specs.Lanes.{aboveOf, belowOf, turned, passed};

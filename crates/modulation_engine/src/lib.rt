@@ -1,6 +1,6 @@
 // The original's ModulationEngine (001) except for its step: opening, setting the sample rate or the seed, and reset
-// (M1, M2). The state goes in by value and comes back. A state that is out of range is refused, and then nothing has
-// changed.
+// (M1, M2).
+// The state goes in by value and comes back. A state that is out of range is refused, and then nothing has changed.
 mod state; // which states are valid, and the number of the refusal
 
 ghost use mathlib.Core.Path.{_≡_};

@@ -1,5 +1,5 @@
-// The parts of one step of the engine: the offsets that it renders and the phases that it advances (001, M5). Settings
-// and state have been tested before, in `modulation`.
+// The parts of one step of the engine: the offsets that it renders and the phases that it advances (001, M5).
+// Settings and state have been tested before, in `modulation`.
 ghost use mathlib.Core.Path.{_≡_};
 ghost use mathlib.Core.Bool.{_&&_};
 ghost use lib.Dec.{eqb};

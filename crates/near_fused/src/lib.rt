@@ -1,6 +1,6 @@
-// The fused multiply-add of f64 by ordinary float operations, for a factor from 0 to 1 (K4). It computes a number below
-// and a number above the exact sum. Where both round alike, that is the answer; otherwise the result is a NaN, and the
-// caller goes the slow way.
+// The fused multiply-add of f64 by ordinary float operations, for a factor from 0 to 1 (K4).
+// It computes a number below and a number above the exact sum. Where both round alike, that is the answer; otherwise
+// the result is a NaN, and the caller goes the slow way.
 ghost use mathlib.Core.Path.{_≡_};
 ghost use mathlib.Core.Bool.{not};
 ghost use lib.Dec.{T};

@@ -1,4 +1,5 @@
-// The ranges of the arguments of the oscillators and the engine (G4, G6, G7). A NaN lies in none of them.
+// The ranges of the arguments of the oscillators and the engine (G4, G6, G7).
+// A NaN lies in none of them.
 ghost use mathlib.Core.Path.{_≡_};
 ghost use Rattle.oscillator_ranges.specs.Ranges.{rateOk, depthOk, phaseOk, cycleOk, sampleRateOk, minimumRateOk};
 

@@ -1,5 +1,5 @@
-// The engine's state (001) as 15 words in the order of its fields, a float as its bit pattern. In this form another
-// language, or a line of text, can hold it. `engine_calls` has the engine's calls on such words.
+// The engine's state (001) as 15 words in the order of its fields, a float as its bit pattern.
+// In this form another language, or a line of text, can hold it. `engine_calls` has the engine's calls on such words.
 ghost use mathlib.Core.Path.{_≡_};
 ghost use Rattle.packed_engine.specs.Words.{randomOf, engineOf, wordsOf, wordsLeft, paramsOf};
 use bit_patterns::bits_of;

@@ -1,5 +1,5 @@
-// The quality reader's call, opening and reset on plain numbers. A quality is its place in the original's list, from 0;
-// a number above 3 is not a quality.
+// The quality reader's call, opening and reset on plain numbers.
+// A quality is its place in the original's list, from 0; a number above 3 is not a quality.
 mod calls; // a call
 mod codes; // a quality and a state as numbers
 mod draft; // the fast path for calls in Draft

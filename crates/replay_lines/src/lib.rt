@@ -1,5 +1,6 @@
-// What the programs that replay a stored list share (O5). A line is a letter, a mark beside it and three words of
-// sixteen hex digits with a blank before each. Here are also the word for a refusal, and how much of a buffer is lent.
+// What the programs that replay a stored list share (O5).
+// A line is a letter, a mark beside it and three words of sixteen hex digits with a blank before each. Here are also
+// the word for a refusal, and how much of a buffer is lent.
 ghost use mathlib.Core.Path.{_≡_};
 ghost use Prim.Native.Nat.{_+_, _≤_, min};
 ghost use Rattle.replay_lines.specs.Lines.{lineOf, heardOf, tablePart};

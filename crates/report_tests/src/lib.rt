@@ -1,5 +1,6 @@
-// The tests of a residual's call that concern numbers alone (W13g). They test the values of a stretch (1), the numbers
-// of a carried report (3), and how many samples there are in all (8).
+// The tests of a residual's call that concern numbers alone (W13g).
+// They test the values of a stretch (1), the numbers of a carried report (3), and how many samples there are in all
+// (8).
 ghost use mathlib.Core.Path.{_≡_};
 ghost use Prim.Native.Nat.{_+_, _*_, _^_, _<_, _≤_};
 ghost use lib.Dec.{leb};

@@ -1,5 +1,6 @@
-// The square root of an f64, rounded once (K4). A guess is made and checked. Where the check decides nothing, 55 digits
-// are found by restoring steps and rounded; the last of them is odd if the root is not exact.
+// The square root of an f64, rounded once (K4).
+// A guess is made and checked. Where the check decides nothing, 55 digits are found by restoring steps and rounded; the
+// last of them is odd if the root is not exact.
 mod quick;
 
 ghost use mathlib.Core.Path.{_≡_};

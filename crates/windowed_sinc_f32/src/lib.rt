@@ -1,5 +1,5 @@
-// The original's WindowedSincF32 (000) built into a lent table: `new` and `for_max_rate`. No f64 table is made: each
-// row is computed in a buffer of f64 and rounded into its place.
+// The original's WindowedSincF32 (000) built into a lent table: `new` and `for_max_rate`.
+// No f64 table is made: each row is computed in a buffer of f64 and rounded into its place.
 ghost use mathlib.Core.Path.{_≡_};
 ghost use mathlib.Core.Bool.{true};
 ghost use mathlib.Core.List.{map};

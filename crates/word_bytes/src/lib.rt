@@ -1,6 +1,6 @@
-// Words as bytes, low byte first, and as text in hex digits, both written and read (X1, X2). Hex digits have capital
-// letters, the highest digit first. A slice may have any length, and a place may lie past its end: bytes that are
-// missing count as 0.
+// Words as bytes, low byte first, and as text in hex digits, both written and read (X1, X2).
+// Hex digits have capital letters, the highest digit first. A slice may have any length, and a place may lie past its
+// end: bytes that are missing count as 0.
 mod as_bytes; // low byte first
 mod as_text; // hex digits
 
