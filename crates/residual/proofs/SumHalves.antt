@@ -1,4 +1,4 @@
--- A sum in two halves. Assumes nothing.
+-- A sum that is held in two words: what is added to the low one, and the carry into the high one. Assumes nothing.
 use mathlib.Core.Path.{_≡_, refl}
 use mathlib.Core.Bool.{Bool, true, false, cond}
 use Prim.Native.Nat.{ℕ, _+_, _*_, _^_, _/_, _%_, _≤_, _<_}
