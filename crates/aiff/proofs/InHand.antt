@@ -42,7 +42,6 @@ pub listed-is : (c : List ℕ) {n m : ℕ} {t : Bool} → t ≡ listed n m → n
     → t ≡ listed (channels c) (bits c)
 listed-is c e p q = e ∙ rw (p, q)
 
--- What is handed out.
 pub sound-is : (c s : List ℕ) (w : Walked) {k : SampleKind} {m n pace skip len : ℕ} → k ≡ kindOf m → m ≡ bits c
     → n ≡ channels c → pace ≡ rate c → skip ≡ offset s → len ≡ lengthOf c
     → _≡_ {A = Sound}

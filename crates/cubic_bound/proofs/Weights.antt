@@ -34,11 +34,9 @@ flat m u h =
 under : (a b c : ℕ) {x y z : ℕ} → x ≤ a → y ≤ b → z ≤ c → x * y * z ≤ a * b * c
 under a b c h k l = mul-le-mul (mul-le-mul h k) l
 
--- xyz times three is 3(xyz).
 three-more : (x y z : ℤ) → Rep (pos 3 *ℤ (x *ℤ y *ℤ z)) (3 * zp (x *ℤ y *ℤ z)) (3 * zn (x *ℤ y *ℤ z))
 three-more x y z = rep-to (rep-mul (rep-pos 3) (rep-own (x *ℤ y *ℤ z))) (omega arith)
 
--- -(xyz) times three is -3(xyz).
 three-less : (x y z : ℤ) → Rep (negℤ (pos 3) *ℤ (x *ℤ y *ℤ z)) (3 * zp (negℤ x *ℤ y *ℤ z)) (3 * zn (negℤ x *ℤ y *ℤ z))
 three-less x y z =
     let r = rep-mul (rep-mul (rep-own x) (rep-own y)) (rep-own z) in

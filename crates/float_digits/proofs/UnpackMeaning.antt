@@ -32,7 +32,6 @@ pub record Scaling (x : Float) (p : Scaled) : Type 0 where
   pub bounded : p .e ≤ 2098
   pub value : HasValue x (eqb (p .s) 1) (p .m * 2 ^ p .e) (2 ^ 1137)
 
--- The sign bit.
 sign-bit : (n : ℕ) → n < 2 ^ 64 → leb (2 ^ 63) n ≡ eqb (n / 2 ^ 63) 1
 sign-bit n h =
     dite (decLt n (2 ^ 63)) (λ l. lt-leb (2 ^ 63) n l ∙ sym (ne-eqb (n / 2 ^ 63) 1 (omega arith)))

@@ -29,7 +29,6 @@ first-counts id [] c ds h e = rw e
 first-counts id (d ∷ cs) c ds h e =
     let a = apart (eqb (d .id) id) (lacks id cs) h in rw (a .0) (first-counts id cs c ds (a .1) e)
 
--- If there is none, nothing is found.
 pub none-found : (id : ℕ) (cs : List Chunk) → lacks id cs ≡ true → first id cs ≡ nowhere
 unfolding first
 none-found id [] h = refl

@@ -23,7 +23,6 @@ use Rattle.stretch.specs.Stretch.{Ran, andThen, stretchOf}
 use Rattle.imitation.specs.Reading.{callOf, heard}
 use Rattle.imitation.specs.Delays.{leftOf, turnedBy, offsetAt, leftDelays}
 
--- A list by its first element.
 list-first : (f : ℕ → Float) (n : ℕ) → listOf f (suc n) ≡ f 0 ∷ listOf (λ (k : ℕ). f (suc k)) n
 unfolding listOf
 list-first f zero = refl

@@ -117,7 +117,6 @@ le-lt x y z p q r h k =
       simp ring at (mul-lt-mul-of-pos-right (strictly y z q r k) (den-pos x)),
     ))))
 
--- Two finite floats are in order.
 pub record Ordered (x y : Float) : Type 0 where
   pub first : T (finite x)
   pub second : T (finite y)

@@ -48,7 +48,6 @@ fresh sample-rate seed = record {
 abbrev pub openedOf : Float → ℕ → Opened
 openedOf sample-rate seed = cond (sampleRateOk sample-rate) (Engine (fresh sample-rate seed)) (Refused 1)
 
--- The same engine with another sample rate.
 abbrev pub rated : ModulationEngine → Float → ModulationEngine
 rated e sample-rate = record {
   «sample_rate» = sample-rate;

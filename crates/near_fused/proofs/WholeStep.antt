@@ -32,7 +32,6 @@ gathered s x w e S X W E =
     (plus-same (same-trans (same-sym (plus-assoc s y S (mul-pos X S) w W)) (plus-same (restored s x S X) (same-refl W)))
     (same-refl E))
 
--- (x + c) + w is (x + w) + c.
 swapped : (x c w : Frac) → 0 < x .d → 0 < c .d → 0 < w .d → Same (plus (plus x c) w) (plus (plus x w) c)
 swapped x c w X C W =
     same-trans (plus-assoc x c X C w W)

@@ -45,7 +45,6 @@ plain-first s c false false e = simp e
 pub still-plain : (s : Spot) (id : ℕ) (c : Chunk) → Plain (orElse s (spotIf id c))
 still-plain s id c = plain-first s c (s .found) (eqb (c .id) id) refl
 
--- One more chunk.
 pub seen-one : (s : Sought) (end : ℕ) (w : Walked) (c : Chunk) (cs : List Chunk)
     → also s end w (c ∷ cs) ≡ also s end (noted s w c (overruns end c)) cs
 unfolding overrun first
@@ -56,7 +55,6 @@ seen-one s end w c cs =
       either-first (w .samples) c (first (s .samples) cs) (w .samples .found) (eqb (c .id) (s .samples)) refl,
     )
 
--- No more chunks.
 pub seen-all : (s : Sought) (end : ℕ) (w : Walked) → Plain (w .format) → Plain (w .samples) → also s end w [] ≡ w
 unfolding overrun first
 seen-all s end w p q = rw (or-false (w .overruns), p, q)

@@ -82,7 +82,6 @@ keep : (t u : Bool) (cs : List Chunk) → t ≡ false → cond (t && u) [] cs �
 keep true u cs e = absurd (true≢false e)
 keep false u cs e = refl
 
--- If nothing ends the walk, all chunks are walked.
 pub all-walked : (s : Sought) → s .ends ≡ false → (cs : List Chunk) → upTo s cs ≡ cs
 unfolding upTo
 all-walked s e [] = refl

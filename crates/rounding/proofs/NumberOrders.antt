@@ -41,7 +41,6 @@ lt-or-ge a b = go (ltb a b) refl
     go true e = inl (ltb-true a b e)
     go false e = inr (ltb-false a b e)
 
--- The last digit is 0 or 1.
 pub bit : (q : ℕ) → (q % 2 ≡ 0) ⊎ (q % 2 ≡ 1)
 bit q = go (q % 2) refl (mod-lt q (zero-lt-suc 1))
   where

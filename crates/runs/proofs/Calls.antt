@@ -67,7 +67,6 @@ module _ {S C : Type 0} (due : S → C → ℕ) (afterBy : ℕ → S → C → S
       (λ s. refl)
       (λ s c t cs e ih. rw (accepted-taken s c cs e) (ap (λ (l : List C). c ∷ l) ih))
 
-  -- A run in two parts.
   pub run-parts : (s : S) (xs ys : List C) → run s (xs ++ ys) ≡ run (run s xs) ys
   unfolding runOf
   run-parts s [] ys = refl

@@ -57,6 +57,5 @@ accepted = acceptedOf due afterBy
 abbrev pub samples : List Call → List Float
 samples cs = map (λ c. c .input) cs
 
--- The same state with another count.
 abbrev pub withCount : VariableDelay → ℕ → VariableDelay
 withCount d n = record { maximum = d .maximum; margin = d .margin; accepted = n }

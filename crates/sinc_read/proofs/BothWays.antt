@@ -57,7 +57,6 @@ module _ {taps phases len : ℕ} {p : Float} (ok : Readable taps phases len p) w
   pub first-is : {z : ℤ} → z ≡ cond (tapsOk taps && positionOk p) (firstTap p taps) (pos 0) → z ≡ firstTap p taps
   first-is e = e ∙ rw (taps-fine, ok .here)
 
-  -- Both rows lie in the table.
   pub rows-fit : {r : Phase} → r ≡ phaseAt p phases → r .phase * taps + taps + taps ≤ len
   rows-fit e =
       rw (phase-is e, ok .long) (two-rows (phaseOf p phases) taps phases (next-phase p phases (counted .least-phases)))

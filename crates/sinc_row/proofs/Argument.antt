@@ -166,7 +166,6 @@ module _ (s : Settings) (ok : settingsOk s ≡ true) (k : ℕ) (l : k < s .taps)
       (omega arith) (lit< tt) top (whole-value binary64 (pos (s .taps - 1)) (omega arith)) (omega arith))
       (lit≤ tt)
 
-  -- The range of beta.
   beta : Between zero-f twenty (s .beta)
   beta =
       let t = passes (settingsOk s) ok in

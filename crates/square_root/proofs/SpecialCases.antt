@@ -53,7 +53,6 @@ below-zero (fin false (suc m) e) a b =
     absurd (lt-irrefl 0 (lt-of-lt-of-le (mul-pos (mul-pos (zero-lt-suc m) (up-pos e)) (zero-lt-suc 0))
     (le-trans (ltb-false (0 * 1 * down e) (suc m * up e * 1) a) (le-of-eq (zero-mul (down e))))))
 
--- A number below another is not a NaN.
 pub below-no-nan : (x y : Float) → lt x y ≡ true → T (not (isNan x))
 unfolding lt isNan
 below-no-nan nan y h = absurd (true≢false (sym h))

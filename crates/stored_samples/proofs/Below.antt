@@ -32,7 +32,6 @@ few-whole w x p t =
     let b = passes (fitsWhole w x) t in
     few-digits w (nearestWhole w x) p (is-true _ (and-r (finite x) _ b))
 
--- The nearest f32 of a float is an f32.
 pub narrow-fits : (x : Float) → T (fits binary32 (narrowed x))
 unfolding narrowed fits
 narrow-fits nan = tt

@@ -71,7 +71,6 @@ pub ended : (r : Reader) (out : List ℕ) (at : ℕ) {all : List Float} → all 
 unfolding linesOf runOf
 ended r out at n h = rw (n, add-zero at, min-eq-right h)
 
--- Samples in two blocks.
 pub in-blocks : (r : Reader) (xs ys : List Float) → linesOf r (xs ++ ys) ≡ linesOf r xs ++ linesOf (readerAfter r xs) ys
 unfolding linesOf runOf
 in-blocks r [] ys = refl

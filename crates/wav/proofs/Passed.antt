@@ -14,7 +14,6 @@ use Rattle.riff_chunks.specs.declared.Walked.{Walked}
 use Rattle.wav_format.specs.Format.{channels, block, bits, listed, wholeFrames, formatOk}
 use Rattle.wav.specs.Wave.{riffSize, walkIn, fmtOf, isWave, within, tagIn, testsOf, tests, verdict}
 
--- Both tests of a conjunction.
 pub both-hold : (a b : Bool) → a && b ≡ true → (a ≡ true) × (b ≡ true)
 both-hold true b h = (refl, h)
 both-hold false b h = absurd (true≢false (sym h))

@@ -77,7 +77,6 @@ answered (suc k) w = found.Refused (suc k)
 abbrev pub foundOf : Bool → Bool → ℕ → List ℕ → Walked → Found
 foundOf wave inside t f w = answered (firstOf (testsOf wave inside t f w)) (waveOf t f w)
 
--- The tests of a file.
 abbrev pub tests : (List ℕ → ℕ → ℕ) → List ℕ → List Test
 tests tagOf b = testsOf (isWave b) (within b) (tagIn tagOf b) (fmtOf b) (walkIn b)
 

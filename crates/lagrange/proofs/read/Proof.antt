@@ -21,7 +21,6 @@ use Rattle.integer_part.proofs.SumsInRange.{small, minus-mag, minus-fits}
 use Rattle.lagrange.proofs.read.Statement.{statement}
 use Rattle.lagrange.proofs.read.Tie as tie
 
--- What the test shows.
 ranges : (c : tie.Then1) → let a = c .before .before .before .args in Within (a .taps) (a .position)
 ranges c = within _ _ (sym (c .before .in-range .ensures) ∙ c .if1 .taken)
 

@@ -13,7 +13,6 @@ use Rattle.near_fused.proofs.StepWays as equals
 use Rattle.near_fused.proofs.near_fused.Statement.{statement}
 use Rattle.near_fused.proofs.near_fused.Tie as tie
 
--- What the two tests found.
 inside-true : (c : tie.Then1) → insideOf (c .before .before .args .mu) ≡ true
 inside-true c = sym (c .before .inside .ensures) ∙ c .if1 .taken
 

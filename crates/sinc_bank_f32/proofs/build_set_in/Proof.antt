@@ -17,7 +17,6 @@ returns : tie.Need-returns
 unfolding ofBits
 returns c = rw (← c .before .within .ensures, not-true (c .before .within .result) (c .if1 .taken)) (refl, refl)
 
--- The rate is in range.
 ok : (c : tie.Else1) → bankOk (c .before .before .before .args .rate) ≡ true
 unfolding ofBits
 ok c = sym (c .before .within .ensures) ∙ not-false _ (c .if1 .left)

@@ -16,7 +16,6 @@ use Rattle.sinc_phases.proofs.PositionInRange.{Aimed, aimed}
 use Rattle.sinc_phases.proofs.first_tap.Statement.{statement}
 use Rattle.sinc_phases.proofs.first_tap.Tie as tie
 
--- What the test shows.
 ranges : (c : tie.Then1) → let a = c .before .before .args in Aimed (a .position) (a .taps)
 ranges c = aimed _ _ (sym (c .before .taps-in-range .ensures) ∙ c .if1 .taken)
 

@@ -18,7 +18,6 @@ use Rattle.sinc_row.proofs.write_row.Tie as tie
 returns : tie.Need-returns
 returns c = rw (← c .before .row-ready .ensures, not-true (c .before .row-ready .result) (c .if1 .taken))
 
--- What the test shows.
 passed : (c : tie.Else1) → let a = c .before .before .before .before .args in
     rowReady (a .settings) (a .phase) (length (now (a .row))) (length (now (a .window))) ≡ true
 passed c = sym (c .before .row-ready .ensures) ∙ not-false _ (c .if1 .left)

@@ -10,7 +10,6 @@ use Rattle.sinc_settings.proofs.SettingsInRange.{Counts, counts, length
 use Rattle.sinc_settings.proofs.table_refusal.Statement.{statement}
 use Rattle.sinc_settings.proofs.table_refusal.Tie as tie
 
--- What the test shows.
 tested : (c : tie.After-both) → let a = c .before .before .before .args in
     tapsOk (a .taps) && phasesOk (a .phases) ≡ c .both .result
 tested c = sym (c .both .ensures ∙ rw (c .before .phases-ok .ensures, c .before .before .taps-ok .ensures))

@@ -28,7 +28,6 @@ Inv-loop table₀ settings window taps phases phase₀ table phase =
 abbrev μ-loop : tie.MeasureT-loop
 μ-loop table₀ settings window taps phases phase₀ table phase = phases + 1 - phase
 
--- What the contract supposes.
 lent : (c : tie.Start Inv-loop μ-loop) → Fitting (c .args .settings) (length (now (c .args .table)))
 lent c = fitting _ _ (c .pre .0)
 

@@ -12,7 +12,6 @@ use Rattle.windowed_sinc.proofs.Building.{most, window-fits, window-long, table
 use Rattle.windowed_sinc_f32.proofs.write_table.Statement.{statement}
 use Rattle.windowed_sinc_f32.proofs.write_table.Tie as tie
 
--- What the contract supposes.
 lent : (c : tie.Start) → Fitting (c .args .settings) (length (now (c .args .table)))
 lent c = fitting _ _ (c .pre)
 
