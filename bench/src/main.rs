@@ -30,7 +30,7 @@ use std::hint::black_box;
 use std::time::Instant;
 
 /// A file of workloads/ each, by name: making one may take seconds.
-const WORKLOADS: [(&str, fn() -> Workload); 56] = [
+const WORKLOADS: [(&str, fn() -> Workload); 60] = [
     ("narrow", workloads::narrow::workload),
     ("fused32", workloads::fused32::workload),
     ("fused64", workloads::fused64::workload),
@@ -75,11 +75,15 @@ const WORKLOADS: [(&str, fn() -> Workload); 56] = [
     ("aiff_pcm16", workloads::wav::aiff16_f64),
     ("aiff_pcm16_stereo", workloads::wav::aiff16_stereo),
     ("aiff_pcm16_f32", workloads::wav::aiff16_f32),
+    ("aiff_pcm16_f32_stereo", workloads::wav::aiff16_f32_stereo),
     ("aiff_pcm24", workloads::wav::aiff24_f64),
     ("aiff_pcm24_stereo", workloads::wav::aiff24_stereo),
     ("aiff_pcm24_f32", workloads::wav::aiff24_f32),
+    ("aiff_pcm24_f32_stereo", workloads::wav::aiff24_f32_stereo),
     ("aiff_whole16", workloads::wav::aiff_whole16),
+    ("aiff_whole16_stereo", workloads::wav::aiff_whole16_stereo),
     ("aiff_whole24", workloads::wav::aiff_whole24),
+    ("aiff_whole24_stereo", workloads::wav::aiff_whole24_stereo),
     ("residual", workloads::residual::workload),
     ("store_pcm16", workloads::wav_store::pcm16),
     ("store_pcm16_f32", workloads::wav_store::pcm16_f32),
