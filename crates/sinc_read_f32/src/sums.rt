@@ -1,4 +1,4 @@
-// The sum over the taps, as chains over samples that lie side by side.
+// The sum over the taps: chains over samples that lie side by side if all are held, one by one if some are absent.
 ghost use mathlib.Core.Path.{_≡_};
 ghost use Prim.Native.Nat.{_+_, _*_, _%_, _^_, _≤_, _<_};
 ghost use lib.IntN.{pos, _+ℤ_};
@@ -6,10 +6,12 @@ ghost use lib.ListN.{length, getD};
 ghost use lib.Signed.{mag};
 ghost use lib.Ieee.{nan};
 ghost use Rattle.answer.specs.Answers.{zero-f};
-ghost use Rattle.loop_laws.specs.Loops.{fold, listOf};
+ghost use Rattle.loop_laws.specs.Loops.{fold};
 ghost use Rattle.ring.specs.Taps.{tapOf};
 ghost use Rattle.sinc_read_f32.specs.Sums.{tapTurn, runTurn};
 use fused_chain::chain;
+use fused_step::step;
+use narrowing::narrow;
 
 // The turns over samples side by side, from a sum on: rows of the table from two places on. The chain ends with its
 // samples.
@@ -71,20 +73,8 @@ fn tap_after(source: &[f32], count: u64, first: i64, k: usize) -> f32
     ring::tap_f32(source, count, first + (k as i64))
 }
 
-// The taps from the first on, zeros for the absent ones.
-fn gather<'a>(samples: &mut [f32], source: &'a [f32], count: u64, first: i64)
-    requires { ⌜ (mag first ≤ 2 ^ 37) × (length (now samples) ≤ 128) ⌝ }
-    ensures { λ _. ⌜ now (samples .exit) ≡
-        listOf (λ k. tapOf (now (source .entry)) count (first +ℤ pos k)) (length (now (samples .entry))) ⌝ }
-{
-    let mut k: usize = 0;
-    while k < samples.len() {
-        samples[k] = tap_after(source, count, first, k);
-        k += 1;
-    }
-}
-
-// Taps of which some are absent: they are laid side by side, and one chain reads them.
+// Taps of which some are absent, one by one: the sum is held as an f64 that is an f32, as in a chain, and there is no
+// room for samples side by side.
 pub(crate) fn scattered<'a>(
     table: &'a [f32],
     taps: usize,
@@ -99,8 +89,15 @@ pub(crate) fn scattered<'a>(
         (tapTurn (λ k. tapOf (now (source .entry)) count (first +ℤ pos k)) (now (table .entry)) blend taps phase)
         zero-f taps ⌝ }
 {
-    let mut samples: [f32; 128] = [0.0; 128];
-    gather(&mut samples[0..taps], source, count, first);
     let row = phase * taps;
-    over(&samples[0..taps], table, row, row + taps, blend, 0.0)
+    let next = row + taps;
+    let mut held: f64 = 0.0;
+    let mut k: usize = 0;
+    while k < taps {
+        let a = table[row + k];
+        let x = tap_after(source, count, first, k);
+        held = step(x, a + blend * (table[next + k] - a), held);
+        k += 1;
+    }
+    narrow(held)
 }
