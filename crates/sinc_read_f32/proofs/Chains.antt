@@ -62,9 +62,9 @@ module _ (x : ℕ → Float) (table : List Float) (blend : Float) (taps phase : 
       (λ k l v. rw (each k l, next-row phase taps, add-assoc (phase * taps) m k, add-assoc (phase * taps + taps) m k))
       ∙ split (tapTurn x table blend taps phase) zero-f m (length samples)
 
--- ---- samples that lie in a ring from a place on, up to its end and on from its start
-module _ (xs table : List Float) (blend : Float) (taps phase place : ℕ) (fits : taps ≤ length xs)
-    (inside : place < length xs) where
+-- ---- so many samples that lie in a ring from a place on, up to its end and on from its start
+module _ (xs table : List Float) (blend : Float) (taps phase place turns : ℕ)
+    (fits : turns ≤ length xs) (inside : place < length xs) where
   abbrev x : ℕ → Float
   x k = getD xs ((place + k) % length xs) nan
 
@@ -81,13 +81,13 @@ module _ (xs table : List Float) (blend : Float) (taps phase place : ℕ) (fits 
   long : (n : ℕ) → n ≤ left → length (take n (drop place xs)) ≡ n
   long n h = simp (length-take, length-drop) (omega arith)
 
-  pub one-run : taps ≤ left
-      → (let part = take (place + taps - place) (drop place xs) in
+  pub one-run : turns ≤ left
+      → (let part = take (place + turns - place) (drop place xs) in
       fold (runTurn part table (phase * taps) (phase * taps + taps) blend) (ofBits binary32 0) (length part))
-      ≡ sum x table blend taps phase taps
+      ≡ sum x table blend taps phase turns
   one-run h =
-      let n = place + taps - place in
-      let e : n ≡ taps = omega arith in
+      let n = place + turns - place in
+      let e : n ≡ turns = omega arith in
       let l : length (take n (drop place xs)) ≡ n = long n (omega arith) in
       from-first x table blend taps phase (take n (drop place xs)) (λ k b. before-end n k (omega arith) (omega arith))
       ∙ ap (sum x table blend taps phase) (l ∙ e)
@@ -101,14 +101,14 @@ module _ (xs table : List Float) (blend : Float) (taps phase place : ℕ) (fits 
       (λ k b. before-end left k (omega arith) (omega arith))
       ∙ ap (sum x table blend taps phase) l
 
-  pub second-run : (before : Float) → left < taps → before ≡ sum x table blend taps phase left
-      → (let part = take (taps - left - 0) xs in
+  pub second-run : (before : Float) → left < turns → before ≡ sum x table blend taps phase left
+      → (let part = take (turns - left - 0) xs in
       fold (runTurn part table (phase * taps + left) (phase * taps + taps + left) blend) before (length part))
-      ≡ sum x table blend taps phase taps
+      ≡ sum x table blend taps phase turns
   second-run before h e =
-      let n = taps - left - 0 in
+      let n = turns - left - 0 in
       let l : length (take n xs) ≡ n = length-take-le n xs (omega arith) in
-      let m : left + length (take n xs) ≡ taps = omega arith in
+      let m : left + length (take n xs) ≡ turns = omega arith in
       further x table blend taps phase (take n xs) left before e
       (λ k b. getD-take n xs k nan (omega arith)
       ∙ ap (λ (p : ℕ). getD xs p nan)

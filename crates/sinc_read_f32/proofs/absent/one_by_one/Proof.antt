@@ -1,4 +1,4 @@
--- `sinc_read_f32::sums::scattered` meets its contract: after k turns the sum is the fold of k turns, and an f32.
+-- `sinc_read_f32::absent::one_by_one` meets its contract: after k turns the sum is the fold of k turns, and an f32.
 -- Assumes nothing.
 use borrow.Author.Needs.{needs}
 use mathlib.Core.Path.{_≡_, refl, sym, _∙_, ap, subst}
@@ -21,8 +21,8 @@ use Rattle.rounding.proofs.Sums.{zero-bits}
 use Rattle.ring.specs.Taps.{tapOf}
 use Rattle.sinc_phases.proofs.RowsInTable.{next-row}
 use Rattle.sinc_read_f32.specs.Sums.{tapTurn}
-use Rattle.sinc_read_f32.proofs.sums.scattered.Statement.{statement}
-use Rattle.sinc_read_f32.proofs.sums.scattered.Tie as tie
+use Rattle.sinc_read_f32.proofs.absent.one_by_one.Statement.{statement}
+use Rattle.sinc_read_f32.proofs.absent.one_by_one.Tie as tie
 
 abbrev Inv-loop : tie.InvT-loop
 Inv-loop table taps phase blend source count first row next held₀ k₀ held k =
@@ -71,8 +71,8 @@ returns c =
     (tapTurn (λ (k : ℕ). tapOf (now (a .source)) (a .count) (a .first +ℤ pos k)) (now (a .table)) (a .blend)
     (a .taps) (a .phase)) zero-f) (omega arith)
 
-pub scattered-spec : {M : Type 1} → statement M
-scattered-spec =
+pub one-by-one-spec : {M : Type 1} → statement M
+one-by-one-spec =
     tie.close (tie.spec Inv-loop μ-loop (λ c. omega arith) (λ c. omega arith) loop-holds (λ c. omega arith)
     (λ c. omega arith) (λ c. omega arith) tap-after-requires (λ c. omega arith) (λ c. omega arith) (λ c. omega arith)
     (λ c κs. search needs) (λ c. omega arith) (λ c. omega arith) loop-again (λ c κs. search needs) returns)
