@@ -88,7 +88,7 @@ fn silent<'a>(table: &'a [f32], taps: usize, phase: usize, blend: f32, from: usi
 }
 
 // Taps of which some are absent. At a short delay the first are held and the rest are ahead of the newest sample: a
-// chain reads those, and no tap is tested. No room is made for samples side by side.
+// chain reads the held ones where they lie, and no tap is tested. Else they are taken one by one.
 pub(crate) fn scattered<'a>(
     table: &'a [f32],
     taps: usize,
