@@ -1,4 +1,4 @@
--- `sinc_read_f32::sums::tap_after` meets its contract: the sum of the first tap and a small number is the machine's.
+-- `sinc_read_f32::absent::tap_after` meets its contract: the sum of the first tap and a small number is the machine's.
 -- Assumes nothing.
 use borrow.Author.Needs.{needs}
 use mathlib.Core.Path.{_∙_, ap}
@@ -6,8 +6,8 @@ use native.Mathlib.Omega.{arith}
 use denote.Ref.{now}
 use Rattle.integer_part.proofs.SumsInRange.{plus-fits, plus-is}
 use Rattle.ring.specs.Taps.{tapOf}
-use Rattle.sinc_read_f32.proofs.sums.tap_after.Statement.{statement}
-use Rattle.sinc_read_f32.proofs.sums.tap_after.Tie as tie
+use Rattle.sinc_read_f32.proofs.absent.tap_after.Statement.{statement}
+use Rattle.sinc_read_f32.proofs.absent.tap_after.Tie as tie
 
 returns : tie.Need-returns
 returns c =
