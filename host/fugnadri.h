@@ -320,9 +320,9 @@ size_t fugnadri_wav_needs(const uint8_t *prefix, size_t prefix_len, size_t lengt
  * the first bytes as it asks for (2, `fugnadri_wav_needs`): 12, of RF64 and BW64 48 and 12 for each entry of the table;
  * more may be lent. It is refused by 1, 2, 9, 18, 19, or 10 of the RIFF, and then `*end` and `*left` are 0. While
  * `*left` is 8 or more `fugnadri_wav_turn` takes the same bytes again and the file's 8 bytes from `end - *left` on, and
- * carries the walk on: whether a chunk ran past the end, and place and size of the first `fmt ` and of the first `data`,
- * five zeros before the first turn. It refuses nothing. `fugnadri_wav_finish` takes these five and the first 40 bytes of
- * `fmt `, or all of it where it is shorter; refused by 10 to 13, and then all five answers are 0. */
+ * carries the walk on: whether a chunk ran past the end, and place and size of the first `fmt ` and of the first
+ * `data`, five zeros before the first turn. It refuses nothing. `fugnadri_wav_finish` takes these five and the first 40
+ * bytes of `fmt `, or all of it where it is shorter; refused by 10 to 13, and then all five answers are 0. */
 uint8_t fugnadri_wav_begin(const uint8_t *opening, size_t opening_len, size_t length, size_t *end, size_t *left);
 void fugnadri_wav_turn(const uint8_t *opening, size_t opening_len, size_t end, const uint8_t *head, size_t head_len,
     size_t *left, uint8_t *overruns, size_t *format, size_t *format_size, size_t *samples, size_t *samples_size);
@@ -387,9 +387,9 @@ uint8_t fugnadri_wav_write_f32(uint8_t form, uint8_t kind, uint8_t channels, uin
     size_t samples_len, uint8_t *out, size_t out_len, size_t *written);
 
 /* The same piece by piece: the bytes before `count` samples (`fugnadri_wav_header_length` says how many they are, 0 for
- * an unknown kind) into as many or more (refused by 1, 19, 13 or 14, as above), then block by block the samples, into 2,
- * 3 or 4 bytes each (refused by 2, 13 or 15; an unknown kind has no length that could be wrong). A pad byte behind an
- * odd number of bytes is the caller's. What stands behind a header stays; a refused call writes nothing. */
+ * an unknown kind) into as many or more (refused by 1, 19, 13 or 14, as above), then block by block the samples, into
+ * 2, 3 or 4 bytes each (refused by 2, 13 or 15; an unknown kind has no length that could be wrong). A pad byte behind
+ * an odd number of bytes is the caller's. What stands behind a header stays; a refused call writes nothing. */
 size_t fugnadri_wav_header_length(uint8_t kind, size_t count);
 uint8_t fugnadri_wav_header(uint8_t form, uint8_t kind, uint8_t channels, uint32_t rate, size_t count, uint8_t *out,
     size_t out_len);

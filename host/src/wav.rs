@@ -16,7 +16,7 @@ mod headers;
 use crate::{boundary as b, Refusal};
 
 pub use b::FormatTold as Told;
-pub use headers::{header, header_length, needs, open, read_header, read_header_wrapped, Form, Header};
+pub use headers::{header, header_into, header_length, needs, open, read_header, read_header_wrapped, Form, Header};
 
 /// How a sample is stored.
 #[derive(Clone, Copy, Debug, Eq, Hash, PartialEq)]

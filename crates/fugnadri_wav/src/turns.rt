@@ -1,17 +1,18 @@
-// W10c. The same by turns, where a file is too long to be held. A walk on its way is six numbers: how many bytes are left
-// before its end, whether a chunk ran past that, and place and size of the first `fmt ` and of the first `data`, zeros
-// where none was seen. Before the first turn the last five are 0.
+// W10c. The same by turns, where a file is too long to be held. A walk on its way is six numbers: how many bytes are
+// left before its end, whether a chunk ran past that, and place and size of the first `fmt ` and of the first `data`,
+// zeros where none was seen. Before the first turn the last five are 0.
 ghost use mathlib.Core.Path.{_≡_};
 ghost use Rattle.wav_opening.specs.Opening.{begunOf};
 ghost use Rattle.wav_turns.specs.Turns.{finishedOf};
 ghost use Rattle.fugnadri_wav.specs.Exports.{leaves, leftBy};
-ghost use Rattle.fugnadri_wav.specs.Walk.{begins, beginsBy, walk, spotFrom, seenFrom, walkAfter, flag as Walk·flag};
+ghost use Rattle.fugnadri_wav.specs.Walk.{begins, beginsBy, walk, spotFrom, seenFrom, walkAfter};
+ghost use Rattle.fugnadri_wav.specs.Walk.{flag as Walk·flag};
 use crate::files::hand_out;
 use riff_chunks::Spot;
 use riff_chunks::Walked;
 use riff_chunks::Walking;
 
-// Refused by what the opening tells: 1, 2, 9, 18, 19, or 10 of the RIFF. Else the walk's end and what is left before it.
+// Refused by what the opening tells: 1, 2, 9, 18, 19, or 10 of the RIFF. Else the walk's end and what is left.
 #[no_mangle]
 pub extern "C" fn fugnadri_wav_begin(
     opening: &[u8],

@@ -1,6 +1,6 @@
 -- W2, W10. What the exports' contracts name: a kind and a form by their codes, an answer as plain numbers, and all that
--- an export may write as one record, so that one equation gives it. A code above 2 is no kind's: it is refused by 13, or
--- by 1 if that is due for the rate or for broken frames, since its samples have no width. Definitions only.
+-- an export may write as one record, so that one equation gives it. A code above 2 is no kind's: it is refused by 13,
+-- or by 1 if that is due for the rate or for broken frames, since its samples have no width. Definitions only.
 use Prim.Native.Nat.{ℕ}
 use mathlib.Core.Bool.{cond}
 use mathlib.Core.List.{List}

@@ -1,4 +1,5 @@
-// W2, W10. A file's header and its samples apart, for who writes a file piece by piece: the refusal's number, 0 for none.
+// W2, W10. A file's header and its samples apart, for who writes a file piece by piece: the refusal's number, 0 for
+// none.
 ghost use mathlib.Core.Path.{_≡_};
 ghost use Rattle.fugnadri_wav_write.specs.Exports.{holds, headerLeft, headerLengthOf, blockLeft};
 use crate::codes::form_of;

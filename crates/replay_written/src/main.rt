@@ -1,9 +1,9 @@
 // The program that replays a stored list of WAV files and headers to be written (W2, W10).
-// A line of standard input is a call: the kind's code, channels, rate, the buffer's length, what is written (0 a file of
-// f64s, 1 one of f32s, 2 the header of an RF64 file, 3 of a BW64 file) and the number of samples, then of a file each
-// sample's pattern, all in sixteen hex digits with a blank behind them. A line is written for each: the refusal's number,
-// 0 for none, the length that is answered, 0 where it is refused, of a header the one that is told beforehand, what
-// `long_header::file_length_for` says, and the buffer's bytes, which were A5 before, two hex digits each.
+// A line of standard input is a call: the kind's code, channels, rate, the buffer's length, what is written (0 a file
+// of f64s, 1 one of f32s, 2 the header of an RF64 file, 3 of a BW64 file) and the number of samples, then of a file
+// each sample's pattern, all in sixteen hex digits with a blank behind them. A line is written for each: the refusal's
+// number, 0 for none, the length that is answered, 0 where it is refused, of a header what `header_length_for` says,
+// what `long_header::file_length_for` says, and the buffer's bytes, which were A5 before, two hex digits each.
 // oracle/lists/written.py makes the list, from document 02's text. A trailing part of a line is ignored.
 mod heard; // a call from standard input
 mod said; // what is written to standard output

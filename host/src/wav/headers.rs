@@ -86,5 +86,18 @@ pub fn header_length(kind: SampleKind, count: usize) -> usize {
 /// two).
 pub fn header(form: Form, kind: SampleKind, channels: u8, rate: u32, count: usize) -> Result<Vec<u8>, Refusal> {
     let mut bytes = vec![0; header_length(kind, count)];
-    Refusal::of(b::wav_header(form as u8, kind as u8, channels, rate, count, &mut bytes)).map(|()| bytes)
+    header_into(form, kind, channels, rate, count, &mut bytes).map(|_| bytes)
+}
+
+/// The same into a buffer: the header's length. What stands behind it stays as it was. Refused besides by 14, a buffer that
+/// is shorter than the header; a refused call writes nothing.
+pub fn header_into(
+    form: Form,
+    kind: SampleKind,
+    channels: u8,
+    rate: u32,
+    count: usize,
+    out: &mut [u8],
+) -> Result<usize, Refusal> {
+    Refusal::of(b::wav_header(form as u8, kind as u8, channels, rate, count, out)).map(|()| header_length(kind, count))
 }
