@@ -23,7 +23,8 @@ use Rattle.long_wav.specs.Reading.{headerBy, headerIn, headerWrapped}
 use Rattle.long_laws.proofs.AsBefore.{as-before}
 use Rattle.long_laws.proofs.Behind.{prefix-decides}
 use Rattle.wav_header.specs.Header.{headerLength, sizeOf, padOf, fileLength, headerOf}
-use Rattle.wav_header.specs.Refusals.{rateOk, oneOrTwo, wholeFrames, fitsRiff, countOk, fileVerdict}
+use Rattle.wav_header.specs.Refusals.{fitsRiff}
+use Rattle.wav_settings.specs.Settings.{rateOk, oneOrTwo, wholeFrames}
 use Rattle.wav_header.proofs.Planned.{both-hold, Planned, planned}
 use Rattle.wav_header.proofs.Long.{length-header}
 use Rattle.wav_back.proofs.Read.{waveFor}
@@ -101,7 +102,7 @@ module _ (form : Form) (kind : SampleKind) (channels rate count : ℕ) (z : file
   first = both-hold (rateOk rate) (wholeFrames channels count) (test 0)
 
   plan : fitsRiff kind count ≡ true → Planned kind channels rate count
-  plan f = planned kind channels rate count (rw (first .0, first .1, f, test 2))
+  plan f = planned kind channels rate count (first .0) (first .1) f (test 2)
 
   fits : Fits kind channels rate count
   fits =

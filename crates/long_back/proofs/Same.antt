@@ -15,7 +15,8 @@ use Rattle.word_bytes.specs.Bytes.{lowBytes}
 use Rattle.sample_kind.specs.declared.SampleKind.{SampleKind}
 use Rattle.wav_store.specs.Storing.{allFit, bytesOf}
 use Rattle.wav_header.specs.Header.{sizeOf, padOf, fileLength, headerOf}
-use Rattle.wav_header.specs.Refusals.{rateOk, oneOrTwo, wholeFrames, fitsRiff, countOk, writtenBy}
+use Rattle.wav_header.specs.Refusals.{fitsRiff, countOk, writtenBy}
+use Rattle.wav_settings.specs.Settings.{rateOk, oneOrTwo, wholeFrames}
 use Rattle.long_header.specs.declared.Form.{Form}
 use Rattle.long_header.specs.Refusals.{sizeOk}
 use Rattle.wav_write.specs.Writing.{fileOf, verdict, written}

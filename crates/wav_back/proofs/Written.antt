@@ -17,7 +17,8 @@ use Rattle.wav.specs.Wave.{partOf, foundIn, foundWrapped}
 use Rattle.wav_store.specs.Storing.{bytesOf}
 use Rattle.wav_store.proofs.Placed.{length-bytes}
 use Rattle.wav_header.specs.Header.{sizeOf, padOf, headerOf}
-use Rattle.wav_header.specs.Refusals.{rateOk, wholeFrames, fitsRiff}
+use Rattle.wav_header.specs.Refusals.{fitsRiff}
+use Rattle.wav_settings.specs.Settings.{rateOk, wholeFrames}
 use Rattle.wav_header.proofs.Planned.{both-hold, Planned, planned}
 use Rattle.wav_header.proofs.Pieces.{length-low}
 use Rattle.wav_header.proofs.Taken.{given}
@@ -74,7 +75,7 @@ module _ (form : Form) (kind : SampleKind) (channels rate : ℕ) (samples : List
     plan =
         let test = write-none kind channels rate samples room .0 v in
         let first = both-hold (rateOk rate) (wholeFrames channels (length samples)) (test 0) in
-        planned kind channels rate (length samples) (rw (first .0, first .1, f, test 2))
+        planned kind channels rate (length samples) (first .0) (first .1) f (test 2)
 
     riff-is : fileOf form kind channels rate samples ++ behind ≡ headerOf kind channels rate (length samples) ++ rest
     riff-is = file-is ∙ rw f

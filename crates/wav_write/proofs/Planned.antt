@@ -12,7 +12,8 @@ use Rattle.word_bytes.specs.Bytes.{lowBytes}
 use Rattle.sample_kind.specs.declared.SampleKind.{SampleKind}
 use Rattle.sample_kind.specs.declared.SampleKind.the-variants.{Pcm16, Pcm24, Float32}
 use Rattle.wav_header.specs.Header.{headerLength, sizeOf, headerOf}
-use Rattle.wav_header.specs.Refusals.{rateOk, oneOrTwo, wholeFrames, fitsRiff}
+use Rattle.wav_header.specs.Refusals.{fitsRiff}
+use Rattle.wav_settings.specs.Settings.{rateOk, oneOrTwo, wholeFrames}
 use Rattle.wav_header.proofs.Planned.{both-hold}
 use Rattle.wav_header.proofs.Long.{length-header as length-riff}
 use Rattle.long_header.specs.declared.Form.{Form}

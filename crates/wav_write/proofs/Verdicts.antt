@@ -15,7 +15,7 @@ use Rattle.wav_store.specs.Storing.{allFit}
 use Rattle.wav_store.specs.Storing.{verdict as storeVerdict}
 use Rattle.wav_header.specs.Header.{sizeOf}
 use Rattle.long_header.specs.LongHeader.{fileLengthFor}
-use Rattle.wav_header.specs.Refusals.{rateOk, oneOrTwo, wholeFrames}
+use Rattle.wav_settings.specs.Settings.{rateOk, oneOrTwo, wholeFrames}
 use Rattle.long_header.specs.Refusals.{sizeOk, fileVerdictFor}
 use Rattle.wav_write.specs.declared.Written.the-variants as answers
 use Rattle.wav_write.specs.Writing.{verdict, answerBy}

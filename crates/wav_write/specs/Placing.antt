@@ -9,7 +9,7 @@ use Rattle.refusal_order.specs.Order.{_unless_, firstOf}
 use Rattle.word_bytes.specs.Bytes.{lowBytes}
 use Rattle.sample_kind.specs.declared.SampleKind.{SampleKind}
 use Rattle.wav_header.specs.Header.{sizeOf, padOf}
-use Rattle.wav_header.specs.Refusals.{rateOk, oneOrTwo, wholeFrames}
+use Rattle.wav_settings.specs.Settings.{rateOk, oneOrTwo, wholeFrames}
 use Rattle.long_header.specs.declared.Form.{Form}
 use Rattle.long_header.specs.LongHeader.{headerLengthFor, fileLengthFor, headerFor}
 use Rattle.long_header.specs.Refusals.{sizeOk, fileVerdictFor}

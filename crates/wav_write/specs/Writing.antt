@@ -11,7 +11,8 @@ use Rattle.word_bytes.specs.Bytes.{lowBytes}
 use Rattle.sample_kind.specs.declared.SampleKind.{SampleKind}
 use Rattle.wav_store.specs.Storing.{allFit, bytesOf}
 use Rattle.wav_header.specs.Header.{padOf}
-use Rattle.wav_header.specs.Refusals.{rateOk, oneOrTwo, wholeFrames, writtenBy}
+use Rattle.wav_header.specs.Refusals.{writtenBy}
+use Rattle.wav_settings.specs.Settings.{rateOk, oneOrTwo, wholeFrames}
 use Rattle.long_header.specs.declared.Form.{Form}
 use Rattle.long_header.specs.LongHeader.{fileLengthFor, headerFor}
 use Rattle.long_header.specs.Refusals.{sizeOk}

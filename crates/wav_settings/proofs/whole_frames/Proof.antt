@@ -1,4 +1,4 @@
--- `wav_header::tests::whole_frames` meets its contract: two channels ask for an even count, and one channel's
+-- `wav_settings::whole_frames` meets its contract: two channels ask for an even count, and one channel's
 -- count is a multiple of 1. Assumes nothing.
 use mathlib.Core.Path.{_≡_, refl}
 use mathlib.Core.Bool.{Bool, true, false, cond, _||_}
@@ -6,9 +6,9 @@ use Prim.Native.Nat.{ℕ, _%_}
 use native.Mathlib.Nat.{mod-one}
 use borrow.Author.Tests.{eq-eqb, ne-eqb, eqb-true}
 use lib.Dec.{eqb}
-use Rattle.wav_header.specs.Refusals.{wholeFrames}
-use Rattle.wav_header.proofs.tests.whole_frames.Statement.{statement}
-use Rattle.wav_header.proofs.tests.whole_frames.Tie as tie
+use Rattle.wav_settings.specs.Settings.{wholeFrames}
+use Rattle.wav_settings.proofs.whole_frames.Statement.{statement}
+use Rattle.wav_settings.proofs.whole_frames.Tie as tie
 
 two : (channels count : ℕ) → channels ≡ 2 → eqb (count % 2) 0 ≡ wholeFrames channels count
 two channels count e = rw e

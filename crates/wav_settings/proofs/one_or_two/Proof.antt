@@ -1,7 +1,7 @@
--- `wav_header::tests::one_or_two` meets its contract, by its two cases. Assumes nothing.
+-- `wav_settings::one_or_two` meets its contract, by its two cases. Assumes nothing.
 use borrow.Author.Tests.{eq-eqb, ne-eqb}
-use Rattle.wav_header.proofs.tests.one_or_two.Statement.{statement}
-use Rattle.wav_header.proofs.tests.one_or_two.Tie as tie
+use Rattle.wav_settings.proofs.one_or_two.Statement.{statement}
+use Rattle.wav_settings.proofs.one_or_two.Tie as tie
 
 returns : tie.Need-returns
 returns c = simp (eq-eqb _ _ (c .if1 .taken))
