@@ -36,8 +36,8 @@ pub record Held (file n : ℕ) (buffer : List ℕ) : Type 0 where
 
 -- The header in front of what stands behind its place.
 abbrev pub headed : Form → SampleKind → ℕ → ℕ → ℕ → List ℕ → List ℕ
-headed form kind channels rate count old = headerFor form kind channels rate count ++ drop
-    (headerLengthFor kind count) old
+headed form kind channels rate count old =
+    headerFor form kind channels rate count ++ drop (headerLengthFor kind count) old
 
 -- The pad byte behind the samples, where there is one.
 abbrev pub padded : SampleKind → ℕ → List ℕ → List ℕ

@@ -1,5 +1,5 @@
--- W10e. Samples as a whole WAV file of any length in a lent buffer: which refusal is due, what is answered, and what
--- the buffer then holds. The samples are those of all channels, frame by frame. Definitions only.
+-- W2, W10e. Samples as a whole WAV file of any length in a lent buffer: which refusal is due, what is answered, and
+-- what the buffer then holds. The samples are those of all channels, frame by frame. Definitions only.
 use Prim.Native.Nat.{ℕ, zero, suc}
 use mathlib.Core.Bool.{_&&_}
 use mathlib.Core.List.{List, [], _∷_, _++_}
@@ -25,8 +25,8 @@ fileOf form kind channels rate samples =
     headerFor form kind channels rate (length samples)
     ++ (bytesOf kind samples ++ lowBytes (padOf kind (length samples)) 0)
 
--- W10f. 1 the rate or a count of broken frames; 19 more than 2^40 bytes of samples; 13 not one or two channels; 14 a
--- buffer of `room` bytes that is shorter than the file; 15 a sample that is out of range or a NaN.
+-- W2f, W10f. 1 the rate or a count of broken frames; 19 more than 2^40 bytes of samples; 13 not one or two channels;
+-- 14 a buffer of `room` bytes that is shorter than the file; 15 a sample that is out of range or a NaN.
 abbrev pub tests : SampleKind → ℕ → ℕ → List Float → ℕ → List Test
 tests kind channels rate samples room =
     1 unless (rateOk rate && wholeFrames channels (length samples))

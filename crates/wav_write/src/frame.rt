@@ -1,4 +1,5 @@
-// W10e. What stands around the samples of a file: the header before them and a pad byte behind an odd number of bytes.
+// W2, W10e. What stands around the samples of a file: the header before them and a pad byte behind an odd number of
+// bytes.
 ghost use mathlib.Core.Path.{_≡_};
 ghost use lib.ListN.{length};
 ghost use Rattle.long_header.specs.LongHeader.{fileLengthFor};

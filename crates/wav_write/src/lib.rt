@@ -1,5 +1,5 @@
-// W10e. Samples written as a WAV file of any length up to 2^40 bytes of them into a lent buffer, RIFF where it fits
-// and past that RF64 or BW64, or a refusal by number that leaves the buffer as it was.
+// W2, W10e. Samples written as a WAV file into a lent buffer, RIFF where that holds it and past that RF64 or BW64, up
+// to 2^40 bytes of samples, or a refusal by number that leaves the buffer as it was.
 ghost use mathlib.Core.Path.{_≡_};
 ghost use lib.ListN.{length};
 ghost use Rattle.wav_write.specs.Writing.{answerOf, written};

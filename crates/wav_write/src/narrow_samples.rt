@@ -1,4 +1,4 @@
-// W10e. A file of samples that are f32s.
+// W2, W10e. A file of samples that are f32s.
 ghost use mathlib.Core.Path.{_≡_};
 ghost use lib.ListN.{length};
 ghost use Rattle.wav_write.specs.Writing.{answerOf, written};
