@@ -23,6 +23,7 @@ mod workloads {
     pub mod sinc;
     pub mod square_root;
     pub mod wav;
+    pub mod wav_headers;
     pub mod wav_store;
 }
 
@@ -30,7 +31,7 @@ use std::hint::black_box;
 use std::time::Instant;
 
 /// A file of workloads/ each, by name: making one may take seconds.
-const WORKLOADS: [(&str, fn() -> Workload); 60] = [
+const WORKLOADS: &[(&str, fn() -> Workload)] = &[
     ("narrow", workloads::narrow::workload),
     ("fused32", workloads::fused32::workload),
     ("fused64", workloads::fused64::workload),
@@ -91,6 +92,8 @@ const WORKLOADS: [(&str, fn() -> Workload); 60] = [
     ("store_pcm24_f32", workloads::wav_store::pcm24_f32),
     ("store_float", workloads::wav_store::float),
     ("store_float_f32", workloads::wav_store::float_f32),
+    ("header_read", workloads::wav_headers::reading),
+    ("header_written", workloads::wav_headers::writing),
 ];
 
 pub struct Workload {

@@ -1,11 +1,15 @@
 // A WAV file's header and its last byte, written to an open file. What goes wrong is said on standard error.
 use error_lines::say_of;
+use long_header::Form;
+use long_header::file_length_for;
+use long_header::header_length_for;
+use long_header::header_of;
 use part_file::write;
 use sample_kind::SampleKind;
 use sizes::begun;
 use text::put;
 
-// Whether so many samples can be written as a file, or why not (1).
+// Whether so many samples can be written as a file, or why not (1, 19).
 pub fn can_be_written(
     command: &[u8],
     name: &[u8],
@@ -14,14 +18,14 @@ pub fn can_be_written(
     rate: u32,
     count: usize,
 ) -> bool {
-    if wav_header::refusal(kind, channels, rate, count) == 0 {
+    if long_header::refusal_for(kind, channels, rate, count) == 0 {
         return true;
     }
-    if wav_header::file_length(kind, channels, count) == 0 {
+    if file_length_for(kind, channels, count) == 0 {
         say_of(
             command,
             name,
-            b" is refused by 1: what is to be written is longer than a RIFF file of 32 bits can be\n",
+            b" is refused by 19: what is to be written has more than 2^40 bytes of samples\n",
         );
         return false;
     }
@@ -50,15 +54,15 @@ pub fn write_header(
     rate: u32,
     count: usize,
 ) -> bool {
-    let mut head = [0u8; 58];
-    let n = wav_header::header_length(kind);
+    let mut head = [0u8; 94];
+    let n = header_length_for(kind, count);
     if put_header(kind, channels, rate, count, &mut head, n) != 0 {
         return false;
     }
     write_head(command, name, fd, &head, n)
 }
 
-fn write_head(command: &[u8], name: &[u8], fd: i32, head: &[u8; 58], n: usize) -> bool {
+fn write_head(command: &[u8], name: &[u8], fd: i32, head: &[u8; 94], n: usize) -> bool {
     write(command, name, fd, begun(head, n))
 }
 
@@ -71,7 +75,7 @@ fn put_header(
     n: usize,
 ) -> u8 {
     if n <= head.len() {
-        return wav_header::write_header(kind, channels, rate, count, &mut head[..n]);
+        return header_of(Form::Rf64, kind, channels, rate, count, &mut head[..n]);
     }
     2
 }

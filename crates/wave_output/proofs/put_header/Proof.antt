@@ -6,11 +6,11 @@ use lib.Seq.{length-take-le}
 use Rattle.wave_output.proofs.put_header.Statement.{statement}
 use Rattle.wave_output.proofs.put_header.Tie as tie
 
-slice-aggregate-write-header : tie.Need-slice-aggregate-write-header
-slice-aggregate-write-header c = sym (length-take-le _ _ (omega arith))
+slice-aggregate-header-of : tie.Need-slice-aggregate-header-of
+slice-aggregate-header-of c = sym (length-take-le _ _ (omega arith))
 
 pub put-header-spec : {M : Type 1} → statement M
 put-header-spec =
     tie.close
-    (tie.spec (λ c. search needs) slice-aggregate-write-header (λ c κs. search needs) (λ c. search needs)
+    (tie.spec (λ c. search needs) slice-aggregate-header-of (λ c κs. search needs) (λ c. search needs)
     (λ c. search needs) (λ c. search needs))
