@@ -1,0 +1,68 @@
+-- W10c, W12. The header of a recording by turns, whichever layout it has: an AIFF's as W12 reads it, every other's as
+-- W10 does. Definitions only.
+use Prim.Native.Nat.{ℕ, _+_, _*_, _/_}
+use mathlib.Core.Bool.{cond}
+use mathlib.Core.List.{List}
+use lib.ListN.{take}
+use Rattle.high_first.specs.High.{bigNumber}
+use Rattle.riff_chunks.specs.declared.Walked.{Walked}
+use Rattle.riff_chunks.specs.declared.Walking.{Walking}
+use Rattle.wav_format.specs.Format.{number}
+use Rattle.wav.specs.declared.Found.{Found}
+use Rattle.wav.specs.declared.Found.the-variants as found
+use Rattle.wav_turns.specs.Turns as wav
+use Rattle.wav_opening.specs.declared.Begun.{Begun}
+use Rattle.wav_opening.specs.Opening.{begunOf}
+use Rattle.long_turns.specs.Turns as long
+use Rattle.aiff.specs.declared.Found as sound
+use Rattle.aiff.specs.declared.Found.the-variants.{Sound, Refused}
+use Rattle.aiff_turns.specs.Turns as aiff
+use Rattle.file_layout.specs.declared.Layout.{Layout}
+use Rattle.file_layout.specs.Layouts.{isAiff}
+use Rattle.file_turns.specs.declared.Told.{Told}
+
+-- What the first bytes and the file's length tell.
+abbrev pub startedAs : List ℕ → ℕ → Begun
+startedAs b size =
+    record { refusal = aiff.startedOf (take 12 b) size .refusal; end = aiff.startedOf (take 12 b) size .end }
+
+abbrev pub begunIn : Layout → List ℕ → ℕ → Begun
+begunIn layout b size = cond (isAiff layout) (startedAs b size) (begunOf b size)
+
+-- One chunk more, by its first 8 bytes.
+abbrev pub turnedIn : Layout → List ℕ → Walking → ℕ → List ℕ → Walking
+turnedIn layout b w end head = cond (isAiff layout) (aiff.turnedBy w end head) (long.turnedBy b w end head)
+
+-- How many bytes are looked at of the chunk that describes the samples, and of the one that holds them.
+abbrev pub formatBytes : Layout → ℕ
+formatBytes layout = cond (isAiff layout) 18 40
+
+abbrev pub samplesBytes : Layout → ℕ
+samplesBytes layout = cond (isAiff layout) 8 0
+
+-- The answer. An AIFF's part is described as a WAV's is.
+abbrev pub asWave : sound.Found → Found
+asWave (Sound f) =
+    found.Wave
+    (record { kind = f .kind; channels = f .channels; rate = f .rate; start = f .start; length = f .length })
+asWave (Refused n) = found.Refused n
+
+abbrev pub finishedIn : Layout → Walked → ℕ → List ℕ → List ℕ → Found
+finishedIn layout w end format samples =
+    cond (isAiff layout) (asWave (aiff.finishedOf w end format samples)) (wav.finishedOf w format)
+
+-- For who explains a refusal: an AIFF's samples are PCM, whose tag is 1, in frames of whole bytes without gaps.
+abbrev pub commTold : List ℕ → Told
+commTold c =
+    record {
+      tag = 1;
+      channels = bigNumber 2 c 0;
+      block = bigNumber 2 c 0 * ((bigNumber 2 c 6 + 7) / 8);
+      bits = bigNumber 2 c 6;
+    }
+
+abbrev pub fmtTold : List ℕ → Told
+fmtTold f = record { tag = number 2 f 0; channels = number 2 f 2; block = number 2 f 12; bits = number 2 f 14 }
+
+abbrev pub toldBy : Layout → List ℕ → Told
+toldBy layout b = cond (isAiff layout) (commTold b) (fmtTold b)

@@ -1,0 +1,108 @@
+// W10c, W12. The header of a recording by turns, whichever layout it has: an AIFF's by aiff_turns, every other by
+// long_turns. The file's first bytes are lent at each turn, then the 8 at the head of each chunk, then the first of the
+// two chunks that are sought.
+ghost use mathlib.Core.Path.{_≡_};
+ghost use Rattle.file_turns.specs.Turns.{begunIn, turnedIn, finishedIn, asWave, formatBytes, samplesBytes, toldBy};
+use file_layout::Layout;
+use file_layout::is_aiff;
+use riff_chunks::Walked;
+use riff_chunks::Walking;
+use sizes::begun;
+use wav::Found;
+use wav::Wave;
+use wav_opening::Begun;
+
+// What the chunk says that describes the samples; an AIFF's are PCM, whose tag is 1, in frames without gaps.
+pub struct Told {
+    pub tag: u32,
+    pub channels: u32,
+    pub block: u32,
+    pub bits: u32,
+}
+
+// A refusal, 0 for none, and where the walk over the chunks ends, which then begins by `riff_chunks::begin(end)`.
+pub fn begin(layout: Layout, opening: &[u8], length: usize) -> Begun
+    ensures { λ r. ⌜ r ≡ begunIn layout (now (opening .entry)) length ⌝ }
+{
+    if is_aiff(layout) {
+        let started = aiff_turns::start(begun(opening, 12), length);
+        return Begun {
+            refusal: started.refusal,
+            end: started.end,
+        };
+    }
+    wav_opening::begin(opening, length)
+}
+
+// One chunk more: `head` is the 8 bytes at the place `end` less what is left.
+pub fn turn(layout: Layout, opening: &[u8], walking: Walking, end: usize, head: &[u8]) -> Walking
+    ensures { λ r. ⌜ r ≡ turnedIn layout (now (opening .entry)) walking end (now (head .entry)) ⌝ }
+{
+    if is_aiff(layout) {
+        return aiff_turns::turn(walking, end, head);
+    }
+    long_turns::turn(opening, walking, end, head)
+}
+
+// How many of the first bytes of `fmt ` or `COMM` are looked at, and of `data` or `SSND`.
+pub fn format_bytes(layout: Layout) -> usize
+    ensures { λ r. ⌜ r ≡ formatBytes layout ⌝ }
+{
+    if is_aiff(layout) { 18 } else { 40 }
+}
+
+pub fn samples_bytes(layout: Layout) -> usize
+    ensures { λ r. ⌜ r ≡ samplesBytes layout ⌝ }
+{
+    if is_aiff(layout) { 8 } else { 0 }
+}
+
+// What the walk and these bytes tell: a refusal, or the part that holds samples and what they are.
+pub fn finish(layout: Layout, walked: Walked, end: usize, format: &[u8], samples: &[u8]) -> Found
+    ensures { λ r. ⌜ r ≡ finishedIn layout walked end (now (format .entry)) (now (samples .entry)) ⌝ }
+{
+    if is_aiff(layout) {
+        return as_wave(aiff_turns::finish(walked, end, format, samples));
+    }
+    wav_turns::finish(walked, format)
+}
+
+fn as_wave(found: aiff::Found) -> Found
+    ensures { λ r. ⌜ r ≡ asWave found ⌝ }
+{
+    match found {
+        aiff::Found::Sound(sound) => {
+            let kind = sound.kind;
+            Found::Wave(Wave {
+                kind: kind,
+                channels: sound.channels,
+                rate: sound.rate,
+                start: sound.start,
+                length: sound.length,
+            })
+        }
+        aiff::Found::Refused(number) => Found::Refused(number),
+    }
+}
+
+// For who explains a refusal; zeros where the chunk's bytes are missing.
+pub fn told(layout: Layout, format: &[u8]) -> Told
+    ensures { λ r. ⌜ r ≡ toldBy layout (now (format .entry)) ⌝ }
+{
+    if is_aiff(layout) {
+        let channels = high_first::two(format, 0);
+        let bits = high_first::two(format, 6);
+        return Told {
+            tag: 1,
+            channels: channels,
+            block: channels * ((bits + 7) / 8),
+            bits: bits,
+        };
+    }
+    Told {
+        tag: little_endian::two(format, 0),
+        channels: little_endian::two(format, 2),
+        block: little_endian::two(format, 12),
+        bits: little_endian::two(format, 14),
+    }
+}
