@@ -1,7 +1,7 @@
 // Which layout a recording has, by its first four letters. What has none of these letters counts as RIFF, whose reading
 // refuses it.
 ghost use mathlib.Core.Path.{_≡_};
-ghost use Rattle.file_layout.specs.Layouts.{layoutOf, isAiff};
+ghost use Rattle.file_layout.specs.Layouts.{layoutBy, layoutOf, isAiff};
 use word_bytes::low_first_u32;
 
 // RIFF WAVE (W1), its two forms past four gigabytes (W10), and AIFF (W12).
@@ -15,7 +15,12 @@ pub enum Layout {
 pub fn layout_of(opening: &[u8]) -> Layout
     ensures { λ r. ⌜ r ≡ layoutOf (now (opening .entry)) ⌝ }
 {
-    let id = low_first_u32(opening, 0);
+    layout_by(low_first_u32(opening, 0))
+}
+
+fn layout_by(id: u32) -> Layout
+    ensures { λ r. ⌜ r ≡ layoutBy id ⌝ }
+{
     if id == 0x4d52_4f46 {
         return Layout::Aiff;
     }

@@ -10,12 +10,14 @@ use Rattle.riff_chunks.specs.declared.Walking.{Walking}
 use Rattle.wav_format.specs.Format.{number}
 use Rattle.wav.specs.declared.Found.{Found}
 use Rattle.wav.specs.declared.Found.the-variants as found
+use Rattle.wav.specs.declared.Wave.{Wave}
 use Rattle.wav_turns.specs.Turns as wav
 use Rattle.wav_opening.specs.declared.Begun.{Begun}
 use Rattle.wav_opening.specs.Opening.{begunOf}
 use Rattle.long_turns.specs.Turns as long
 use Rattle.aiff.specs.declared.Found as sound
-use Rattle.aiff.specs.declared.Found.the-variants.{Sound, Refused}
+use Rattle.aiff.specs.declared.Found.the-variants as sounds
+use Rattle.aiff.specs.declared.Sound.{Sound}
 use Rattle.aiff_turns.specs.Turns as aiff
 use Rattle.file_layout.specs.declared.Layout.{Layout}
 use Rattle.file_layout.specs.Layouts.{isAiff}
@@ -41,11 +43,13 @@ abbrev pub samplesBytes : Layout → ℕ
 samplesBytes layout = cond (isAiff layout) 8 0
 
 -- The answer. An AIFF's part is described as a WAV's is.
+abbrev pub waveOf : Sound → Wave
+waveOf f =
+    record { kind = f .kind; channels = f .channels; rate = f .rate; start = f .start; length = f .length }
+
 abbrev pub asWave : sound.Found → Found
-asWave (Sound f) =
-    found.Wave
-    (record { kind = f .kind; channels = f .channels; rate = f .rate; start = f .start; length = f .length })
-asWave (Refused n) = found.Refused n
+asWave (sounds.Sound f) = found.Wave (waveOf f)
+asWave (sounds.Refused n) = found.Refused n
 
 abbrev pub finishedIn : Layout → Walked → ℕ → List ℕ → List ℕ → Found
 finishedIn layout w end format samples =

@@ -2,9 +2,12 @@
 // long_turns. The file's first bytes are lent at each turn, then the 8 at the head of each chunk, then the first of the
 // two chunks that are sought.
 ghost use mathlib.Core.Path.{_≡_};
-ghost use Rattle.file_turns.specs.Turns.{begunIn, turnedIn, finishedIn, asWave, formatBytes, samplesBytes, toldBy};
+ghost use Rattle.file_turns.specs.Turns.{begunIn, turnedIn, finishedIn, waveOf, asWave, formatBytes, samplesBytes};
+ghost use Rattle.file_turns.specs.Turns.{commTold, fmtTold, toldBy};
+use aiff::Sound;
 use file_layout::Layout;
 use file_layout::is_aiff;
+use little_endian::two;
 use riff_chunks::Walked;
 use riff_chunks::Walking;
 use sizes::begun;
@@ -71,38 +74,58 @@ fn as_wave(found: aiff::Found) -> Found
     ensures { λ r. ⌜ r ≡ asWave found ⌝ }
 {
     match found {
-        aiff::Found::Sound(sound) => {
-            let kind = sound.kind;
-            Found::Wave(Wave {
-                kind: kind,
-                channels: sound.channels,
-                rate: sound.rate,
-                start: sound.start,
-                length: sound.length,
-            })
-        }
+        aiff::Found::Sound(sound) => Found::Wave(wave_of(sound)),
         aiff::Found::Refused(number) => Found::Refused(number),
     }
 }
 
-// For who explains a refusal; zeros where the chunk's bytes are missing.
-pub fn told(layout: Layout, format: &[u8]) -> Told
+fn wave_of(sound: Sound) -> Wave
+    ensures { λ r. ⌜ r ≡ waveOf sound ⌝ }
+{
+    let kind = sound.kind;
+    Wave {
+        kind: kind,
+        channels: sound.channels,
+        rate: sound.rate,
+        start: sound.start,
+        length: sound.length,
+    }
+}
+
+// For who explains a refusal: of bytes that are missing a field is made as of zeros.
+pub fn told_of(layout: Layout, format: &[u8]) -> Told
     ensures { λ r. ⌜ r ≡ toldBy layout (now (format .entry)) ⌝ }
 {
     if is_aiff(layout) {
-        let channels = high_first::two(format, 0);
-        let bits = high_first::two(format, 6);
-        return Told {
-            tag: 1,
-            channels: channels,
-            block: channels * ((bits + 7) / 8),
-            bits: bits,
-        };
+        return comm_told(format);
     }
+    fmt_told(format)
+}
+
+fn comm_told(comm: &[u8]) -> Told
+    ensures { λ r. ⌜ r ≡ commTold (now (comm .entry)) ⌝ }
+{
+    let channels = high_first::two(comm, 0);
+    let bits = high_first::two(comm, 6);
     Told {
-        tag: little_endian::two(format, 0),
-        channels: little_endian::two(format, 2),
-        block: little_endian::two(format, 12),
-        bits: little_endian::two(format, 14),
+        tag: 1,
+        channels: channels,
+        block: channels * ((bits + 7) / 8),
+        bits: bits,
+    }
+}
+
+fn fmt_told(fmt: &[u8]) -> Told
+    ensures { λ r. ⌜ r ≡ fmtTold (now (fmt .entry)) ⌝ }
+{
+    let tag = two(fmt, 0);
+    let channels = two(fmt, 2);
+    let block = two(fmt, 12);
+    let bits = two(fmt, 14);
+    Told {
+        tag: tag,
+        channels: channels,
+        block: block,
+        bits: bits,
     }
 }
