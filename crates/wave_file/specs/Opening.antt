@@ -21,6 +21,10 @@ use Rattle.wave_file.specs.declared.WaveFile.{WaveFile}
 use Rattle.wave_file.specs.declared.Refused.{Refused}
 use Rattle.wave_file.specs.declared.Opened.{Opened}
 use Rattle.wave_file.specs.declared.Opened.the-variants as opened
+use Rattle.wave_file.specs.declared.header.Turned.{Turned}
+use Rattle.wave_file.specs.declared.header.Turned.the-variants as turns
+use Rattle.wave_file.specs.declared.header.Walk.{Walk}
+use Rattle.wave_file.specs.declared.header.Walk.the-variants as walks
 
 -- ---- the answer from what was found
 abbrev pub refusedBy : ℕ → Told → Refused
@@ -76,8 +80,31 @@ openedBy fd p =
     answeredBy (start .refusal) fd (layoutOf (p .opening)) (start .end) p
 
 -- ---- all that can be answered
-pub data Opens : Opened → Type 0 where
-  unread : Opens opened.Unread
-  empty : Opens opened.Empty
-  shorter : Opens opened.Shorter
-  told : (fd : ℤ) (p : Pieces) → Opens (openedBy fd p)
+-- Two cases of `Opened` hold what the calls of C's tell, the others what the pieces tell.
+pub data Opens (r : Opened) : Type 0 where
+  unread : r ≡ opened.Unread → Opens r
+  empty : r ≡ opened.Empty → Opens r
+  shorter : r ≡ opened.Shorter → Opens r
+  told : (fd : ℤ) (p : Pieces) → r ≡ openedBy fd p → Opens r
+
+-- The same inside the crate: of a reading that failed; of one turn, where its head lies before the end; of a walk that came to its end; and of
+-- what stands behind the walk.
+pub data Breaks (r : Opened) : Type 0 where
+  unread : r ≡ opened.Unread → Breaks r
+  shorter : r ≡ opened.Shorter → Breaks r
+
+pub data Turns (layout : Layout) (opening : List ℕ) (end : ℕ) (w : Walking) (r : Turned) : Type 0 where
+  turned : (head : List ℕ) → w .left ≤ end → r ≡ turns.Walking (turnedIn layout opening w end head)
+      → Turns layout opening end w r
+  broken : (n : ℕ) → r ≡ turns.Broken n → Turns layout opening end w r
+
+pub data Walks (layout : Layout) (opening : List ℕ) (end : ℕ) (r : Walk) : Type 0 where
+  done : (heads : List (List ℕ)) → r ≡ walks.Done (walkedBy layout opening end heads .seen)
+      → Walks layout opening end r
+  broken : (n : ℕ) → r ≡ walks.Broken n → Walks layout opening end r
+
+pub data Finds (layout : Layout) (end : ℕ) (w : Walked) (r : Opened) : Type 0 where
+  broke : Breaks r → Finds layout end w r
+  told : (fd : ℤ) (format samples : List ℕ)
+      → r ≡ openedAs fd layout (toldBy layout format) (finishedIn layout w end format samples)
+      → Finds layout end w r

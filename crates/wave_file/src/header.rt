@@ -1,6 +1,8 @@
 // The header of an open file, by turns: what file_turns tells of the bytes that were read, or that they were not.
 ghost use mathlib.Core.Path.{_≡_};
-ghost use Rattle.wave_file.specs.Opening.{Opens, Turns, Walks, openedAs, refusedBy, fileOf};
+ghost use Prim.Native.Nat.{_≤_};
+ghost use Rattle.wave_file.specs.Opening.{Opens, Breaks, Turns, Walks, Finds};
+ghost use Rattle.wave_file.specs.Opening.{openedAs, refusedBy, fileOf};
 use crate::Opened;
 use crate::Refused;
 use crate::WaveFile;
@@ -75,7 +77,9 @@ fn look_behind(fd: i32, opening: &[u8], length: usize) -> Opened
     }
 }
 
-fn broken(number: u8) -> Opened {
+fn broken(number: u8) -> Opened
+    ensures { λ r. ⌜ Breaks r ⌝ }
+{
     if number == 1 {
         Opened::Unread
     } else {
@@ -96,7 +100,9 @@ fn refusal(number: u8, told: Told) -> Refused
 }
 
 // Chunk after chunk: each turn passes 8 bytes or more.
-fn walk_all(fd: i32, layout: Layout, opening: &[u8], end: usize) -> Walk {
+fn walk_all(fd: i32, layout: Layout, opening: &[u8], end: usize) -> Walk
+    ensures { λ r. ⌜ Walks layout (now (opening .entry)) end r ⌝ }
+{
     let mut walking = riff_chunks::begin(end);
     while walking.left >= 8 {
         let turned = one_turn(fd, layout, opening, walking, end);
@@ -113,7 +119,9 @@ fn walk_all(fd: i32, layout: Layout, opening: &[u8], end: usize) -> Walk {
     Walk::Done(seen)
 }
 
-fn one_turn(fd: i32, layout: Layout, opening: &[u8], walking: Walking, end: usize) -> Turned {
+fn one_turn(fd: i32, layout: Layout, opening: &[u8], walking: Walking, end: usize) -> Turned
+    ensures { λ r. ⌜ Turns layout (now (opening .entry)) end walking r ⌝ }
+{
     let mut head = [0u8; 8];
     let left = walking.left;
     if end < left {
@@ -123,11 +131,20 @@ fn one_turn(fd: i32, layout: Layout, opening: &[u8], walking: Walking, end: usiz
     if number != 0 {
         return Turned::Broken(number);
     }
-    Turned::Walking(file_turns::turn(layout, opening, walking, end, &head))
+    turn_by(layout, opening, walking, end, &head)
+}
+
+fn turn_by(layout: Layout, opening: &[u8], walking: Walking, end: usize, head: &[u8]) -> Turned
+    requires { ⌜ walking .left ≤ end ⌝ }
+    ensures { λ r. ⌜ Turns layout (now (opening .entry)) end walking r ⌝ }
+{
+    Turned::Walking(file_turns::turn(layout, opening, walking, end, head))
 }
 
 // The first bytes of the chunk that describes the samples, then of the one that holds them.
-fn find(fd: i32, layout: Layout, end: usize, walked: Walked) -> Opened {
+fn find(fd: i32, layout: Layout, end: usize, walked: Walked) -> Opened
+    ensures { λ r. ⌜ Finds layout end walked r ⌝ }
+{
     let mut bytes = [0u8; 40];
     let format = walked.format;
     let n = fewer(format.size, file_turns::format_bytes(layout));
@@ -147,11 +164,15 @@ fn find_in(
     walked: Walked,
     bytes: &[u8; 40],
     n: usize,
-) -> Opened {
+) -> Opened
+    ensures { λ r. ⌜ Finds layout end walked r ⌝ }
+{
     find_samples(fd, layout, end, walked, begun(bytes, n))
 }
 
-fn find_samples(fd: i32, layout: Layout, end: usize, walked: Walked, format: &[u8]) -> Opened {
+fn find_samples(fd: i32, layout: Layout, end: usize, walked: Walked, format: &[u8]) -> Opened
+    ensures { λ r. ⌜ Finds layout end walked r ⌝ }
+{
     let mut bytes = [0u8; 8];
     let samples = walked.samples;
     let n = fewer(samples.size, file_turns::samples_bytes(layout));
@@ -172,7 +193,9 @@ fn find_both(
     format: &[u8],
     bytes: &[u8; 8],
     n: usize,
-) -> Opened {
+) -> Opened
+    ensures { λ r. ⌜ Finds layout end walked r ⌝ }
+{
     let samples = begun(bytes, n);
     let found = file_turns::finish(layout, walked, end, format, samples);
     opened_as(fd, layout, file_turns::told_of(layout, format), found)
