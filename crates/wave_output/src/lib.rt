@@ -1,6 +1,8 @@
 // A WAV file's header and its last byte, written to an open file: RIFF where the file fits it, else RF64 (W10e). What
 // goes wrong is said on standard error.
 ghost use mathlib.Core.Path.{_≡_};
+ghost use mathlib.Core.Bool.{true, false};
+ghost use Prim.Native.Nat.{_%_};
 ghost use lib.Dec.{eqb};
 ghost use lib.ListN.{length};
 ghost use Rattle.long_header.specs.declared.Form.the-variants.{Rf64};
@@ -56,6 +58,7 @@ fn say_rate(command: &[u8], name: &[u8], rate: u32) {
     say_of(command, name, begun(&line, at));
 }
 
+// Writes the header. No contract can say what reaches a file: where it is refused nothing is written.
 pub fn write_header(
     command: &[u8],
     name: &[u8],
@@ -64,7 +67,9 @@ pub fn write_header(
     channels: u8,
     rate: u32,
     count: usize,
-) -> bool {
+) -> bool
+    ensures { λ r. ⌜ ((headerVerdictFor kind channels rate count 94 ≡ 0 → ⊥) → r ≡ false) ⌝ }
+{
     let mut head = [0u8; 94];
     let n = long_header::header_length_for(kind, count);
     if put_header(kind, channels, rate, count, &mut head) != 0 {
@@ -84,8 +89,10 @@ fn put_header(kind: SampleKind, channels: u8, rate: u32, count: usize, head: &mu
     long_header::header_of(Form::Rf64, kind, channels, rate, count, &mut head[..])
 }
 
-// The pad byte behind an odd number of bytes.
-pub fn write_pad(command: &[u8], name: &[u8], fd: i32, size: usize) -> bool {
+// The pad byte behind an odd number of bytes; behind an even one there is nothing that could fail.
+pub fn write_pad(command: &[u8], name: &[u8], fd: i32, size: usize) -> bool
+    ensures { λ r. ⌜ (size % 2 ≡ 0 → r ≡ true) ⌝ }
+{
     if size % 2 == 1 {
         return write(command, name, fd, b"\0");
     }
