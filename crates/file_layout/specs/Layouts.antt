@@ -21,3 +21,10 @@ isAiff Riff = false
 isAiff Rf64 = false
 isAiff Bw64 = false
 isAiff Aiff = true
+
+-- How many bytes are looked at of the chunk that describes the samples, and of the one that holds them.
+abbrev pub formatBytes : Layout → ℕ
+formatBytes layout = cond (isAiff layout) 18 40
+
+abbrev pub samplesBytes : Layout → ℕ
+samplesBytes layout = cond (isAiff layout) 8 0

@@ -1,7 +1,7 @@
 // Which layout a recording has, by its first four letters. What has none of these letters counts as RIFF, whose reading
 // refuses it.
 ghost use mathlib.Core.Path.{_≡_};
-ghost use Rattle.file_layout.specs.Layouts.{layoutBy, layoutOf, isAiff};
+ghost use Rattle.file_layout.specs.Layouts.{layoutBy, layoutOf, isAiff, formatBytes, samplesBytes};
 use word_bytes::low_first_u32;
 
 // RIFF WAVE (W1), its two forms past four gigabytes (W10), and AIFF (W12).
@@ -43,4 +43,17 @@ pub fn is_aiff(layout: Layout) -> bool
         Layout::Bw64 => false,
         Layout::Aiff => true,
     }
+}
+
+// How many of the first bytes of `fmt ` or `COMM` are looked at, and of `data` or `SSND`.
+pub fn format_bytes(layout: Layout) -> usize
+    ensures { λ r. ⌜ r ≡ formatBytes layout ⌝ }
+{
+    if is_aiff(layout) { 18 } else { 40 }
+}
+
+pub fn samples_bytes(layout: Layout) -> usize
+    ensures { λ r. ⌜ r ≡ samplesBytes layout ⌝ }
+{
+    if is_aiff(layout) { 8 } else { 0 }
 }

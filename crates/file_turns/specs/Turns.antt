@@ -35,13 +35,6 @@ begunIn layout b size = cond (isAiff layout) (startedAs b size) (begunOf b size)
 abbrev pub turnedIn : Layout → List ℕ → Walking → ℕ → List ℕ → Walking
 turnedIn layout b w end head = cond (isAiff layout) (aiff.turnedBy w end head) (long.turnedBy b w end head)
 
--- How many bytes are looked at of the chunk that describes the samples, and of the one that holds them.
-abbrev pub formatBytes : Layout → ℕ
-formatBytes layout = cond (isAiff layout) 18 40
-
-abbrev pub samplesBytes : Layout → ℕ
-samplesBytes layout = cond (isAiff layout) 8 0
-
 -- The answer. An AIFF's part is described as a WAV's is.
 abbrev pub waveOf : Sound → Wave
 waveOf f =

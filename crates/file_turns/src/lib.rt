@@ -2,7 +2,7 @@
 // long_turns. The file's first bytes are lent at each turn, then the 8 at the head of each chunk, then the first of the
 // two chunks that are sought.
 ghost use mathlib.Core.Path.{_≡_};
-ghost use Rattle.file_turns.specs.Turns.{begunIn, turnedIn, finishedIn, waveOf, asWave, formatBytes, samplesBytes};
+ghost use Rattle.file_turns.specs.Turns.{begunIn, turnedIn, finishedIn, waveOf, asWave};
 ghost use Rattle.file_turns.specs.Turns.{commTold, fmtTold, toldBy};
 use aiff::Sound;
 use file_layout::Layout;
@@ -47,20 +47,7 @@ pub fn turn(layout: Layout, opening: &[u8], walking: Walking, end: usize, head: 
     long_turns::turn(opening, walking, end, head)
 }
 
-// How many of the first bytes of `fmt ` or `COMM` are looked at, and of `data` or `SSND`.
-pub fn format_bytes(layout: Layout) -> usize
-    ensures { λ r. ⌜ r ≡ formatBytes layout ⌝ }
-{
-    if is_aiff(layout) { 18 } else { 40 }
-}
-
-pub fn samples_bytes(layout: Layout) -> usize
-    ensures { λ r. ⌜ r ≡ samplesBytes layout ⌝ }
-{
-    if is_aiff(layout) { 8 } else { 0 }
-}
-
-// What the walk and these bytes tell: a refusal, or the part that holds samples and what they are.
+// What the walk and the first bytes of the two chunks tell: a refusal, or the part that holds samples and what they are.
 pub fn finish(layout: Layout, walked: Walked, end: usize, format: &[u8], samples: &[u8]) -> Found
     ensures { λ r. ⌜ r ≡ finishedIn layout walked end (now (format .entry)) (now (samples .entry)) ⌝ }
 {

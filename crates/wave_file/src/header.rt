@@ -147,7 +147,7 @@ fn find(fd: i32, layout: Layout, end: usize, walked: Walked) -> Opened
 {
     let mut bytes = [0u8; 40];
     let format = walked.format;
-    let n = fewer(format.size, file_turns::format_bytes(layout));
+    let n = fewer(format.size, file_layout::format_bytes(layout));
     if format.found {
         let number = read_begun(fd, format.body, &mut bytes, n);
         if number != 0 {
@@ -175,7 +175,7 @@ fn find_samples(fd: i32, layout: Layout, end: usize, walked: Walked, format: &[u
 {
     let mut bytes = [0u8; 8];
     let samples = walked.samples;
-    let n = fewer(samples.size, file_turns::samples_bytes(layout));
+    let n = fewer(samples.size, file_layout::samples_bytes(layout));
     if samples.found {
         let number = read_begun(fd, samples.body, &mut bytes, n);
         if number != 0 {
