@@ -1,6 +1,6 @@
 -- W10c, W12. The header of a recording by turns, whichever layout it has: an AIFF's as W12 reads it, every other's as
 -- W10 does. Definitions only.
-use Prim.Native.Nat.{ℕ, _+_, _*_, _/_}
+use Prim.Native.Nat.{ℕ}
 use mathlib.Core.Bool.{cond}
 use mathlib.Core.List.{List}
 use lib.ListN.{take}
@@ -48,15 +48,9 @@ abbrev pub finishedIn : Layout → Walked → ℕ → List ℕ → List ℕ → 
 finishedIn layout w end format samples =
     cond (isAiff layout) (asWave (aiff.finishedOf w end format samples)) (wav.finishedOf w format)
 
--- For who explains a refusal: an AIFF's samples are PCM, whose tag is 1, in frames of whole bytes without gaps.
+-- For who explains a refusal: a `COMM` says no tag and no bytes of a frame, and 0 stands there.
 abbrev pub commTold : List ℕ → Told
-commTold c =
-    record {
-      tag = 1;
-      channels = bigNumber 2 c 0;
-      block = bigNumber 2 c 0 * ((bigNumber 2 c 6 + 7) / 8);
-      bits = bigNumber 2 c 6;
-    }
+commTold c = record { tag = 0; channels = bigNumber 2 c 0; block = 0; bits = bigNumber 2 c 6 }
 
 abbrev pub fmtTold : List ℕ → Told
 fmtTold f = record { tag = number 2 f 0; channels = number 2 f 2; block = number 2 f 12; bits = number 2 f 14 }

@@ -15,7 +15,7 @@ use wav::Found;
 use wav::Wave;
 use wav_opening::Begun;
 
-// What the chunk says that describes the samples; an AIFF's are PCM, whose tag is 1, in frames without gaps.
+// What `fmt ` or `COMM` says of the samples. A `COMM` says no tag and no bytes of a frame: 0 stands there.
 pub struct Told {
     pub tag: u32,
     pub channels: u32,
@@ -47,7 +47,7 @@ pub fn turn(layout: Layout, opening: &[u8], walking: Walking, end: usize, head: 
     long_turns::turn(opening, walking, end, head)
 }
 
-// What the walk and the first bytes of the two chunks tell: a refusal, or the part that holds samples and what they are.
+// What the walk and the first bytes of both chunks tell: a refusal, or the part that holds samples and what they are.
 pub fn finish(layout: Layout, walked: Walked, end: usize, format: &[u8], samples: &[u8]) -> Found
     ensures { λ r. ⌜ r ≡ finishedIn layout walked end (now (format .entry)) (now (samples .entry)) ⌝ }
 {
@@ -79,7 +79,7 @@ fn wave_of(sound: Sound) -> Wave
     }
 }
 
-// For who explains a refusal: of bytes that are missing a field is made as of zeros.
+// For who explains a refusal; zeros where the chunk's bytes are missing.
 pub fn told_of(layout: Layout, format: &[u8]) -> Told
     ensures { λ r. ⌜ r ≡ toldBy layout (now (format .entry)) ⌝ }
 {
@@ -95,9 +95,9 @@ fn comm_told(comm: &[u8]) -> Told
     let channels = high_first::two(comm, 0);
     let bits = high_first::two(comm, 6);
     Told {
-        tag: 1,
+        tag: 0,
         channels: channels,
-        block: channels * ((bits + 7) / 8),
+        block: 0,
         bits: bits,
     }
 }

@@ -1,5 +1,5 @@
-// The program `look FILE …`: what each recording holds, or why it is refused and what to do. A file that is refused does
-// not keep the others from being looked at.
+// The program `look FILE …`: what each recording holds, or why it is refused and what to do. A refused file does not
+// keep the others from being looked at.
 use error_lines::misused;
 use error_lines::say;
 use error_lines::say_failed;

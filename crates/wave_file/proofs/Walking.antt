@@ -11,8 +11,9 @@ use Rattle.file_turns.specs.Turns.{turnedIn}
 use Rattle.file_turns.proofs.Fewer.{fewer-left}
 use Rattle.wave_file.specs.declared.header.Turned.{Turned}
 use Rattle.wave_file.specs.declared.header.Turned.the-variants as turns
-use Rattle.wave_file.specs.Opening.{walkedBy, Turns}
-use Rattle.wave_file.specs.Opening.Turns.{turned, broken}
+use Rattle.wave_file.specs.Opening.{walkedBy}
+use Rattle.wave_file.specs.Inside.{Turns}
+use Rattle.wave_file.specs.Inside.Turns.{turned, broken}
 
 module _ (layout : Layout) (opening : List ℕ) (end : ℕ) where
   pub record Reached (w : Walking) : Type 0 where

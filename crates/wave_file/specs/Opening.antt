@@ -1,6 +1,6 @@
 -- What `open` answers: that C's calls failed, that the file is empty or became shorter, or what the pieces that were
 -- read tell, and nothing else. Which pieces a file has no contract can say. Definitions only.
-use Prim.Native.Nat.{ℕ, zero, suc, _<_, _≤_, _/_}
+use Prim.Native.Nat.{ℕ, zero, suc, _<_, _/_}
 use mathlib.Core.Path.{_≡_}
 use mathlib.Core.Bool.{cond}
 use mathlib.Core.List.{List, [], _∷_}
@@ -13,6 +13,7 @@ use Rattle.sample_kind.specs.Kinds.{frameOf}
 use Rattle.wav.specs.declared.Found.{Found}
 use Rattle.wav.specs.declared.Found.the-variants as found
 use Rattle.wav.specs.declared.Wave.{Wave}
+use Rattle.wav_opening.specs.declared.Begun.{Begun}
 use Rattle.file_layout.specs.declared.Layout.{Layout}
 use Rattle.file_layout.specs.Layouts.{layoutOf}
 use Rattle.file_turns.specs.declared.Told.{Told}
@@ -21,10 +22,6 @@ use Rattle.wave_file.specs.declared.WaveFile.{WaveFile}
 use Rattle.wave_file.specs.declared.Refused.{Refused}
 use Rattle.wave_file.specs.declared.Opened.{Opened}
 use Rattle.wave_file.specs.declared.Opened.the-variants as opened
-use Rattle.wave_file.specs.declared.header.Turned.{Turned}
-use Rattle.wave_file.specs.declared.header.Turned.the-variants as turns
-use Rattle.wave_file.specs.declared.header.Walk.{Walk}
-use Rattle.wave_file.specs.declared.header.Walk.the-variants as walks
 
 -- ---- the answer from what was found
 abbrev pub refusedBy : ℕ → Told → Refused
@@ -53,8 +50,8 @@ abbrev pub openedAs : ℤ → Layout → Told → Found → Opened
 openedAs fd layout t (found.Wave w) = opened.File (fileOf fd layout t w)
 openedAs fd layout t (found.Refused n) = opened.Refused (refusedBy n t)
 
--- ---- the pieces of a file that are read: its first bytes, and its length; the heads of its chunks, the last one first;
--- the first bytes of the chunk that describes the samples, and of the one that holds them
+-- ---- the pieces of a file that are read: its first bytes, and its length; the heads of its chunks, the last one
+-- first; the first bytes of the chunk that describes the samples, and of the one that holds them
 pub record Pieces : Type 0 where
   pub opening : List ℕ
   pub size : ℕ
@@ -74,37 +71,20 @@ answeredBy zero fd layout end p =
     (finishedIn layout (walkedBy layout (p .opening) end (p .heads) .seen) end (p .format) (p .samples))
 answeredBy (suc k) fd layout end p = opened.Refused (refusedBy (suc k) (toldBy layout []))
 
-abbrev pub openedBy : ℤ → Pieces → Opened
-openedBy fd p =
-    let start = begunIn (layoutOf (p .opening)) (p .opening) (p .size) in
-    answeredBy (start .refusal) fd (layoutOf (p .opening)) (start .end) p
+abbrev pub startOf : Pieces → Begun
+startOf p = begunIn (layoutOf (p .opening)) (p .opening) (p .size)
 
--- ---- all that can be answered
--- Two cases of `Opened` hold what the calls of C's tell, the others what the pieces tell.
+abbrev pub openedBy : ℤ → Pieces → Opened
+openedBy fd p = answeredBy (startOf p .refusal) fd (layoutOf (p .opening)) (startOf p .end) p
+
+-- Where the opening refuses nothing all heads are read, up to the walk's end.
+abbrev pub AllHeads : Pieces → Type 0
+AllHeads p =
+    startOf p .refusal ≡ 0 → walkedBy (layoutOf (p .opening)) (p .opening) (startOf p .end) (p .heads) .left < 8
+
+-- ---- all that can be answered: what the calls of C's tell, or what the pieces tell
 pub data Opens (r : Opened) : Type 0 where
   unread : r ≡ opened.Unread → Opens r
   empty : r ≡ opened.Empty → Opens r
   shorter : r ≡ opened.Shorter → Opens r
-  told : (fd : ℤ) (p : Pieces) → r ≡ openedBy fd p → Opens r
-
--- The same inside the crate: of a reading that failed; of one turn, where its head lies before the end; of a walk that came to its end; and of
--- what stands behind the walk.
-pub data Breaks (r : Opened) : Type 0 where
-  unread : r ≡ opened.Unread → Breaks r
-  shorter : r ≡ opened.Shorter → Breaks r
-
-pub data Turns (layout : Layout) (opening : List ℕ) (end : ℕ) (w : Walking) (r : Turned) : Type 0 where
-  turned : (head : List ℕ) → w .left ≤ end → r ≡ turns.Walking (turnedIn layout opening w end head)
-      → Turns layout opening end w r
-  broken : (n : ℕ) → r ≡ turns.Broken n → Turns layout opening end w r
-
-pub data Walks (layout : Layout) (opening : List ℕ) (end : ℕ) (r : Walk) : Type 0 where
-  done : (heads : List (List ℕ)) → r ≡ walks.Done (walkedBy layout opening end heads .seen)
-      → Walks layout opening end r
-  broken : (n : ℕ) → r ≡ walks.Broken n → Walks layout opening end r
-
-pub data Finds (layout : Layout) (end : ℕ) (w : Walked) (r : Opened) : Type 0 where
-  broke : Breaks r → Finds layout end w r
-  told : (fd : ℤ) (format samples : List ℕ)
-      → r ≡ openedAs fd layout (toldBy layout format) (finishedIn layout w end format samples)
-      → Finds layout end w r
+  told : (fd : ℤ) (p : Pieces) → AllHeads p → r ≡ openedBy fd p → Opens r

@@ -1,8 +1,8 @@
 // The header of an open file, by turns: what file_turns tells of the bytes that were read, or that they were not.
 ghost use mathlib.Core.Path.{_≡_};
 ghost use Prim.Native.Nat.{_≤_};
-ghost use Rattle.wave_file.specs.Opening.{Opens, Breaks, Turns, Walks, Finds};
-ghost use Rattle.wave_file.specs.Opening.{openedAs, refusedBy, fileOf};
+ghost use Rattle.wave_file.specs.Opening.{Opens, openedAs, refusedBy, fileOf};
+ghost use Rattle.wave_file.specs.Inside.{Breaks, Turns, Walks, Finds};
 use crate::Opened;
 use crate::Refused;
 use crate::WaveFile;

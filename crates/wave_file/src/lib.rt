@@ -1,7 +1,7 @@
-// A recording opened by its name: what its samples are and where they stand, or why not; and its frames from a place on.
-// This is the one place where a program opens a recording: RIFF, RF64, BW64 and AIFF. The header is read by turns, since
-// the file may be too long to be held. No contract can say what a call of C's reads: what is read is told by file_turns,
-// and `Opens` says that nothing else is answered.
+// A recording opened by its name: what its samples are and where they stand, or why not; and its frames from a place
+// on. This is the one place where a program opens a recording, be it RIFF, RF64, BW64 or AIFF. The header is read by
+// turns, since the file may be too long to be held. No contract can say which bytes a call of C's reads: what they tell
+// is said in file_turns, and `Opens` says that nothing else is answered.
 ghost use Rattle.wave_file.specs.Opening.{Opens};
 ghost use Rattle.wave_file.specs.Reads.{Reads};
 
@@ -29,7 +29,7 @@ pub struct WaveFile {
     pub wrapped: bool,
 }
 
-// A refusal by its number, and what `fmt ` or `COMM` says; zeros where none was come to.
+// A refusal by its number, and what `fmt ` or `COMM` says; zeros where none was come to, and for what it does not say.
 pub struct Refused {
     pub number: u8,
     pub tag: u32,

@@ -1,7 +1,7 @@
 -- `wave_file::header::broken` meets its contract, by the number. Assumes nothing.
 use borrow.Author.Needs.{needs}
 use mathlib.Core.Path.{refl}
-use Rattle.wave_file.specs.Opening.Breaks.{unread, shorter}
+use Rattle.wave_file.specs.Inside.Breaks.{unread, shorter}
 use Rattle.wave_file.proofs.header.broken.Statement.{statement}
 use Rattle.wave_file.proofs.header.broken.Tie as tie
 

@@ -1,7 +1,7 @@
 -- `wave_file::header::find_both` meets its contract: what the pieces tell. Assumes nothing.
 use borrow.Author.Needs.{needs}
 use denote.Ref.{now}
-use Rattle.wave_file.specs.Opening.Finds.{told}
+use Rattle.wave_file.specs.Inside.Finds.{told}
 use Rattle.wave_file.proofs.header.find_both.Statement.{statement}
 use Rattle.wave_file.proofs.header.find_both.Tie as tie
 

@@ -1,7 +1,7 @@
 -- `wave_file::header::one_turn` meets its contract: a head that was read, or none. Assumes nothing.
 use borrow.Author.Needs.{needs}
 use mathlib.Core.Path.{refl}
-use Rattle.wave_file.specs.Opening.Turns.{broken}
+use Rattle.wave_file.specs.Inside.Turns.{broken}
 use Rattle.wave_file.proofs.header.one_turn.Statement.{statement}
 use Rattle.wave_file.proofs.header.one_turn.Tie as tie
 

@@ -3,7 +3,7 @@ use borrow.Author.Needs.{needs}
 use mathlib.Core.Path.{ap}
 use denote.Ref.{now}
 use Rattle.wave_file.specs.declared.header.Turned.the-variants.{Walking}
-use Rattle.wave_file.specs.Opening.Turns.{turned}
+use Rattle.wave_file.specs.Inside.Turns.{turned}
 use Rattle.wave_file.proofs.header.turn_by.Statement.{statement}
 use Rattle.wave_file.proofs.header.turn_by.Tie as tie
 

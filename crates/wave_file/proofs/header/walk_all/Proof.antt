@@ -3,7 +3,7 @@ use borrow.Author.Needs.{needs}
 use mathlib.Core.Path.{refl, ap}
 use Rattle.riff_chunks.specs.declared.Walking.{Walking}
 use Rattle.wave_file.specs.declared.header.Walk.the-variants.{Done}
-use Rattle.wave_file.specs.Opening.Walks.{done, broken}
+use Rattle.wave_file.specs.Inside.Walks.{done, broken}
 use Rattle.wave_file.proofs.Walking.{Reached, at-first, fewer, onwards}
 use Rattle.wave_file.proofs.header.walk_all.Statement.{statement}
 use Rattle.wave_file.proofs.header.walk_all.Tie as tie
@@ -30,7 +30,7 @@ loop-again c =
 returns-2 : tie.Need-returns-2 Inv-loop μ-loop
 returns-2 c =
     let h = c .before .before .before .loop .inv in
-    done (h .heads) (ap (λ (w : Walking). Done (w .seen)) (h .is))
+    done (h .heads) (rw (h .is) at (c .before .if1 .left)) (ap (λ (w : Walking). Done (w .seen)) (h .is))
 
 pub walk-all-spec : {M : Type 1} → statement M
 walk-all-spec =
