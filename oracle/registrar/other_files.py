@@ -1,5 +1,5 @@
-"""AIFF, RF64 and BW64 files as Apple's layout, EBU Tech 3306 and ITU-R BS.2088 describe them, made byte by byte; no source
-is read here. A long file is sparse: zeros behind its first bytes, which take no room on most disks."""
+"""AIFF, RF64 and BW64 files as Apple's layout, EBU Tech 3306 and ITU-R BS.2088 describe them, made byte by byte; no
+source is read here. A long file is sparse: the zeros behind its first bytes take no room on most disks."""
 import os
 import struct
 
