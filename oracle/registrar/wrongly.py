@@ -43,6 +43,8 @@ def make_files():
     save("slow.aiff", other_files.form(slow, ssnd))
     save("bare.rf64", b"RF64" + riff(PCM, chunk(b"data", b"\0\0"))[4:])
     save("huge.rf64", other_files.long_head(b"RF64", "pcm16", 1, 48000, 2**40 + 2))
+    table = (b"axml" + b"\0" * 8) * 338
+    save("table.rf64", other_files.long_head(b"RF64", "pcm16", 1, 48000, 2, table=table) + b"\0\0")
     save("cut.bw64", other_files.long_head(b"BW64", "pcm16", 1, 48000, 2**33) + b"\0" * 100)
     save("taken.wav", b"kept")
     save("half.wav.part", b"kept")
@@ -67,6 +69,7 @@ def make_files():
         ("slow.aiff", "is refused by 22: .*"),
         ("bare.rf64", "is refused by 18: .*"),
         ("huge.rf64", "is refused by 19: .*"),
+        ("table.rf64", "is refused by 2: .*"),
         ("cut.bw64", "is refused by 10: .*copy it again.*"),
     )
 
