@@ -32,6 +32,7 @@ def main():
         rightly.residuals(dice)
         other_layouts.aiffs(dice)
         other_layouts.longs(dice)
+        other_layouts.other_programs(dice)
         other_layouts.past_four_gigabytes(dice)
         wrongly.refusals(dice, rightly.rendered)
         os.chdir(trial.ROOT)

@@ -1,5 +1,6 @@
 """AIFF, RF64 and BW64: each command makes of them what it makes of the WAV file with the same stored samples."""
 import os
+import shutil
 import struct
 import subprocess
 
@@ -57,6 +58,34 @@ def longs(dice):
             head = long_head(layout.encode(), kind, channels, rate, len(body), wide, table, junk)
             name = save("long.wav", head + body + b"\0" * (len(body) % 2))
             alike(layout, name, kind, channels, rate, numbers)
+
+
+# How other programs make an AIFF file and an RF64 file of same.wav; the blank is filled with 16 or 24.
+OTHERS = (
+    ("sox", "made.aiff", "sox -D same.wav made.aiff"),
+    ("ffmpeg", "made.aiff", "ffmpeg -v error -i same.wav -c:a pcm_s{}be made.aiff"),
+    ("ffmpeg", "made.wav", "ffmpeg -v error -i same.wav -c:a pcm_s{}le -rf64 always made.wav"),
+    ("sndfile-convert", "made.aiff", "sndfile-convert same.wav made.aiff"),
+    ("sndfile-convert", "made.rf64", "sndfile-convert same.wav made.rf64"),
+)
+
+
+def other_programs(dice):
+    """Where sox, ffmpeg or libsndfile's tools are at hand, plain makes same.wav again of what they make of it."""
+    missing = sorted({program for program, _, _ in OTHERS if not shutil.which(program)})
+    if missing:
+        print(f"morning: no {', '.join(missing)}, so none of its files is tried")
+    for program, name, command in OTHERS:
+        for kind in ("pcm16", "pcm24"):
+            if program not in missing:
+                drawn_alike(dice, kind, dice.choice((1, 2)), 1000)
+                words = command.format(8 * WIDTH[kind]).split()
+                subprocess.run(words, stdin=subprocess.DEVNULL, stdout=subprocess.DEVNULL, check=True)
+                got, out, _ = run("plain", name, "alike-plain.wav")
+                check(f"others, {command}", (got, out), (0, b""))
+                check(f"others, {command}: plain's file", load("alike-plain.wav"), load("same.wav"))
+                os.remove(name)
+                os.remove("alike-plain.wav")
 
 
 def first_bytes(count, *words):
