@@ -5,6 +5,7 @@ import resource
 import signal
 import struct
 
+import other_files
 from trial import check, held, load, run, save
 from wave_files import chunk, fields, riff, stored, wav
 
@@ -32,6 +33,19 @@ def make_files():
     save("three.wav", riff(chunk(b"fmt ", fields(1, 3, 48000, 16)), chunk(b"data", b"\0" * 18)))
     save("deep.wav", riff(chunk(b"fmt ", fields(1, 1, 48000, 32)), chunk(b"data", b"\0" * 16)))
     save("law.wav", riff(chunk(b"fmt ", fields(6, 1, 8000, 8)), chunk(b"data", b"\0" * 16)))
+    comm = other_files.comm(1, 5, 16, other_files.extended(48000))
+    ssnd = other_files.piece(b"SSND", b"\0" * 18)
+    slow = other_files.comm(1, 5, 16, other_files.extended(7999))
+    save("carried.aifc", other_files.form(comm, ssnd, kind=b"AIFC"))
+    save("cut.aiff", other_files.form(comm, ssnd)[:-1])
+    save("mute.aiff", other_files.form(comm))
+    save("eight.aiff", other_files.form(other_files.comm(1, 5, 8, other_files.extended(48000)), ssnd))
+    save("slow.aiff", other_files.form(slow, ssnd))
+    save("bare.rf64", b"RF64" + riff(PCM, chunk(b"data", b"\0\0"))[4:])
+    save("huge.rf64", other_files.long_head(b"RF64", "pcm16", 1, 48000, 2**40 + 2))
+    table = (b"axml" + b"\0" * 8) * 338
+    save("table.rf64", other_files.long_head(b"RF64", "pcm16", 1, 48000, 2, table=table) + b"\0\0")
+    save("cut.bw64", other_files.long_head(b"BW64", "pcm16", 1, 48000, 2**33) + b"\0" * 100)
     save("taken.wav", b"kept")
     save("half.wav.part", b"kept")
     return (
@@ -48,6 +62,15 @@ def make_files():
         ("three.wav", "is refused by 13: .*3 channels.*sox three\\.wav .*-c 2.*"),
         ("deep.wav", "is refused by 13: .*32 bits.*sox deep\\.wav .*"),
         ("law.wav", "is refused by 13: .*tag 6.*sox law\\.wav .*"),
+        ("carried.aifc", "is refused by 20: .*"),
+        ("cut.aiff", "is refused by 10: .*copy it again.*"),
+        ("mute.aiff", "is refused by 21: .*"),
+        ("eight.aiff", "is refused by 13: .*8 bits.*sox .*eight\\.aiff .*"),
+        ("slow.aiff", "is refused by 22: .*"),
+        ("bare.rf64", "is refused by 18: .*"),
+        ("huge.rf64", "is refused by 19: .*"),
+        ("table.rf64", "is refused by 2: .*"),
+        ("cut.bw64", "is refused by 10: .*copy it again.*"),
     )
 
 

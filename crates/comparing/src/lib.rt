@@ -15,9 +15,8 @@ use residual::Report;
 use sizes::fewer;
 use sizes::less;
 use sizes::plus;
-use sizes::times;
 use wave_file::WaveFile;
-use wave_file::read_begun;
+use wave_file::read_frames;
 
 // Frames of a block.
 const FRAMES: usize = 4096;
@@ -115,18 +114,13 @@ fn block(
     let extent = job.extent;
     let first = job.first;
     let second = job.second;
-    let io = read(first, plus(extent.first, done), &mut left, n);
+    let io = read_frames(first, plus(extent.first, done), &mut left, n);
     if io != 0 {
         return ended(reports, broken(io), false);
     }
-    let io = read(second, plus(extent.second, done), &mut right, n);
+    let io = read_frames(second, plus(extent.second, done), &mut right, n);
     if io != 0 {
         return ended(reports, broken(io), true);
     }
     compare_channels(job, reports, peaks, k, done, n, &left, &right)
-}
-
-fn read(file: WaveFile, frame: usize, bytes: &mut [u8], n: usize) -> u8 {
-    let at = plus(file.start, times(frame, file.frame));
-    read_begun(file.fd, at, bytes, times(n, file.frame))
 }

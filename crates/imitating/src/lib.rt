@@ -16,7 +16,6 @@ use sinc_settings::Settings;
 use sizes::fewer;
 use sizes::less;
 use sizes::plus;
-use sizes::times;
 use storing::store;
 use variable_delay::VariableDelay;
 use wave_file::WaveFile;
@@ -179,8 +178,7 @@ fn read_block<'a>(
     let mut both = [0.0f32; 8192];
     let file = job.file;
     let kind = job.kind;
-    let at = plus(file.start, times(done, file.frame));
-    let io = wave_file::read_begun(file.fd, at, &mut bytes, times(n, file.frame));
+    let io = wave_file::read_frames(file, done, &mut bytes, n);
     if io != 0 {
         return Turn {
             sides: sides,

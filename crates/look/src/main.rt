@@ -1,5 +1,5 @@
-// The program `look FILE …`: what each WAV file holds, or why it is refused and what to do. A file that is refused does
-// not keep the others from being looked at.
+// The program `look FILE …`: what each recording holds, or why it is refused and what to do. A refused file does not
+// keep the others from being looked at.
 use error_lines::misused;
 use error_lines::say;
 use error_lines::say_failed;
@@ -67,8 +67,10 @@ fn look_into(name: &[u8]) -> bool {
 fn tell(name: &[u8], file: WaveFile) -> bool {
     let mut line = [0u8; 4400];
     let kind = file.kind;
+    let layout = file.layout;
     let at = put(&mut line, 0, name);
     let at = put(&mut line, at, b": ");
+    let at = layout_text::put_layout(&mut line, at, layout);
     let at = report_lines::put_looked(
         &mut line,
         at,

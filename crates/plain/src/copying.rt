@@ -1,4 +1,5 @@
-// The stored samples of a file, block after block. Of a float kind each is looked at: what is not finite is refused.
+// The stored samples of a file, block after block, their low byte first. Of a float kind each is looked at: what is not
+// finite is refused.
 use outcomes::Outcome;
 use outcomes::broken;
 use outcomes::is_well;
@@ -36,13 +37,11 @@ pub(crate) fn copy(file: WaveFile, fd: i32) -> Outcome {
 
 fn copy_block(file: WaveFile, fd: i32, done: usize, n: usize) -> Outcome {
     let mut bytes = [0u8; 32768];
-    let at = plus(file.start, times(done, file.frame));
-    let size = times(n, file.frame);
-    let io = wave_file::read_begun(file.fd, at, &mut bytes, size);
+    let io = wave_file::read_frames(file, done, &mut bytes, n);
     if io != 0 {
         return broken(io);
     }
-    copy_part(file, fd, done, &bytes, size)
+    copy_part(file, fd, done, &bytes, times(n, file.frame))
 }
 
 fn copy_part(file: WaveFile, fd: i32, done: usize, bytes: &[u8; 32768], size: usize) -> Outcome {

@@ -1,4 +1,4 @@
-// The program `plain FROM TO`: the same stored samples written anew as plain RIFF WAVE.
+// The program `plain FROM TO`: the same stored samples written anew as plain WAVE, RIFF or past four gigabytes RF64.
 mod copying; // block after block
 
 use error_lines::misused;
