@@ -29,7 +29,7 @@ fn put_plural(out: &mut [u8], at: usize, n: u64) -> usize
 }
 
 // A number of things: `1 frame`, `2 frames`.
-pub(crate) fn put_count(out: &mut [u8], at: usize, n: u64, thing: &[u8]) -> usize
+pub fn put_count(out: &mut [u8], at: usize, n: u64, thing: &[u8]) -> usize
     ensures { λ r. ⌜ r ≡ placeAfter (length (now (out .entry))) at (countText n (now (thing .entry))) ⌝ }
     ensures { λ r. ⌜ now (out .exit) ≡ putAt (now (out .entry)) at (countText n (now (thing .entry))) ⌝ }
 {

@@ -5,6 +5,7 @@ mod lines; // a residual's report
 mod looked; // a file as `look` describes it
 mod times; // a length in time
 
+pub use files::put_count;
 pub use files::put_file;
 pub use files::put_kind;
 pub use lines::put_channel;
