@@ -4,10 +4,10 @@ use Rattle.fugnadri_wav_write.proofs.codes.rate_for.Statement.{statemen
 use Rattle.fugnadri_wav_write.proofs.codes.rate_for.Tie as tie
 
 returns : tie.Need-returns
-returns c = rw (le-leb _ _ (c .if1 .taken))
+returns c = rw (le-leb (c .before .args .form) 1 (c .if1 .taken))
 
 returns-2 : tie.Need-returns-2
-returns-2 c = rw (lt-leb _ _ (c .if1 .left))
+returns-2 c = rw (lt-leb (c .before .args .form) 1 (c .if1 .left))
 
 pub rate-for-spec : {M : Type 1} → statement M
 rate-for-spec = tie.close (tie.spec returns returns-2)
