@@ -10,13 +10,21 @@ returns : tie.Need-returns
 unfolding stretchOf
 returns c =
     let e = c .before .stretch-end in
-    rw (← c .before .before .plus .ensures, ← e .ensures, le-leb (e .result) (c .before .before .before .args .done) (c .if1 .taken))
+    rw (
+      ← c .before .before .plus .ensures,
+      ← e .ensures,
+      le-leb (e .result) (c .before .before .before .args .done) (c .if1 .taken),
+    )
 
 returns-2 : tie.Need-returns-2
 unfolding stretchOf
 returns-2 c =
     let e = c .before .stretch-end in
-    rw (← c .before .before .plus .ensures, ← e .ensures, lt-leb (e .result) (c .before .before .before .args .done) (omega arith))
+    rw (
+      ← c .before .before .plus .ensures,
+      ← e .ensures,
+      lt-leb (e .result) (c .before .before .before .args .done) (omega arith),
+    )
 
 pub stretch-of-spec : {M : Type 1} → statement M
 stretch-of-spec = tie.close (tie.spec (λ c κs. search needs) (λ c κs. search needs) returns returns-2)

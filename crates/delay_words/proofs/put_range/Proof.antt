@@ -24,7 +24,8 @@ returns c =
     then (now (s .out)) (ascii "with these settings delay= can be from ") from-two (s .at) (one .put .ensures)
     (then (one .put .last .0) (decimal (s .above + 16)) from-three (one .put .result) (two .put-decimal .ensures)
     (then (two .put-decimal .last .0) (ascii " to ") from-four (two .put-decimal .result) (three .put2 .ensures)
-    (then (three .put2 .last .0) (decimal (65512 - s .above)) (ascii " samples\n") (three .put2 .result) (four .put-decimal2 .ensures) (five .put3 .ensures))))
+    (then (three .put2 .last .0) (decimal (65512 - s .above)) (ascii " samples\n") (three .put2 .result)
+    (four .put-decimal2 .ensures) (five .put3 .ensures))))
 
 pub put-range-spec : {M : Type 1} → statement M
 put-range-spec =

@@ -12,7 +12,8 @@ returns c =
     let two = c .before .before in
     let one = two .before .before .before .before in
     let s = one .before .before .before .before .before .before .args in
-    then (now (s .out)) (startText (now (s .command)) (now (s .name))) (now (s .words)) (s .at) (one .put-start .ensures) (two .put .ensures)
+    then (now (s .out)) (startText (now (s .command)) (now (s .name))) (now (s .words)) (s .at)
+    (one .put-start .ensures) (two .put .ensures)
 
 pub put-line-spec : {M : Type 1} → statement M
 put-line-spec =

@@ -17,7 +17,8 @@ returns c =
     let s = one .before .before .before .before .before .args in
     let from-two = (ascii ": ") ++ (now (s .words)) in
     then (now (s .out)) (now (s .command)) from-two (s .at) (one .put .ensures)
-    (then (one .put .last .0) (ascii ": ") (now (s .words)) (one .put .result) (two .put2 .ensures) (three .put3 .ensures))
+    (then (one .put .last .0) (ascii ": ") (now (s .words)) (one .put .result) (two .put2 .ensures)
+    (three .put3 .ensures))
 
 pub put-plain-spec : {M : Type 1} → statement M
 put-plain-spec =

@@ -17,7 +17,8 @@ returns c =
     let s = one .before .before .before .before .before .args in
     let from-two = (ascii ": ") ++ (nameText (now (s .name))) in
     then (now (s .out)) (now (s .command)) from-two (s .at) (one .put .ensures)
-    (then (one .put .last .0) (ascii ": ") (nameText (now (s .name))) (one .put .result) (two .put2 .ensures) (three .put-name .ensures))
+    (then (one .put .last .0) (ascii ": ") (nameText (now (s .name))) (one .put .result) (two .put2 .ensures)
+    (three .put-name .ensures))
 
 pub put-start-spec : {M : Type 1} → statement M
 put-start-spec =

@@ -7,7 +7,8 @@ use Rattle.part_file.proofs.say_unwritten.Tie as tie
 
 returns : tie.Need-returns
 unfolding ascii shownName
-returns c = rw (← c .before .before .before .is-standard .ensures, c .before .before .if1 .taken) (c .say-failed .ensures)
+returns c =
+    rw (← c .before .before .before .is-standard .ensures, c .before .before .if1 .taken) (c .say-failed .ensures)
 
 returns-2 : tie.Need-returns-2
 unfolding ascii shownName

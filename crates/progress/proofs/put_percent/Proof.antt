@@ -20,7 +20,8 @@ returns c =
     let from-two = (ascii ": ") ++ from-three in
     then (now (s .out)) (now (s .command)) from-two (s .at) (one .put .ensures)
     (then (one .put .last .0) (ascii ": ") from-three (one .put .result) (two .put2 .ensures)
-    (then (two .put2 .last .0) (decimal (s .n)) (ascii " %   \r") (two .put2 .result) (three .put-decimal .ensures) (four .put3 .ensures)))
+    (then (two .put2 .last .0) (decimal (s .n)) (ascii " %   \r") (two .put2 .result) (three .put-decimal .ensures)
+    (four .put3 .ensures)))
 
 pub put-percent-spec : {M : Type 1} → statement M
 put-percent-spec =

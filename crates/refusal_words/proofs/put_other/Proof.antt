@@ -17,7 +17,8 @@ returns c =
     let s = one .before .before .before .before .args in
     let from-two = (decimal (s .number)) ++ (ascii ": README.md says what that number means\n") in
     then (now (s .out)) (ascii " is refused by ") from-two (s .at) (one .put .ensures)
-    (then (one .put .last .0) (decimal (s .number)) (ascii ": README.md says what that number means\n") (one .put .result) (two .put-decimal .ensures) (three .put2 .ensures))
+    (then (one .put .last .0) (decimal (s .number)) (ascii ": README.md says what that number means\n")
+    (one .put .result) (two .put-decimal .ensures) (three .put2 .ensures))
 
 pub put-other-spec : {M : Type 1} → statement M
 put-other-spec =

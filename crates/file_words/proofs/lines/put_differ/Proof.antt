@@ -13,7 +13,9 @@ returns c =
     let two = c .before .before in
     let one = two .before .before .before .before in
     let s = one .before .before .before .before .before .before .before .args in
-    then (now (s .out)) (startText (now (s .command)) (now (s .first))) (differText (now (s .second)) (s .a) (s .b) (now (s .words))) (s .at) (one .put-start .ensures) (two .put-differ-words .ensures)
+    then (now (s .out)) (startText (now (s .command)) (now (s .first)))
+    (differText (now (s .second)) (s .a) (s .b) (now (s .words))) (s .at) (one .put-start .ensures)
+    (two .put-differ-words .ensures)
 
 pub put-differ-spec : {M : Type 1} → statement M
 put-differ-spec =

@@ -30,7 +30,8 @@ returns c =
     (then (two .put-decimal .last .0) (ascii " and ") from-four (two .put-decimal .result) (three .put2 .ensures)
     (then (three .put2 .last .0) (nameText (now (s .second))) from-five (three .put2 .result) (four .put-name .ensures)
     (then (four .put-name .last .0) (ascii " has ") from-six (four .put-name .result) (five .put3 .ensures)
-    (then (five .put3 .last .0) (decimal (s .b)) (now (s .words)) (five .put3 .result) (six .put-decimal2 .ensures) (seven .put4 .ensures))))))
+    (then (five .put3 .last .0) (decimal (s .b)) (now (s .words)) (five .put3 .result) (six .put-decimal2 .ensures)
+    (seven .put4 .ensures))))))
 
 pub put-differ-words-spec : {M : Type 1} → statement M
 put-differ-words-spec =

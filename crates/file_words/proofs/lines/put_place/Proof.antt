@@ -13,7 +13,9 @@ returns c =
     let two = c .before .before in
     let one = two .before .before .before .before in
     let s = one .before .before .before .before .before .before .args in
-    then (now (s .out)) (startText (now (s .command)) (now (s .name))) (placeText (s .number) (s .frame) (s .channel) (now (s .words))) (s .at) (one .put-start .ensures) (two .put-place-words .ensures)
+    then (now (s .out)) (startText (now (s .command)) (now (s .name)))
+    (placeText (s .number) (s .frame) (s .channel) (now (s .words))) (s .at) (one .put-start .ensures)
+    (two .put-place-words .ensures)
 
 pub put-place-spec : {M : Type 1} → statement M
 put-place-spec =

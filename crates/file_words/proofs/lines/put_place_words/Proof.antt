@@ -28,8 +28,10 @@ returns c =
     (then (one .put .last .0) (decimal (s .number)) from-three (one .put .result) (two .put-decimal .ensures)
     (then (two .put-decimal .last .0) (ascii ": frame ") from-four (two .put-decimal .result) (three .put2 .ensures)
     (then (three .put2 .last .0) (decimal (s .frame)) from-five (three .put2 .result) (four .put-decimal2 .ensures)
-    (then (four .put-decimal2 .last .0) (ascii " of channel ") from-six (four .put-decimal2 .result) (five .put3 .ensures)
-    (then (five .put3 .last .0) (decimal (s .channel)) (now (s .words)) (five .put3 .result) (six .put-decimal3 .ensures) (seven .put4 .ensures))))))
+    (then (four .put-decimal2 .last .0) (ascii " of channel ") from-six (four .put-decimal2 .result)
+    (five .put3 .ensures)
+    (then (five .put3 .last .0) (decimal (s .channel)) (now (s .words)) (five .put3 .result)
+    (six .put-decimal3 .ensures) (seven .put4 .ensures))))))
 
 pub put-place-words-spec : {M : Type 1} → statement M
 put-place-words-spec =

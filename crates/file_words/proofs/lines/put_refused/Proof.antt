@@ -14,7 +14,9 @@ returns c =
     let two = c .before .before in
     let one = two .before .before .before .before in
     let s = one .before .before .before .before .before .args in
-    then (now (s .out)) (startText (now (s .command)) (now (s .name))) (refusalText (now (s .name)) (s .refused .number) (s .refused .tag) (s .refused .channels) (s .refused .block) (s .refused .bits)) (s .at) (one .put-start .ensures) (two .put-refusal .ensures)
+    then (now (s .out)) (startText (now (s .command)) (now (s .name)))
+    (refusalText (now (s .name)) (s .refused .number) (s .refused .tag) (s .refused .channels) (s .refused .block)
+    (s .refused .bits)) (s .at) (one .put-start .ensures) (two .put-refusal .ensures)
 
 pub put-refused-spec : {M : Type 1} → statement M
 put-refused-spec =

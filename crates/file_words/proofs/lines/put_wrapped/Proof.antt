@@ -21,8 +21,10 @@ returns c =
     let from-three = (kindText (s .kind)) ++ (ascii "\n") in
     let from-two = (ascii " is wrapped (WAVE_FORMAT_EXTENSIBLE) and read as ") ++ from-three in
     then (now (s .out)) (startText (now (s .command)) (now (s .name))) from-two (s .at) (one .put-start .ensures)
-    (then (one .put-start .last .0) (ascii " is wrapped (WAVE_FORMAT_EXTENSIBLE) and read as ") from-three (one .put-start .result) (two .put .ensures)
-    (then (two .put .last .0) (kindText (s .kind)) (ascii "\n") (two .put .result) (three .put-kind .ensures) (four .put2 .ensures)))
+    (then (one .put-start .last .0) (ascii " is wrapped (WAVE_FORMAT_EXTENSIBLE) and read as ") from-three
+    (one .put-start .result) (two .put .ensures)
+    (then (two .put .last .0) (kindText (s .kind)) (ascii "\n") (two .put .result) (three .put-kind .ensures)
+    (four .put2 .ensures)))
 
 pub put-wrapped-spec : {M : Type 1} → statement M
 put-wrapped-spec =

@@ -23,10 +23,14 @@ returns c =
     let from-three = (ascii "<rect width=\"100%\" height=\"100%\" fill=\"#fff\"/>\n") ++ from-four in
     let from-two = (ascii "\" font-family=\"sans-serif\" font-size=\"14\">\n") ++ from-three in
     then (now (s .out)) (sizeText (s .channels)) from-two (s .at) (one .put-size .ensures)
-    (then (one .put-size .last .0) (ascii "\" font-family=\"sans-serif\" font-size=\"14\">\n") from-three (one .put-size .result) (two .put .ensures)
-    (then (two .put .last .0) (ascii "<rect width=\"100%\" height=\"100%\" fill=\"#fff\"/>\n") from-four (two .put .result) (three .put2 .ensures)
-    (then (three .put2 .last .0) (titleText (now (s .first)) (now (s .second))) from-five (three .put2 .result) (four .put-title .ensures)
-    (then (four .put-title .last .0) legendText scalesText (four .put-title .result) (five .put-legend .ensures) (six .put-scales .ensures)))))
+    (then (one .put-size .last .0) (ascii "\" font-family=\"sans-serif\" font-size=\"14\">\n") from-three
+    (one .put-size .result) (two .put .ensures)
+    (then (two .put .last .0) (ascii "<rect width=\"100%\" height=\"100%\" fill=\"#fff\"/>\n") from-four
+    (two .put .result) (three .put2 .ensures)
+    (then (three .put2 .last .0) (titleText (now (s .first)) (now (s .second))) from-five (three .put2 .result)
+    (four .put-title .ensures)
+    (then (four .put-title .last .0) legendText scalesText (four .put-title .result) (five .put-legend .ensures)
+    (six .put-scales .ensures)))))
 
 pub put-head-spec : {M : Type 1} → statement M
 put-head-spec =

@@ -15,7 +15,9 @@ returns c =
     let two = c .before .before in
     let one = two .before .before .before .before .before in
     let s = one .before .before .before .before .args in
-    then (now (s .out)) (numberText (ascii "<svg xmlns=\"http://www.w3.org/2000/svg\" viewBox=\"0 0 1160 ") (s .channels * 300 + 130)) (numberText (ascii "\" width=\"1160\" height=\"") (s .channels * 300 + 130)) (s .at) (one .put-number .ensures) (two .put-number2 .ensures)
+    then (now (s .out)) (numberText (ascii "<svg xmlns=\"http://www.w3.org/2000/svg\" viewBox=\"0 0 1160 ")
+    (s .channels * 300 + 130)) (numberText (ascii "\" width=\"1160\" height=\"") (s .channels * 300 + 130)) (s .at)
+    (one .put-number .ensures) (two .put-number2 .ensures)
 
 pub put-size-spec : {M : Type 1} → statement M
 put-size-spec =

@@ -20,7 +20,8 @@ returns c =
     let from-two = (now (s .name)) ++ from-three in
     then (now (s .out)) (ascii "; write it as such, for instance: sox -D ") from-two (s .at) (one .put .ensures)
     (then (one .put .last .0) (now (s .name)) from-three (one .put .result) (two .put2 .ensures)
-    (then (two .put2 .last .0) (ascii " -t wavpcm -b 24 OUT.wav") (remixText (s .channels)) (two .put2 .result) (three .put3 .ensures) (four .put-remix .ensures)))
+    (then (two .put2 .last .0) (ascii " -t wavpcm -b 24 OUT.wav") (remixText (s .channels)) (two .put2 .result)
+    (three .put3 .ensures) (four .put-remix .ensures)))
 
 pub put-advice-spec : {M : Type 1} → statement M
 put-advice-spec =

@@ -30,7 +30,8 @@ returns-2 c =
     let from-two = (countText (s .block) (ascii "byte")) ++ (ascii " a frame") in
     rw (ne-eqb (s .block) 0 (t .if1 .left))
     (then (now (s .out)) (ascii ", ") from-two (s .at) (one .put2 .ensures)
-    (then (one .put2 .last .0) (countText (s .block) (ascii "byte")) (ascii " a frame") (one .put2 .result) (two .put-count .ensures) (three .put3 .ensures)))
+    (then (one .put2 .last .0) (countText (s .block) (ascii "byte")) (ascii " a frame") (one .put2 .result)
+    (two .put-count .ensures) (three .put3 .ensures)))
 
 pub put-frame-spec : {M : Type 1} → statement M
 put-frame-spec =

@@ -25,9 +25,11 @@ returns c =
     let from-two = (ascii ", ") ++ from-three in
     then (now (s .out)) (tagText (s .tag)) from-two (s .at) (one .put-tag .ensures)
     (then (one .put-tag .last .0) (ascii ", ") from-three (one .put-tag .result) (two .put .ensures)
-    (then (two .put .last .0) (countText (s .bits) (ascii "bit")) from-four (two .put .result) (three .put-count .ensures)
+    (then (two .put .last .0) (countText (s .bits) (ascii "bit")) from-four (two .put .result)
+    (three .put-count .ensures)
     (then (three .put-count .last .0) (ascii ", ") from-five (three .put-count .result) (four .put2 .ensures)
-    (then (four .put2 .last .0) (countText (s .channels) (ascii "channel")) (frameText (s .block)) (four .put2 .result) (five .put-count2 .ensures) (six .put-frame .ensures)))))
+    (then (four .put2 .last .0) (countText (s .channels) (ascii "channel")) (frameText (s .block))
+    (four .put2 .result) (five .put-count2 .ensures) (six .put-frame .ensures)))))
 
 pub put-kind-spec : {M : Type 1} → statement M
 put-kind-spec =

@@ -16,11 +16,16 @@ returns c =
     let two = three .before .before .before .before .before in
     let one = two .before .before .before .before in
     let s = one .before .before .before .before .before .args in
-    let from-three = (ascii ": whole frames of one or two channels, PCM of 16 or 24 bits or float of 32, are read") ++ (adviceText (now (s .name)) (s .channels)) in
+    let from-three = (ascii ": whole frames of one or two channels, PCM of 16 or 24 bits or float of 32, are read") ++
+    (adviceText (now (s .name)) (s .channels)) in
     let from-two = (kindText (s .tag) (s .channels) (s .block) (s .bits)) ++ from-three in
     then (now (s .out)) (ascii " is refused by 13: ") from-two (s .at) (one .put .ensures)
-    (then (one .put .last .0) (kindText (s .tag) (s .channels) (s .block) (s .bits)) from-three (one .put .result) (two .put-kind .ensures)
-    (then (two .put-kind .last .0) (ascii ": whole frames of one or two channels, PCM of 16 or 24 bits or float of 32, are read") (adviceText (now (s .name)) (s .channels)) (two .put-kind .result) (three .put2 .ensures) (four .put-advice .ensures)))
+    (then (one .put .last .0) (kindText (s .tag) (s .channels) (s .block) (s .bits)) from-three (one .put .result)
+    (two .put-kind .ensures)
+    (then (two .put-kind .last .0)
+    (ascii ": whole frames of one or two channels, PCM of 16 or 24 bits or float of 32, are read")
+    (adviceText (now (s .name)) (s .channels)) (two .put-kind .result) (three .put2 .ensures)
+    (four .put-advice .ensures)))
 
 pub put-refused-kind-spec : {M : Type 1} → statement M
 put-refused-kind-spec =

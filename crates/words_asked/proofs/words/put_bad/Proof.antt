@@ -18,7 +18,8 @@ returns c =
     let s = one .before .before .before .before .args in
     let from-two = (wantedOf (s .name)) ++ (ascii "\n") in
     then (now (s .out)) (ascii " will not do: ") from-two (s .at) (one .put .ensures)
-    (then (one .put .last .0) (wantedOf (s .name)) (ascii "\n") (one .put .result) (two .put-wanted .ensures) (three .put2 .ensures))
+    (then (one .put .last .0) (wantedOf (s .name)) (ascii "\n") (one .put .result) (two .put-wanted .ensures)
+    (three .put2 .ensures))
 
 pub put-bad-spec : {M : Type 1} → statement M
 put-bad-spec =

@@ -13,7 +13,8 @@ returns c =
     let two = c .before .before in
     let one = two .before .before .before .before in
     let s = one .before .before .before .before .before .args in
-    then (now (s .out)) (startText (now (s .command)) (now (s .words))) (badText (s .name)) (s .at) (one .put-start .ensures) (two .put-bad .ensures)
+    then (now (s .out)) (startText (now (s .command)) (now (s .words))) (badText (s .name)) (s .at)
+    (one .put-start .ensures) (two .put-bad .ensures)
 
 pub put-bad-line-spec : {M : Type 1} → statement M
 put-bad-line-spec =

@@ -16,8 +16,11 @@ returns c =
     let one = two .before .before .before .before in
     let s = one .before .before .before .before .before .args in
     let from-two = (now (s .words)) ++ (ascii "\n") in
-    then (now (s .out)) (ascii " is no setting that it knows (./run --help lists them); for a file of that name write ./") from-two (s .at) (one .put .ensures)
-    (then (one .put .last .0) (now (s .words)) (ascii "\n") (one .put .result) (two .put2 .ensures) (three .put3 .ensures))
+    then (now (s .out)) (ascii
+    " is no setting that it knows (./run --help lists them); for a file of that name write ./") from-two (s .at)
+    (one .put .ensures)
+    (then (one .put .last .0) (now (s .words)) (ascii "\n") (one .put .result) (two .put2 .ensures)
+    (three .put3 .ensures))
 
 pub put-unknown-spec : {M : Type 1} → statement M
 put-unknown-spec =

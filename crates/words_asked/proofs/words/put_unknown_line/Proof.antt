@@ -13,7 +13,8 @@ returns c =
     let two = c .before .before in
     let one = two .before .before .before .before in
     let s = one .before .before .before .before .before .args in
-    then (now (s .out)) (startText (now (s .command)) (now (s .words))) (unknownText (now (s .words))) (s .at) (one .put-start .ensures) (two .put-unknown .ensures)
+    then (now (s .out)) (startText (now (s .command)) (now (s .words))) (unknownText (now (s .words))) (s .at)
+    (one .put-start .ensures) (two .put-unknown .ensures)
 
 pub put-unknown-line-spec : {M : Type 1} → statement M
 put-unknown-line-spec =
