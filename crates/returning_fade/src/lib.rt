@@ -1,0 +1,86 @@
+// The second rule for a change of quality: going back runs the weight down again from where it stands, and a third
+// quality waits until the running fade has ended (W9). The ported rule stands beside it, as `quality_fade` has it.
+mod returning; // the second rule
+
+ghost use mathlib.Core.Path.{_≡_};
+ghost use Rattle.returning_fade.specs.Rules.{ruleCode, directionCode, placeOk};
+ghost use Rattle.returning_fade.specs.Step.{stepOf};
+use quality_fade::Fade;
+use quality_fade::Turn;
+use quality_mode::QualityMode;
+
+// W9a. Chosen when a reader is opened. Ported is 000's, by which going back jumps.
+pub enum Rule {
+    Ported,
+    Returning,
+}
+
+// Where a running fade goes: on to its target, or back to the current quality. The ported rule never goes back.
+pub enum Direction {
+    Onwards,
+    Back,
+}
+
+// What a reader holds of its qualities.
+pub struct RuledFade {
+    pub rule: Rule,
+    pub direction: Direction,
+    pub fade: Fade,
+}
+
+// What an accepted call does, and the direction that it leaves.
+pub struct RuledTurn {
+    pub turn: Turn,
+    pub direction: Direction,
+}
+
+// A rule's number, where only numbers cross.
+pub fn rule_code(rule: Rule) -> u8
+    ensures { λ r. ⌜ r ≡ ruleCode rule ⌝ }
+{
+    match rule {
+        Rule::Ported => 0,
+        Rule::Returning => 1,
+    }
+}
+
+// A direction's number, where only numbers cross.
+pub fn direction_code(direction: Direction) -> u8
+    ensures { λ r. ⌜ r ≡ directionCode direction ⌝ }
+{
+    match direction {
+        Direction::Onwards => 0,
+        Direction::Back => 1,
+    }
+}
+
+// W9g. Whether place and direction are in their ranges.
+pub fn place_ok(state: RuledFade) -> bool
+    ensures { λ r. ⌜ r ≡ placeOk state ⌝ }
+{
+    let rule = state.rule;
+    let direction = state.direction;
+    match rule {
+        Rule::Ported => match direction {
+            Direction::Onwards => quality_fade::place_ok(state.fade),
+            Direction::Back => false,
+        },
+        Rule::Returning => returning::place_ok(direction, state.fade),
+    }
+}
+
+// One accepted call that asks for a quality. A state out of range is left as it is, as by `quality_fade::step`.
+pub fn step(state: RuledFade, asked: QualityMode) -> RuledTurn
+    ensures { λ r. ⌜ r ≡ stepOf state asked ⌝ }
+{
+    let rule = state.rule;
+    let direction = state.direction;
+    let fade = state.fade;
+    match rule {
+        Rule::Ported => RuledTurn {
+            turn: quality_fade::step(fade, asked),
+            direction: direction,
+        },
+        Rule::Returning => returning::step(direction, fade, asked),
+    }
+}
