@@ -48,7 +48,7 @@ module _ (direction : Direction) (s : Fade) (fits : lengthOk (s .«crossfade_sam
 
   -- where one runs
   module _ (e : sameQ (s .current) (s .target) ≡ false) where
-    between : (0 < s .«crossfade_position») × (s .«crossfade_position» < s .«crossfade_samples»)
+    pub between : (0 < s .«crossfade_position») × (s .«crossfade_position» < s .«crossfade_samples»)
     unfolding returningOk
     between = let p = both _ _ (rw e at ok) in (ltb-true _ _ (p .0), ltb-true _ _ (p .1))
 
