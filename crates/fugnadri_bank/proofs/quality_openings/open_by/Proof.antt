@@ -9,13 +9,15 @@ use Rattle.fugnadri_bank.proofs.quality_openings.open_by.Tie as tie
 
 returns : tie.Need-returns
 returns c =
-    let e = c .before .before .before .before .renew .ensures in
+    let k = c .before .before .before .before in
+    let e = rw (k .before .before .rule-code .ensures) at (k .renew .ensures) in
     kept _ _ _ (ap (λ p. p .number) (e .0)) (c .if1 .taken) (e .1)
 
 returns-2 : tie.Need-returns-2
 returns-2 c =
-    let e = c .before .before .before .before .before .renew .ensures in
+    let k = c .before .before .before .before .before in
+    let e = rw (k .before .before .rule-code .ensures) at (k .renew .ensures) in
     given _ _ _ (ap (λ p. p .number) (e .0)) (c .before .if1 .left) (ap (λ p. begunOf (p .state)) (e .0)) (e .1)
 
 pub open-by-spec : {M : Type 1} → statement M
-open-by-spec = tie.close (tie.spec (λ c κs. tt) (λ c. search needs) returns (λ c. search needs) returns-2)
+open-by-spec = tie.close (tie.spec (λ c κs. tt) (λ c κs. tt) (λ c. search needs) returns (λ c. search needs) returns-2)
