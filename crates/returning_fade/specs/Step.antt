@@ -6,7 +6,7 @@ use Rattle.quality_mode.specs.declared.QualityMode.{QualityMode}
 use Rattle.quality_mode.specs.Quality.{sameQ}
 use Rattle.quality_fade.specs.declared.Fade.{Fade}
 use Rattle.quality_fade.specs.Fade.{fadeOf, lengthOk, openOf}
-use Rattle.quality_fade.specs.Step.{askedOf, mixTurn, turnOf, stillTurn}
+use Rattle.quality_fade.specs.Step.{askedOf, mixTurn, turnOf}
 use Rattle.quality_fade.specs.Step as ported
 use Rattle.returning_fade.specs.declared.Rule.{Rule}
 use Rattle.returning_fade.specs.declared.Rule.the-variants.{Ported, Returning}
@@ -60,11 +60,11 @@ returningTurn direction s q =
     cond (sameQ (s .current) (s .target)) (record { turn = turnOf (askedOf s q); direction = Onwards })
     (cond (backwards (aimOf direction s q)) (lowerTurn s) (onTurn s))
 
--- No accepted call meets a state out of range (N3): it is left as it is.
+-- No accepted call meets a state out of range (N3): there it is the ported rule's call.
 unfoldable pub returningStep : Direction → Fade → QualityMode → RuledTurn
 returningStep direction s q =
     cond (lengthOk (s .«crossfade_samples») && returningOk direction s) (returningTurn direction s q)
-    (record { turn = stillTurn s; direction = direction })
+    (record { turn = ported.stepOf s q; direction = direction })
 
 -- One accepted call that asks for q, by the rule that the reader was opened with, and what it leaves. The ported rule's
 -- call is `quality_fade`'s (W9b).

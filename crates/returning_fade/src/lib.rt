@@ -5,9 +5,11 @@ mod returning; // the second rule
 ghost use mathlib.Core.Path.{_≡_};
 ghost use Rattle.returning_fade.specs.Rules.{ruleCode, directionCode, placeOk};
 ghost use Rattle.returning_fade.specs.Step.{stepOf};
+ghost use Rattle.returning_fade.specs.Inner.{handedBy};
 use quality_fade::Fade;
 use quality_fade::Turn;
 use quality_mode::QualityMode;
+use returning::Handed;
 
 // W9a. Chosen when a reader is opened. Ported is 000's, by which going back jumps.
 pub enum Rule {
@@ -69,18 +71,33 @@ pub fn place_ok(state: RuledFade) -> bool
     }
 }
 
-// One accepted call that asks for a quality. A state out of range is left as it is, as by `quality_fade::step`.
-pub fn step(state: RuledFade, asked: QualityMode) -> RuledTurn
-    ensures { λ r. ⌜ r ≡ stepOf state asked ⌝ }
+// What the ported rule's step is handed: by the ported rule, what it always was.
+fn handed(state: RuledFade, asked: QualityMode) -> Handed
+    ensures { λ r. ⌜ r ≡ handedBy (state .rule) (state .direction) (state .fade) asked ⌝ }
 {
     let rule = state.rule;
     let direction = state.direction;
     let fade = state.fade;
     match rule {
-        Rule::Ported => RuledTurn {
-            turn: quality_fade::step(fade, asked),
+        Rule::Ported => Handed {
+            fade: fade,
+            asked: asked,
             direction: direction,
         },
-        Rule::Returning => returning::step(direction, fade, asked),
+        Rule::Returning => returning::aim(direction, fade, asked),
+    }
+}
+
+// One accepted call that asks for a quality, which either rule makes a step of the ported one. Of a state out of range it
+// is `quality_fade::step`'s.
+pub fn step(state: RuledFade, asked: QualityMode) -> RuledTurn
+    ensures { λ r. ⌜ r ≡ stepOf state asked ⌝ }
+{
+    let to = handed(state, asked);
+    let wanted = to.asked;
+    let direction = to.direction;
+    RuledTurn {
+        turn: quality_fade::step(to.fade, wanted),
+        direction: direction,
     }
 }

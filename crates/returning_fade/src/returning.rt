@@ -1,14 +1,10 @@
 // The second rule, on a fade and its direction.
 ghost use mathlib.Core.Path.{_≡_};
-ghost use mathlib.Core.Bool.{true, false};
-ghost use Prim.Native.Nat.{_<_};
-ghost use Rattle.quality_mode.specs.Quality.{sameQ};
 ghost use Rattle.returning_fade.specs.Rules.{backwards, returningOk};
-ghost use Rattle.returning_fade.specs.Step.{aimOf, lowerTurn, returningStep};
+ghost use Rattle.returning_fade.specs.Step.{aimOf};
+ghost use Rattle.returning_fade.specs.Inner.{lowerAim, aimedAt};
 use super::Direction;
-use super::RuledTurn;
 use quality_fade::Fade;
-use quality_fade::Turn;
 use quality_mode::QualityMode;
 use quality_mode::same;
 
@@ -55,75 +51,67 @@ fn goes_back(direction: Direction, fade: Fade, asked: QualityMode) -> bool
     back(direction)
 }
 
-// One step down. A weight of 0 would read the target for nothing, so the fade has ended.
-fn lower(fade: Fade) -> RuledTurn
-    requires { ⌜ 0 < fade .«crossfade_position» ⌝ }
-    ensures { λ r. ⌜ r ≡ lowerTurn fade ⌝ }
+// What the ported rule's step is handed for a fade and a request of the second rule, and the direction that is left.
+pub(crate) struct Handed {
+    pub fade: Fade,
+    pub asked: QualityMode,
+    pub direction: Direction,
+}
+
+// One step down is the ported rule's step from two places lower. From 1 it is a call in the current quality, as opening
+// leaves it: a weight of 0 would read the target for nothing.
+fn lower(fade: Fade) -> Handed
+    ensures { λ r. ⌜ r ≡ lowerAim fade ⌝ }
 {
     let current = fade.current;
     let target = fade.target;
-    let weight = fade.crossfade_position - 1;
-    if weight == 0 {
-        return RuledTurn {
-            turn: Turn {
-                state: quality_fade::open(current, fade.crossfade_samples),
-                mixed: false,
-                from: current,
-                to: current,
-                weight: 0,
-            },
+    if fade.crossfade_position <= 1 {
+        return Handed {
+            fade: quality_fade::open(current, fade.crossfade_samples),
+            asked: current,
             direction: Direction::Onwards,
         };
     }
-    RuledTurn {
-        turn: Turn {
-            state: Fade {
-                current: current,
-                target: target,
-                crossfade_position: weight,
-                crossfade_samples: fade.crossfade_samples,
-            },
-            mixed: true,
-            from: current,
-            to: target,
-            weight: weight,
+    Handed {
+        fade: Fade {
+            current: current,
+            target: target,
+            crossfade_position: fade.crossfade_position - 2,
+            crossfade_samples: fade.crossfade_samples,
         },
+        asked: target,
         direction: Direction::Back,
     }
 }
 
-// One accepted call that asks for a quality. On its way to the target a fade takes the ported rule's step towards it,
-// whatever is asked for.
-pub(crate) fn step(direction: Direction, fade: Fade, asked: QualityMode) -> RuledTurn
-    ensures { λ r. ⌜ r ≡ returningStep direction fade asked ⌝ }
+// So every call is one step of the ported rule, and the reader has one place where it steps.
+pub(crate) fn aim(direction: Direction, fade: Fade, asked: QualityMode) -> Handed
+    ensures { λ r. ⌜ r ≡ aimedAt direction fade asked ⌝ }
 {
     let current = fade.current;
     let target = fade.target;
     if quality_fade::length_ok(fade.crossfade_samples) {
         if place_ok(direction, fade) {
             if same(current, target) {
-                return RuledTurn {
-                    turn: quality_fade::step(fade, asked),
+                return Handed {
+                    fade: fade,
+                    asked: asked,
                     direction: Direction::Onwards,
                 };
             }
             if goes_back(direction, fade, asked) {
                 return lower(fade);
             }
-            return RuledTurn {
-                turn: quality_fade::step(fade, target),
+            return Handed {
+                fade: fade,
+                asked: target,
                 direction: Direction::Onwards,
             };
         }
     }
-    RuledTurn {
-        turn: Turn {
-            state: fade,
-            mixed: false,
-            from: target,
-            to: target,
-            weight: 0,
-        },
+    Handed {
+        fade: fade,
+        asked: asked,
         direction: direction,
     }
 }

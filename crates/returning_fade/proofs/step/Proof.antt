@@ -1,15 +1,14 @@
--- `returning_fade::step` meets its contract, by the rule. Assumes nothing.
+-- `returning_fade::step` meets its contract: it is the ported rule's step of what it is handed, by `by-steps`.
+-- Assumes nothing.
 use borrow.Author.Needs.{needs}
+use Rattle.returning_fade.proofs.PortedSteps.{by-steps}
 use Rattle.returning_fade.proofs.step.Statement.{statement}
 use Rattle.returning_fade.proofs.step.Tie as tie
 
 returns : tie.Need-returns
-returns c = rw (c .before .enum-told .given .1, c .step .ensures)
-
-returns-2 : tie.Need-returns-2
-returns-2 c = rw (c .before .enum-told2 .given .1) (c .step2 .ensures)
+returns c =
+    let a = c .before .before .args in
+    rw (c .step .ensures, c .before .handed .ensures) (by-steps (a .state) (a .asked))
 
 pub step-spec : {M : Type 1} → statement M
-step-spec =
-    tie.close (tie.spec (λ c. search needs) (λ c κs. search needs) (λ c. search needs) (λ c κs. search needs) returns
-    returns-2)
+step-spec = tie.close (tie.spec (λ c κs. search needs) (λ c κs. search needs) returns)

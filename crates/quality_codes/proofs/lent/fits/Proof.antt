@@ -12,14 +12,14 @@ use Rattle.bank_choice.proofs.SetCounts.{span-at-most}
 use Rattle.quality_codes.proofs.lent.fits.Statement.{statement}
 use Rattle.quality_codes.proofs.lent.fits.Tie as tie
 
-in-range : (c : tie.Then2) → bankOk (c .before .before .before .args .max-rate) ≡ true
+in-range : (c : tie.Then2) → bankOk (c .before .before .before .before .args .max-rate) ≡ true
 unfolding ofBits
 in-range c = sym (c .before .within .ensures) ∙ c .if2 .taken
 
 counted-requires : tie.Need-counted-requires
 unfolding ofBits
 counted-requires c κs =
-    let s = c .before .before .before in (span-at-most (s .args .max-rate) (in-range c), omega (arith, s .fits .lent))
+    let s = c .before .before .before .before in (span-at-most (s .args .max-rate) (in-range c), omega (arith, s .fits .lent, c .before .before .before .sets .ensures))
 
 returns : tie.Need-returns
 unfolding ofBits stepsOf
@@ -32,5 +32,5 @@ returns c =
 
 pub fits-spec : {M : Type 1} → statement M
 fits-spec =
-    tie.close (tie.spec (λ c. search needs) (λ c κs. search needs) counted-requires returns
+    tie.close (tie.spec (λ c κs. search needs) (λ c. search needs) (λ c κs. search needs) counted-requires returns
     (λ c h. absurd (false≢true h)) (λ c h. absurd (false≢true h)))
