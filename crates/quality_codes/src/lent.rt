@@ -2,7 +2,7 @@
 // of one set needs none; the ceiling need not be computed.
 ghost use mathlib.Core.Path.{_≡_};
 ghost use mathlib.Core.Bool.{true};
-ghost use Prim.Native.Nat.{_*_, _/_, _^_, _<_, max};
+ghost use Prim.Native.Nat.{_*_, _^_, _<_, max};
 ghost use lib.Dec.{eqb};
 ghost use Rattle.magnitude.specs.Bounds.{AtMost};
 ghost use Rattle.bank_choice.specs.Rates.{bankOk, ceilingOf, stepsOf};
@@ -30,24 +30,26 @@ fn counted(x: f64, n: u64) -> bool
     false
 }
 
-// How many sets a bank may have. Most have one, which needs no division.
-fn sets(lent: usize) -> usize
-    ensures { λ r. ⌜ r ≡ lent / 1081648 ⌝ }
+// Whether a bank for a maximum rate has n sets.
+fn has(max_rate: f64, n: u64) -> bool
+    requires { ⌜ n < 2 ^ 44 ⌝ }
+    ensures { λ r. ⌜ (r ≡ true → (bankOk «max_rate» ≡ true) × (n ≡ stepsOf «max_rate»)) ⌝ }
 {
-    if lent == SET_LENGTH {
-        return 1;
+    if magnitude::within(max_rate, 1.0, 2.0) {
+        return counted((max_rate - 1.0) / 0.02, n);
     }
-    lent / SET_LENGTH
+    false
 }
 
 pub(crate) fn fits(max_rate: f64, lent: usize) -> bool
     ensures { λ r. ⌜ (r ≡ true → (bankOk «max_rate» ≡ true) × (eqb lent (stepsOf «max_rate» * setLength) ≡ true)) ⌝ }
 {
-    let n = sets(lent);
+    if lent == SET_LENGTH {
+        return has(max_rate, 1);
+    }
+    let n = lent / SET_LENGTH;
     if n * SET_LENGTH == lent {
-        if magnitude::within(max_rate, 1.0, 2.0) {
-            return counted((max_rate - 1.0) / 0.02, n as u64);
-        }
+        return has(max_rate, n as u64);
     }
     false
 }

@@ -54,10 +54,10 @@ module _ (direction : Direction) (s : Fade) (fits : lengthOk (s .«crossfade_sam
     between = let p = both _ _ (rw e at ok) in (ltb-true _ _ (p .0), ltb-true _ _ (p .1))
 
     -- one step down
-    down : stepAt (lowerAim s) ≡ lowerTurn s
+    down : stepAt s (lowerAim s) ≡ lowerTurn s
     down = go (leb (s .«crossfade_position») 1) refl
       where
-        go : (b : Bool) → leb (s .«crossfade_position») 1 ≡ b → stepAt (lowerAim s) ≡ lowerTurn s
+        go : (b : Bool) → leb (s .«crossfade_position») 1 ≡ b → stepAt s (lowerAim s) ≡ lowerTurn s
         go true l =
             rw l (ap (towards Onwards)
             (goes-on (openOf (s .current) (s .«crossfade_samples»)) (s .current)
@@ -82,12 +82,12 @@ module _ (direction : Direction) (s : Fade) (fits : lengthOk (s .«crossfade_sam
         ∙ mixes (s .current) (s .target) (s .«crossfade_position») (s .«crossfade_samples») e
         (omega (arith, between)))
 
-  in-range : (q : QualityMode) → stepAt (aimedAt direction s q) ≡ returningStep direction s q
+  in-range : (q : QualityMode) → stepAt s (aimedAt direction s q) ≡ returningStep direction s q
   unfolding aimedAt returningStep
   in-range q = rw (fits, ok) (go (sameQ (s .current) (s .target)) (backwards (aimOf direction s q)) refl)
     where
       go : (a b : Bool) → sameQ (s .current) (s .target) ≡ a
-          → stepAt (cond a (aimed s q Onwards) (cond b (lowerAim s) (aimed s (s .target) Onwards)))
+          → stepAt s (cond a (aimed s q Onwards) (cond b (lowerAim s) (aimed s (s .target) Onwards)))
           ≡ cond a (towards Onwards (turnOf (askedOf s q))) (cond b (lowerTurn s) (onTurn s))
       go true b e = ap (towards Onwards) (step-taken s q valid)
       go false true e = down e
@@ -95,19 +95,19 @@ module _ (direction : Direction) (s : Fade) (fits : lengthOk (s .«crossfade_sam
 
 -- of any state
 by-ported-steps : (direction : Direction) (s : Fade) (q : QualityMode)
-    → stepAt (aimedAt direction s q) ≡ returningStep direction s q
+    → stepAt s (aimedAt direction s q) ≡ returningStep direction s q
 unfolding aimedAt returningStep
 by-ported-steps direction s q = go (lengthOk (s .«crossfade_samples») && returningOk direction s) refl
   where
     go : (b : Bool) → lengthOk (s .«crossfade_samples») && returningOk direction s ≡ b
-        → stepAt (aimedAt direction s q) ≡ returningStep direction s q
+        → stepAt s (aimedAt direction s q) ≡ returningStep direction s q
     go true v = let p = both _ _ v in in-range direction s (p .0) (p .1) q
     go false v = rw v
 
 pub by-steps : (s : RuledFade) (q : QualityMode)
-    → stepAt (handedBy (s .rule) (s .direction) (s .fade) q) ≡ stepOf s q
+    → stepAt (s .fade) (handedBy (s .rule) (s .direction) (s .fade) q) ≡ stepOf s q
 by-steps s q = go (s .rule)
   where
-    go : (rule : Rule) → stepAt (handedBy rule (s .direction) (s .fade) q) ≡ stepBy rule (s .direction) (s .fade) q
+    go : (rule : Rule) → stepAt (s .fade) (handedBy rule (s .direction) (s .fade) q) ≡ stepBy rule (s .direction) (s .fade) q
     go Ported = refl
     go Returning = by-ported-steps (s .direction) (s .fade) q

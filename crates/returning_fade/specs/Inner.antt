@@ -1,12 +1,12 @@
 -- The second rule as the code takes it: what the ported rule's step is handed for a fade and a request, and the direction
 -- that is left. `PortedSteps` proves that this is `returningStep`. Definitions only.
-use Prim.Native.Nat.{_-_}
+use Prim.Native.Nat.{ℕ, _-_}
 use mathlib.Core.Bool.{_&&_, cond}
 use lib.Dec.{leb}
 use Rattle.quality_mode.specs.declared.QualityMode.{QualityMode}
 use Rattle.quality_mode.specs.Quality.{sameQ}
 use Rattle.quality_fade.specs.declared.Fade.{Fade}
-use Rattle.quality_fade.specs.Fade.{fadeOf, lengthOk, openOf}
+use Rattle.quality_fade.specs.Fade.{fadeOf, lengthOk}
 use Rattle.quality_fade.specs.Step as ported
 use Rattle.returning_fade.specs.declared.Rule.{Rule}
 use Rattle.returning_fade.specs.declared.Rule.the-variants.{Ported, Returning}
@@ -17,14 +17,17 @@ use Rattle.returning_fade.specs.declared.returning.Handed.{Handed}
 use Rattle.returning_fade.specs.Rules.{backwards, returningOk}
 use Rattle.returning_fade.specs.Step.{aimOf}
 
+abbrev pub handed : QualityMode → ℕ → QualityMode → Direction → Handed
+handed target place asked direction =
+    record { target = target; place = place; asked = asked; direction = direction }
+
 abbrev pub aimed : Fade → QualityMode → Direction → Handed
-aimed s q direction = record { fade = s; asked = q; direction = direction }
+aimed s q direction = handed (s .target) (s .«crossfade_position») q direction
 
 abbrev pub lowerAim : Fade → Handed
 lowerAim s =
-    cond (leb (s .«crossfade_position») 1)
-    (aimed (openOf (s .current) (s .«crossfade_samples»)) (s .current) Onwards)
-    (aimed (fadeOf (s .current) (s .target) (s .«crossfade_position» - 2) (s .«crossfade_samples»)) (s .target) Back)
+    cond (leb (s .«crossfade_position») 1) (handed (s .current) (s .«crossfade_samples») (s .current) Onwards)
+    (handed (s .target) (s .«crossfade_position» - 2) (s .target) Back)
 
 unfoldable pub aimedAt : Direction → Fade → QualityMode → Handed
 aimedAt direction s q =
@@ -38,6 +41,10 @@ abbrev pub handedBy : Rule → Direction → Fade → QualityMode → Handed
 handedBy Ported direction s q = aimed s q direction
 handedBy Returning direction s q = aimedAt direction s q
 
--- The step that it is handed to.
-abbrev pub stepAt : Handed → RuledTurn
-stepAt a = record { turn = ported.stepOf (a .fade) (a .asked); direction = a .direction }
+-- The step of a fade that it is handed to.
+abbrev pub stepAt : Fade → Handed → RuledTurn
+stepAt s h =
+    record {
+      turn = ported.stepOf (fadeOf (s .current) (h .target) (h .place) (s .«crossfade_samples»)) (h .asked);
+      direction = h .direction;
+    }

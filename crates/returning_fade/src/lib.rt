@@ -78,9 +78,11 @@ fn handed(state: RuledFade, asked: QualityMode) -> Handed
     let rule = state.rule;
     let direction = state.direction;
     let fade = state.fade;
+    let target = fade.target;
     match rule {
         Rule::Ported => Handed {
-            fade: fade,
+            target: target,
+            place: fade.crossfade_position,
             asked: asked,
             direction: direction,
         },
@@ -94,10 +96,19 @@ pub fn step(state: RuledFade, asked: QualityMode) -> RuledTurn
     ensures { λ r. ⌜ r ≡ stepOf state asked ⌝ }
 {
     let to = handed(state, asked);
+    let target = to.target;
     let wanted = to.asked;
     let direction = to.direction;
+    let fade = state.fade;
+    let current = fade.current;
+    let ported = Fade {
+        current: current,
+        target: target,
+        crossfade_position: to.place,
+        crossfade_samples: fade.crossfade_samples,
+    };
     RuledTurn {
-        turn: quality_fade::step(to.fade, wanted),
+        turn: quality_fade::step(ported, wanted),
         direction: direction,
     }
 }

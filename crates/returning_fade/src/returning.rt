@@ -51,9 +51,11 @@ fn goes_back(direction: Direction, fade: Fade, asked: QualityMode) -> bool
     back(direction)
 }
 
-// What the ported rule's step is handed for a fade and a request of the second rule, and the direction that is left.
+// What the ported rule's step is handed for a fade and a request of the second rule: the fade's target and place, and
+// the request; and the direction that is left. Single numbers are cheaper to choose between than two fades.
 pub(crate) struct Handed {
-    pub fade: Fade,
+    pub target: QualityMode,
+    pub place: u32,
     pub asked: QualityMode,
     pub direction: Direction,
 }
@@ -67,18 +69,15 @@ fn lower(fade: Fade) -> Handed
     let target = fade.target;
     if fade.crossfade_position <= 1 {
         return Handed {
-            fade: quality_fade::open(current, fade.crossfade_samples),
+            target: current,
+            place: fade.crossfade_samples,
             asked: current,
             direction: Direction::Onwards,
         };
     }
     Handed {
-        fade: Fade {
-            current: current,
-            target: target,
-            crossfade_position: fade.crossfade_position - 2,
-            crossfade_samples: fade.crossfade_samples,
-        },
+        target: target,
+        place: fade.crossfade_position - 2,
         asked: target,
         direction: Direction::Back,
     }
@@ -90,11 +89,13 @@ pub(crate) fn aim(direction: Direction, fade: Fade, asked: QualityMode) -> Hande
 {
     let current = fade.current;
     let target = fade.target;
+    let place = fade.crossfade_position;
     if quality_fade::length_ok(fade.crossfade_samples) {
         if place_ok(direction, fade) {
             if same(current, target) {
                 return Handed {
-                    fade: fade,
+                    target: target,
+                    place: place,
                     asked: asked,
                     direction: Direction::Onwards,
                 };
@@ -103,14 +104,16 @@ pub(crate) fn aim(direction: Direction, fade: Fade, asked: QualityMode) -> Hande
                 return lower(fade);
             }
             return Handed {
-                fade: fade,
+                target: target,
+                place: place,
                 asked: target,
                 direction: Direction::Onwards,
             };
         }
     }
     Handed {
-        fade: fade,
+        target: target,
+        place: place,
         asked: asked,
         direction: direction,
     }

@@ -7,8 +7,9 @@ use Rattle.returning_fade.proofs.step.Tie as tie
 
 returns : tie.Need-returns
 returns c =
-    let a = c .before .before .args in
-    rw (c .step .ensures, c .before .handed .ensures) (by-steps (a .state) (a .asked))
+    let h = c .before .before in
+    let a = h .before .args in
+    rw (c .step .ensures, h .handed .ensures) (by-steps (a .state) (a .asked))
 
 pub step-spec : {M : Type 1} → statement M
 step-spec = tie.close (tie.spec (λ c κs. search needs) (λ c κs. search needs) returns)

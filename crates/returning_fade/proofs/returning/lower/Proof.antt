@@ -6,10 +6,10 @@ use Rattle.returning_fade.proofs.returning.lower.Statement.{statement}
 use Rattle.returning_fade.proofs.returning.lower.Tie as tie
 
 returns : tie.Need-returns
-returns c = let t = c .before in rw (le-leb _ 1 (t .if1 .taken), c .open .ensures)
+returns c = rw (le-leb _ 1 (c .if1 .taken))
 
 returns-2 : tie.Need-returns-2
 returns-2 c = rw (lt-leb _ 1 (c .before .if1 .left))
 
 pub lower-spec : {M : Type 1} → statement M
-lower-spec = tie.close (tie.spec (λ c κs. search needs) returns (λ c. search needs) returns-2)
+lower-spec = tie.close (tie.spec returns (λ c. search needs) returns-2)
