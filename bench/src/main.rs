@@ -30,7 +30,7 @@ use std::hint::black_box;
 use std::time::Instant;
 
 /// A file of workloads/ each, by name: making one may take seconds.
-const WORKLOADS: [(&str, fn() -> Workload); 56] = [
+const WORKLOADS: [(&str, fn() -> Workload); 57] = [
     ("narrow", workloads::narrow::workload),
     ("fused32", workloads::fused32::workload),
     ("fused64", workloads::fused64::workload),
@@ -57,6 +57,7 @@ const WORKLOADS: [(&str, fn() -> Workload); 56] = [
     ("quality_hq", workloads::quality::plain),
     ("quality_hq_two_sets", workloads::quality::blended),
     ("quality_mixed", workloads::quality::mixed),
+    ("quality_returning", workloads::quality::returning),
     ("wav_pcm16", workloads::wav::pcm16_f64),
     ("wav_pcm16_stereo", workloads::wav::pcm16_stereo),
     ("wav_pcm16_f32", workloads::wav::pcm16_f32),

@@ -1,7 +1,6 @@
 // Q1, Q2, W9. A change of quality: a line opens, asks or resets, and its two words are what that leaves.
 use super::Turn;
 use super::Words;
-use super::packed;
 use super::refused;
 use quality_fade::Fade;
 use quality_mode::Named;
@@ -11,6 +10,11 @@ use returning_fade::Direction;
 use returning_fade::Rule;
 use returning_fade::RuledFade;
 use returning_fade::direction_code;
+
+// Four small numbers in one word, two hex digits each.
+fn four(a: u8, b: u8, c: u8, d: u8) -> u64 {
+    a as u64 * 0x100_0000 + b as u64 * 65536 + c as u64 * 256 + d as u64
+}
 
 // The direction, current, target and whether the call was mixed; the place, and the weight that the target had.
 fn left(rule: Rule, direction: Direction, fade: Fade, mixed: u8, weight: u32) -> Turn {
@@ -23,8 +27,12 @@ fn left(rule: Rule, direction: Direction, fade: Fade, mixed: u8, weight: u32) ->
             fade: fade,
         },
         words: Words {
-            first: direction_code(direction) as u64 * 0x100_0000
-                + packed(code(current), code(target), mixed),
+            first: four(
+                direction_code(direction),
+                code(current),
+                code(target),
+                mixed,
+            ),
             second: fade.crossfade_position as u64 * 0x1_0000_0000 + weight as u64,
         },
     }
