@@ -1,5 +1,5 @@
-// Whether a bank has the length that its sets need. One division of a whole number by a constant is enough, and a bank
-// of one set needs none; the ceiling need not be computed.
+// Whether a bank has the length that its sets need. One division of a whole number by a constant is enough; the ceiling
+// need not be computed.
 ghost use mathlib.Core.Path.{_≡_};
 ghost use mathlib.Core.Bool.{true};
 ghost use Prim.Native.Nat.{_*_, _^_, _<_, max};
@@ -9,7 +9,7 @@ ghost use Rattle.bank_choice.specs.Rates.{bankOk, ceilingOf, stepsOf};
 ghost use Rattle.sinc_bank_f32.specs.Sets.{setLength};
 use constants::SET_LENGTH;
 
-// Whether n is the ceiling of x, and at least 1: x lies above the number before it and not above n.
+// Whether n is the ceiling of x, and at least 1: x lies above n - 1 and is at most n.
 fn counted(x: f64, n: u64) -> bool
     requires { ⌜ AtMost 50 x × (n < 2 ^ 44) ⌝ }
     ensures { λ r. ⌜ (r ≡ true → n ≡ max 1 (ceilingOf x)) ⌝ }
@@ -30,26 +30,14 @@ fn counted(x: f64, n: u64) -> bool
     false
 }
 
-// Whether a bank for a maximum rate has n sets.
-fn has(max_rate: f64, n: u64) -> bool
-    requires { ⌜ n < 2 ^ 44 ⌝ }
-    ensures { λ r. ⌜ (r ≡ true → (bankOk «max_rate» ≡ true) × (n ≡ stepsOf «max_rate»)) ⌝ }
-{
-    if magnitude::within(max_rate, 1.0, 2.0) {
-        return counted((max_rate - 1.0) / 0.02, n);
-    }
-    false
-}
-
 pub(crate) fn fits(max_rate: f64, lent: usize) -> bool
     ensures { λ r. ⌜ (r ≡ true → (bankOk «max_rate» ≡ true) × (eqb lent (stepsOf «max_rate» * setLength) ≡ true)) ⌝ }
 {
-    if lent == SET_LENGTH {
-        return has(max_rate, 1);
-    }
     let n = lent / SET_LENGTH;
     if n * SET_LENGTH == lent {
-        return has(max_rate, n as u64);
+        if magnitude::within(max_rate, 1.0, 2.0) {
+            return counted((max_rate - 1.0) / 0.02, n as u64);
+        }
     }
     false
 }
