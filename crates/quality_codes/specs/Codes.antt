@@ -1,6 +1,6 @@
 -- N1, N3. A quality as its number, and a reader's state as plain numbers. A number above 3 names no quality: as the
--- requested one it is an argument, refused by 1; in a state it is a field, refused by 3, after 1 and 2. So is a rule's or
--- a direction's number above 1, which only a state has (W9h). Definitions only.
+-- requested one it is an argument, refused by 1; in a state it is a field, refused by 3, after 1 and 2. So is a rule's
+-- or a direction's number above 1, which only a state has (W9h). Definitions only.
 use Prim.Native.Nat.{ℕ, zero, suc}
 use mathlib.Core.Bool.{Bool, true, false, _&&_, cond}
 use lib.Dec.{leb}

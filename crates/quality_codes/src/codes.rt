@@ -1,5 +1,5 @@
-// A quality, a rule and a direction as their numbers, a quality reader's state as plain numbers, and the refusal where a
-// number names nothing.
+// A quality, a rule and a direction as their numbers, a quality reader's state as plain numbers, and the refusal where
+// a number names nothing.
 ghost use mathlib.Core.Path.{_≡_};
 ghost use mathlib.Core.Bool.{_&&_, cond};
 ghost use Rattle.quality_codes.specs.Codes.{modeOf, ruleOf, directionOf, decoded, coded, fieldsOk, oddNumber};

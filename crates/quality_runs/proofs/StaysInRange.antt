@@ -1,7 +1,7 @@
 -- G2, N3, Q3, W9g. A call leaves a state in its ranges where it was in them, over whole runs too;
 -- and so do opening and reset, which leave nothing to fade.
 -- Assumes nothing.
-use mathlib.Core.Path.{_≡_, refl, _∙_}
+use mathlib.Core.Path.{_≡_, refl}
 use mathlib.Core.Bool.{Bool, true, _&&_}
 use mathlib.Core.List.{List, [], _∷_}
 use Prim.Native.Nat.{ℕ, zero, suc, _+_, _%_, _^_, _<_}
@@ -16,7 +16,6 @@ use Rattle.answer.specs.Refusals.{lowestOf}
 use Rattle.answer.proofs.Passed.{passed}
 use Rattle.ring.specs.Length.{settingsOk, lengthFor}
 use Rattle.quality_mode.specs.declared.QualityMode.{QualityMode}
-use Rattle.quality_mode.proofs.Equal.{same-refl}
 use Rattle.quality_fade.specs.Fade.{lengthOk}
 use Rattle.quality_fade.proofs.StaysInRange.{both}
 use Rattle.returning_fade.specs.declared.Rule.{Rule}

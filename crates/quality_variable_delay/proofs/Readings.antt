@@ -10,14 +10,14 @@ use Rattle.variable_delay.specs.Reader.{Reading}
 use Rattle.quality_mode.specs.declared.QualityMode.{QualityMode}
 use Rattle.quality_mode.specs.Quality.{sameQ}
 use Rattle.quality_fade.specs.declared.Turn.{Turn}
-use Rattle.quality_fade.specs.Fade.{fadeOf, lengthOk}
+use Rattle.quality_fade.specs.Fade.{lengthOk}
 use Rattle.quality_fade.proofs.OneCall.{back, third, never-mixed, reads-asked}
 use Rattle.quality_fade.proofs.StaysInRange.{both}
 use Rattle.returning_fade.specs.declared.Rule.{Rule}
 use Rattle.returning_fade.specs.declared.Rule.the-variants.{Ported, Returning}
 use Rattle.returning_fade.specs.declared.RuledTurn.{RuledTurn}
 use Rattle.returning_fade.specs.Rules.{ruled, validOf}
-use Rattle.returning_fade.specs.Step.{stepOf, stepBy, lowered}
+use Rattle.returning_fade.specs.Step.{stepOf, stepBy}
 use Rattle.returning_fade.proofs.PortedRule as ported
 use Rattle.returning_fade.proofs.PortedSteps.{between}
 use Rattle.returning_fade.proofs.OneCall as returning

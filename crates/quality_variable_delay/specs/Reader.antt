@@ -24,8 +24,8 @@ use Rattle.quality_variable_delay.specs.declared.ProcessedQ.{ProcessedQ}
 use Rattle.quality_variable_delay.specs.State.{delayPart, fadePart, joined}
 
 -- N1 to N9. The refusal that is due, 0 for none. `bank` says that the bank's rate is in range, `lent` that its lent
--- sets have their length. The crossfade's length is a setting; the qualities, its position, the rule and the direction are
--- fields of a state (W9h). A playback rate that is a NaN is refused whatever quality is asked for (N7).
+-- sets have their length. The crossfade's length is a setting; the qualities, its position, the rule and the direction
+-- are fields of a state (W9h). A playback rate that is a NaN is refused whatever quality is asked for (N7).
 abbrev pub verdict : Bool → Bool → QualityVariableDelayF32 → ℕ → Float → Float → Float → ℕ
 verdict bank lent d len x y playback-rate =
     firstOf

@@ -1,7 +1,7 @@
 -- W9b. By the ported rule a call is `quality_fade`'s, and so is a run, call by call; the direction stays as it was.
 -- Assumes nothing.
 use mathlib.Core.Path.{_≡_, refl, sym, ap, subst}
-use mathlib.Core.Bool.{true, false, not, true≢false}
+use mathlib.Core.Bool.{true, not, true≢false}
 use mathlib.Core.List.{List, [], _∷_}
 use Rattle.quality_mode.specs.declared.QualityMode.{QualityMode}
 use Rattle.quality_fade.specs.declared.Fade.{Fade}

@@ -1,5 +1,5 @@
--- The second rule as the code takes it: what the ported rule's step is handed for a fade and a request, and the direction
--- that is left. `PortedSteps` proves that this is `returningStep`. Definitions only.
+-- The second rule as the code takes it: what the ported rule's step is handed for a fade and a request, and the
+-- direction that is left. `PortedSteps` proves that this is `returningStep`. Definitions only.
 use Prim.Native.Nat.{ℕ, _-_}
 use mathlib.Core.Bool.{_&&_, cond}
 use lib.Dec.{leb}

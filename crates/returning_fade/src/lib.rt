@@ -90,8 +90,8 @@ fn handed(state: RuledFade, asked: QualityMode) -> Handed
     }
 }
 
-// One accepted call that asks for a quality, which either rule makes a step of the ported one. Of a state out of range it
-// is `quality_fade::step`'s.
+// One accepted call that asks for a quality, which either rule makes a step of the ported one. Of a state out of range
+// it is `quality_fade::step`'s.
 pub fn step(state: RuledFade, asked: QualityMode) -> RuledTurn
     ensures { λ r. ⌜ r ≡ stepOf state asked ⌝ }
 {
