@@ -1,8 +1,8 @@
 // The program that replays a stored list of the original's answers about the bank and the change of quality (O5).
 // A line of standard input is a letter and three words of sixteen hex digits, the line that is written two words: `s`
 // and `c` a bank's sets and the choice among them (T3, T4), `o`, `q` and `r` a change of quality (Q1, Q2), which `b`
-// opens by the second rule (W9), `p` and `d` a slice and Draft's reading of it. oracle/src/lists/bank.rs makes the list.
-// A trailing part of a line is ignored.
+// opens by the second rule (W9), `p` and `d` a slice and Draft's reading of it. oracle/src/lists/bank.rs makes the
+// list. A trailing part of a line is ignored.
 mod quality; // a change of quality, and its two words
 mod sets; // a bank's sets, and the choice's two words
 mod slice; // a slice of samples, and Draft's reading of it
