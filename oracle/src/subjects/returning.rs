@@ -109,8 +109,12 @@ impl Session {
     fn call(&mut self, call: &Call) -> Read {
         let rate = call.rate.expect("a rate");
         let read = self.fade.call(call.quality);
-        let answers: Vec<f32> =
-            self.plain.iter_mut().zip(MODES).map(|(r, mode)| r.process_sample_rate_aware(call.input, call.delay, mode, rate)).collect();
+        let answers: Vec<f32> = self
+            .plain
+            .iter_mut()
+            .zip(MODES)
+            .map(|(r, mode)| r.process_sample_rate_aware(call.input, call.delay, mode, rate))
+            .collect();
         let (a, b) = (answers[read.from as usize], answers[read.to as usize]);
         let right = match read.weight {
             None => b,
@@ -152,7 +156,11 @@ impl Session {
     }
 
     fn differs(&self, what: &str, call: Option<&Call>) {
-        println!("DIFFERENCE in the quality reader of host/, {}, at {what}; fade of {}", self.port.tells(0).1, self.fade.length);
+        println!(
+            "DIFFERENCE in the quality reader of host/, {}, at {what}; fade of {}",
+            self.port.tells(0).1,
+            self.fade.length
+        );
         if let Some(c) = call {
             println!("  input {:e}, delay {:e}, quality {}, rate {:?}", c.input, c.delay, c.quality, c.rate);
         }
@@ -161,7 +169,12 @@ impl Session {
 }
 
 fn drawn(random: &mut Random, quality: u8) -> Call {
-    Call { input: delays::plain(random) as f32, delay: random.unit() * 6.0, quality, rate: Some(1.0 + 0.02 * random.unit()) }
+    Call {
+        input: delays::plain(random) as f32,
+        delay: random.unit() * 6.0,
+        quality,
+        rate: Some(1.0 + 0.02 * random.unit()),
+    }
 }
 
 /// Three qualities one after the other: the first two for every number of calls up to past the fade's end, the last until
