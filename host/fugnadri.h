@@ -264,28 +264,39 @@ uint8_t fugnadri_bank_build(double max_rate, float *sets, size_t sets_len);
 uint8_t fugnadri_bank_build_set_in(double rate, uint8_t mode, float *set, size_t set_len);
 uint8_t fugnadri_bank_build_in(double max_rate, uint8_t mode, float *sets, size_t sets_len);
 
-/* A quality reader's state is a reader's and current, target, crossfade_position; crossfade_samples, 0 to 16777216, is
- * the fade's length. Opening is refused by 1 or 2, and then leaves the four as they were; reset by 3 too. */
+/* A quality reader's state is a reader's and current, target, crossfade_position, rule, direction; crossfade_samples,
+ * 0 to 16777216, is the fade's length. The opening chooses the rule for a change of quality, which stays: 0 is the
+ * original's, by which asking for the current quality during a fade jumps to it; 1 runs the weight down again from
+ * where it stands, and a third quality waits until the running fade has ended. The direction is 0 for a fade on its way
+ * to the target, and where none runs, and 1 for one on its way back. Opening is refused by 1 or 2, and then leaves the
+ * six as they were; reset by 3 too. A rule's or a direction's number above 1 is 3. */
 uint8_t fugnadri_quality_open(size_t maximum, size_t margin, uint8_t quality, uint32_t crossfade_samples,
-    uint64_t *accepted, uint8_t *current, uint8_t *target, uint32_t *crossfade_position, float *ring, size_t ring_len);
+    uint64_t *accepted, uint8_t *current, uint8_t *target, uint32_t *crossfade_position, uint8_t *rule,
+    uint8_t *direction, float *ring, size_t ring_len);
+uint8_t fugnadri_quality_open_returning(size_t maximum, size_t margin, uint8_t quality, uint32_t crossfade_samples,
+    uint64_t *accepted, uint8_t *current, uint8_t *target, uint32_t *crossfade_position, uint8_t *rule,
+    uint8_t *direction, float *ring, size_t ring_len);
 uint8_t fugnadri_quality_reset(size_t maximum, size_t margin, uint64_t *accepted, uint8_t *current, uint8_t *target,
-    uint32_t *crossfade_position, uint32_t crossfade_samples, float *ring, size_t ring_len);
+    uint32_t *crossfade_position, uint32_t crossfade_samples, uint8_t rule, uint8_t *direction, float *ring,
+    size_t ring_len);
 /* One call at the bank's rate, or at a rate of its own, which is clamped. Refused by 1 to 6 or 8, with a rate of its
  * own by 7 too; a refused call forgets the quality that it asked for. */
 uint8_t fugnadri_quality_process(size_t maximum, size_t margin, uint64_t *accepted, uint8_t *current, uint8_t *target,
-    uint32_t *crossfade_position, uint32_t crossfade_samples, float *ring, size_t ring_len, const float *sets,
-    size_t sets_len, double max_rate, float input, double delay, uint8_t quality, float *sample);
+    uint32_t *crossfade_position, uint32_t crossfade_samples, uint8_t rule, uint8_t *direction, float *ring,
+    size_t ring_len, const float *sets, size_t sets_len, double max_rate, float input, double delay, uint8_t quality,
+    float *sample);
 uint8_t fugnadri_quality_process_bits(size_t maximum, size_t margin, uint64_t *accepted, uint8_t *current,
-    uint8_t *target, uint32_t *crossfade_position, uint32_t crossfade_samples, float *ring, size_t ring_len,
-    const float *sets, size_t sets_len, double max_rate, float input, double delay, uint8_t quality, uint32_t *sample);
+    uint8_t *target, uint32_t *crossfade_position, uint32_t crossfade_samples, uint8_t rule, uint8_t *direction,
+    float *ring, size_t ring_len, const float *sets, size_t sets_len, double max_rate, float input, double delay,
+    uint8_t quality, uint32_t *sample);
 uint8_t fugnadri_quality_process_rate_aware(size_t maximum, size_t margin, uint64_t *accepted, uint8_t *current,
-    uint8_t *target, uint32_t *crossfade_position, uint32_t crossfade_samples, float *ring, size_t ring_len,
-    const float *sets, size_t sets_len, double max_rate, float input, double delay, uint8_t quality,
-    double playback_rate, float *sample);
+    uint8_t *target, uint32_t *crossfade_position, uint32_t crossfade_samples, uint8_t rule, uint8_t *direction,
+    float *ring, size_t ring_len, const float *sets, size_t sets_len, double max_rate, float input, double delay,
+    uint8_t quality, double playback_rate, float *sample);
 uint8_t fugnadri_quality_process_rate_aware_bits(size_t maximum, size_t margin, uint64_t *accepted, uint8_t *current,
-    uint8_t *target, uint32_t *crossfade_position, uint32_t crossfade_samples, float *ring, size_t ring_len,
-    const float *sets, size_t sets_len, double max_rate, float input, double delay, uint8_t quality,
-    double playback_rate, uint32_t *sample);
+    uint8_t *target, uint32_t *crossfade_position, uint32_t crossfade_samples, uint8_t rule, uint8_t *direction,
+    float *ring, size_t ring_len, const float *sets, size_t sets_len, double max_rate, float input, double delay,
+    uint8_t quality, double playback_rate, uint32_t *sample);
 
 /* ---- libfugnadri_wav.a: WAV files -----------------------------------------------------------------------------------
  *

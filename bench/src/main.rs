@@ -58,6 +58,7 @@ const WORKLOADS: &[(&str, fn() -> Workload)] = &[
     ("quality_hq", workloads::quality::plain),
     ("quality_hq_two_sets", workloads::quality::blended),
     ("quality_mixed", workloads::quality::mixed),
+    ("quality_returning", workloads::quality::returning),
     ("wav_pcm16", workloads::wav::pcm16_f64),
     ("wav_pcm16_stereo", workloads::wav::pcm16_stereo),
     ("wav_pcm16_f32", workloads::wav::pcm16_f32),

@@ -33,6 +33,7 @@ mod subjects {
     pub mod patterns;
     pub mod quality;
     pub mod readers;
+    pub mod returning;
     pub mod sinc;
     pub mod slices;
     pub mod square_root;
@@ -44,7 +45,7 @@ use context::Context;
 use std::time::{Duration, Instant};
 
 /// A file of subjects/ each. `run` compares one batch of every kind of input that it has.
-const SUBJECTS: [fn(&mut Context); 16] = [
+const SUBJECTS: [fn(&mut Context); 17] = [
     subjects::patterns::run,
     subjects::order::run,
     subjects::narrow::run,
@@ -59,6 +60,7 @@ const SUBJECTS: [fn(&mut Context); 16] = [
     subjects::sinc::run,
     subjects::bank::run,
     subjects::quality::run,
+    subjects::returning::run,
     subjects::oscillators::run,
     subjects::modulation::run,
 ];

@@ -1,11 +1,14 @@
--- A quality reader's call, opening and reset on plain numbers. If every number is a quality they are those of
--- quality_variable_delay; otherwise they are refused, and nothing is changed. Definitions only.
+-- A quality reader's call, opening and reset on plain numbers: quality_variable_delay's if every number names what it
+-- stands for, otherwise refused with nothing changed. Definitions only.
 use Prim.Native.Nat.{ℕ}
 use mathlib.Core.Bool.{Bool, true, false, _&&_}
 use mathlib.Core.List.{List}
 use lib.ListN.{length}
 use lib.Ieee.{Float}
 use Rattle.answer.specs.Answers.{numberF32Of, valueF32Of, zero-f}
+use Rattle.returning_fade.specs.declared.Rule.{Rule}
+use Rattle.returning_fade.specs.declared.Direction.the-variants.{Onwards}
+use Rattle.returning_fade.specs.Rules.{ruleCode, directionCode}
 use Rattle.quality_variable_delay.specs.declared.ProcessedQ.{ProcessedQ}
 use Rattle.quality_variable_delay.specs.declared.Opened.{Opened}
 use Rattle.quality_variable_delay.specs.declared.Opened.the-variants.{Reader, Refused}
@@ -54,9 +57,10 @@ renewedOf asked s len =
 abbrev pub ringRenewed : Bool → Coded → List Float → List Float
 ringRenewed asked s xs = pickRing (asked && fieldsOk s) (ringReset (decoded s) xs) xs
 
--- The state for opening: it has accepted nothing and holds one quality.
-abbrev pub freshOf : ℕ → ℕ → ℕ → ℕ → Coded
-freshOf maximum margin quality crossfade-samples =
+-- Opening: a state that has accepted nothing and holds its one quality. It chooses the rule, whose number nobody hands
+-- in (W9h).
+abbrev pub freshOf : Rule → ℕ → ℕ → ℕ → ℕ → Coded
+freshOf rule maximum margin quality crossfade-samples =
     record {
       maximum = maximum;
       margin = margin;
@@ -65,4 +69,6 @@ freshOf maximum margin quality crossfade-samples =
       target = quality;
       «crossfade_position» = crossfade-samples;
       «crossfade_samples» = crossfade-samples;
+      rule = ruleCode rule;
+      direction = directionCode Onwards;
     }

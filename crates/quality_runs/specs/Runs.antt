@@ -1,5 +1,5 @@
--- Q1 to Q3, K8. A run of a quality reader's calls: each call finds state and ring as the last one left them, whatever
--- each quality reads. Each call brings its own bank. Definitions only.
+-- Q1 to Q3, W9, K8. A run of a quality reader's calls, by either rule: state and ring are handed on as the last call
+-- left them, whatever each quality reads. Each call brings its own bank. Definitions only.
 use Prim.Native.Nat.{ℕ}
 use mathlib.Core.Bool.{Bool, _&&_}
 use mathlib.Core.List.{List, [], _∷_, map}
@@ -7,7 +7,7 @@ use lib.ListN.{length}
 use lib.Ieee.{Float}
 use Rattle.quality_mode.specs.declared.QualityMode.{QualityMode}
 use Rattle.quality_fade.specs.declared.Turn.{Turn}
-use Rattle.quality_fade.specs.Step.{stepOf}
+use Rattle.returning_fade.specs.Step.{stepOf}
 use Rattle.runs.specs.Calls.{keep, runOf, acceptedOf}
 use Rattle.runs.specs.Runs as plain
 use Rattle.quality_variable_delay.specs.State.{delayPart, fadePart}
@@ -52,7 +52,7 @@ accepted = acceptedOf due afterBy
 
 unfoldable pub turns : Reader → List Call → List Turn
 turns r [] = []
-turns r (c ∷ cs) = keep (due r c) (stepOf (fadePart (r .state)) (c .quality)) (turns (after r c) cs)
+turns r (c ∷ cs) = keep (due r c) (stepOf (fadePart (r .state)) (c .quality) .turn) (turns (after r c) cs)
 
 -- The qualities that the calls ask for.
 abbrev pub asked : List Call → List QualityMode

@@ -12,6 +12,7 @@ use Rattle.variable_delay.specs.Reader.{verdict}
 use Rattle.variable_delay.specs.Opening as opening
 use Rattle.answer_parts.specs.States.{stateOf}
 use Rattle.quality_fade.specs.Fade.{placeOk}
+use Rattle.returning_fade.specs.Rules.{returningOk}
 use Rattle.quality_variable_delay.specs.Bank.{dueOf}
 use Rattle.quality_codes.specs.Codes.{decoded}
 use Rattle.quality_codes.specs.Codes as codes
@@ -65,15 +66,24 @@ builtFor max-rate passband = builtForIn max-rate passband 12
 -- A call of the quality reader, to which a bank of `lent` f32 for the maximum rate `max-rate` is lent, and its reset.
 -- The settings 0 and 0 need a ring of 8, and the rate 1 a bank of 1081648.
 unfoldable pub asked : Coded → ℕ → ℕ → Float → Float → Float → Float → ℕ
-unfolding lengthFor placeOk stepsOf ceilingOf size isNan le sub div
+unfolding lengthFor placeOk returningOk stepsOf ceilingOf size isNan le sub div
 asked state len lent max-rate input delay playback-rate =
     dueOf lent max-rate (decoded state) len input delay playback-rate
 
 unfoldable pub renewed : Coded → ℕ → ℕ
-unfolding lengthFor placeOk size
+unfolding lengthFor placeOk returningOk size
 renewed state len = renewedOf true state len .number
 
--- A call at the ends of a fade, with everything else in range.
+-- A state by the ported rule, on its way.
+abbrev pub portedState : ℕ → ℕ → ℕ → ℕ → ℕ → ℕ → ℕ → Coded
+portedState maximum margin accepted current target place crossfade =
+    codes.stateOf maximum margin accepted current target place crossfade 0 0
+
+-- A call at the ends of a fade, all else in range; and by the second rule, in a direction.
 abbrev pub faded : ℕ → ℕ → ℕ → ℕ → ℕ
 faded current target place crossfade =
-    asked (codes.stateOf 0 0 0 current target place crossfade) 8 1081648 one one one one
+    asked (portedState 0 0 0 current target place crossfade) 8 1081648 one one one one
+
+abbrev pub returned : ℕ → ℕ → ℕ → ℕ → ℕ → ℕ
+returned direction current target place crossfade =
+    asked (codes.stateOf 0 0 0 current target place crossfade 1 direction) 8 1081648 one one one one
