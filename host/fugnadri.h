@@ -2,9 +2,9 @@
  *
  * The libraries are x86-64 code for Linux (System V calls), and `rt staticlib NAME` makes each: libfugnadri.a,
  * libfugnadri_wander.a, libfugnadri_numbers.a, libfugnadri_tables.a, libfugnadri_bank.a, libfugnadri_told.a,
- * libfugnadri_wav.a, libfugnadri_wav_write.a, libfugnadri_aiff.a, libfugnadri_residual.a. They want `memset` and nothing
- * else of a C library, allocate nothing, keep nothing between calls, and may be called by any thread that owns what it
- * lends.
+ * libfugnadri_wav.a, libfugnadri_wav_write.a, libfugnadri_aiff.a, libfugnadri_residual.a. They want `memset` and
+ * nothing else of a C library, allocate nothing, keep nothing between calls, and may be called by any thread that owns
+ * what it lends.
  *
  * Lent memory: a slice is a pointer to its first element and a length in elements. A pointer is never null; that of an
  * empty slice may be any other aligned address. What is written through must not overlap anything else that is lent in
@@ -317,7 +317,7 @@ uint8_t fugnadri_wav_samples_f32(uint8_t kind, uint8_t channels, uint8_t channel
 uint8_t fugnadri_wav_whole(uint8_t kind, uint8_t channels, uint8_t channel, const uint8_t *part, size_t part_len,
     int32_t *out, size_t out_len);
 
-/* ---- libfugnadri_told.a: which taps were missing ----------------------------------------------------------------------
+/* ---- libfugnadri_told.a: which taps were missing --------------------------------------------------------------------
  *
  * The calls of the delay readers, of libfugnadri.a and libfugnadri_tables.a, that also tell how many of the taps that
  * they read were absent: `*unwritten` below the first sample, `*ahead` of the newest, `*overwritten` by newer ones. All
