@@ -37,6 +37,7 @@ mod subjects {
     pub mod slices;
     pub mod square_root;
     pub mod tables;
+    pub mod told;
     pub mod words;
 }
 
@@ -44,7 +45,7 @@ use context::Context;
 use std::time::{Duration, Instant};
 
 /// A file of subjects/ each. `run` compares one batch of every kind of input that it has.
-const SUBJECTS: [fn(&mut Context); 16] = [
+const SUBJECTS: [fn(&mut Context); 17] = [
     subjects::patterns::run,
     subjects::order::run,
     subjects::narrow::run,
@@ -54,6 +55,7 @@ const SUBJECTS: [fn(&mut Context); 16] = [
     subjects::words::run,
     subjects::slices::run,
     subjects::readers::run,
+    subjects::told::run,
     subjects::tables::run,
     subjects::modes::run,
     subjects::sinc::run,
