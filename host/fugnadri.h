@@ -16,31 +16,33 @@
  * arguments.
  *
  *   1  a setting or an argument is outside its range
- *   2  a lent ring, table, bank or stretch has not the needed length
+ *   2  a lent ring, table, bank or stretch has not the needed length, or more of a file's first bytes are needed
  *   3  a field of the state is outside its range
  *   4  the input sample is NaN or infinite
  *   5  the delay is NaN, infinite or below zero
  *   6  the delay is above 2^36
  *   7  the playback rate is NaN
  *   8  2^36 samples were accepted already
- *   9  the file is not RIFF WAVE, or its RIFF size is under 4
+ *   9  the file is not RIFF WAVE (where headers are read, none of RIFF, RF64 and BW64 with WAVE), or its RIFF size is
+ *      under 4
  *  10  a chunk of the file, or its RIFF or FORM, runs past the end
  *  11  the file has no `fmt ` before its first `data`
  *  12  the file has no `data`
  *  13  the samples are of a kind that is not read or written, the file's `fmt ` is under 16 bytes, or its sizes do not
  *      agree
- *  14  the buffer is shorter than the file that is to be written
+ *  14  the buffer is shorter than the file or the header that is to be written
  *  15  a sample that is to be written is NaN or does not fit
- *  18  the RF64 or BW64 file's ds64 is missing or not first (no function of these libraries gives 18 or 19 yet)
+ *  18  the RF64 or BW64 file's ds64 is missing or not first
  *  19  a size of the file is above 2^40 bytes
  *  20  the file is not AIFF, or its FORM size is under 4
  *  21  `COMM` or `SSND` is missing or too short, its offset lies past the end, or it has fewer frames than it says
  *  22  the AIFF's rate is not a whole number from 8000 to 768000
  *
- * They are tested in this order, and the first that is due is given; of an AIFF file in the order 20, 10, 21, 13, 21
- * for the frames, 22. `maximum`, `margin`, taps, phases, rates and the fade length are settings (1) wherever they are
- * handed in. Of the NaNs only two patterns are handed out, as a float too: 7FF8000000000000, and 7FC00000 for float. A
- * name that ends in _bits is the same call with floats as IEEE 754 patterns.
+ * They are tested in this order, and the first that is due is given; of a WAV file's header in the order 1, 2, 9, 18,
+ * 19, 10 to 13, where one is written 1, 2, 19, 13, 14, 15, and of an AIFF file 20, 10, 21, 13, 21 for the frames, 22.
+ * `maximum`, `margin`, taps, phases, rates and the fade length are settings (1) wherever they are handed in. Of the
+ * NaNs only two patterns are handed out, as a float too: 7FF8000000000000, and 7FC00000 for float. A name that ends in
+ * _bits is the same call with floats as IEEE 754 patterns.
  */
 #ifndef FUGNADRI_H
 #define FUGNADRI_H
@@ -263,33 +265,45 @@ uint8_t fugnadri_bank_build(double max_rate, float *sets, size_t sets_len);
 uint8_t fugnadri_bank_build_set_in(double rate, uint8_t mode, float *set, size_t set_len);
 uint8_t fugnadri_bank_build_in(double max_rate, uint8_t mode, float *sets, size_t sets_len);
 
-/* A quality reader's state is a reader's and current, target, crossfade_position; crossfade_samples, 0 to 16777216, is
- * the fade's length. Opening is refused by 1 or 2, and then leaves the four as they were; reset by 3 too. */
+/* A quality reader's state is a reader's and current, target, crossfade_position, rule, direction; crossfade_samples,
+ * 0 to 16777216, is the fade's length. The opening chooses the rule for a change of quality, which stays: 0 is the
+ * original's, by which asking for the current quality during a fade jumps to it; 1 runs the weight down again from
+ * where it stands, and a third quality waits until the running fade has ended. The direction is 0 for a fade on its way
+ * to the target, and where none runs, and 1 for one on its way back. Opening is refused by 1 or 2, and then leaves the
+ * six as they were; reset by 3 too. A rule's or a direction's number above 1 is 3. */
 uint8_t fugnadri_quality_open(size_t maximum, size_t margin, uint8_t quality, uint32_t crossfade_samples,
-    uint64_t *accepted, uint8_t *current, uint8_t *target, uint32_t *crossfade_position, float *ring, size_t ring_len);
+    uint64_t *accepted, uint8_t *current, uint8_t *target, uint32_t *crossfade_position, uint8_t *rule,
+    uint8_t *direction, float *ring, size_t ring_len);
+uint8_t fugnadri_quality_open_returning(size_t maximum, size_t margin, uint8_t quality, uint32_t crossfade_samples,
+    uint64_t *accepted, uint8_t *current, uint8_t *target, uint32_t *crossfade_position, uint8_t *rule,
+    uint8_t *direction, float *ring, size_t ring_len);
 uint8_t fugnadri_quality_reset(size_t maximum, size_t margin, uint64_t *accepted, uint8_t *current, uint8_t *target,
-    uint32_t *crossfade_position, uint32_t crossfade_samples, float *ring, size_t ring_len);
+    uint32_t *crossfade_position, uint32_t crossfade_samples, uint8_t rule, uint8_t *direction, float *ring,
+    size_t ring_len);
 /* One call at the bank's rate, or at a rate of its own, which is clamped. Refused by 1 to 6 or 8, with a rate of its
  * own by 7 too; a refused call forgets the quality that it asked for. */
 uint8_t fugnadri_quality_process(size_t maximum, size_t margin, uint64_t *accepted, uint8_t *current, uint8_t *target,
-    uint32_t *crossfade_position, uint32_t crossfade_samples, float *ring, size_t ring_len, const float *sets,
-    size_t sets_len, double max_rate, float input, double delay, uint8_t quality, float *sample);
+    uint32_t *crossfade_position, uint32_t crossfade_samples, uint8_t rule, uint8_t *direction, float *ring,
+    size_t ring_len, const float *sets, size_t sets_len, double max_rate, float input, double delay, uint8_t quality,
+    float *sample);
 uint8_t fugnadri_quality_process_bits(size_t maximum, size_t margin, uint64_t *accepted, uint8_t *current,
-    uint8_t *target, uint32_t *crossfade_position, uint32_t crossfade_samples, float *ring, size_t ring_len,
-    const float *sets, size_t sets_len, double max_rate, float input, double delay, uint8_t quality, uint32_t *sample);
+    uint8_t *target, uint32_t *crossfade_position, uint32_t crossfade_samples, uint8_t rule, uint8_t *direction,
+    float *ring, size_t ring_len, const float *sets, size_t sets_len, double max_rate, float input, double delay,
+    uint8_t quality, uint32_t *sample);
 uint8_t fugnadri_quality_process_rate_aware(size_t maximum, size_t margin, uint64_t *accepted, uint8_t *current,
-    uint8_t *target, uint32_t *crossfade_position, uint32_t crossfade_samples, float *ring, size_t ring_len,
-    const float *sets, size_t sets_len, double max_rate, float input, double delay, uint8_t quality,
-    double playback_rate, float *sample);
+    uint8_t *target, uint32_t *crossfade_position, uint32_t crossfade_samples, uint8_t rule, uint8_t *direction,
+    float *ring, size_t ring_len, const float *sets, size_t sets_len, double max_rate, float input, double delay,
+    uint8_t quality, double playback_rate, float *sample);
 uint8_t fugnadri_quality_process_rate_aware_bits(size_t maximum, size_t margin, uint64_t *accepted, uint8_t *current,
-    uint8_t *target, uint32_t *crossfade_position, uint32_t crossfade_samples, float *ring, size_t ring_len,
-    const float *sets, size_t sets_len, double max_rate, float input, double delay, uint8_t quality,
-    double playback_rate, uint32_t *sample);
+    uint8_t *target, uint32_t *crossfade_position, uint32_t crossfade_samples, uint8_t rule, uint8_t *direction,
+    float *ring, size_t ring_len, const float *sets, size_t sets_len, double max_rate, float input, double delay,
+    uint8_t quality, double playback_rate, uint32_t *sample);
 
-/* ---- libfugnadri_wav.a: RIFF WAVE files -----------------------------------------------------------------------------
+/* ---- libfugnadri_wav.a: WAV files -----------------------------------------------------------------------------------
  *
- * A file that lies in memory: `*start` and `*size` are the bytes of its first `data`, `*kind` is 0 for PCM of 16 bits,
- * 1 for PCM of 24, 2 for IEEE float of 32; `*channels` is 1 or 2. Refused by 9 to 13, and then all five are 0. */
+ * A RIFF WAVE file that lies in memory: `*start` and `*size` are the bytes of its first `data`, `*kind` is 0 for PCM of
+ * 16 bits, 1 for PCM of 24, 2 for IEEE float of 32; `*channels` is 1 or 2. Refused by 9 to 13, and then all five are
+ * 0. */
 uint8_t fugnadri_wav_read(const uint8_t *file, size_t file_len, uint8_t *kind, uint8_t *channels, uint32_t *rate,
     size_t *start, size_t *size);
 
@@ -303,6 +317,29 @@ uint8_t fugnadri_wav_read_wrapped(const uint8_t *file, size_t file_len, uint8_t 
  * and bits that stand there, and the size of its first `data`; zeros where there is none. It refuses nothing. */
 void fugnadri_wav_told(const uint8_t *file, size_t file_len, size_t *size, uint32_t *tag, uint32_t *channels,
     uint32_t *block, uint32_t *bits, size_t *samples);
+
+/* A file of any length, RIFF, RF64 or BW64, by its first bytes: `length` is the file's, in bytes, and of the bytes only
+ * those up to the first of `data` are looked at. Of a RIFF file that is wholly at hand the answer is that of the two
+ * calls above. Refused by 1 (more bytes than the file has), 2 (more of them are needed: `fugnadri_wav_needs` says how
+ * many; 0 where enough are at hand), 9, 18, 19, 10 to 13, in this order, and then all five are 0. */
+uint8_t fugnadri_wav_read_header(const uint8_t *prefix, size_t prefix_len, size_t length, uint8_t *kind,
+    uint8_t *channels, uint32_t *rate, size_t *start, size_t *size);
+uint8_t fugnadri_wav_read_header_wrapped(const uint8_t *prefix, size_t prefix_len, size_t length, uint8_t *kind,
+    uint8_t *channels, uint32_t *rate, size_t *start, size_t *size);
+size_t fugnadri_wav_needs(const uint8_t *prefix, size_t prefix_len, size_t length);
+
+/* The second of these readings by turns, where the header is too long to be held. `fugnadri_wav_begin` takes as many of
+ * the first bytes as it asks for (2, `fugnadri_wav_needs`): 12, of RF64 and BW64 48 and 12 for each entry of the table;
+ * more may be lent. It is refused by 1, 2, 9, 18, 19, or 10 of the RIFF, and then `*end` and `*left` are 0. While
+ * `*left` is 8 or more `fugnadri_wav_turn` takes the same bytes again and the file's 8 bytes from `end - *left` on, and
+ * carries the walk on: whether a chunk ran past the end, and place and size of the first `fmt ` and of the first
+ * `data`, five zeros before the first turn. It refuses nothing. `fugnadri_wav_finish` takes these five and the first 40
+ * bytes of `fmt `, or all of it where it is shorter; refused by 10 to 13, and then all five answers are 0. */
+uint8_t fugnadri_wav_begin(const uint8_t *opening, size_t opening_len, size_t length, size_t *end, size_t *left);
+void fugnadri_wav_turn(const uint8_t *opening, size_t opening_len, size_t end, const uint8_t *head, size_t head_len,
+    size_t *left, uint8_t *overruns, size_t *format, size_t *format_size, size_t *samples, size_t *samples_size);
+uint8_t fugnadri_wav_finish(uint8_t overruns, size_t format, size_t format_size, size_t samples, size_t samples_size,
+    const uint8_t *fmt, size_t fmt_len, uint8_t *kind, uint8_t *channels, uint32_t *rate, size_t *start, size_t *size);
 
 /* One channel, counted from 0, of a part: PCM as whole multiples of 2^-15 or 2^-23, float as it is stored. `out` has an
  * element for each frame. Refused by 1 (kind, channels, channel) or 2 (broken frames, or another number of them), and
@@ -360,29 +397,33 @@ uint8_t fugnadri_aiff_samples_f32(uint8_t kind, uint8_t channels, uint8_t channe
 uint8_t fugnadri_aiff_whole(uint8_t kind, uint8_t channels, uint8_t channel, const uint8_t *part, size_t part_len,
     int32_t *out, size_t out_len);
 
-/* ---- libfugnadri_wav_write.a: RIFF WAVE files written ---------------------------------------------------------------
+/* ---- libfugnadri_wav_write.a: WAV files written ---------------------------------------------------------------------
  *
- * `kind` is as above, the rate 8000 to 768000, the channels 1 or 2. Samples are those of all channels, frame by frame.
- * Each is rounded to nearest, ties to even: PCM to whole multiples of 2^-15 or 2^-23, float to 32 bits. One that is
- * NaN, or whose rounded value does not fit (PCM: -1 to just below 1; float: infinite), is refused by 15 and not
- * clipped. */
+ * A file is RIFF where its sizes fit 32 bits, and past that RF64 (`form` 0) or BW64 (`form` 1). `kind` is as above, the
+ * rate 8000 to 768000, the channels 1 or 2. Samples are those of all channels, frame by frame. Each is rounded to
+ * nearest, ties to even: PCM to whole multiples of 2^-15 or 2^-23, float to 32 bits. One that is NaN, or whose rounded
+ * value does not fit (PCM: -1 to just below 1; float: infinite), is refused by 15 and not clipped. */
 
-/* How long the file of `count` samples is, over all channels: 44 bytes of header for PCM, 58 for float, the samples,
- * and a pad byte behind an odd number of bytes. 0 where it is refused by 1 or 13 whatever the rate. */
+/* How long the file of `count` samples is, over all channels: 44 bytes of header for PCM, 58 for float, past RIFF 36
+ * more, the samples, and a pad byte behind an odd number of bytes. 0 where it is refused by 1, 19 or 13 whatever the
+ * rate. */
 size_t fugnadri_wav_file_length(uint8_t kind, uint8_t channels, size_t count);
 
-/* The file into `out`; `*written` is its length, and what stands behind it stays as it was. Refused by 1 (the rate,
- * broken frames, a file past 32 bits), 13 (the kind, the channels), 14 (`out` is shorter than the file) or 15, in this
- * order, and then nothing is written but 0 to `*written`. */
-uint8_t fugnadri_wav_write(uint8_t kind, uint8_t channels, uint32_t rate, const double *samples, size_t samples_len,
-    uint8_t *out, size_t out_len, size_t *written);
-uint8_t fugnadri_wav_write_f32(uint8_t kind, uint8_t channels, uint32_t rate, const float *samples, size_t samples_len,
-    uint8_t *out, size_t out_len, size_t *written);
+/* The file into `out`; `*written` is its length, and what stands behind it stays as it was. Refused by 1 (the form, the
+ * rate, broken frames), 19 (more than 2^40 bytes of samples), 13 (the kind, the channels), 14 (`out` is shorter than
+ * the file) or 15, in this order, and then nothing is written but 0 to `*written`. */
+uint8_t fugnadri_wav_write(uint8_t form, uint8_t kind, uint8_t channels, uint32_t rate, const double *samples,
+    size_t samples_len, uint8_t *out, size_t out_len, size_t *written);
+uint8_t fugnadri_wav_write_f32(uint8_t form, uint8_t kind, uint8_t channels, uint32_t rate, const float *samples,
+    size_t samples_len, uint8_t *out, size_t out_len, size_t *written);
 
-/* The same piece by piece: the bytes before `count` samples, into 44 or 58 bytes (refused by 1, 2 or 13), then block by
- * block the samples, into 2, 3 or 4 bytes each (refused by 2, 13 or 15; an unknown kind has no length that could be
- * wrong). A pad byte behind an odd number of bytes is the caller's. A refused call writes nothing. */
-uint8_t fugnadri_wav_header(uint8_t kind, uint8_t channels, uint32_t rate, size_t count, uint8_t *out, size_t out_len);
+/* The same piece by piece: the bytes before `count` samples (`fugnadri_wav_header_length` says how many they are, 0 for
+ * an unknown kind) into as many or more (refused by 1, 19, 13 or 14, as above), then block by block the samples, into
+ * 2, 3 or 4 bytes each (refused by 2, 13 or 15; an unknown kind has no length that could be wrong). A pad byte behind
+ * an odd number of bytes is the caller's. What stands behind a header stays; a refused call writes nothing. */
+size_t fugnadri_wav_header_length(uint8_t kind, size_t count);
+uint8_t fugnadri_wav_header(uint8_t form, uint8_t kind, uint8_t channels, uint32_t rate, size_t count, uint8_t *out,
+    size_t out_len);
 uint8_t fugnadri_wav_store(uint8_t kind, const double *samples, size_t samples_len, uint8_t *out, size_t out_len);
 uint8_t fugnadri_wav_store_f32(uint8_t kind, const float *samples, size_t samples_len, uint8_t *out, size_t out_len);
 

@@ -23,6 +23,7 @@ mod workloads {
     pub mod sinc;
     pub mod square_root;
     pub mod wav;
+    pub mod wav_headers;
     pub mod wav_store;
 }
 
@@ -30,7 +31,7 @@ use std::hint::black_box;
 use std::time::Instant;
 
 /// A file of workloads/ each, by name: making one may take seconds.
-const WORKLOADS: [(&str, fn() -> Workload); 56] = [
+const WORKLOADS: &[(&str, fn() -> Workload)] = &[
     ("narrow", workloads::narrow::workload),
     ("fused32", workloads::fused32::workload),
     ("fused64", workloads::fused64::workload),
@@ -57,6 +58,7 @@ const WORKLOADS: [(&str, fn() -> Workload); 56] = [
     ("quality_hq", workloads::quality::plain),
     ("quality_hq_two_sets", workloads::quality::blended),
     ("quality_mixed", workloads::quality::mixed),
+    ("quality_returning", workloads::quality::returning),
     ("wav_pcm16", workloads::wav::pcm16_f64),
     ("wav_pcm16_stereo", workloads::wav::pcm16_stereo),
     ("wav_pcm16_f32", workloads::wav::pcm16_f32),
@@ -75,11 +77,15 @@ const WORKLOADS: [(&str, fn() -> Workload); 56] = [
     ("aiff_pcm16", workloads::wav::aiff16_f64),
     ("aiff_pcm16_stereo", workloads::wav::aiff16_stereo),
     ("aiff_pcm16_f32", workloads::wav::aiff16_f32),
+    ("aiff_pcm16_f32_stereo", workloads::wav::aiff16_f32_stereo),
     ("aiff_pcm24", workloads::wav::aiff24_f64),
     ("aiff_pcm24_stereo", workloads::wav::aiff24_stereo),
     ("aiff_pcm24_f32", workloads::wav::aiff24_f32),
+    ("aiff_pcm24_f32_stereo", workloads::wav::aiff24_f32_stereo),
     ("aiff_whole16", workloads::wav::aiff_whole16),
+    ("aiff_whole16_stereo", workloads::wav::aiff_whole16_stereo),
     ("aiff_whole24", workloads::wav::aiff_whole24),
+    ("aiff_whole24_stereo", workloads::wav::aiff_whole24_stereo),
     ("residual", workloads::residual::workload),
     ("store_pcm16", workloads::wav_store::pcm16),
     ("store_pcm16_f32", workloads::wav_store::pcm16_f32),
@@ -87,6 +93,8 @@ const WORKLOADS: [(&str, fn() -> Workload); 56] = [
     ("store_pcm24_f32", workloads::wav_store::pcm24_f32),
     ("store_float", workloads::wav_store::float),
     ("store_float_f32", workloads::wav_store::float_f32),
+    ("header_read", workloads::wav_headers::reading),
+    ("header_written", workloads::wav_headers::writing),
 ];
 
 pub struct Workload {

@@ -54,13 +54,13 @@ static void quality(void)
     size_t length = fugnadri_bank_length(1);
     float sample, *sets = calloc(length, sizeof *sets);
     uint64_t accepted;
-    uint8_t current, target;
+    uint8_t current, target, rule, direction;
     uint32_t position;
     if (sets == NULL || fugnadri_bank_build(1, sets, length) != 0 ||
-        fugnadri_quality_open(100, 64, 0, 2, &accepted, &current, &target, &position, ring, 256) != 0)
+        fugnadri_quality_open(100, 64, 0, 2, &accepted, &current, &target, &position, &rule, &direction, ring, 256) != 0)
         exit(1);
     for (int n = 0; n < 4; n++) {
-        uint8_t number = fugnadri_quality_process(100, 64, &accepted, &current, &target, &position, 2, ring, 256, sets, length, 1, (float)(n + 1), 0.5, n > 0, &sample);
+        uint8_t number = fugnadri_quality_process(100, 64, &accepted, &current, &target, &position, 2, rule, &direction, ring, 256, sets, length, 1, (float)(n + 1), 0.5, n > 0, &sample);
         say("quality", n, number, 8, fugnadri_bits_of_f32(sample));
     }
     free(sets);

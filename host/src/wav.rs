@@ -1,16 +1,22 @@
-//! RIFF WAVE files that lie in memory: the part that holds samples, what they are, and each channel's samples; and files
-//! written.
+//! WAV files. RIFF WAVE files that lie in memory: the part that holds samples, what they are, and each channel's
+//! samples. Files of any length, RF64 and BW64 among them, by their headers. And files written.
 //!
 //! [`read`] takes PCM of 16 and 24 bits and IEEE float of 32, of one or two channels. [`read_wrapped`] takes besides
 //! what sox and ffmpeg wrap as WAVE_FORMAT_EXTENSIBLE (tag FFFE). Any other file is refused by 9 to 13; [`told`] says
 //! what it tells of itself.
 //!
+//! [`read_header`] takes a file's first bytes and its length, [`open`] a file that can be sought: RIFF, RF64 or BW64, with
+//! sizes up to 2^40 bytes.
+//!
 //! [`write`] makes a file of samples: rounded to nearest, ties to even, and refused where one does not fit. What is read
 //! back has the same kind, channels and rate, and the same stored samples.
+
+mod headers;
 
 use crate::{boundary as b, Refusal};
 
 pub use b::FormatTold as Told;
+pub use headers::{header, header_into, header_length, needs, open, read_header, read_header_wrapped, Form, Header};
 
 /// How a sample is stored.
 #[derive(Clone, Copy, Debug, Eq, Hash, PartialEq)]
@@ -52,10 +58,14 @@ pub fn told(file: &[u8]) -> Told {
     b::wav_told(file)
 }
 
+fn kind_of(code: u8) -> SampleKind {
+    [SampleKind::Pcm16, SampleKind::Pcm24, SampleKind::Float32][usize::from(code)]
+}
+
 fn found(file: &[u8], (number, w): (u8, b::WavePart)) -> Result<Wave<'_>, Refusal> {
     Refusal::of(number)?;
-    let kind = [SampleKind::Pcm16, SampleKind::Pcm24, SampleKind::Float32][usize::from(w.kind)];
-    Ok(Wave { kind, channels: w.channels, rate: w.rate, part: &file[w.start..w.start + w.length] })
+    let part = &file[w.start..w.start + w.length];
+    Ok(Wave { kind: kind_of(w.kind), channels: w.channels, rate: w.rate, part })
 }
 
 type Fill<T> = fn(u8, u8, u8, &[u8], &mut [T]) -> u8;
@@ -88,9 +98,9 @@ impl Wave<'_> {
     }
 }
 
-/// A file of samples, which are those of all channels, frame by frame. Refused by 1 (a rate outside 8000 to 768000, broken
-/// frames, a file past 32 bits), 13 (channels other than one or two) or 15 (a sample is NaN, or does not fit once it is
-/// rounded).
+/// A file of samples, which are those of all channels, frame by frame: RIFF, and where that does not hold it RF64. Refused
+/// by 1 (a rate outside 8000 to 768000, broken frames), 19 (more than 2^40 bytes of samples), 13 (channels other than one
+/// or two) or 15 (a sample is NaN, or does not fit once it is rounded).
 pub fn write(kind: SampleKind, channels: u8, rate: u32, samples: &[f64]) -> Result<Vec<u8>, Refusal> {
     let mut file = vec![0; file_length(kind, channels, samples.len())];
     write_into(kind, channels, rate, samples, &mut file).map(|_| file)
@@ -102,7 +112,7 @@ pub fn write_f32(kind: SampleKind, channels: u8, rate: u32, samples: &[f32]) -> 
     write_into_f32(kind, channels, rate, samples, &mut file).map(|_| file)
 }
 
-/// How long a file of `count` samples is, over all channels; 0 where it is refused by 1 or 13 whatever the rate.
+/// How long a file of `count` samples is, over all channels; 0 where it is refused by 1, 19 or 13 whatever the rate.
 pub fn file_length(kind: SampleKind, channels: u8, count: usize) -> usize {
     b::wav_file_length(kind as u8, channels, count)
 }
@@ -110,7 +120,7 @@ pub fn file_length(kind: SampleKind, channels: u8, count: usize) -> usize {
 /// [`write`] into a buffer: the file's length. What stands behind the file stays as it was. Refused besides by 14, a buffer
 /// that is shorter than the file; a refused call writes nothing.
 pub fn write_into(kind: SampleKind, channels: u8, rate: u32, samples: &[f64], out: &mut [u8]) -> Result<usize, Refusal> {
-    let (number, length) = b::wav_write(kind as u8, channels, rate, samples, out);
+    let (number, length) = b::wav_write(Form::Rf64 as u8, kind as u8, channels, rate, samples, out);
     Refusal::of(number).map(|()| length)
 }
 
@@ -122,6 +132,6 @@ pub fn write_into_f32(
     samples: &[f32],
     out: &mut [u8],
 ) -> Result<usize, Refusal> {
-    let (number, length) = b::wav_write_f32(kind as u8, channels, rate, samples, out);
+    let (number, length) = b::wav_write_f32(Form::Rf64 as u8, kind as u8, channels, rate, samples, out);
     Refusal::of(number).map(|()| length)
 }

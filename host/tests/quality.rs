@@ -1,7 +1,7 @@
 //! A change of quality: a reader that changes mixes what two readers that do not change answer, over exactly the fade's length.
 
 use fugnadri::QualityMode::{self, Draft, Hq, Normal};
-use fugnadri::{strict, QualityVariableDelayF32, SincBankF32};
+use fugnadri::{strict, QualityVariableDelayF32, Refusal, SincBankF32};
 use std::sync::Arc;
 
 /// A reader that changes beside one for each quality that does not, all fed alike.
@@ -13,9 +13,13 @@ struct Beside {
 
 impl Beside {
     fn new(bank: &Arc<SincBankF32>, fade: u32) -> Self {
-        let open = |quality, fade| QualityVariableDelayF32::new(100, 64, bank.clone(), quality, fade);
-        let plain = [Draft, Normal, Hq].map(|quality| (quality, open(quality, 0))).into();
-        Self { changing: open(Draft, fade), plain, fed: 0 }
+        Self::of(bank, QualityVariableDelayF32::new(100, 64, bank.clone(), Draft, fade))
+    }
+
+    fn of(bank: &Arc<SincBankF32>, changing: QualityVariableDelayF32) -> Self {
+        let open = |quality| QualityVariableDelayF32::new(100, 64, bank.clone(), quality, 0);
+        let plain = [Draft, Normal, Hq].map(|quality| (quality, open(quality))).into();
+        Self { changing, plain, fed: 0 }
     }
 
     /// One call in which `asked` is asked for: the answer is `to`, or that mixed with `from` by `mix`.
@@ -55,6 +59,39 @@ fn fades() {
     assert_eq!(r.changing.process_sample(f32::NAN, 30.0, Hq), 0.0);
     assert_eq!(r.changing.process_sample(1.0, -1.0, Hq), 0.0);
     r.call(Normal, Normal, Normal, None);
+}
+
+#[test]
+fn goes_back_without_a_jump() {
+    let bank = Arc::new(SincBankF32::for_max_rate(1.0));
+    let mut r = Beside::of(&bank, QualityVariableDelayF32::new_returning(100, 64, bank.clone(), Draft, 4));
+    let mix = |k: u8| Some(f32::from(k) / 4.0);
+    (0..80).for_each(|_| r.call(Draft, Draft, Draft, None));
+    // up, down again from where it stands, up again
+    (1..=3).for_each(|k| r.call(Normal, Draft, Normal, mix(k)));
+    r.call(Draft, Draft, Normal, mix(2));
+    assert_eq!(r.changing.process_sample(f32::NAN, 30.0, Normal), 0.0);
+    r.call(Draft, Draft, Normal, mix(1));
+    r.call(Normal, Draft, Normal, mix(2));
+    // a third quality waits for the end of the fade that runs, then starts
+    (3..=4).for_each(|k| r.call(Hq, Draft, Normal, mix(k)));
+    (1..=2).for_each(|k| r.call(Hq, Normal, Hq, mix(k)));
+    // back to the end: the current quality alone
+    r.call(Normal, Normal, Hq, mix(1));
+    (0..2).for_each(|_| r.call(Normal, Normal, Normal, None));
+    // a reset makes the target current
+    r.call(Hq, Normal, Hq, mix(1));
+    r.changing.reset();
+    r.plain.iter_mut().for_each(|(_, reader)| reader.reset());
+    (0..60).for_each(|_| r.call(Hq, Hq, Hq, None));
+    let opened = strict::QualityVariableDelayF32::new_returning(
+        100,
+        64,
+        Arc::new(strict::SincBankF32::for_max_rate(1.0).unwrap()),
+        Hq,
+        16_777_217,
+    );
+    assert!(matches!(opened, Err(Refusal::Setting)));
 }
 
 #[test]

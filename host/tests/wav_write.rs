@@ -1,7 +1,7 @@
 //! Files written: read back, at the ends of the ranges, at ties, in buffers of other lengths, each refusal, and the stored
-//! list of files to be written.
+//! list of files and headers to be written.
 
-use fugnadri::wav::{self, SampleKind};
+use fugnadri::wav::{self, Form, SampleKind};
 use fugnadri::Refusal;
 use std::{fs, path::Path};
 
@@ -121,9 +121,11 @@ fn settings_and_kinds() {
         assert_eq!(write(channels, 8000, &[f64::NAN; 3]), Err(Refusal::Kind));
         assert_eq!(wav::file_length(SampleKind::Pcm16, channels, 3), 0);
     }
-    // the last count that 32 bits hold
+    // the last count that 32 bits hold, and the last of all
     assert_eq!(wav::file_length(SampleKind::Pcm16, 1, 2_147_483_629), 4_294_967_302);
-    assert_eq!(wav::file_length(SampleKind::Pcm16, 1, 2_147_483_630), 0);
+    assert_eq!(wav::file_length(SampleKind::Pcm16, 1, 2_147_483_630), 4_294_967_340);
+    assert_eq!(wav::file_length(SampleKind::Pcm16, 1, 1 << 39), (1 << 40) + 80);
+    assert_eq!(wav::file_length(SampleKind::Pcm16, 1, (1 << 39) + 1), 0);
     assert_eq!(wav::file_length(SampleKind::Float32, 2, usize::MAX), 0);
 }
 
@@ -146,7 +148,15 @@ fn files_to_be_written() {
         let words: Vec<u64> = call.split_whitespace().map(|word| u64::from_str_radix(word, 16).unwrap()).collect();
         let (kind, channels, rate) = (KINDS[words[0] as usize], words[1] as u8, words[2] as u32);
         let mut out = vec![0xA5; words[3] as usize];
-        let samples = &words[6..];
+        let (samples, count) = (&words[6..], words[5] as usize);
+        if words[4] > 1 {
+            let form = [Form::Rf64, Form::Bw64][words[4] as usize - 2];
+            let done = wav::header_into(form, kind, channels, rate, count, &mut out);
+            let (number, length) = (done.map_or_else(|no| no.number(), |_| 0), wav::header_length(kind, count));
+            assert!(done.map_or(true, |n| n == length));
+            assert_eq!(said(number, length, wav::file_length(kind, channels, count), &out), answer, "call {k}");
+            continue;
+        }
         let done = if words[4] == 1 {
             let samples: Vec<f32> = samples.iter().map(|word| f32::from_bits(*word as u32)).collect();
             wav::write_into_f32(kind, channels, rate, &samples, &mut out)
@@ -155,8 +165,11 @@ fn files_to_be_written() {
             wav::write_into(kind, channels, rate, &samples, &mut out)
         };
         let (number, length) = done.map_or_else(|refusal| (refusal.number(), 0), |length| (0, length));
-        let told = wav::file_length(kind, channels, samples.len());
-        let bytes: String = out.iter().map(|byte| format!("{byte:02x}")).collect();
-        assert_eq!(format!("{number} {length} {told} {bytes}"), answer, "call {k}");
+        assert_eq!(said(number, length, wav::file_length(kind, channels, count), &out), answer, "call {k}");
     }
+}
+
+fn said(number: u8, length: usize, told: usize, out: &[u8]) -> String {
+    let bytes: String = out.iter().map(|byte| format!("{byte:02x}")).collect();
+    format!("{number} {length} {told} {bytes}")
 }

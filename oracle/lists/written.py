@@ -1,18 +1,19 @@
 #!/usr/bin/env python3
-"""Writes the stored list of files to be written: the samples, and what Wish 2 of document 02 says of each call
-(riff_written.py).
+"""Writes the stored list of files and headers to be written, and what Wishes 2 and 10 of document 02 say of each call
+(riff_written.py, rf64_written.py).
 
   oracle/lists/written.py            writes crates/replay_written/stdin and stdout, and says what is in them
   oracle/lists/written.py --check    writes nothing; fails, by exit status 1 and one line, where the two are not what it
                                      would write
   oracle/lists/written.py --help     this text
 
-A line of stdin is a call: the kind's code, channels, rate, the buffer's length, whether the samples are f32s (0 or 1),
-their number, then each sample's pattern, all in sixteen hex digits with a blank behind them. Its line of stdout has
-the refusal's number, 0 for none, the file's length, 0 where it is refused, the length that is told beforehand, and the
-buffer's bytes, A5 before the call.
+A line of stdin is a call: the kind's code, channels, rate, the buffer's length, what is written (0 a file of f64s, 1 one
+of f32s, 2 the header of an RF64 file, 3 of a BW64 file), the number of samples, then of a file each sample's pattern, all
+in sixteen hex digits with a blank behind them. Its line of stdout has the refusal's number, 0 for none, the file's
+length, 0 where it is refused, or the header's, the file's length that is told beforehand, and the buffer's bytes, A5
+before the call.
 
-It says how many lines each of the wrong writings of riff_written.py would change, and fails where one changes none.
+It says how many lines each of the wrong writings of the two models would change, and fails where one changes none.
 
 Needs Python 3.8 or newer and nothing else. The inputs come from a generator of its own with the seed below, so every
 run writes the same bytes.
@@ -28,6 +29,8 @@ from fractions import Fraction
 
 from exact import F32, F64
 from hostile import Draws, beside, nans
+from rf64_written import FORMS, Heading
+from rf64_written import WRONG as WRONG_HEADINGS
 from riff_written import FLOAT32, WRONG, Writing
 
 SEED = 0xD1B54A32D192ED03
@@ -98,35 +101,65 @@ def calls(d):
                     yield "settings", kind, channels, rate, d.of((0, right(kind, some), 200)), f, some
 
 
+def headings(d):
+    """The same of headers, a form instead of a format and a number instead of the samples."""
+    right = Heading().length
+    for kind in range(3):
+        lasts = [n for n in (2 ** 32 // (kind + 2) - k for k in range(40)) if Heading().fits(kind, n)][:2]
+        tops = 2 ** 40 // (kind + 2)
+        counts = [0, 1, 3, 100, *(n + k for n in lasts for k in (0, 1, 2)), 2 ** 31, 2 ** 32 - 1, 2 ** 32, tops - 1,
+                  tops, tops + 1, tops + 2, 2 ** 62, 2 ** 63, 2 ** 64 - 2, 2 ** 64 - 1]
+        for count in dict.fromkeys(counts):
+            for form in FORMS:
+                for channels in (1, 2):
+                    for room in (right(kind, count), right(kind, count) - 1, right(kind, count) + d.between(1, 40)):
+                        yield "a header", kind, channels, d.of((8000, 44100, 768000)), room, form, count
+            for channels, rate in ((0, 8000), (3, 48000), (1, 7999), (2, 768001), (3, 0)):
+                yield "a header's settings", kind, channels, rate, d.of((0, 43, 200)), d.of(FORMS), count
+
+
 def text(call):
     _, kind, channels, rate, room, f, samples = call
-    return "".join("%016X " % n for n in (kind, channels, rate, room, f is F32, len(samples), *samples)) + "\n"
+    what = 2 + FORMS.index(f) if f in FORMS else f is F32
+    words = (samples,) if f in FORMS else (len(samples), *samples)
+    return "".join("%016X " % n for n in (kind, channels, rate, room, what, *words)) + "\n"
 
 
 def answer(writing, call):
     _, kind, channels, rate, room, f, samples = call
-    number, length, buffer = writing.write(kind, channels, rate, room, f, samples, b"\xA5" * room)
+    if f in FORMS:
+        number, length, buffer = writing.write(f, kind, channels, rate, room, samples, b"\xA5" * room)
+    else:
+        number, length, buffer = writing.write(kind, channels, rate, room, f, samples, b"\xA5" * room)
     return "%d %d %d %s\n" % (number, length, writing.told(kind, channels, samples), buffer[:room].hex())
 
 
+def right(call):
+    return answer(Heading() if call[5] in FORMS else Writing(), call)
+
+
 def summary(made, answers):
-    yield "seed %016X, %d calls, %d samples" % (SEED, len(made), sum(len(call[6]) for call in made))
+    files = [call for call in made if call[5] not in FORMS]
+    yield "seed %016X, %d files, %d samples, %d headers" % (
+        SEED, len(files), sum(len(call[6]) for call in files), len(made) - len(files))
     refusals = Counter(int(said.split()[0]) for said in answers)
     yield "refusals      " + ", ".join("%d: %d" % pair for pair in sorted(refusals.items()))
     yield "made as       " + ", ".join("%s %d" % pair for pair in Counter(call[0] for call in made).items())
-    for name, wrong in WRONG:
-        told = sum(answer(wrong(), call) != said for call, said in zip(made, answers))
-        assert told, "no line tells: " + name
-        yield "%5d calls tell: %s" % (told, name)
+    for ours, wrongs in ((False, WRONG), (True, WRONG_HEADINGS)):
+        for name, wrong in wrongs:
+            told = sum((call[5] in FORMS) == ours and answer(wrong(), call) != said
+                       for call, said in zip(made, answers))
+            assert told, "no line tells: " + name
+            yield "%5d %s tell: %s" % (told, "headers" if ours else "files", name)
 
 
 def main(arguments):
     if arguments not in ([], ["--check"]):
         print(__doc__.strip())
         return 0 if arguments in (["--help"], ["-h"]) else 2
-    made = list({text(call): call for call in calls(Draws(SEED))}.values())
-    assert all(len(call[6]) <= MOST and call[4] <= ROOM for call in made)
-    answers = [answer(Writing(), call) for call in made]
+    made = list({text(call): call for all in (calls, headings) for call in all(Draws(SEED))}.values())
+    assert all((call[5] in FORMS or len(call[6]) <= MOST) and call[4] <= ROOM for call in made)
+    answers = [right(call) for call in made]
     content = {"stdin": "".join(map(text, made)), "stdout": "".join(answers)}
     for name, wanted in content.items():
         path = os.path.join(ROOT, name)

@@ -6,6 +6,7 @@ import os
 import random
 import tempfile
 
+import other_layouts
 import pages
 import rightly
 import trial
@@ -29,6 +30,10 @@ def main():
         rightly.others(dice)
         rightly.imitations(dice)
         rightly.residuals(dice)
+        other_layouts.aiffs(dice)
+        other_layouts.longs(dice)
+        other_layouts.other_programs(dice)
+        other_layouts.past_four_gigabytes(dice)
         wrongly.refusals(dice, rightly.rendered)
         os.chdir(trial.ROOT)
     pages.pages()

@@ -97,6 +97,7 @@ def residuals(dice):
         told = report(sides[0], sides[0]).encode()
         check("residual, no difference", run("residual", "first.wav", "first.wav"), (0, told, ""))
         pictures(sides)
+    odd_names()
 
 
 def pictures(sides):
@@ -113,3 +114,23 @@ def pictures(sides):
         check("residual, with a picture", told, (0, report(*sides, **given).encode(), ""))
         check("picture", pictured.shown(load("picture.svg")), pictured.due(*sides, **given))
         os.remove("picture.svg")
+
+
+def odd_names():
+    """A picture is well-formed XML whatever bytes the files' names have."""
+    content = wav("pcm16", 1, 48000, b"\0\1" * 100)
+    for name, seen in (
+        (b"caf\xc3\xa9.wav", "caf\u00e9.wav"),
+        (b"caf\xe9.wav", "caf?.wav"),
+        (b"a&<b>\x01.wav", "a&<b>?.wav"),
+        (b"half \xed\xa0\x80.wav", "half ???.wav"),
+        (b"none \xef\xbf\xbe.wav", "none ???.wav"),
+        (b"long \xf0\x9f\x8e\xb5.wav", "long \U0001f3b5.wav"),
+        (b"over \xc0\xaf.wav", "over ??.wav"),
+    ):
+        save(name, content)
+        got, _, said = run("residual", os.fsdecode(name), os.fsdecode(name), "picture=picture.svg")
+        title, _ = pictured.shown(load("picture.svg"))
+        check("picture, an odd name", (got, said, title), (0, "", f"How far {seen} and {seen} differ"))
+        os.remove("picture.svg")
+        os.remove(name)

@@ -5,6 +5,7 @@ import resource
 import signal
 import struct
 
+import other_files
 from trial import check, held, load, run, save
 from wave_files import chunk, fields, riff, stored, wav
 
@@ -32,6 +33,20 @@ def make_files():
     save("three.wav", riff(chunk(b"fmt ", fields(1, 3, 48000, 16)), chunk(b"data", b"\0" * 18)))
     save("deep.wav", riff(chunk(b"fmt ", fields(1, 1, 48000, 32)), chunk(b"data", b"\0" * 16)))
     save("law.wav", riff(chunk(b"fmt ", fields(6, 1, 8000, 8)), chunk(b"data", b"\0" * 16)))
+    save("boxed.wav", riff(chunk(b"fmt ", fields(65534, 1, 48000, 8)), chunk(b"data", b"\0" * 16)))
+    comm = other_files.comm(1, 5, 16, other_files.extended(48000))
+    ssnd = other_files.piece(b"SSND", b"\0" * 18)
+    slow = other_files.comm(1, 5, 16, other_files.extended(7999))
+    save("carried.aifc", other_files.form(comm, ssnd, kind=b"AIFC"))
+    save("cut.aiff", other_files.form(comm, ssnd)[:-1])
+    save("mute.aiff", other_files.form(comm))
+    save("eight.aiff", other_files.form(other_files.comm(1, 5, 8, other_files.extended(48000)), ssnd))
+    save("slow.aiff", other_files.form(slow, ssnd))
+    save("bare.rf64", b"RF64" + riff(PCM, chunk(b"data", b"\0\0"))[4:])
+    save("huge.rf64", other_files.long_head(b"RF64", "pcm16", 1, 48000, 2**40 + 2))
+    table = (b"axml" + b"\0" * 8) * 338
+    save("table.rf64", other_files.long_head(b"RF64", "pcm16", 1, 48000, 2, table=table) + b"\0\0")
+    save("cut.bw64", other_files.long_head(b"BW64", "pcm16", 1, 48000, 2**33) + b"\0" * 100)
     save("taken.wav", b"kept")
     save("half.wav.part", b"kept")
     return (
@@ -44,10 +59,20 @@ def make_files():
         ("cut.wav", "is refused by 10: .*copy it again.*"),
         ("bare.wav", "is refused by 11: .*save it anew.*"),
         ("mute.wav", "is refused by 12: .*save it anew.*"),
-        ("eight.wav", "is refused by 13: .*8 bits.*sox eight\\.wav .*"),
-        ("three.wav", "is refused by 13: .*3 channels.*sox three\\.wav .*-c 2.*"),
-        ("deep.wav", "is refused by 13: .*32 bits.*sox deep\\.wav .*"),
-        ("law.wav", "is refused by 13: .*tag 6.*sox law\\.wav .*"),
+        ("eight.wav", "is refused by 13: tag 1, 8 bits.*: sox -D eight\\.wav -t wavpcm -b 24 OUT\\.wav"),
+        ("three.wav", "is refused by 13: .*3 channels.*: sox -D three\\.wav -t wavpcm -b 24 OUT\\.wav remix 1 2"),
+        ("deep.wav", "is refused by 13: .*32 bits, 1 channel, 4 bytes a frame: .*sox -D deep\\.wav .*"),
+        ("law.wav", "is refused by 13: tag 6, .*sox -D law\\.wav .*"),
+        ("boxed.wav", "is refused by 13: a wrapped kind \\(tag 65534\\), 8 bits, .*"),
+        ("carried.aifc", "is refused by 20: .*"),
+        ("cut.aiff", "is refused by 10: .*copy it again.*"),
+        ("mute.aiff", "is refused by 21: .*"),
+        ("eight.aiff", "is refused by 13: .*8 bits.*sox .*eight\\.aiff .*"),
+        ("slow.aiff", "is refused by 22: .*"),
+        ("bare.rf64", "is refused by 18: .*"),
+        ("huge.rf64", "is refused by 19: .*"),
+        ("table.rf64", "is refused by 2: .*"),
+        ("cut.bw64", "is refused by 10: .*copy it again.*"),
     )
 
 
@@ -70,6 +95,9 @@ def every_wrong_file(files):
 
 def other_refusals():
     taken = r"exists already: remove it or choose another name"
+    for command in ("look", "plain", "imitate", "residual"):
+        others = {"look": ()}.get(command, ("out.wav",))
+        one_line(1, (command, "", *others), r"'': No such file or directory")
     one_line(1, ("plain", "slow.wav", "out.wav"), r"slow\.wav is refused by 1: its rate is 4000 Hz.*8000 to 768000.*")
     one_line(1, ("plain", "nan.wav", "out.wav"), r"nan\.wav is refused by 15: frame 6 of channel 2 .*")
     one_line(1, ("imitate", "nan.wav", "out.wav"), r"nan\.wav is refused by 4: frame 6 of channel 2 .*")
@@ -80,7 +108,7 @@ def other_refusals():
         one_line(1, (command, "good.wav", "folder"), rf"folder {taken}")
         one_line(1, (command, "good.wav", "half.wav"), r"half\.wav\.part exists already: .*remove it.*")
         one_line(1, (command, "good.wav", "nowhere/out.wav"), r"nowhere/out\.wav: No such file or directory")
-    one_line(1, ("imitate", "good.wav", "out.wav", "delay=3"), r"with these .* from \d+ to \d+ samples")
+    one_line(1, ("imitate", "good.wav", "out.wav", "delay=3"), r"with these settings delay= can be from \d+ to \d+ samples")
     one_line(1, ("imitate", "good.wav", "out.wav", "wow_depth_cents=1201"), r"wow_depth_cents is from .*")
     one_line(1, ("residual", "good.wav", "good.wav", "channel=2"), r"good\.wav has one channel only")
     one_line(1, ("residual", "good.wav", "quick.wav"), r"good\.wav has 48000 and quick\.wav has 44100 Hz: .*")
@@ -90,6 +118,22 @@ def other_refusals():
     one_line(1, (*picture, "picture=good.wav"), rf"good\.wav {taken}")
     one_line(1, (*picture, "picture=half.wav"), r"half\.wav\.part exists already: .*remove it.*")
     one_line(1, (*picture, "picture=nowhere/a.svg"), r"nowhere/a\.svg: No such file or directory")
+
+
+def usage(words):
+    """A call that names too few files or too many: its usage in one line."""
+    got, out, said = run(*words)
+    right = bool(re.fullmatch(rf"usage: \./run {words[0]} .*\n", said))
+    check(f"refused: {words}", (got, out, right), (2, b"", True))
+
+
+def help_asked():
+    """--help and -h: the usage, on standard output, and all is well."""
+    for command in ("look", "plain", "imitate", "residual"):
+        for word in ("--help", "-h"):
+            got, out, said = run(command, word)
+            right = bool(re.fullmatch(rf"usage: \./run {command} .*\n", out.decode()))
+            check(f"help: {command} {word}", (got, right, said), (0, True, ""))
 
 
 def wrong_words():
@@ -107,11 +151,9 @@ def wrong_words():
     one_line(2, ("residual", "good.wav", "good.wav", "picture="), r"picture= will not do: .*")
     one_line(2, ("imitate", "good.wav", "out.wav", "picture=a.svg"), r"picture=a\.svg is a setting of another .*")
     for words in (("look",), ("plain",), ("plain", "good.wav"), ("plain", "good.wav", "out.wav", "more.wav")):
-        told = run(*words)
-        check(f"refused: {words}", (told[0], told[1], told[2][:7]), (2, b"", "usage: "))
-    for words in (("imitate",), ("residual", "good.wav")):
-        told = run(*words)
-        check(f"refused: {words}", (told[0], told[1], told[2][:7]), (2, b"", "usage: "))
+        usage(words)
+    for words in (("imitate",), ("residual", "good.wav"), ("imitate", "good.wav", "out.wav", "more.wav")):
+        usage(words)
     for words in ((), ("louk", "good.wav"), ("registrar", "good.wav"), ("trace", "good.wav")):
         told = run(*words)
         check(f"refused: {words}", (told[0], told[1], told[2] != ""), (2, b"", True))
@@ -156,6 +198,7 @@ def refusals(dice, rendered):
     every_wrong_file(files)
     other_refusals()
     wrong_words()
+    help_asked()
     full_disks()
     check("refused: all files as they were", held(), before)
     one_wrong_among_good()

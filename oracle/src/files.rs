@@ -1,7 +1,7 @@
 //! `files tone FOLDER` writes a tone for every kind, number of channels and rate; `files write FOLDER` writes it as WAV
-//! by the static libraries; `files compare FOLDER` reads the WAV and AIFF files that oracle/files had made of it, compares
-//! what the static libraries and what each program read with the tone, and so what each program read from the files
-//! written here.
+//! by the static libraries; `files compare FOLDER` reads the WAV, RF64 and AIFF files that oracle/files had made of it,
+//! compares what the static libraries and what each program read with the tone, and so what each program read from the
+//! files written here.
 // The emulator that runs this on Arm cannot open what Rust's own `main` opens.
 #![no_main]
 
@@ -73,7 +73,7 @@ fn write_files(folder: &Path) -> Result<()> {
     for (name, kind, channels, rate) in each() {
         let samples = written(kind, channels, rate);
         let mut file = vec![0; b::wav_file_length(kind as u8, channels as u8, samples.len())];
-        let (number, length) = b::wav_write(kind as u8, channels as u8, rate, &samples, &mut file);
+        let (number, length) = b::wav_write(0, kind as u8, channels as u8, rate, &samples, &mut file);
         assert_eq!((number, length), (0, file.len()), "{name}");
         fs::write(folder.join(format!("ours-{name}.wav")), file)?;
     }
@@ -86,6 +86,9 @@ struct Seen {
     plain: usize,
     wrapped: usize,
     samples: usize,
+    /// Of the RF64 files.
+    long: usize,
+    listened: usize,
     /// Of the AIFF files.
     sounds: usize,
     counted: usize,
@@ -155,6 +158,46 @@ fn compared(file: &[u8], theirs: &[u8], high_first: bool, of: (usize, u32, u32),
     None
 }
 
+/// What is wrong with an RF64 file, if something is: its header is read apart from the samples, at once and by turns.
+fn long(file: &[u8], of: (usize, u32, u32), seen: &mut Seen) -> Option<String> {
+    let (kind, channels, rate) = of;
+    if !file.starts_with(b"RF64") {
+        return Some("it is not RF64".into());
+    }
+    let (mut first, mut asked) = (0, b::wav_needs(&[], file.len()));
+    while asked > first {
+        (first, asked) = (asked, b::wav_needs(&file[..asked], file.len()));
+    }
+    let (number, w) = b::wav_read_header_wrapped(&file[..first], file.len());
+    if number != 0 {
+        return Some(format!("refused by {number}"));
+    }
+    if (usize::from(w.kind), u32::from(w.channels), w.rate, w.start) != (kind, channels, rate, first) {
+        return Some(format!("{w:?} for kind {kind}, {channels} channels, rate {rate}, start {first}"));
+    }
+    let (_, end, mut walk) = b::wav_begin(&file[..first], file.len());
+    while walk.left >= 8 {
+        let at = end - walk.left;
+        b::wav_turn(&file[..first], end, &file[at..at + 8], &mut walk);
+    }
+    let fmt = &file[walk.format..walk.format + walk.format_size.min(40)];
+    if b::wav_finish(&walk, fmt) != (0, w) {
+        return Some("by turns it is read otherwise".into());
+    }
+    let bits = KINDS[kind].1;
+    let meant: Vec<u64> = tone(bits, channels, rate).into_iter().map(|n| value(bits, n).to_bits()).collect();
+    for c in 0..w.channels {
+        let (ours, agree) = channel(&w, &file[w.start..w.start + w.length], c);
+        let meant = meant.iter().skip(c.into()).step_by(w.channels.into());
+        if !agree || !ours.iter().map(|x| x.to_bits()).eq(meant.copied()) {
+            return Some(format!("channel {c} is read as another tone"));
+        }
+        seen.listened += ours.len();
+    }
+    seen.long += 1;
+    None
+}
+
 /// What is wrong with an AIFF file, if something is.
 fn sound(file: &[u8], of: (usize, u32, u32), seen: &mut Seen) -> Option<String> {
     let (kind, channels, rate) = of;
@@ -192,7 +235,7 @@ fn compare(folder: &Path) -> Result<i32> {
     let known: BTreeMap<String, (usize, u32, u32)> =
         each().map(|(name, kind, c, rate)| (name, (kind, c, rate))).collect();
     let lines = |name: &str| fs::read_to_string(folder.join(name));
-    let (list, sounds, opened) = (lines("list")?, lines("sounds")?, lines("opened")?);
+    let (list, longs, sounds, opened) = (lines("list")?, lines("long")?, lines("sounds")?, lines("opened")?);
     let pair = |line: &str| {
         let (program, name) = line.split_once(' ').expect("a program and a tone");
         (program.to_string(), name.to_string())
@@ -204,6 +247,14 @@ fn compare(folder: &Path) -> Result<i32> {
         let high_first = program == "sndfile-convert";
         if let Some(what) = compared(&read("wav")?, &read("theirs")?, high_first, known[&name], seen) {
             println!("{program} {name}: {what}");
+            seen.wrong += 1;
+        }
+    }
+    for (program, name) in longs.lines().map(pair) {
+        let file = fs::read(folder.join(format!("{program}-{name}.rf64")))?;
+        let seen = programs.entry(program.clone()).or_default();
+        if let Some(what) = long(&file, known[&name], seen) {
+            println!("{program} {name}.rf64: {what}");
             seen.wrong += 1;
         }
     }
@@ -230,6 +281,7 @@ fn compare(folder: &Path) -> Result<i32> {
     }
     for (program, s) in &programs {
         println!("{program:<16} {:>3} plain, {:>3} wrapped, {:>7} samples", s.plain, s.wrapped, s.samples);
+        println!("{:<16} {:>3} RF64, {:>7} samples", "", s.long, s.listened);
         println!("{:<16} {:>3} AIFF, {:>7} samples", "", s.sounds, s.counted);
         println!("{:<16} {:>3} written here, {:>7} samples; {} files differ", "", s.opened, s.heard, s.wrong);
     }

@@ -12,6 +12,8 @@ mod hostile {
     pub mod aiff_files;
     pub mod bank;
     pub mod draw;
+    pub mod header_files;
+    pub mod headers;
     pub mod memory;
     pub mod numbers;
     pub mod on_purpose;
@@ -32,7 +34,7 @@ mod hostile {
     pub mod wav_write;
 }
 
-use hostile::{aiff, bank, numbers, on_purpose, outside, pool::Memory, readers, residual, tables, tally::Tally, told, turn::Turn, wander, watch, wav, wav_write};
+use hostile::{aiff, bank, headers, numbers, on_purpose, outside, pool::Memory, readers, residual, tables, tally::Tally, told, turn::Turn, wander, watch, wav, wav_write};
 use std::time::{Duration, Instant};
 
 /// An export, and one hostile call of it, which gives the number that it answered: 0 for none, and where there is none.
@@ -40,7 +42,7 @@ pub type Export = (&'static str, fn(&mut Turn) -> u8);
 
 fn exports() -> Vec<Export> {
     let readers = [wander::EXPORTS, readers::EXPORTS, tables::EXPORTS, bank::EXPORTS, told::EXPORTS].concat();
-    let files = [wav::EXPORTS, aiff::EXPORTS, residual::EXPORTS, wav_write::EXPORTS].concat();
+    let files = [wav::EXPORTS, headers::EXPORTS, aiff::EXPORTS, residual::EXPORTS, wav_write::EXPORTS].concat();
     [numbers::EXPORTS, outside::EXPORTS, &readers, &files].concat()
 }
 

@@ -33,6 +33,7 @@ mod subjects {
     pub mod patterns;
     pub mod quality;
     pub mod readers;
+    pub mod returning;
     pub mod sinc;
     pub mod slices;
     pub mod square_root;
@@ -61,6 +62,7 @@ const SUBJECTS: [fn(&mut Context); 17] = [
     subjects::sinc::run,
     subjects::bank::run,
     subjects::quality::run,
+    subjects::returning::run,
     subjects::oscillators::run,
     subjects::modulation::run,
 ];

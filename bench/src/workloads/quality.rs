@@ -1,5 +1,5 @@
-//! The reader whose quality may change, one call a sample, over a bank of two sets: one set's table, two sets blended, and mixed calls of a fade. A ring of 1024,
-//! samples from -1 to 1, delays of 200 to 400 samples that wander.
+//! The reader whose quality may change, one call a sample, over a bank of two sets: one set's table, two sets blended, and mixed calls of a fade by either rule. A ring
+//! of 1024, samples from -1 to 1, delays of 200 to 400 samples that wander.
 
 use crate::random::Random;
 use crate::Workload;
@@ -12,6 +12,24 @@ const MODES: [QualityMode; 4] = [QualityMode::Draft, QualityMode::Normal, Qualit
 
 /// Calls ask for the qualities in turn. Two that are not the one opened with make a fade that never ends: each call starts it again.
 fn workload(opened: u8, asked: &'static [u8], rate: f64, fade: u32) -> Workload {
+    by(false, opened, asked, rate, fade)
+}
+
+/// The second rule (W9) in 000's reader: what its own step is handed where a fade runs.
+fn handed(reader: &mut QualityVariableDelayF32, back: &mut bool, asked: QualityMode) -> QualityMode {
+    if reader.current_quality == reader.target_quality {
+        return asked;
+    }
+    *back = asked != reader.target_quality && (asked == reader.current_quality || *back);
+    if *back && reader.crossfade_position > 1 {
+        reader.crossfade_position -= 2;
+    } else if *back {
+        (reader.target_quality, reader.crossfade_position, *back) = (reader.current_quality, reader.crossfade_samples, false);
+    }
+    reader.target_quality
+}
+
+fn by(returning: bool, opened: u8, asked: &'static [u8], rate: f64, fade: u32) -> Workload {
     let mut random = Random::new(1);
     let inputs: Vec<(f32, f64)> = (0..20000)
         .map(|i| ((random.unit() * 2.0 - 1.0) as f32, 200.0 + (i % 777) as f64 * 0.25 + random.unit() * 3.0))
@@ -28,14 +46,20 @@ fn workload(opened: u8, asked: &'static [u8], rate: f64, fade: u32) -> Workload 
         target: 0,
         crossfade_position: 0,
         crossfade_samples: fade,
+        rule: 0,
+        direction: 0,
         ring: vec![0.0; 1024],
     };
-    assert_eq!(ours.open(opened), 0);
+    assert_eq!(if returning { ours.open_returning(opened) } else { ours.open(opened) }, 0);
+    let mut back = false;
     Workload {
         answers: inputs.len(),
         rust: Box::new(move |answers| {
             for (i, (to, (input, delay))) in answers.iter_mut().zip(&inputs).enumerate() {
-                let quality = MODES[asked[i % asked.len()] as usize];
+                let mut quality = MODES[asked[i % asked.len()] as usize];
+                if returning {
+                    quality = handed(&mut theirs, &mut back, quality);
+                }
                 *to = theirs.process_sample_rate_aware(*input, *delay, quality, rate).to_bits() as u64;
             }
         }),
@@ -64,4 +88,18 @@ pub fn blended() -> Workload {
 /// From Hq to Normal and to Ultra in turn: every call is mixed.
 pub fn mixed() -> Workload {
     workload(2, &[1, 3], 1.0, 960)
+}
+
+/// From Hq half-way to Normal and back again by the second rule: all calls but one in 960 are mixed.
+pub fn returning() -> Workload {
+    const ASKED: [u8; 960] = {
+        let mut asked = [1; 960];
+        let mut i = 480;
+        while i < 960 {
+            asked[i] = 2;
+            i += 1;
+        }
+        asked
+    };
+    by(true, 2, &ASKED, 1.0, 960)
 }

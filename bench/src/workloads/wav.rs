@@ -1,5 +1,5 @@
-//! One channel's samples of a WAVE file's part, or of an AIFF's, an answer being a sample. The Rust is a loop over the frames whose
-//! bytes are a constant, which a compiler takes several samples at a time. No float is a NaN: the Rust hands a NaN's
+//! One channel's samples of a WAVE file's part, or of an AIFF's, an answer being a sample. The Rust is a loop over the
+//! frames whose bytes are a constant, which a compiler takes several samples at a time. No float is a NaN: the Rust hands a NaN's
 //! pattern on, the port the one NaN; beside that stands a Rust that tests each float and hands out the one NaN too.
 //! Floats are below 2 in size, as sound is; those of the workloads `…_any` and `…_one_nan` are of any size.
 
@@ -101,8 +101,12 @@ fn high24(bytes: &[u8]) -> i32 {
 fill!(aiff16_f64, f64, aiff_samples, 0, 2, 1, ANY, |b| high16(b) as f64 * TO_15);
 fill!(aiff16_stereo, f64, aiff_samples, 0, 2, 2, ANY, |b| high16(b) as f64 * TO_15);
 fill!(aiff16_f32, f32, aiff_samples_f32, 0, 2, 1, ANY, |b| high16(b) as f32 * TO_15 as f32);
+fill!(aiff16_f32_stereo, f32, aiff_samples_f32, 0, 2, 2, ANY, |b| high16(b) as f32 * TO_15 as f32);
 fill!(aiff24_f64, f64, aiff_samples, 1, 3, 1, ANY, |b| high24(b) as f64 * TO_23);
 fill!(aiff24_stereo, f64, aiff_samples, 1, 3, 2, ANY, |b| high24(b) as f64 * TO_23);
 fill!(aiff24_f32, f32, aiff_samples_f32, 1, 3, 1, ANY, |b| high24(b) as f32 * TO_23 as f32);
+fill!(aiff24_f32_stereo, f32, aiff_samples_f32, 1, 3, 2, ANY, |b| high24(b) as f32 * TO_23 as f32);
 fill!(aiff_whole16, i32, aiff_whole, 0, 2, 1, ANY, |b| high16(b) * 256);
+fill!(aiff_whole16_stereo, i32, aiff_whole, 0, 2, 2, ANY, |b| high16(b) * 256);
 fill!(aiff_whole24, i32, aiff_whole, 1, 3, 1, ANY, |b| high24(b));
+fill!(aiff_whole24_stereo, i32, aiff_whole, 1, 3, 2, ANY, |b| high24(b));

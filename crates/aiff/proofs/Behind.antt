@@ -1,4 +1,4 @@
--- W12h, W12i. Bytes behind the FORM's end do not show, and neither do those of the `SSND`'s block size. By the walk,
+-- W12h, W12i. Bytes behind the FORM's end do not count, and neither does the block size of the `SSND`. By the walk,
 -- which looks at nothing behind the end, and by the fields that are read. Assumes nothing.
 use mathlib.Core.Path.{_≡_, refl, sym, ap, _∙_}
 use mathlib.Core.Bool.{Bool, true, false, not, _&&_}
@@ -24,7 +24,7 @@ use Rattle.aiff.specs.declared.Found.the-variants as found
 use Rattle.aiff.specs.Aiff.{formSize, walkIn, headOf, commOf, ssndOf, isAiff, within, testsOf, soundOf, answered}
 use Rattle.aiff.specs.Aiff.{foundOf, foundIn}
 
--- W12i. The first four bytes of an `SSND` are all of it that counts.
+-- W12i. Only the first four bytes of an `SSND`, its offset, count.
 pub block-ignored : (aiff held : Bool) (end : ℕ) (c s t : List ℕ) (w : Walked) → take 4 s ≡ take 4 t
     → foundOf aiff held end c s w ≡ foundOf aiff held end c t w
 block-ignored aiff held end c s t w e = rw e
@@ -32,7 +32,7 @@ block-ignored aiff held end c s t w e = rw e
 abbrev judged : Bool → Bool → List ℕ → List ℕ → Walked → Found
 judged aiff fits c s w = answered (firstOf (testsOf aiff fits c s w)) (soundOf c s w)
 
--- the chunks' first bytes matter only where the first two tests pass
+-- The first bytes of the chunks matter only if the first two tests pass.
 heads-matter : (aiff fits : Bool) (c d s t : List ℕ) (w : Walked) → (fits ≡ true → (c ≡ d) × (s ≡ t))
     → judged aiff fits c s w ≡ judged aiff fits d t w
 heads-matter false fits c d s t w h = refl
@@ -47,7 +47,7 @@ small-refused : (b : List ℕ) → formSize b < 4 → foundIn b ≡ found.Refuse
 unfolding isAiff
 small-refused b h = rw (lt-leb 4 (formSize b) h, and-false, and-false, and-false)
 
--- where a file holds its FORM, the FORM's end is the walk's
+-- If a file holds its FORM, the walk ends at the FORM's end.
 pub walk-held : (b : List ℕ) → 8 + formSize b ≤ length b
     → walkIn b ≡ walkTo formSought (formChunk b) (8 + formSize b)
 walk-held b h =
@@ -119,7 +119,7 @@ module _ (b c : List ℕ) (same : take (8 + formSize b) b ≡ take (8 + formSize
           ∙ ap (λ (t : Bool). judged (isAiff c) t (commOf c) (ssndOf c) (walkIn b)) within-same
           ∙ ap (λ (w : Walked). judged (isAiff c) (within c) (commOf c) (ssndOf c) w) walk-same
 
--- W12h. Whatever follows a file that holds its FORM, as in a larger buffer.
+-- W12h. What follows a file that holds its FORM, as in a larger buffer, does not count.
 pub longer : (b more : List ℕ) → 8 + formSize b ≤ length b → foundIn (b ++ more) ≡ foundIn b
 longer b more h =
     sym (behind-form b (b ++ more) (sym (take-append-le (8 + formSize b) b more h)) h

@@ -1,5 +1,5 @@
--- What `read`, `chunks_told` and `finish` have in hand is what the definitions name, and an answer by its number.
--- Assumes nothing.
+-- The values that `read`, `chunks_told` and `finish` have are those that the definitions name, and an answer is
+-- determined by its number. Assumes nothing.
 use mathlib.Core.Path.{_≡_, refl, sym, ap, _∙_}
 use mathlib.Core.Bool.{Bool, true, false, not, _&&_}
 use mathlib.Core.List.{List, [], _∷_}
@@ -29,7 +29,7 @@ refused (suc k) f h = refl
 pub taken : (k : ℕ) (f : Sound) → k ≡ 0 → found.Sound f ≡ answered k f
 taken k f h = rw h
 
--- the tests of `first`, in their order
+-- The tests of `first`, in their order.
 pub in-order : (aiff held : Bool) (end : ℕ) (c s : List ℕ) (w : Walked) {fits t21 t13 : Bool} {skip len pace r : ℕ}
     → fits ≡ held && inside end w → skip ≡ offset s → len ≡ lengthOf c → pace ≡ rate c → t21 ≡ hasParts w skip
     → t13 ≡ listed (channels c) (bits c)
@@ -42,7 +42,6 @@ pub listed-is : (c : List ℕ) {n m : ℕ} {t : Bool} → t ≡ listed n m → n
     → t ≡ listed (channels c) (bits c)
 listed-is c e p q = e ∙ rw (p, q)
 
--- what is handed out
 pub sound-is : (c s : List ℕ) (w : Walked) {k : SampleKind} {m n pace skip len : ℕ} → k ≡ kindOf m → m ≡ bits c
     → n ≡ channels c → pace ≡ rate c → skip ≡ offset s → len ≡ lengthOf c
     → _≡_ {A = Sound}
@@ -50,7 +49,7 @@ pub sound-is : (c s : List ℕ) (w : Walked) {k : SampleKind} {m n pace skip len
     (soundOf c s w)
 sound-is c s w e em en ep es el = rw (e, em, en, ep, es, el)
 
--- a walk of a file: where no chunk runs past the end the `SSND` does not
+-- In a walk of a file, if no chunk runs past the end the `SSND` does not.
 said-twice : (h o t : Bool) → (o ≡ false → t ≡ true) → h && (not o && t) ≡ h && not o
 said-twice false o t k = refl
 said-twice true true t k = refl
@@ -67,7 +66,7 @@ inside-is b = said-twice (leb end (length b)) (walkIn b .overruns) _ ends
         let l = spot-inside (endIn b end) ssndId (walkedFrom formSought (formChunk b) (endIn b end) 12) o in
         le-leb _ end (omega arith)
 
--- the walk and the first bytes of both chunks
+-- The walk and the first bytes of both chunks.
 pub record InHand (b : List ℕ) (w : Walked) (c s : List ℕ) : Type 0 where
   pub walk-is : w ≡ walkIn b
   pub comm-is : c ≡ commOf b

@@ -1,4 +1,4 @@
--- W12. The identifiers are their letters, `FORM` and `AIFF`: so AIFC is none of it. Assumes nothing.
+-- W12. The identifiers are the letters `FORM` and `AIFF`, so AIFC is not accepted. Assumes nothing.
 use mathlib.Core.Path.{_≡_, refl}
 use mathlib.Core.List.{[], _∷_}
 use Rattle.word_bytes.specs.Bytes.{bytesValue}

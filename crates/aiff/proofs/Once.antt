@@ -1,5 +1,5 @@
--- A number that stands on one line of a table of refusals is given exactly when that line is the first that fails: for
--- a table whose numbers are not counted up. By the lines. Assumes nothing.
+-- A number that stands on only one line of a table of refusals is given exactly if that line is the first that fails.
+-- This is for a table whose numbers are not counted up. By induction over the lines. Assumes nothing.
 use mathlib.Core.Path.{_≡_, refl, _∙_}
 use mathlib.Core.Logic.{_↔_}
 use mathlib.Core.Bool.{Bool, true, false, true≢false, not, _&&_}

@@ -1,4 +1,4 @@
--- W12. Where no refusal is due every test has passed, each by its name. Assumes nothing.
+-- W12. If nothing is refused every test has passed, each by its name. Assumes nothing.
 use mathlib.Core.Path.{_≡_, refl, sym}
 use mathlib.Core.Bool.{Bool, true, false, true≢false, _&&_, _||_}
 use mathlib.Core.List.{List}

@@ -1,5 +1,5 @@
--- W12a, W12b, W12e, W12h, W12i. What the reading promises: each number exactly when, and the part whole where none is
--- due. By the table of tests and what they leave. Assumes nothing.
+-- W12a, W12b, W12e, W12h, W12i. What the reading promises: exactly when each number is given, and that the samples are
+-- all there if none is. By the table of tests and what they show. Assumes nothing.
 use mathlib.Core.Path.{_≡_, refl, ap}
 use mathlib.Core.Logic.{_↔_, _⊎_, inl, inr}
 use mathlib.Core.Bool.{Bool, true, false, true≢false, cond}
@@ -28,7 +28,7 @@ use Rattle.aiff.specs.Accepted.{Accepted}
 use Rattle.aiff.proofs.Passed.{all-passed}
 use Rattle.aiff.proofs.Once.{once}
 
--- W12a. Each number exactly when: 20, 10, 13 and 22 stand on one line each, 21 on two.
+-- W12a. Exactly when each number is given: 20, 10, 13 and 22 stand on one line each, 21 on two.
 module _ (b : List ℕ) where
   pub twenty : verdict b ≡ 20 ↔ First (tests b) 0
   twenty = once (tests b) 19 0 refl refl
@@ -42,7 +42,8 @@ module _ (b : List ℕ) where
   pub twenty-two : verdict b ≡ 22 ↔ First (tests b) 5
   twenty-two = once (tests b) 21 5 refl refl
 
-  -- one is missing, too short or its offset past the end; or the kind is listed, and there are more frames than bytes
+  -- A chunk is missing or too short, or the offset is past its end; or the kind is listed, and there are more frames
+  -- than bytes.
   pub twenty-one : verdict b ≡ 21 ↔ First (tests b) 2 ⊎ First (tests b) 4
   twenty-one = (λ e. let w = given-first (tests b) 20 e in at (w .0) (w .1 .0) (w .1 .1), back)
     where
@@ -63,7 +64,7 @@ module _ (b : List ℕ) where
 pub form-past : (b : List ℕ) → isAiff b ≡ true → length b < 8 + formSize b → verdict b ≡ 10
 form-past b a h = rw (a, lt-leb (8 + formSize b) (length b) h)
 
--- an answer that is a sound, by its number
+-- An answer with samples, by its number.
 pub sound-of : (k : ℕ) (f g : Sound) → answered k f ≡ found.Sound g → (k ≡ 0) × (f ≡ g)
 sound-of zero f g e = (refl, cc)
 sound-of (suc k) f g e = let z : _≡_ {A = ℕ} 0 1 = cc in absurd (omega arith)
@@ -100,7 +101,7 @@ module _ (b : List ℕ) where
         whole = simp (length-take, length-drop) (omega (arith, p .holds));
       }
 
-  -- W12b, W12c, W12i. Where samples are found the part is whole, of one or two channels, of whole frames, inside the
+  -- W12b, W12c, W12i. If samples are found they are all there, in one or two channels, in whole frames, inside the
   -- `SSND` and behind its offset, at a rate in range.
   pub accepted : (f : Sound) → foundIn b ≡ found.Sound f → Accepted b f
   accepted f e =

@@ -1,5 +1,4 @@
--- W12. An AIFF file: which refusal is due, and where none is, the part that holds samples and what they are.
--- Definitions only.
+-- W12. An AIFF file: by which number it is refused, or where its samples stand and what they are. Definitions only.
 use Prim.Native.Nat.{ℕ, zero, suc, _+_, _*_, min}
 use mathlib.Core.Bool.{Bool, cond, not, _&&_, _||_}
 use mathlib.Core.List.{List, [], _∷_}
@@ -19,14 +18,14 @@ use Rattle.aiff.specs.declared.Found.the-variants as found
 use Rattle.aiff.specs.declared.Sound.{Sound}
 use Rattle.aiff.specs.declared.Told.{Told}
 
--- `FORM` and `AIFF`, by their four bytes, the low byte first as every identifier
+-- The four bytes of `FORM` and of `AIFF`, as numbers with the low byte first, like every identifier.
 abbrev pub formId : ℕ
 formId = 0x4d52_4f46
 
 abbrev pub aiffId : ℕ
 aiffId = 0x4646_4941
 
--- The FORM size counts from place 8 on, and bounds the walk.
+-- The FORM size counts from place 8 on and gives the end of the walk.
 abbrev pub formSize : List ℕ → ℕ
 formSize b = bigNumber 4 b 4
 
@@ -62,34 +61,34 @@ offset s = bigNumber 4 s 0
 abbrev pub kindOf : ℕ → SampleKind
 kindOf n = cond (eqb n 16) Pcm16 Pcm24
 
--- The bytes of all frames.
+-- How many bytes all frames have.
 abbrev pub lengthOf : List ℕ → ℕ
 lengthOf c = frames c * frameOf (kindOf (bits c)) (channels c)
 
--- 20. AIFF, with a FORM size of at least 4.
+-- The test for 20: the file is AIFF, with a FORM size of at least 4.
 unfoldable pub isAiff : List ℕ → Bool
 isAiff b = leb 12 (length b) && (eqb (number 4 b 0) formId && (eqb (number 4 b 8) aiffId && leb 4 (formSize b)))
 
--- 10. No walked chunk runs past the end. Then the `SSND` does not either: that is asked apart, for a walk that is lent
--- by turns may be any.
+-- The test for 10: no walked chunk runs past the end. In a whole walk this includes the `SSND`; it is tested apart
+-- because a caller that reads step by step may hand in any walk.
 abbrev pub inside : ℕ → Walked → Bool
 inside end w = not (w .overruns) && leb (w .samples .body + w .samples .size) end
 
--- 21. Both are there, `COMM` has 18 bytes, `SSND` has 8, and the offset is not past its end.
+-- The test for 21: both are there, `COMM` has 18 bytes, `SSND` has 8, and the offset is not past its end.
 abbrev pub hasParts : Walked → ℕ → Bool
 hasParts w skip =
     (w .format .found && w .samples .found)
     && (leb 18 (w .format .size) && (leb 8 (w .samples .size) && leb (8 + skip) (w .samples .size)))
 
--- 13. One or two channels of 16 or 24 bits.
+-- The test for 13: one or two channels of 16 or 24 bits.
 abbrev pub listed : ℕ → ℕ → Bool
 listed count width = (eqb count 1 || eqb count 2) && (eqb width 16 || eqb width 24)
 
--- 21. No more frames than the bytes behind the offset hold.
+-- The second test for 21: there are no more frames than the bytes behind the offset hold.
 abbrev pub holdsFrames : Walked → List ℕ → List ℕ → Bool
 holdsFrames w c s = leb (8 + offset s + lengthOf c) (w .samples .size)
 
--- The order, from the first two tests, the first bytes of both chunks and the walk.
+-- The order of the refusals, from the first two tests, the first bytes of both chunks and the walk.
 abbrev pub testsOf : Bool → Bool → List ℕ → List ℕ → Walked → List Test
 testsOf aiff fits c s w =
     20 unless aiff
@@ -114,11 +113,11 @@ abbrev pub answered : ℕ → Sound → Found
 answered zero f = found.Sound f
 answered (suc k) f = found.Refused (suc k)
 
--- From a walk and what the chunks begin with; `held` says whether the FORM's end lies in the file.
+-- The answer from a walk and the first bytes of the two chunks; `held` says whether the FORM's end lies in the file.
 abbrev pub foundOf : Bool → Bool → ℕ → List ℕ → List ℕ → Walked → Found
 foundOf aiff held end c s w = answered (firstOf (testsOf aiff (held && inside end w) c s w)) (soundOf c s w)
 
--- All of it from a file. The FORM counts as a chunk for 10.
+-- The answer from a file. For 10 the FORM counts as a chunk.
 abbrev pub within : List ℕ → Bool
 within b = leb (8 + formSize b) (length b) && not (walkIn b .overruns)
 
@@ -134,8 +133,8 @@ soundIn b = soundOf (commOf b) (ssndOf b) (walkIn b)
 abbrev pub foundIn : List ℕ → Found
 foundIn b = answered (verdict b) (soundIn b)
 
--- For who explains a refusal: what the first `COMM` and `SSND` say, zeros where there is none. The walk ends with the
--- file where the FORM runs past it.
+-- What a caller needs that explains a refusal: what the first `COMM` and `SSND` say; zeros for what is missing. If the
+-- FORM runs past the file, the walk ends with the file.
 abbrev pub toldIn : List ℕ → Told
 toldIn b =
     record {

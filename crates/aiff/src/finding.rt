@@ -1,5 +1,5 @@
-// W12. What is found, once the first tests are made, the chunks are walked and the first bytes of `COMM` and `SSND` are
-// at hand.
+// W12. The answer, once the first tests have been made, the chunks walked and the first bytes of `COMM` and `SSND`
+// read.
 ghost use mathlib.Core.Path.{_≡_};
 ghost use mathlib.Core.Bool.{_||_};
 ghost use Prim.Native.Nat.{_≤_};
@@ -17,8 +17,9 @@ use riff_chunks::Walked;
 use sample_kind::SampleKind;
 use sample_kind::width;
 
-// `aiff` is what 20 asks, `held` whether the FORM's end lies in the file; c and s are the first bytes of `COMM` and of
-// `SSND`. A walk that is lent by turns may be any: where its `SSND` ends behind the end, 10 is due.
+// `aiff` is the test for 20, and `held` says whether the FORM's end lies in the file; c and s are the first bytes of
+// `COMM` and of `SSND`. A caller that reads step by step may hand in any walk, so an `SSND` that ends behind the end is
+// refused by 10.
 pub fn finish(aiff: bool, held: bool, end: usize, c: &[u8], s: &[u8], walked: Walked) -> Found
     ensures { λ r. ⌜ r ≡ foundOf aiff held end (now (c .entry)) (now (s .entry)) walked ⌝ }
 {
@@ -48,7 +49,7 @@ pub fn finish(aiff: bool, held: bool, end: usize, c: &[u8], s: &[u8], walked: Wa
     })
 }
 
-// 21, but for the frames: both are there, neither is too short, and the offset is not past the end.
+// The test for 21 without the frames: both chunks are there, neither is too short, and the offset is not past the end.
 fn has_parts(walked: Walked, offset: usize) -> bool
     requires { ⌜ offset ≤ 0xffff_ffff ⌝ }
     ensures { λ r. ⌜ r ≡ hasParts walked offset ⌝ }
@@ -64,7 +65,7 @@ fn has_parts(walked: Walked, offset: usize) -> bool
     )
 }
 
-// 13.
+// The test for 13: one or two channels of 16 or 24 bits.
 fn is_listed(channels: u32, bits: u32) -> bool
     ensures { λ r. ⌜ r ≡ listed channels bits ⌝ }
 {
@@ -83,7 +84,7 @@ fn kind_of(bits: u32) -> SampleKind
     SampleKind::Pcm24
 }
 
-// The bytes of all frames.
+// How many bytes all frames have.
 fn length_of(c: &[u8]) -> usize
     ensures { λ r. ⌜ r ≡ lengthOf (now (c .entry)) ⌝ }
     ensures { λ r. ⌜ r ≤ 0x4_0000_0000_0000 ⌝ }

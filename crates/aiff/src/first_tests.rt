@@ -11,7 +11,7 @@ use refusal_order::both;
 use riff_chunks::Walked;
 use word_bytes::low_first_u32;
 
-// 20. `FORM`, `AIFF` and a FORM size that holds the latter.
+// The test for 20: `FORM`, `AIFF`, and a FORM size that includes the latter.
 pub fn is_aiff(file: &[u8]) -> bool
     ensures { λ r. ⌜ r ≡ isAiff (now (file .entry)) ⌝ }
 {
@@ -24,7 +24,7 @@ pub fn is_aiff(file: &[u8]) -> bool
     )
 }
 
-// 10. No walked chunk runs past the end.
+// The test for 10: no walked chunk runs past the end.
 pub fn is_inside(end: usize, walked: Walked) -> bool
     ensures { λ r. ⌜ r ≡ inside end walked ⌝ }
 {
@@ -41,7 +41,7 @@ fn ends_by(body: usize, size: usize, end: usize) -> bool
     body <= end - size
 }
 
-// The number of the first test that fails; 0 where all pass. 21 stands on both sides of 13.
+// The number of the first test that fails; 0 if all pass. 21 stands on both sides of 13.
 pub fn first(t20: bool, t10: bool, t21: bool, t13: bool, frames: bool, t22: bool) -> u8
     ensures { λ r. ⌜ r ≡ firstOf
         (20 unless t20 ∷ 10 unless t10 ∷ 21 unless t21 ∷ 13 unless t13 ∷ 21 unless frames ∷ 22 unless t22 ∷ []) ⌝ }

@@ -14,7 +14,8 @@ use high_first::four;
 use high_first::two;
 use sample_kind::SampleKind;
 
-// One or two channels; the samples' bytes are `length` bytes from `start` on, the high byte of each sample first.
+// There are one or two channels, and the samples are the `length` bytes from `start` on, the high byte of each sample
+// first.
 pub struct Sound {
     pub kind: SampleKind,
     pub channels: u8,
@@ -28,8 +29,8 @@ pub enum Found {
     Refused(u8),
 }
 
-// What the first `COMM` says, its size, the size of the first `SSND` and its offset; zeros where there is none. The
-// rate as it stands: the sign and the exponent, and the digits.
+// What the first `COMM` says, its size, the size of the first `SSND` and its offset; zeros for what is missing. The
+// rate is given as it stands: `exponent`, with the sign, and `digits`.
 pub struct Told {
     pub comm: usize,
     pub channels: u32,
@@ -54,7 +55,7 @@ pub fn read(file: &[u8]) -> Found
     finish(is_aiff(file), end <= file.len(), end, c, s, walked)
 }
 
-// What a file says of its samples, whether it is refused or not: for who explains a refusal.
+// What a file says of its samples, whether it is refused or not, for a caller that explains a refusal.
 pub fn chunks_told(file: &[u8]) -> Told
     ensures { λ r. ⌜ r ≡ toldIn (now (file .entry)) ⌝ }
 {
@@ -76,14 +77,14 @@ pub fn chunks_told(file: &[u8]) -> Told
     }
 }
 
-// The part of a file that holds samples.
+// The part of a file that holds the samples.
 pub fn part(file: &[u8], sound: Sound) -> &[u8]
     ensures { λ r. ⌜ now r ≡ take (sound .length) (drop (sound .start) (now (file .entry))) ⌝ }
 {
     word_bytes::part(file, sound.start, sound.length)
 }
 
-// The first `most` bytes of a body, fewer where it has fewer.
+// The first `most` bytes of a body; fewer if it has fewer.
 fn head_of(file: &[u8], body: usize, size: usize, most: usize) -> &[u8]
     ensures { λ r. ⌜ now r ≡ headOf most (now (file .entry)) body size ⌝ }
 {

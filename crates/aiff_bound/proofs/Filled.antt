@@ -1,6 +1,5 @@
--- W12d, D3 at the file: of an AIFF in which samples were found, what `fill` and `fill_whole` hand out of the part are
--- demand 3's whole samples and their numbers, all of 24 bits, in both formats. By Wish 1's law over the width. Assumes
--- nothing.
+-- W12d, D3 for a file: if samples were found in an AIFF, what `fill` and `fill_whole` hand out are demand 3's whole
+-- samples and their numbers, all of 24 bits, in both formats. By the law of `wav_bound` for any width. Assumes nothing.
 use mathlib.Core.Path.{_≡_, sym}
 use mathlib.Core.Bool.{true, true≢false}
 use mathlib.Core.List.{List}
@@ -27,7 +26,7 @@ use Rattle.wav_bound.proofs.Filled.{both, in-24, every-24}
 use Rattle.aiff_samples.specs.Samples.{sampleOf, wholeNumber, filled, filledWhole}
 use Rattle.aiff_samples.proofs.Files.{partIn, framesIn, is-pcm, can-be-filled}
 
--- the sample at a place, by the kind
+-- The sample at a place, by the kind.
 pub whole-sample : (f : Format) (kind : SampleKind) → isPcm kind ≡ true → (b : List ℕ) (at : ℕ)
     → WholeSample (sampleOf f kind b at) (wholeNumber kind b at)
 whole-sample f Pcm16 p b at = suits f 16 (bigNumber 2 b at) (lit≤ tt) (lit≤ tt)
@@ -39,7 +38,7 @@ few Pcm16 p b at = units-small 16 (bigNumber 2 b at) (lit≤ tt) (lit≤ tt)
 few Pcm24 p b at = units-small 24 (bigNumber 3 b at) (lit≤ tt) (lit≤ tt)
 few Float32 p b at = absurd (true≢false (sym p))
 
--- ---- what a call hands out that is not refused
+-- ---- what a call that is not refused hands out
 module _ (kind : SampleKind) (pcm : isPcm kind ≡ true) (b : List ℕ) (channels channel n : ℕ)
     (accepted : wholeVerdict kind channels channel (length b) n ≡ 0) where
   abbrev at : ℕ → ℕ
@@ -52,7 +51,7 @@ module _ (kind : SampleKind) (pcm : isPcm kind ≡ true) (b : List ℕ) (channel
   pub filled-in-24 : (zs : List ℤ) → all24 (filledWhole kind channels channel b n zs) ≡ true
   filled-in-24 zs = rw accepted (every-24 _ (λ k. in-24 (wholeNumber kind b (at k)) (few kind pcm b (at k))) n)
 
--- ---- at the file
+-- ---- for a file
 module _ (b : List ℕ) (s : Sound) (e : foundIn b ≡ found.Sound s) (channel : ℕ) (there : channel < s .channels) where
   pub file-whole : (f : Format) (xs : List Float) (zs : List ℤ)
       → WholeSamples (filled f (s .kind) (s .channels) channel (partIn b s) (framesIn s) xs)

@@ -2,6 +2,7 @@
 // a compiler takes several samples at a time.
 ghost use mathlib.Core.Path.{_≡_};
 ghost use mathlib.Core.Bool.{true};
+ghost use Prim.Native.Nat.{_+_, _≤_};
 ghost use lib.ListN.{length};
 ghost use Rattle.sample_kind.specs.declared.SampleKind.the-variants.{Pcm16, Pcm24};
 ghost use Rattle.sample_kind.specs.Kinds.{frameOf};
@@ -10,8 +11,10 @@ ghost use Rattle.wav_samples.specs.Filling.{framesOf};
 ghost use Rattle.wav_samples.specs.Frames.{Whole, Framed};
 ghost use Rattle.aiff_samples.specs.Samples.{wholeNumber};
 use crate::places::three_at;
+use crate::places::three_of_four_at;
 use crate::places::two_at;
 use sample_kind::SampleKind;
+use whole_samples::signed16;
 
 pub(crate) fn frames(kind: SampleKind, channels: u8, first: usize, part: &[u8], out: &mut [i32])
     requires { ⌜ (isPcm kind ≡ true) × Framed kind channels first (length (now part)) (length (now out)) ⌝ }
@@ -47,11 +50,21 @@ fn pcm16(frame: usize, first: usize, part: &[u8], out: &mut [i32])
 {
     let mut k: usize = 0;
     while k < out.len() {
-        out[k] = whole_samples::whole16(two_at(part, k * frame + first));
+        out[k] = whole16_at(part, k * frame + first);
         k += 1;
     }
 }
 
+// As `whole_samples::whole16`, but that a compiler sees the two bytes before the product: then it extends their sign
+// while it exchanges them.
+fn whole16_at(part: &[u8], at: usize) -> i32
+    requires { ⌜ at + 2 ≤ length (now part) ⌝ }
+    ensures { λ r. ⌜ r ≡ wholeNumber Pcm16 (now (part .entry)) at ⌝ }
+{
+    signed16(two_at(part, at)) * 256
+}
+
+// Behind every sample but the last there is a byte more.
 fn pcm24(frame: usize, first: usize, part: &[u8], out: &mut [i32])
     requires { ⌜ Whole (length (now part)) (length (now out)) frame first 3 ⌝ }
     ensures { λ _. ⌜
@@ -59,8 +72,11 @@ fn pcm24(frame: usize, first: usize, part: &[u8], out: &mut [i32])
         ⌝ }
 {
     let mut k: usize = 0;
-    while k < out.len() {
-        out[k] = whole_samples::whole24(three_at(part, k * frame + first));
+    while k + 1 < out.len() {
+        out[k] = whole_samples::whole24(three_of_four_at(part, k * frame + first));
         k += 1;
+    }
+    if k < out.len() {
+        out[k] = whole_samples::whole24(three_at(part, k * frame + first));
     }
 }

@@ -1,37 +1,67 @@
 // The number of two or three bytes at a place of the part, the high byte first, where all of them are there: no length
 // is tested, so that a loop over the frames is taken several samples at a time.
 ghost use mathlib.Core.Path.{_≡_};
+ghost use mathlib.Core.List.{[], _∷_};
 ghost use Prim.Native.Nat.{_+_, _*_, _/_, _%_, _≤_, _<_};
-ghost use lib.ListN.{length};
+ghost use lib.ListN.{length, getD};
+ghost use Rattle.word_bytes.specs.Bytes.{bytesValue};
 ghost use Rattle.high_first.specs.High.{bigNumber};
+use little_endian::of_four;
+use little_endian::of_three;
 use little_endian::of_two;
 
 pub(crate) fn two_at(part: &[u8], at: usize) -> u32
     requires { ⌜ at + 2 ≤ length (now part) ⌝ }
     ensures { λ r. ⌜ r ≡ bigNumber 2 (now (part .entry)) at ⌝ }
 {
-    of_two(part[at + 1], part[at])
+    exchanged(low_two_at(part, at))
 }
 
 pub(crate) fn three_at(part: &[u8], at: usize) -> u32
     requires { ⌜ at + 3 ≤ length (now part) ⌝ }
     ensures { λ r. ⌜ r ≡ bigNumber 3 (now (part .entry)) at ⌝ }
 {
-    exchanged(of_two(part[at], part[at + 1])) * 256 + wide(part[at + 2])
+    of_three(part[at + 2], part[at + 1], part[at])
 }
 
-// The two bytes of a number exchanged. By this product a compiler takes them with one load, and several at a time: it
-// joins two bytes of which the low one comes first, and not those of which the high one does.
+// The same where a byte more is there, so that one load reads them.
+pub(crate) fn three_of_four_at(part: &[u8], at: usize) -> u32
+    requires { ⌜ at + 4 ≤ length (now part) ⌝ }
+    ensures { λ r. ⌜ r ≡ bigNumber 3 (now (part .entry)) at ⌝ }
+{
+    first_three(low_four_at(part, at))
+}
+
+// Bytes as if the low one came first: of these a compiler makes one load, and of others it does not. It makes it in a
+// function by itself, before the caller takes the bytes in their order.
+fn low_two_at(part: &[u8], at: usize) -> u32
+    requires { ⌜ at + 2 ≤ length (now part) ⌝ }
+    ensures { λ r. ⌜ r ≡ bytesValue (getD (now (part .entry)) at 0 ∷ getD (now (part .entry)) (at + 1) 0 ∷ []) ⌝ }
+    ensures { λ r. ⌜ r < 0x1_0000 ⌝ }
+{
+    of_two(part[at], part[at + 1])
+}
+
+fn low_four_at(part: &[u8], at: usize) -> u32
+    requires { ⌜ at + 4 ≤ length (now part) ⌝ }
+    ensures { λ r. ⌜ r ≡ bytesValue
+        (getD (now (part .entry)) at 0 ∷ getD (now (part .entry)) (at + 1) 0
+        ∷ getD (now (part .entry)) (at + 2) 0 ∷ getD (now (part .entry)) (at + 3) 0 ∷ []) ⌝ }
+{
+    of_four(part[at], part[at + 1], part[at + 2], part[at + 3])
+}
+
+// The two bytes of a number exchanged, and the first three of four the other way round: a compiler knows both for what
+// they are.
 fn exchanged(n: u32) -> u32
     requires { ⌜ n < 0x1_0000 ⌝ }
     ensures { λ r. ⌜ r ≡ n % 256 * 256 + n / 256 ⌝ }
 {
-    n * 0x1_0001 / 256 % 0x1_0000
+    n % 256 * 256 + n / 256
 }
 
-fn wide(x: u8) -> u32
-    ensures { λ r. ⌜ r ≡ x ⌝ }
-    ensures { λ r. ⌜ r < 256 ⌝ }
+fn first_three(n: u32) -> u32
+    ensures { λ r. ⌜ r ≡ (n % 256 * 256 + n / 256 % 256) * 256 + n / 0x1_0000 % 256 ⌝ }
 {
-    x as u32
+    (n % 256 * 256 + n / 256 % 256) * 256 + n / 0x1_0000 % 256
 }

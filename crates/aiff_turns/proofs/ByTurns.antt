@@ -1,5 +1,5 @@
--- W12. By turns a file gives the answer of the whole file. By the first 12 bytes, the walk, and the first bytes of both
--- chunks. Assumes nothing.
+-- W12. Reading a file step by step gives the answer of the whole file. By the first 12 bytes, the walk, and the first
+-- bytes of both chunks. Assumes nothing.
 use mathlib.Core.Path.{_≡_, refl, sym, ap, _∙_}
 use mathlib.Core.Bool.{Bool, true, false, cond}
 use mathlib.Core.List.{List}
@@ -19,7 +19,7 @@ use Rattle.aiff.proofs.InHand.{found-is}
 use Rattle.aiff_turns.specs.Turns.{finishedOf, byTurns, foundByTurns}
 use Rattle.aiff_turns.proofs.Walking.{walks}
 
--- ---- the first 12 bytes tell 20 and the FORM size
+-- ---- the first 12 bytes show 20 and the FORM size
 twelve : (b : List ℕ) → leb 12 (length (take 12 b)) ≡ leb 12 (length b)
 twelve b = by (leb 12 (length b)) refl
   where
@@ -44,7 +44,7 @@ module _ (b : List ℕ) where
         same-size,
       )
 
-  -- ---- where the file holds its FORM
+  -- ---- if the file holds its FORM
   held : isAiff b ≡ true → 8 + formSize b ≤ length b → byTurns 0 (8 + formSize b) b ≡ foundIn b
   held p h =
       let end = 8 + formSize b in

@@ -1,5 +1,5 @@
--- The walk by turns: as long as 8 bytes are left each turn is a chunk more, and at the end it has seen what the whole
--- walk sees. By the law of a walk whose chunks are lent. Assumes nothing.
+-- The walk step by step. As long as 8 bytes are left each step is one more chunk, and at the end it has seen what the
+-- whole walk sees. By the law of a walk whose chunks are lent. Assumes nothing.
 use mathlib.Core.Path.{_≡_, refl, ap, _∙_}
 use mathlib.Core.List.{List}
 use Prim.Native.Nat.{ℕ, _+_, _-_, _≤_, _<_}
@@ -15,7 +15,7 @@ use Rattle.wav.proofs.Alike.{same-part}
 use Rattle.aiff_turns.specs.Turns.{chunkBy, turnedBy, turnsOf}
 
 module _ (b : List ℕ) (end : ℕ) where
-  -- the 8 bytes at a place are the head of the chunk there
+  -- The 8 bytes at a place are the head of the chunk there.
   head-is : (left : ℕ) → chunkBy end left (take 8 (drop (end - left) b)) ≡ formChunk b (end - left)
   head-is left =
       let at = drop (end - left) b in

@@ -1,5 +1,5 @@
--- W12. An AIFF file by turns: what its beginning tells, a chunk more by its first 8 bytes, and the answer from the walk
--- and the first bytes of `COMM` and `SSND`. Definitions only.
+-- W12. An AIFF file read step by step: what its beginning shows, one more chunk by its first 8 bytes, and the answer
+-- from the walk and the first bytes of `COMM` and `SSND`. Definitions only.
 use Prim.Native.Nat.{ℕ, zero, suc, _+_, _-_}
 use mathlib.Core.Bool.{Bool, true, cond, _&&_}
 use mathlib.Core.List.{List, [], _∷_}
@@ -16,7 +16,7 @@ use Rattle.aiff.specs.declared.Found.the-variants as found
 use Rattle.aiff.specs.Aiff.{formSize, headOf, isAiff, foundOf}
 use Rattle.aiff_turns.specs.declared.Started.{Started}
 
--- 20 from the first 12 bytes, 10 where the FORM runs past the file's length.
+-- The refusal is 20 by the first 12 bytes, and 10 if the FORM runs past the file's length.
 abbrev pub startedOf : List ℕ → ℕ → Started
 startedOf head length =
     record {
@@ -24,7 +24,7 @@ startedOf head length =
       end = 8 + formSize head;
     }
 
--- The chunk whose first 8 bytes are at hand, where `left` bytes are left before the end.
+-- The chunk with these first 8 bytes, when `left` bytes are left before the end.
 abbrev pub chunkBy : ℕ → ℕ → List ℕ → Chunk
 chunkBy end left head =
     record { id = formChunk head 0 .id; body = end - left + 8; size = formChunk head 0 .size }
@@ -39,7 +39,7 @@ turnedBy w end head = cond (goesOn w end) (turned formSought w (chunkBy end (w .
 abbrev pub finishedOf : Walked → ℕ → List ℕ → List ℕ → Found
 finishedOf w end c s = foundOf true true end c s w
 
--- ---- a whole file by turns: each turn is lent the 8 bytes at its place
+-- ---- a whole file step by step: each step is lent the 8 bytes at its place
 abbrev pub turnsOf : List ℕ → ℕ → ℕ → Walking → Walking
 turnsOf b end = turnsBy (λ (w : Walking). turnedBy w end (take 8 (drop (end - w .left) b)))
 
@@ -50,6 +50,6 @@ byTurns zero end b =
     (headOf 8 b (w .samples .body) (w .samples .size))
 byTurns (suc k) end b = found.Refused (suc k)
 
--- The answer, from what is lent turn by turn.
+-- The answer, from what is lent step by step.
 abbrev pub foundByTurns : List ℕ → ℕ → Found
 foundByTurns b length = byTurns (startedOf (take 12 b) length .refusal) (startedOf (take 12 b) length .end) b

@@ -1,6 +1,6 @@
-// W12. An AIFF file read by turns, where it is too long to be held: its first 12 bytes and its length, then the 8 bytes
-// at the head of each chunk, then the first 18 bytes of `COMM` and the first 8 of `SSND`, fewer where they have fewer.
-// The answer is the one of the whole file.
+// W12. An AIFF file read step by step, for files that are too long to be held. It takes the first 12 bytes and the
+// length, then the 8 bytes at the head of each chunk, then the first 18 bytes of `COMM` and the first 8 of `SSND`,
+// fewer if they have fewer. The answer is that of the whole file.
 ghost use mathlib.Core.Path.{_≡_};
 ghost use mathlib.Core.List.{[], _∷_};
 ghost use Rattle.refusal_order.specs.Order.{_unless_, firstOf};
@@ -14,13 +14,13 @@ use riff_chunks::Walked;
 use riff_chunks::Walking;
 use word_bytes::low_first_u32;
 
-// 20 or 10 where the beginning tells it already, else 0; the walk's end.
+// `refusal` is 20 or 10 if the beginning shows it already, and otherwise 0; `end` is the end of the walk.
 pub struct Started {
     pub refusal: u8,
     pub end: usize,
 }
 
-// The walk then begins by `riff_chunks::begin(end)`.
+// The walk then begins with `riff_chunks::begin(end)`.
 pub fn start(head: &[u8], length: usize) -> Started
     ensures { λ r. ⌜ r ≡ startedOf (now (head .entry)) length ⌝ }
 {
@@ -37,7 +37,8 @@ fn due(aiff: bool, held: bool) -> u8
     if aiff { if held { 0 } else { 10 } } else { 20 }
 }
 
-// One chunk more: `head` is the 8 bytes at the place `end` less what is left. Where fewer are left the walk is over.
+// One more chunk. `head` is the 8 bytes at the place `end` less what is left; if fewer than 8 are left the walk is
+// over.
 pub fn turn(walking: Walking, end: usize, head: &[u8]) -> Walking
     ensures { λ r. ⌜ r ≡ turnedBy walking end (now (head .entry)) ⌝ }
 {
@@ -59,7 +60,7 @@ pub fn turn(walking: Walking, end: usize, head: &[u8]) -> Walking
     riff_chunks::turn(walking, form_sought(), c)
 }
 
-// What the walk and the first bytes of both chunks tell: a refusal, or the part that holds samples and what they are.
+// The answer from the walk and the first bytes of both chunks: a refusal, or where the samples stand and what they are.
 pub fn finish(walked: Walked, end: usize, comm: &[u8], ssnd: &[u8]) -> Found
     ensures { λ r. ⌜ r ≡ finishedOf walked end (now (comm .entry)) (now (ssnd .entry)) ⌝ }
 {

@@ -1,4 +1,4 @@
--- An answer by its number: a number that is not 0 is a refusal, and `numberOf` gives back what was put in.
+-- An answer by its number: a number other than 0 is a refusal, and `numberOf` gives back the number that was put in.
 -- Assumes nothing.
 use mathlib.Core.Path.{_≡_, refl}
 use Prim.Native.Nat.{ℕ, zero, suc}

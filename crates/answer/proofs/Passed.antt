@@ -1,4 +1,4 @@
--- Where no refusal is due every test passed. Assumes nothing.
+-- If there is no refusal, every test has passed. Assumes nothing.
 use mathlib.Core.Path.{_≡_}
 use mathlib.Core.Bool.{Bool, true, false}
 use native.Mathlib.Omega.{arith}

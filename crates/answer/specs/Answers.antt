@@ -9,7 +9,7 @@ use Rattle.answer.specs.declared.AnswerF32.{AnswerF32}
 use Rattle.answer.specs.declared.Answer.the-variants as f64
 use Rattle.answer.specs.declared.AnswerF32.the-variants as f32
 
--- The answer of a refusal number and a sample: the sample counts where the number is 0.
+-- The answer for a refusal number and a sample: the sample, if the number is 0.
 abbrev pub answerOf : ℕ → Float → Answer
 answerOf zero v = f64.Sample v
 answerOf (suc k) v = f64.Refused (suc k)
@@ -18,7 +18,7 @@ abbrev pub answerF32Of : ℕ → Float → AnswerF32
 answerF32Of zero v = f32.Sample v
 answerF32Of (suc k) v = f32.Refused (suc k)
 
--- 01's number for each case, and the value; the oracle's 0.0 stands for a refusal's.
+-- C4. 01's number for each case, and the value. A refusal has no value; 0.0 stands for it, as in the oracle.
 abbrev pub numberOf : Answer → ℕ
 numberOf (f64.Sample v) = 0
 numberOf (f64.Refused k) = k

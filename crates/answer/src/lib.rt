@@ -1,4 +1,4 @@
-// A reader's answer, a sample or a refusal number, for f64 and f32, and which number is given where several are due.
+// A reader's answer, a sample or a refusal number, for f64 and f32, and which number is given when several tests fail.
 ghost use mathlib.Core.Path.{_≡_};
 ghost use Rattle.answer.specs.Answers.{answerOf, answerF32Of};
 ghost use Rattle.answer.specs.Refusals.{lowestOf};
@@ -13,7 +13,7 @@ pub enum AnswerF32 {
     Refused(u8),
 }
 
-// The sample where no refusal is due (0), else the refusal.
+// The sample if the refusal is 0, which stands for none; otherwise the refusal.
 pub fn answered(refusal: u8, sample: f64) -> Answer
     ensures { λ r. ⌜ r ≡ answerOf refusal sample ⌝ }
 {
@@ -34,7 +34,7 @@ pub fn answered_f32(refusal: u8, sample: f32) -> AnswerF32
     }
 }
 
-// N9. The lowest number whose test fails, in 01's order; 0 where all eight pass.
+// N9. The lowest number whose test fails, in 01's order; 0 if all eight pass.
 pub fn first(t1: bool, t2: bool, t3: bool, t4: bool, t5: bool, t6: bool, t7: bool, t8: bool) -> u8
     ensures { λ r. ⌜ r ≡ lowestOf t1 t2 t3 t4 t5 t6 t7 t8 ⌝ }
 {

@@ -1,5 +1,5 @@
--- C4, O3. What a call of an export leaves, a record for each kind: the refusal's number, which it returns, 0 for none;
--- the sample, as a float or as a pattern; of the state what a call changes; the ring. A record is made of all that its
+-- C4, O3. What a call of an export leaves, a record for each kind: the refusal number, which it returns, 0 for none;
+-- the sample, as a float or as a bit pattern; the changed fields of the state; the ring. A record holds all that its
 -- export may write, so that one equation gives it (C1). Definitions only.
 use Prim.Native.Nat.{ℕ}
 use mathlib.Core.List.{List}
@@ -14,7 +14,7 @@ use Rattle.variable_delay.specs.declared.Opened.{Opened}
 use Rattle.variable_delay.specs.Opening as opening
 use Rattle.answer_parts.specs.States.{countOf}
 
--- What a kernel's reading leaves.
+-- What the reading of a kernel leaves.
 pub record Told (S : Type 0) : Type 0 where
   pub number : ℕ
   pub sample : S
@@ -28,7 +28,7 @@ toldBy a = tells (numberOf a) (valueOf a)
 abbrev pub toldF32By : AnswerF32 → Told Float
 toldF32By a = tells (numberF32Of a) (valueF32Of a)
 
--- What a reader's call leaves.
+-- What a call of a reader leaves.
 pub record Left (S W : Type 0) : Type 0 where
   pub number : ℕ
   pub sample : S

@@ -8,7 +8,7 @@ use Rattle.variable_delay.specs.declared.Opened.the-variants.{Reader, Refused}
 abbrev pub stateOf : ℕ → ℕ → ℕ → VariableDelay
 stateOf maximum margin accepted = record { maximum = maximum; margin = margin; accepted = accepted }
 
--- The count of what was opened; a refusal leaves the count that stood there (D1c).
+-- D1c. The count of the reader that was opened; a refusal leaves the count that stood there.
 abbrev pub countOf : ℕ → Opened → ℕ
 countOf before (Reader d) = d .accepted
 countOf before (Refused k) = before

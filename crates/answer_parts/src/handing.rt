@@ -1,12 +1,12 @@
-// C4, O3. A reader's sample and count through pointers.
+// C4, O3. Writes a reader's sample and count through pointers.
 ghost use mathlib.Core.Path.{_≡_};
 ghost use Rattle.answer.specs.Answers.{numberOf, valueOf, numberF32Of, valueF32Of};
 use answer::Answer;
 use answer::AnswerF32;
 
-// Writes the sample, then the count, then the one NaN's pattern if the sample is a NaN. With the count's store in
-// between, the compiler jumps over the last store for a number (two instructions); otherwise it would select between
-// two floats in six.
+// Writes the sample, then the count, then the one NaN's pattern if the sample is a NaN. Because the store of the count
+// stands in between, the compiler jumps over the last store if the sample is a number (two instructions); otherwise it
+// would select between two floats in six.
 pub fn put(y: f64, count: u64, accepted: &mut u64, sample: &mut f64)
     ensures { λ r. ⌜ now (sample .exit) ≡ y ⌝ }
     ensures { λ r. ⌜ now (accepted .exit) ≡ count ⌝ }

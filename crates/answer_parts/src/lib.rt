@@ -9,7 +9,7 @@ use answer::Answer;
 use answer::AnswerF32;
 use variable_delay::Opened;
 
-pub mod handing; // a reader's answer and count through pointers
+pub mod handing; // writes a reader's answer and count through pointers
 pub mod values; // the same for the elementary functions and the oscillators
 
 pub fn number(a: Answer) -> u8
@@ -21,7 +21,7 @@ pub fn number(a: Answer) -> u8
     }
 }
 
-// The sample, 0.0 for a refusal.
+// The sample, with 0.0 for a refusal and the one NaN for every NaN.
 pub fn value(a: Answer) -> f64
     ensures { λ r. ⌜ r ≡ valueOf a ⌝ }
 {

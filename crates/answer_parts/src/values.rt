@@ -23,7 +23,7 @@ pub fn value(a: Answer) -> f64
     }
 }
 
-// The number, with the value through a pointer.
+// Writes the value through a pointer and returns the refusal number, 0 for none.
 pub fn handed(a: Answer, result: &mut f64) -> u8
     ensures { λ r. ⌜ r ≡ refusalOf a ⌝ }
     ensures { λ r. ⌜ now (result .exit) ≡ valueOf a ⌝ }

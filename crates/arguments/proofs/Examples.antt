@@ -1,4 +1,5 @@
--- Arguments and what they mean, computed from the definitions alone: a wrong name or word shows here. Assumes nothing.
+-- Arguments and what they mean, computed from the definitions alone, so that a wrong name or word shows here. Assumes
+-- nothing.
 use mathlib.Core.Path.{_≡_, refl}
 use lib.Ieee.{binary64, ofBits, round}
 use Rattle.bytes.specs.Bytes.{indexOf}

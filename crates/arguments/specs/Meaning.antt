@@ -24,7 +24,7 @@ use Rattle.arguments.specs.declared.Argument.{Argument}
 use Rattle.arguments.specs.declared.Argument.the-variants.{File, Unknown, Bad, Seed, Delay, Kind, Setting}
 use Rattle.arguments.specs.declared.Argument.the-variants.{FirstSkip, SecondSkip, Frames, Channel, Picture}
 
--- a where the word is this one, else b
+-- The answer is a if the word is this one, and otherwise b.
 abbrev pub either : List ℕ → String → Argument → Argument → Argument
 either word this a b = cond (sameBytes word (ascii this)) a b
 
@@ -41,7 +41,7 @@ abbrev pub asSecondSkip : Number → Argument
 asSecondSkip (Is·number n) = SecondSkip n
 asSecondSkip Not·number = Bad name.SecondSkip
 
--- `all`, or a number
+-- The value is `all` or a number.
 abbrev pub asFrames : Bool → Number → Argument
 asFrames true n = Frames All·frames
 asFrames false (Is·number n) = Frames (Number·frames n)
@@ -64,14 +64,14 @@ asKind word =
     (either word "pcm24" (Kind (As Pcm24))
     (either word "float32" (Kind (As Float32)) (Bad name.Kind))))
 
--- Channels count from 1.
+-- Channels are counted from 1.
 abbrev pub asChannel : List ℕ → Argument
 asChannel word =
     either word "1" (Channel (Only 1))
     (either word "2" (Channel (Only 2))
     (either word "all" (Channel All·channels) (Bad name.Channel)))
 
--- A file's name has a byte at least.
+-- The name of a file has at least one byte.
 abbrev pub asPicture : ℕ → Argument
 asPicture n = cond (eqb n 0) (Bad name.Picture) Picture
 
@@ -88,7 +88,7 @@ valuedAs name.Channel v = asChannel v
 valuedAs name.Picture v = asPicture (length v)
 valuedAs name.Unknown v = Unknown
 
--- NAME=VALUE by its name and its value, anything else a file's name.
+-- NAME=VALUE means what its name and its value say; anything else is the name of a file.
 abbrev pub meaningOf : List ℕ → Argument
 meaningOf text =
     cond (isNamed text) (valuedAs (nameIn (take (splitIn text) text)) (drop (splitIn text + 1) text)) File

@@ -1,4 +1,4 @@
--- The names that a setting can have: `imitate`'s, 001's eight, `residual`'s. Definitions only.
+-- The names that a setting can have: those of `imitate`, the eight of 001, those of `residual`. Definitions only.
 use Prim.Native.Nat.{ℕ}
 use Prim.Native.String.{String}
 use mathlib.Core.Bool.{cond}
@@ -12,7 +12,7 @@ use Rattle.arguments.specs.declared.Name.{Name}
 use Rattle.arguments.specs.declared.Name.the-variants.{Seed, Delay, Kind, Setting, FirstSkip, SecondSkip, Frames}
 use Rattle.arguments.specs.declared.Name.the-variants.{Channel, Picture, Unknown}
 
--- a where the word is this name, else b
+-- The answer is a if the word is this name, and otherwise b.
 abbrev pub either : List ℕ → String → Name → Name → Name
 either word name a b = cond (sameBytes word (ascii name)) a b
 

@@ -1,4 +1,4 @@
--- 001's settings with one of them changed. Definitions only.
+-- The settings of 001 with one of them changed. Definitions only.
 use Prim.Native.Nat.{ℕ}
 use mathlib.Core.Bool.{cond}
 use lib.Dec.{eqb}
@@ -9,7 +9,7 @@ use Rattle.arguments.specs.declared.Setting.the-variants.{WowRateHz, Wow
 use Rattle.arguments.specs.declared.Setting.the-variants.{FlutterRateHz, FlutterDepthCents, FlutterShape}
 use Rattle.arguments.specs.declared.Setting.the-variants.{DriftAmount, StereoAmount}
 
--- Its place among 001's eight, from 0.
+-- The place of a setting among the eight of 001, from 0.
 abbrev pub placeOf : Setting → ℕ
 placeOf WowRateHz = 0
 placeOf WowDepthCents = 1
@@ -20,7 +20,7 @@ placeOf FlutterShape = 5
 placeOf DriftAmount = 6
 placeOf StereoAmount = 7
 
--- x at the setting's own place, and what was there at any other.
+-- x at the setting's own place, and the old value at any other.
 abbrev pub newAt : Setting → Float → ℕ → Float → Float
 newAt s x k old = cond (eqb (placeOf s) k) x old
 

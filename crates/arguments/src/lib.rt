@@ -1,5 +1,6 @@
-// What an argument of a program means: a file's name, or a setting as NAME=VALUE. Whether a value suits its setting is
-// tested where it is used (1); here a value is refused only where it is no number, or none of the words that can stand.
+// What an argument of a program means: a file's name, or a setting as NAME=VALUE. Whether a value is in the range of
+// its setting is tested where it is used (refusal 1); here a value is refused only if it is not a number, or not one of
+// the words that its name allows.
 ghost use mathlib.Core.Path.{_≡_};
 ghost use Prim.Native.Nat.{_+_, _≤_, min};
 ghost use lib.ListN.{length};
@@ -7,7 +8,7 @@ ghost use Rattle.spelling.specs.Words.{splitIn};
 ghost use Rattle.arguments.specs.Meaning.{valuedAs, meaningOf};
 ghost use Rattle.arguments.specs.Settings.{changedTo};
 
-mod names; // which name it is
+mod names; // which name an argument has
 mod values; // what its value says
 
 use decimals::read_f64;
@@ -43,7 +44,7 @@ pub enum Name {
     Unknown,
 }
 
-// `kind=same` leaves the samples' kind as it is.
+// `kind=same` keeps the kind of the file that is read.
 pub enum Kind {
     Same,
     As(SampleKind),
@@ -59,7 +60,7 @@ pub enum Channel {
     Only(u8),
 }
 
-// `Bad` is a name that is known with a value that it cannot have. What stands behind the `=` begins at `value_at`.
+// `Bad` is a known name with a value that it cannot have. What stands behind the `=` begins at `value_at`.
 pub enum Argument {
     File,
     Unknown,
@@ -75,7 +76,6 @@ pub enum Argument {
     Picture,
 }
 
-// What an argument means.
 pub fn meaning(text: &[u8]) -> Argument
     ensures { λ r. ⌜ r ≡ meaningOf (now (text .entry)) ⌝ }
 {
@@ -88,7 +88,6 @@ pub fn meaning(text: &[u8]) -> Argument
     Argument::File
 }
 
-// What a value behind a name means.
 fn valued(name: Name, value: &[u8]) -> Argument
     ensures { λ r. ⌜ r ≡ valuedAs name (now (value .entry)) ⌝ }
 {
@@ -106,7 +105,7 @@ fn valued(name: Name, value: &[u8]) -> Argument
     }
 }
 
-// Where the value of NAME=VALUE begins.
+// The place where the value of NAME=VALUE begins.
 pub fn value_at(text: &[u8]) -> usize
     ensures { λ r. ⌜ r ≡ min (splitIn (now (text .entry)) + 1) (length (now (text .entry))) ⌝ }
     ensures { λ r. ⌜ r ≤ length (now (text .entry)) ⌝ }
@@ -115,7 +114,7 @@ pub fn value_at(text: &[u8]) -> usize
     if at < text.len() { at + 1 } else { text.len() }
 }
 
-// 001's settings with one of them changed.
+// The settings of 001 with one of them changed.
 pub fn with_setting(params: ModulationParams, setting: Setting, value: f64) -> ModulationParams
     ensures { λ r. ⌜ r ≡ changedTo params setting value ⌝ }
 {

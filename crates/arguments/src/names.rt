@@ -21,7 +21,7 @@ pub(crate) fn name_of(word: &[u8]) -> Name
     pick(word, b"seed", Name::Seed, n)
 }
 
-// 001's eight settings.
+// The eight settings of 001, or another name.
 fn wander(word: &[u8], other: Name) -> Name
     ensures { λ r. ⌜ r ≡ wanderOr (now (word .entry)) other ⌝ }
 {
@@ -65,7 +65,6 @@ fn wander(word: &[u8], other: Name) -> Name
     pick(word, b"wow_rate_hz", Name::Setting(Setting::WowRateHz), n)
 }
 
-// `yes` where the word is the name, else `no`.
 fn pick(word: &[u8], name: &[u8], yes: Name, no: Name) -> Name
     ensures { λ r. ⌜ r ≡ cond (sameBytes (now (word .entry)) (now (name .entry))) yes no ⌝ }
 {

@@ -1,4 +1,4 @@
-// What a value says, name by name.
+// What a value says, for each name.
 ghost use mathlib.Core.Path.{_≡_};
 ghost use mathlib.Core.Bool.{cond};
 ghost use Rattle.spelling.specs.Words.{sameBytes};
@@ -96,7 +96,7 @@ pub(crate) fn as_kind(word: &[u8]) -> Argument
     pick(word, b"same", Argument::Kind(Kind::Same), k)
 }
 
-// Channels count from 1 wherever a person reads or writes them.
+// Channels are counted from 1 wherever a person reads or writes them.
 pub(crate) fn as_channel(word: &[u8]) -> Argument
     ensures { λ r. ⌜ r ≡ asChannel (now (word .entry)) ⌝ }
 {
@@ -110,7 +110,7 @@ pub(crate) fn as_channel(word: &[u8]) -> Argument
     pick(word, b"1", Argument::Channel(Channel::Only(1)), c)
 }
 
-// A file's name is not empty.
+// The name of a file is not empty.
 pub(crate) fn as_picture(length: usize) -> Argument
     ensures { λ r. ⌜ r ≡ asPicture length ⌝ }
 {
@@ -120,7 +120,6 @@ pub(crate) fn as_picture(length: usize) -> Argument
     Argument::Picture
 }
 
-// `yes` where the word is this one, else `no`.
 fn pick(word: &[u8], this: &[u8], yes: Argument, no: Argument) -> Argument
     ensures { λ r. ⌜ r ≡ cond (sameBytes (now (word .entry)) (now (this .entry))) yes no ⌝ }
 {

@@ -20,11 +20,12 @@ use Rattle.asked.specs.declared.Comparison.{Comparison}
 use Rattle.asked.specs.declared.Compared.{Compared}
 use Rattle.asked.specs.declared.Compared.the-variants.{Asked as Asked·compared, Other as Other·compared}
 
--- `imitate` without arguments: seed 1, delay 512 and 001's default settings, as `render`; the kind that was read.
+-- `imitate` without arguments: seed 1, delay 512 and 001's default settings, as in `render`, and the kind of the file
+-- that is read.
 abbrev pub plainImitation : Imitation
 plainImitation = record { seed = 1; delay = fin false 1 (pos 9); kind = Same; params = defaultParams }
 
--- The settings that an argument changes; none of them where it is not one of `imitate`'s.
+-- The settings that an argument changes, unless it is not one of `imitate`'s.
 abbrev pub imitatedWith : Imitation → Argument → Imitated
 imitatedWith b (Seed n) = Asked (record { seed = n; delay = b .delay; kind = b .kind; params = b .params })
 imitatedWith b (Delay x) = Asked (record { seed = b .seed; delay = x; kind = b .kind; params = b .params })
@@ -40,15 +41,15 @@ imitatedWith b (Frames f) = Other
 imitatedWith b (Channel c) = Other
 imitatedWith b Picture = Other
 
--- `residual`'s settings, in a row.
+-- The settings of `residual`, as one record.
 abbrev pub comparison : ℕ → ℕ → Frames· → Channel· → Bool → Comparison
 comparison a b f c p = record { «first_skip» = a; «second_skip» = b; frames = f; channel = c; picture = p }
 
--- `residual` without arguments: from the first frame on, all frames of all channels, no picture.
+-- `residual` without arguments: from the first frame on, all frames of all channels, without a picture.
 abbrev pub plainComparison : Comparison
 plainComparison = comparison 0 0 All·frames All·channels false
 
--- The settings that an argument changes; none of them where it is not one of `residual`'s.
+-- The settings that an argument changes, unless it is not one of `residual`'s.
 abbrev pub comparedWith : Comparison → Argument → Compared
 comparedWith b (FirstSkip n) = Asked·compared (comparison n (b .«second_skip») (b .frames) (b .channel) (b .picture))
 comparedWith b (SecondSkip n) = Asked·compared (comparison (b .«first_skip») n (b .frames) (b .channel) (b .picture))

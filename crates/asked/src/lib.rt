@@ -1,4 +1,4 @@
-// What a program was asked for: its settings, one argument after the other taken in. A setting that is asked for twice
+// What a program was asked for: its settings, which take in one argument after the other. A setting that is given twice
 // has the later value.
 ghost use mathlib.Core.Path.{_≡_};
 ghost use Rattle.asked.specs.Asked.{plainImitation, imitatedWith, plainComparison, comparedWith};
@@ -16,13 +16,13 @@ pub struct Imitation {
     pub params: ModulationParams,
 }
 
-// The settings with an argument taken in, unless it is none of the program's.
+// The settings with one more argument, unless it is not one of the program's.
 pub enum Imitated {
     Asked(Imitation),
     Other,
 }
 
-// Without arguments: what `render` does, and the kind of the file that is read.
+// Without arguments `imitate` does what `render` does, and keeps the kind of the file that is read.
 pub fn plain_imitation() -> Imitation
     ensures { λ r. ⌜ r ≡ plainImitation ⌝ }
 {
@@ -81,7 +81,7 @@ pub fn imitated_with(old: Imitation, argument: Argument) -> Imitated
     }
 }
 
-// The settings of `residual`. Where the picture's name stands the program keeps beside them.
+// The settings of `residual`. The program itself keeps where the name of the picture stands.
 pub struct Comparison {
     pub first_skip: u64,
     pub second_skip: u64,
@@ -95,7 +95,7 @@ pub enum Compared {
     Other,
 }
 
-// Without arguments: all frames of all channels, no picture.
+// Without arguments `residual` compares all frames of all channels and draws no picture.
 pub fn plain_comparison() -> Comparison
     ensures { λ r. ⌜ r ≡ plainComparison ⌝ }
 {

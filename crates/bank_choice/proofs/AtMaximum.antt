@@ -1,6 +1,6 @@
--- T4. The blend at the bank's maximum, of a bank of two sets or more. The last set's rate lies at most a step of 2^-40
--- above the maximum and the rate below lies 2^28 steps or more below it, so the blend is 1 or so near to 1 that it
--- counts as 1. Assumes nothing.
+-- T4. The blend at the maximum of a bank of two sets or more. The rate of the last set lies at most a step of 2^-40
+-- above the maximum, and the rate of the set below lies at least 2^28 steps below it, so the blend is 1 or so near to 1
+-- that it counts as 1. Assumes nothing.
 use mathlib.Core.Path.{_≡_, refl}
 use mathlib.Core.Bool.{true, false}
 use Prim.Native.Nat.{ℕ, _+_, _-_, _*_, _/_, _≤_, _<_}
@@ -49,7 +49,7 @@ module _ (top : Float) (ok : bankOk top ≡ true) (more : 1 < stepsOf top) where
   low-in : Between one-f (fin false 51 (pos 0)) low
   low-in = rate-finite top ok (n - 1) (omega (arith, most top ok))
 
-  -- ---- how many steps lie between the rate below and the maximum
+  -- ---- how many steps lie between the rate of the set below and the maximum
   abbrev J : ℕ
   J = shareOf top (n - 1)
 

@@ -1,5 +1,5 @@
--- The ceiling of a number above 1 by its floor, which is the cut towards zero, and a test: where the cut lies below the
--- number, the ceiling is one more. Assumes nothing.
+-- The ceiling of a number above 1, by its floor, which is the number cut towards zero, and a test: if the cut lies
+-- below the number, the ceiling is one more. Assumes nothing.
 use mathlib.Core.Path.{_≡_, refl, sym, _∙_, ap, subst}
 use mathlib.Core.Bool.{Bool, true, false, true≢false}
 use Prim.Native.Nat.{ℕ, suc, _+_, _-_, _*_, _/_, _^_, _<_, _≤_, max}
@@ -21,7 +21,7 @@ use Rattle.integer_part.proofs.Floors.{quotient-at-most, ceiling-at-most, quoti
 use Rattle.sinc_settings.specs.Ranges.{one-f}
 use Rattle.bank_choice.specs.Rates.{num, ceilingOf}
 
--- x is above 1 and at most 50
+-- x is above 1 and at most 50.
 abbrev pub Inside : Float → Type 0
 Inside nan = ⊥
 Inside (inf s) = ⊥
@@ -55,7 +55,7 @@ cut-small (inf s) u = absurd u
 cut-small (fin true m e) u = absurd u
 cut-small (fin false m e) u = rw (cut-is m e (u .1)) (quotient-at-most _ _ 50 (down-pos e) (u .1))
 
--- is the floor
+-- The cut is the floor.
 pub floor-is : (x : Float) → Inside x → floorOf x ≡ pos (toUnsigned 64 x)
 unfolding floorOf
 floor-is nan u = absurd u

@@ -1,5 +1,5 @@
--- A number counted in steps of 2^-40, a coarse step beside an f64's: what is rounded from below such a number stays
--- below it, through a difference, a product, a quotient and a sum with 1. Assumes nothing.
+-- A number counted in steps of 2^-40, which are coarse compared with those of an f64. What lies below such a number
+-- stays below it through a difference, a product, a quotient and a sum with 1, each rounded. Assumes nothing.
 use mathlib.Core.Path.{_≡_, refl, sym, _∙_, ap}
 use mathlib.Core.Bool.{true, false, true≢false}
 use Prim.Native.Nat.{ℕ, _+_, _*_, _^_, _≤_, _<_}
@@ -17,15 +17,15 @@ use Rattle.interval.proofs.Operations.{Rounds, in-order, added, multiplied, div
 use Rattle.sinc_settings.specs.Ranges.{one-f}
 use Rattle.bank_choice.proofs.GapFloats.{subtracted}
 
--- 2^40
+-- The number of steps in 1, 2^40.
 abbrev pub unit : ℕ
 unit = 1099511627776
 
--- k / 2^40
+-- The float k / 2^40.
 abbrev pub coarse : ℕ → Float
 coarse k = round binary64 false k unit
 
--- x is a / c, and not negative
+-- x is a / c, and not negative.
 pub record Value (x : Float) (a c : ℕ) : Type 0 where
   pub number : T (finite x)
   pub plain : loss x ≡ 0
@@ -97,7 +97,7 @@ module _ (x y : Float) (p : T (finite x)) (q : T (finite y)) (u : loss x ≡ 0) 
       in-order binary64 _ _ _ b 0 unit (mul-pos (den-pos x) (den-pos y)) (lit< tt) (subtracted x y p q) (itself b)
       (rw (u, v) (simp ring (omega (arith, simp ring at h))))
 
--- ---- beside an f64
+-- ---- compared with an f64
 pub counted : (k : ℕ) (x : Float) → k < 2 ^ 53 → loss x ≡ 0 → Ordered x (coarse k) → gain x * unit ≤ k * den x
 counted k x h z o =
     let c = exactly k h in

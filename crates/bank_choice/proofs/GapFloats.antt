@@ -1,5 +1,5 @@
--- What the rates and the gaps between them want of floats: 1 times a number, a number over itself, the order of three,
--- and the sign of a difference. Assumes nothing.
+-- Facts about floats for the rates and the gaps between them: 1 times a number, a number divided by itself, the order
+-- of three, and the sign of a difference. Assumes nothing.
 use mathlib.Core.Path.{_≡_, refl, ap}
 use mathlib.Core.Bool.{true, false, true≢false}
 use Prim.Native.Nat.{ℕ, _+_, _*_, _<_}

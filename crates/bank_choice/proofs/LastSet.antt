@@ -1,7 +1,6 @@
--- T4. A rate that is the bank's maximum, or is clamped to it, reads the last set alone, whatever f64 the bank's rate
--- is:
--- every set before the last is slower, and the blend counts as 1, or the last set's rate is within f64 epsilon of the
--- rate below it. So it does not matter whether rounding left that rate at the maximum, below or above it.
+-- T4. A rate that is the bank's maximum, or is clamped to it, reads the last set alone, whatever f64 the maximum is.
+-- Every set before the last is slower, and the blend counts as 1, or the rate of the last set is within f64 epsilon of
+-- that of the set below. So it does not matter whether rounding left that rate at the maximum, below or above it.
 -- Assumes nothing.
 use mathlib.Core.Path.{_≡_, refl, sym, ap, _∙_}
 use mathlib.Core.Bool.{Bool, true, false, cond}
@@ -33,7 +32,7 @@ use Rattle.bank_choice.proofs.OwnRate.{inside-stays, gap-above, whole-b
 abbrev epsilon : Float
 epsilon = fin false 1 (negsuc 22)
 
--- ---- rates that are clamped to the maximum: itself, and all above it, the infinite one too
+-- ---- rates that are clamped to the maximum: the maximum itself, and all above it, also an infinite one
 pub at-maximum : (top : Float) → bankOk top ≡ true → clamped top one-f top ≡ top
 at-maximum top ok =
     let t = in-range top ok in
@@ -81,7 +80,7 @@ module _ (top : Float) (ok : bankOk top ≡ true) (held : T (fits binary64 top))
   abbrev low : Float
   low = lowerOf top (stepsOf top) last
 
-  -- every set before the last is slower
+  -- Every set before the last is slower.
   place : min (partitionOf top (stepsOf top) top) last ≡ last
   place =
       min-eq-right

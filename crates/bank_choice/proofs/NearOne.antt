@@ -1,5 +1,5 @@
 -- T4. A quotient that is nearly 1 still counts as 1 when it is rounded to f64 and then to f32: each rounding keeps the
--- order, and 1 less f32's epsilon is a number of both. Assumes nothing.
+-- order, and 1 less f32's epsilon is a value of both formats. Assumes nothing.
 use mathlib.Core.Path.{_≡_, refl}
 use mathlib.Core.Bool.{true, false}
 use Prim.Native.Nat.{ℕ, _+_, _*_, _≤_, _<_}
@@ -17,11 +17,11 @@ use Rattle.interval.proofs.Signed.{ring, gain, loss, under}
 use Rattle.interval.proofs.Operations.{Rounds, in-order, divided}
 use Rattle.bank_choice.proofs.CoarseSteps.{unit}
 
--- 1 less f32's epsilon, from which on the blend counts as 1
+-- 1 less f32's epsilon. From there on the blend counts as 1.
 abbrev pub high : Float
 high = fin false 8388607 (negsuc 22)
 
--- ---- a quotient from there on stays there as an f32
+-- ---- a quotient from that number on is not below it as an f32
 single : round binary32 false 8388607 8388608 ≡ high
 unfolding round
 single = refl
@@ -40,7 +40,7 @@ double : Rounds binary64 high 8388607 0 8388608
 unfolding round
 double = record { sign = false; size = 8388607; is = refl; same = refl }
 
--- x is a steps or more, and y at most a + 2
+-- x is at least a steps, and y at most a + 2.
 pub quotient-high : (a : ℕ) (x y : Float) → T (finite x) → T (finite y) → loss x ≡ 0 → 0 < gain y → 268435456 ≤ a + 1
     → a * den x ≤ gain x * unit → gain y * unit ≤ (a + 2) * den y → T (le high (div binary64 x y))
 quotient-high a x y p q z g large hx hy =

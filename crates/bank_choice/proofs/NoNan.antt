@@ -1,4 +1,4 @@
--- N7. A float that equals itself is no NaN. Assumes nothing.
+-- N7. A float that equals itself is not a NaN. Assumes nothing.
 use mathlib.Core.Path.{_≡_, refl}
 use mathlib.Core.Bool.{true, false, not}
 use Prim.Native.Nat.{_*_}

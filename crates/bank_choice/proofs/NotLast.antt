@@ -1,6 +1,6 @@
--- The rate of a set that is not the last is below the bank's: (max - 1) * i / n with i < n falls short of max - 1 by a
--- fiftieth of it, and more than one set means that max - 1 is above 1/64, so 2^28 steps of 2^-40 and more lie between
--- the set's rate and the bank's. Assumes nothing.
+-- The rate of a set that is not the last is below the bank's. (max - 1) * i / n with i < n falls short of max - 1 by at
+-- least a fiftieth of it, and more than one set means that max - 1 is above 1/64, so at least 2^28 steps of 2^-40 lie
+-- between the rate of the set and that of the bank. Assumes nothing.
 use mathlib.Core.Path.{_≡_, refl}
 use mathlib.Core.Bool.{true}
 use Prim.Native.Nat.{ℕ, _+_, _-_, _*_, _≤_, _<_, max}
@@ -21,7 +21,7 @@ use Rattle.bank_choice.proofs.RatesInSteps.{spanOf, reachOf, plain-top,
 use Rattle.bank_choice.proofs.RatesInSteps.{rate-under}
 use Rattle.bank_choice.proofs.StepArithmetic.{shareAbove, next, room}
 
--- where max - 1 is at most a sixty-fourth there is one set
+-- If max - 1 is at most a sixty-fourth there is one set.
 narrow : (top : Float) → bankOk top ≡ true → 64 * (gain top - den top) ≤ den top → stepsOf top ≤ 1
 unfolding stepsOf div le lt round
 narrow top ok h =
@@ -38,7 +38,7 @@ narrow top ok h =
     (q .below .order) in
     max-le (lit≤ tt) (ceiling-most 1 _ one)
 
--- as many steps as reach k * i / n
+-- As many steps as reach k * i / n.
 abbrev pub shareOf : Float → ℕ → ℕ
 shareOf top i = shareAbove (reachOf top) i (stepsOf top)
 

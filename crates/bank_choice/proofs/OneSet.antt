@@ -1,5 +1,5 @@
--- T3, T4. The rate of a bank's only set is the bank's: max is a whole number of 2^-52, so max - 1 is exact, times 1 and
--- over 1 it is itself, and 1 more is max again. Assumes nothing.
+-- T3, T4. The rate of a bank's only set is that of the bank: max is a whole number of 2^-52, so max - 1 is exact; times
+-- 1 and divided by 1 it stays the same, and adding 1 gives max again. Assumes nothing.
 use mathlib.Core.Path.{_≡_, refl, sym, ap, _∙_}
 use mathlib.Core.Bool.{true, false, true≢false}
 use Prim.Native.Nat.{ℕ, suc, _+_, _-_, _*_, _^_, _≤_, _<_}

@@ -1,6 +1,6 @@
 -- T4. Both sets are sets of the bank. A rate equal to a set's own rate reads the next tighter set, not that one, unless
--- it is the last set (`LastSet`) or its rate is within f64 epsilon of the rate below it: apart from the rate below, the
--- sets before it are slower, and the blend is x / x, which is 1. Assumes nothing.
+-- it is the last set (`LastSet`) or its rate is within f64 epsilon of that of the set below. Otherwise the sets before
+-- it are slower, and the blend is x / x, which is 1. Assumes nothing.
 use mathlib.Core.Path.{_≡_, refl, sym, _∙_}
 use mathlib.Core.Bool.{Bool, true, false, cond, true≢false}
 use Prim.Native.Nat.{ℕ, _+_, _-_, _<_, min}
@@ -62,7 +62,7 @@ module _ (top : Float) (ok : bankOk top ≡ true) (i : ℕ) (among : i < stepsOf
   own-is : Between one-f (fin false 51 (pos 0)) own
   own-is = rate-finite top ok (i + 1) (omega (arith, most top ok))
 
-  -- the rate below: 1.0, or the rate of the set before
+  -- The rate of the set below, or 1.0 for the first set.
   low-is : Between one-f (fin false 51 (pos 0)) low × T (le low own)
   unfolding le
   low-is = go (eqb i 0) (eqb-true i 0) (eqb-false i 0)
@@ -125,9 +125,8 @@ module _ (top : Float) (ok : bankOk top ≡ true) (i : ℕ) (among : i < stepsOf
     unfolding blendOf narrowed round
     whole-blend = rw (over-itself gap finite-gap gap-above)
 
-    -- Set i's own rate, where it is at most the bank's, as it always is unless set i is the last.
-    -- Where rounding took the last set's rate above the bank's, no rate is that one once it is clamped:
-    -- `LastSet` says what is read there.
+    -- The own rate of set i, if it is at most the bank's, as it always is unless set i is the last. If rounding took
+    -- the rate of the last set above the bank's, no clamped rate equals it: `LastSet` says what is read there.
     pub reads-own : T (le own top)
         → (chosenOf top own .safe ≡ i) × (chosenOf top own .tighter ≡ min (i + 1) (stepsOf top - 1))
         × (chosenOf top own .which ≡ 1)

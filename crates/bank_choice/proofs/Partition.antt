@@ -1,5 +1,5 @@
--- The first set that is not slower, by what is known of it: every set before it is slower, and it is not,
--- or there is none left. Assumes nothing.
+-- The first set that is not slower, from what is known of it: every set before it is slower, and it is not, or there is
+-- none left. Assumes nothing.
 use mathlib.Core.Path.{_≡_, refl, sym, _∙_, ap}
 use mathlib.Core.Bool.{Bool, true, false, cond}
 use mathlib.Core.Logic.{_⊎_, inl, inr}
@@ -9,7 +9,7 @@ use native.Mathlib.Omega.{arith}
 use Rattle.bank_choice.specs.Choosing.{firstFrom}
 
 module _ (slower : ℕ → Bool) where
-  -- all of k to p are slower, and p is the end or is not slower
+  -- All sets from k to p are slower, and p is the end or is not slower.
   found-from : (k n p : ℕ) → k ≤ p → p ≤ k + n → ((j : ℕ) → k ≤ j → j < p → slower j ≡ true)
       → (p < k + n → slower p ≡ false) → p ≡ firstFrom slower k n
   unfolding firstFrom
@@ -45,7 +45,7 @@ module _ (slower : ℕ → Bool) where
       go true h = omega arith
       go false h = omega arith
 
-  -- where all before p are slower, it is p or later
+  -- If all sets before p are slower, it is p or later.
   reached-from : (k n p : ℕ) → k ≤ p → p ≤ k + n → ((j : ℕ) → k ≤ j → j < p → slower j ≡ true)
       → p ≤ firstFrom slower k n
   unfolding firstFrom

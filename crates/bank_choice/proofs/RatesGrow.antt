@@ -1,6 +1,5 @@
--- The sets' rates grow with their numbers and stay from 1 to 2: each step of a rate keeps the order,
--- and at the last set (max - 1) * n / n is at most 1.
--- Assumes nothing.
+-- The rates of the sets grow with their numbers and lie from 1 to 2: each step of computing a rate keeps the order, and
+-- for the last set (max - 1) * n / n is at most 1. Assumes nothing.
 use mathlib.Core.Path.{_≡_, refl}
 use mathlib.Core.Bool.{true, false}
 use Prim.Native.Nat.{ℕ, _+_, _≤_, _<_, zero-le}
@@ -46,7 +45,7 @@ module _ (top : Float) (ok : bankOk top ≡ true) where
   pub many : 0 < gain N
   many = rises-above (sets .above) refl (lit< tt)
 
-  -- the numerator, the quotient and the rate of set i, as far as 50
+  -- The numerator, the quotient and the rate of set i, for i up to 50.
   pub product : (i : ℕ) → i ≤ 50 → Between zero-f fifty (mul binary64 D (num i))
   unfolding mul le
   product i l = product-between binary64 tt (span top ok) (number i l) refl refl tt tt

@@ -1,5 +1,5 @@
--- The sets' rates, bounded in steps of 2^-40: where k steps reach max - 1 and j steps reach k * i / n,
--- set i's rate is at most 1 and j steps, whatever is rounded on the way. Assumes nothing.
+-- The rates of the sets, bounded in steps of 2^-40. If k steps reach max - 1 and j steps reach k * i / n, the rate of
+-- set i is at most 1 plus j steps, whatever is rounded on the way. Assumes nothing.
 use mathlib.Core.Path.{_≡_, refl}
 use mathlib.Core.Bool.{true}
 use Prim.Native.Nat.{ℕ, _+_, _-_, _*_, _≤_}
@@ -23,11 +23,11 @@ use Rattle.bank_choice.proofs.CoarseSteps.{unit, Value, coarse, value-o
 use Rattle.bank_choice.proofs.CoarseSteps.{product-under, quotient-under, sum-under}
 use Rattle.bank_choice.proofs.StepArithmetic.{stepsAbove, next}
 
--- 2^40 (max - 1), over max's denominator
+-- 2^40 (max - 1), times the denominator of max.
 abbrev pub spanOf : Float → ℕ
 spanOf top = unit * (gain top - den top)
 
--- as many steps as reach max - 1
+-- As many steps as reach max - 1.
 abbrev pub reachOf : Float → ℕ
 reachOf top = stepsAbove (spanOf top) (den top)
 

@@ -1,5 +1,5 @@
--- Where the numbers of a bank lie, by their ends: max - 1 from 0 to 1, so that (max - 1)/0.02 is at most 50 and there
--- are 1 to 50 sets. Assumes nothing.
+-- The ranges of a bank's numbers, by their ends: max - 1 lies from 0 to 1, so that (max - 1)/0.02 is at most 50 and
+-- there are 1 to 50 sets. Assumes nothing.
 use mathlib.Core.Path.{_≡_, refl}
 use mathlib.Core.Bool.{true, false}
 use Prim.Native.Nat.{ℕ, _≤_, max, zero-le}

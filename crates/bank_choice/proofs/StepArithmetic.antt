@@ -1,6 +1,6 @@
--- The arithmetic of `NotLast` and `AtMaximum`, over whole numbers. X is 2^40 (max - 1), over B: k steps of 2^-40 lie
--- above max - 1, j of them above k * i / n, and yet j of them and 2^28 more below max - 1, where i < n.
--- Assumes nothing.
+-- The arithmetic of `NotLast` and `AtMaximum`, over whole numbers. X is 2^40 (max - 1), over B. k steps of 2^-40 lie
+-- above max - 1, j of them above k * i / n, and yet j of them and 2^28 more lie below max - 1, if i < n. Assumes
+-- nothing.
 use mathlib.Core.Path.{_≡_, _∙_, ap}
 use Prim.Native.Nat.{ℕ, _+_, _-_, _*_, _/_, _≤_, _<_}
 use native.Mathlib.Nat.{mul-le-mul-left, mul-le-mul-right, le-of-mul-le-mul-right, add-mul, one-mul}
@@ -36,14 +36,14 @@ room X B i n k j some less few wide hk hj =
     )))
     some
 
--- The maximum is A / B and the rate below it G / C, so Y / (B * C) lies between them; `a` steps fit there,
--- not two more.
+-- The maximum is A / B and the rate below it G / C, so Y / (B * C) lies between them; `a` steps fit there, but not two
+-- more.
 module _ (A B G C Y a : ℕ) (gap : Y + G * B ≡ A * C)
     (fits : a * (B * C) ≤ unit * Y) (no-more : unit * Y ≤ (a + 1) * (B * C)) where
   pub from-below : a * (B * C) + G * B * unit ≤ A * C * unit
   from-below = simp ring (omega (arith, simp ring at fits, simp ring at gap))
 
-  -- a rate g / c of at most k steps above 1, which may lie a step above the maximum
+  -- The rate g / c is at most k steps above 1, and may lie a step above the maximum.
   pub from-above : (g c k : ℕ) → 0 < B → g * unit ≤ (unit + k) * c → (unit + k) * B ≤ unit * A + B
       → g * C * unit ≤ (a + 2) * (c * C) + G * c * unit
   from-above g c k some h top =

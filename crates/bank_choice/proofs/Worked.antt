@@ -21,14 +21,14 @@ fifty-sets : stepsOf (ofBits binary64 0x4000_0000_0000_0000) ≡ 50
 unfolding stepsOf ceilingOf sub div ofBits
 fifty-sets = refl
 
--- T4. Of the two sets up to 1.03 the first set's own rate reads the second alone.
+-- T4. Of the two sets up to 1.03, the own rate of the first reads the second set alone.
 reads-second : chosenOf (ofBits binary64 0x3ff0_7ae1_47ae_147b) (rateOf (ofBits binary64 0x3ff0_7ae1_47ae_147b) 2 1)
     ≡ record { safe = 0; tighter = 1; which = 1; blend = one-f }
 unfolding chosenOf firstFrom blendOf stepsOf ceilingOf rateOf clamped narrowed add sub mul div lt le ofInt ofBits
 reads-second = refl
 
--- T4. Up to 0x1.d5f4b3ac79505p+0 there are 42 sets, the last of them by rounding faster than the bank;
--- the bank's maximum reads it alone all the same.
+-- T4. Up to 0x1.d5f4b3ac79505p+0 there are 42 sets, and by rounding the last of them is faster than the bank. All the
+-- same the bank's maximum reads it alone.
 abbrev past : Float
 past = ofBits binary64 0x3ffd_5f4b_3ac7_9505
 

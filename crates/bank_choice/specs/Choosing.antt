@@ -19,7 +19,7 @@ use Rattle.bank_choice.specs.Rates.{bankOk, stepsOf, rateOf}
 abbrev pub slowerOf : Float → ℕ → Float → ℕ → Bool
 slowerOf max-rate steps r k = lt (rateOf max-rate steps (k + 1)) r
 
--- 000's partition_point: the first set that is not slower, from set k on, of n sets.
+-- 000's partition_point: the first of n sets, from set k on, that is not slower.
 unfoldable pub firstFrom : (ℕ → Bool) → ℕ → ℕ → ℕ
 firstFrom slower k zero = k
 firstFrom slower k (suc n) = cond (slower k) (firstFrom slower (suc k) n) k
@@ -38,11 +38,11 @@ closeOf own lower = let d = sub binary64 own lower in le (fin true 1 (negsuc 51)
 unfoldable pub blendOf : Float → Float → Float → Float
 blendOf r own lower = narrowed (div binary64 (sub binary64 r lower) (sub binary64 own lower))
 
--- 0 means the safe set alone, 1 the tighter one alone, 2 both, blended.
+-- The number 0 means the safe set alone, 1 the tighter one alone, 2 both, blended.
 abbrev pub whichOf : Bool → Bool → Bool → ℕ
 whichOf close low high = cond close 0 (cond low 0 (cond high 1 2))
 
--- The blend is tested as it is, against f32's epsilon and 1 less that; what is handed on is clamped.
+-- The blend is compared with f32's epsilon and with 1 less that before it is clamped; the clamped one is handed on.
 abbrev pub madeOf : ℕ → ℕ → Float → Float → Float → Choice
 madeOf safe tighter r own lower =
     let blend = blendOf r own lower in
@@ -61,11 +61,11 @@ chosenOf max-rate rate =
     let safe = min (partitionOf max-rate n r) (n - 1) in
     madeOf safe (min (safe + 1) (n - 1)) r (rateOf max-rate n (safe + 1)) (lowerOf max-rate n safe)
 
--- What stands for a choice where there is none.
+-- The choice for a bank's rate that is out of range.
 abbrev pub noChoice : Choice
 noChoice = record { safe = 0; tighter = 0; which = 0; blend = zero-f }
 
--- N1, N7. The refusal that is due, 0 for none: the bank's rate first, then a rate that is a NaN.
+-- N1, N7. The number of the refusal, 0 for none: the bank's rate first, then a rate that is a NaN.
 abbrev pub chooseVerdict : Float → Float → ℕ
 chooseVerdict max-rate rate = firstOf (1 unless bankOk max-rate ∷ 7 unless not (isNan rate) ∷ [])
 
@@ -76,7 +76,7 @@ selectedBy (suc k) c = Refused (suc k)
 abbrev pub selectedOf : Float → Float → Selected
 selectedOf max-rate rate = selectedBy (chooseVerdict max-rate rate) (chosenOf max-rate rate)
 
--- C4. 01's number for each case, 0 for a choice; and the choice, of which a refusal has none.
+-- C4. 01's number for each case, 0 for a choice; and the choice, which a refusal does not have.
 abbrev pub numberOf : Selected → ℕ
 numberOf (Sets c) = 0
 numberOf (Refused k) = k

@@ -1,5 +1,5 @@
--- The choice as a function that refuses nothing gives it, for a reader that has tested the bank's rate already. What is
--- promised stands in Choosing.antt without it. Definitions only.
+-- The choice by the function that refuses nothing, for a reader that has tested the bank's rate already. It is no part
+-- of what is promised, which stands in Choosing.antt. Definitions only.
 use mathlib.Core.Bool.{Bool, true, false}
 use lib.Ieee.{Float}
 use Rattle.bank_choice.specs.declared.Choice.{Choice}
@@ -10,6 +10,6 @@ abbrev pub pickChoice : Bool → Choice → Choice → Choice
 pickChoice true a b = a
 pickChoice false a b = b
 
--- All zero if the bank's rate is out of range.
+-- All fields are zero if the bank's rate is out of range.
 abbrev pub choiceOf : Float → Float → Choice
 choiceOf max-rate rate = pickChoice (bankOk max-rate) (chosenOf max-rate rate) noChoice

@@ -33,7 +33,7 @@ unfoldable pub rateOf : Float → ℕ → ℕ → Float
 rateOf max-rate steps i =
     add binary64 one-f (div binary64 (mul binary64 (sub binary64 max-rate one-f) (num i)) (num steps))
 
--- ---- what the public functions give, out of range too
+-- ---- what the public functions give, also out of range
 abbrev pub setsOf : Float → ℕ
 setsOf max-rate = cond (bankOk max-rate) (stepsOf max-rate) 0
 

@@ -83,8 +83,8 @@ fn chosen(max_rate: f64, rate: f64) -> Choice
     }
 }
 
-// Which sets a rate reads, for readers that have tested both rates. All zero if the bank's rate is out of range; a NaN
-// as rate goes through the same arithmetic.
+// The sets that a rate reads, for readers that have tested both rates. All fields are zero if the bank's rate is out of
+// range; a NaN as rate goes through the same arithmetic.
 pub fn choice_or_zero(max_rate: f64, rate: f64) -> Choice
     ensures { λ r. ⌜ r ≡ choiceOf «max_rate» rate ⌝ }
 {
@@ -100,7 +100,7 @@ pub fn choice_or_zero(max_rate: f64, rate: f64) -> Choice
     }
 }
 
-// N1, N7. 0, or the refusal that is due: 1 for the bank's rate, then 7 for a rate that is a NaN.
+// N1, N7. The number of the refusal, 0 for none: 1 for the bank's rate, then 7 for a rate that is a NaN.
 fn refusal(max_rate: f64, rate: f64) -> u8
     ensures { λ r. ⌜ r ≡ chooseVerdict «max_rate» rate ⌝ }
 {
@@ -111,7 +111,6 @@ fn refusal(max_rate: f64, rate: f64) -> u8
     }
 }
 
-// Which sets a rate reads, or the number of the refusal.
 pub fn choose(max_rate: f64, rate: f64) -> Selected
     ensures { λ r. ⌜ r ≡ selectedOf «max_rate» rate ⌝ }
 {

@@ -5,7 +5,7 @@ ghost use Prim.Native.Nat.{max};
 ghost use Rattle.magnitude.specs.Bounds.{AtMost};
 ghost use Rattle.bank_choice.specs.Rates.{bankOk, ceilingOf, stepsOf, rateOf, setsOf, setRateOf};
 
-// The least whole number not below x, at least 1: the floor, and one more where that lies below x.
+// The least whole number not below x, at least 1: the floor, and one more if that lies below x.
 fn ceiling(x: f64) -> u64
     requires { ⌜ AtMost 50 x ⌝ }
     ensures { λ r. ⌜ r ≡ max 1 (ceilingOf x) ⌝ }
@@ -27,7 +27,7 @@ fn sets(max_rate: f64) -> usize
     ceiling((max_rate - 1.0) / 0.02) as usize
 }
 
-// How many sets a bank has; 0 where the rate is out of its range.
+// T3. How many sets a bank has; 0 if its rate is out of range.
 pub fn steps(max_rate: f64) -> usize
     ensures { λ r. ⌜ r ≡ setsOf «max_rate» ⌝ }
 {
@@ -47,7 +47,7 @@ pub fn rate(max_rate: f64, steps: usize, i: usize) -> f64
             / std::num::nearest_u64_to_f64(steps as u64)
 }
 
-// The rate of a set, counted from 0; zero where there is no such set.
+// T3. The rate of a set, counted from 0; zero if there is no such set.
 pub fn set_rate(max_rate: f64, set: usize) -> f64
     ensures { λ r. ⌜ r ≡ setRateOf «max_rate» set ⌝ }
 {

@@ -30,7 +30,8 @@ fn guess(max_rate: f64, steps: usize, r: f64) -> usize
     if g < steps { g } else { steps - 1 }
 }
 
-// Down from k past the sets that are not slower. Rates grow with the sets, so that every set before the end is slower.
+// Goes down from k past the sets that are not slower. The rates grow from set to set, so that every set before the end
+// is slower.
 fn down(max_rate: f64, steps: usize, r: f64, k: usize) -> usize
     requires { ⌜ (bankOk «max_rate» ≡ true) × (steps ≡ stepsOf «max_rate») × (k < steps) ⌝ }
     ensures { λ e. ⌜ (e ≤ k) × ((j : ℕ) → j < e → slowerOf «max_rate» steps r j ≡ true) ⌝ }
@@ -47,7 +48,7 @@ fn down(max_rate: f64, steps: usize, r: f64, k: usize) -> usize
     }
 }
 
-// Up from k past the sets that are slower.
+// Goes up from k past the sets that are slower.
 fn up(max_rate: f64, steps: usize, r: f64, k: usize) -> usize
     requires { ⌜ (k ≤ steps) × ((j : ℕ) → j < k → slowerOf «max_rate» steps r j ≡ true) ⌝ }
     ensures { λ e. ⌜ e ≡ partitionOf «max_rate» steps r ⌝ }

@@ -1,6 +1,6 @@
--- W5d. From 0 to 20 the tolerance ends the series, after at most 41 terms: each step keeps the order,
--- so that no term lies above the one at y = 100 and no sum below 1; and the 41st term at y = 100 is below 1.0e-16.
--- So it is all one how many more terms are allowed. Assumes nothing.
+-- W5d. For an x from 0 to 20 the tolerance ends the series after at most 41 terms. Each step keeps the order, so that
+-- no term lies above the one at y = 100 and no sum below 1; and the 41st term at y = 100 is below 1.0e-16. So it does
+-- not matter how many more terms are allowed. Assumes nothing.
 use mathlib.Core.Path.{_≡_, refl, sym, ap, _∙_}
 use mathlib.Core.Bool.{Bool, true, false, cond, _&&_, false≢true}
 use mathlib.Core.List.{List, [], _∷_}
@@ -35,12 +35,12 @@ hundred = fin false 25 (pos 2)
 abbrev tiny : Float
 tiny = round binary64 false 1 (10 ^ 16)
 
--- what y is divided by in term k
+-- The divisor of y in term k.
 abbrev squared : ℕ → Float
 squared k = mul binary64 (ofInt binary64 (pos k)) (ofInt binary64 (pos k))
 
--- ---- what is computed: that one step's bounds are finite and not negative, and n steps of them, from the bounds t of
--- the term and s of the sum on
+-- ---- what is computed: that the bounds of one step are finite and not negative, and those of n steps, beginning with
+-- the bounds t of the term and s of the sum
 abbrev tests : Float → Float → Float → Float → List Bool
 tests d q t s =
     finite d ∷ lt zero-f d ∷ finite (div binary64 zero-f d) ∷ le zero-f (div binary64 zero-f d) ∷ finite q ∷ le zero-f q
@@ -121,7 +121,7 @@ module _
         (lt-le next tiny (mul binary64 more tiny) (a .first) tt (z .above .second)
         (le-lt next T' tiny (a .first) (a .second) tt (a .order) l) (z .above .order))
 
--- b: the term is below the tolerance; c: its bound is; r and e: what follows
+-- b says whether the term is below the tolerance, c whether its bound is; r and e are the same for what follows.
 either : (b c e r : Bool) → (T c → b ≡ true) → T (cond c true e) → (T e → r ≡ true) → cond b true r ≡ true
 either true c e r now h later = refl
 either false true e r now h later = absurd (false≢true (now tt))
@@ -156,7 +156,7 @@ tolerance-ends x p q =
     quotient-between binary64 tt s (point four-f tt) tt refl refl tt tt in
     ended 41 0 one-f one-f _ one-f one-f computed y (between tt tt tt tt) (point one-f tt)
 
--- ---- and more terms change nothing
+-- ---- more terms change nothing
 alike : (b r : Bool) (m a c : Float) → cond b true r ≡ true → (r ≡ true → a ≡ c) → cond b m a ≡ cond b m c
 alike true r m a c h e = refl
 alike false r m a c h e = e h

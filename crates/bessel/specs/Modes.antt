@@ -1,5 +1,5 @@
--- W5c. How the sum that stands for I0 may end: the ported mode after 24 terms, as in 000, the full mode after 64. Where
--- only numbers cross, 0 is the ported mode and 1 the full one. Definitions only.
+-- W5c. How many terms the sum that stands for I0 may have: 24 in the ported mode, as in 000, and 64 in the full mode.
+-- Callers that can only pass numbers call the ported mode 0 and the full one 1. Definitions only.
 use Prim.Native.Nat.{ℕ, zero, suc}
 use mathlib.Core.Bool.{Bool, cond}
 use lib.Dec.{leb}
@@ -12,16 +12,15 @@ abbrev pub termsOf : Mode → ℕ
 termsOf Ported = 24
 termsOf Full = 64
 
--- The sum called I0, in a mode.
 abbrev pub sumIn : Mode → Float → Float
 sumIn mode x = seriesOf (termsOf mode) x
 
--- Where only numbers cross, 0 names the ported mode and 1 the full one.
+-- The ported mode has the number 0, the full one 1.
 abbrev pub modeOf : ℕ → Mode
 modeOf zero = Ported
 modeOf (suc k) = Full
 
--- N1. Any other number is an argument out of its range: 1, else the refusal that is due else.
+-- N1. Any other number is an argument out of its range and refused by 1.
 abbrev pub knownCode : ℕ → Bool
 knownCode code = leb code 1
 

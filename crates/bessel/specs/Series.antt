@@ -6,16 +6,16 @@ use lib.IntN.{pos}
 use lib.Ieee.{Float, fin, binary64, round, add, mul, div, lt, ofInt}
 pub use Rattle.constants.specs.Numbers.{one-f}
 
--- `term *= y / (k * k)`
+-- In 000: `term *= y / (k * k)`.
 abbrev pub termOf : Float → ℕ → Float → Float
 termOf y k term = mul binary64 term (div binary64 y (mul binary64 (ofInt binary64 (pos k)) (ofInt binary64 (pos k))))
 
--- whether a term is below sum × 1.0e-16
+-- The series ends at a term below sum × 1.0e-16.
 abbrev pub ends : Float → Float → Bool
 ends sum term = lt term (mul binary64 sum (round binary64 false 1 (10 ^ 16)))
 
--- The sum at the end, from the sum and the term after k terms on, with at most n terms more: the first that is too
--- small is the last.
+-- The final sum, from the sum and the term after k terms on, with at most n terms more. The first term that is too
+-- small is still added and is the last.
 unfoldable pub sumAfter : ℕ → ℕ → Float → Float → Float → Float
 sumAfter zero k y sum term = sum
 sumAfter (suc n) k y sum term =
@@ -26,7 +26,7 @@ sumAfter (suc n) k y sum term =
 abbrev pub four-f : Float
 four-f = fin false 1 (pos 2)
 
--- 1 and at most `terms` terms after it, in y = x * x / 4
+-- The sum of 1 and at most `terms` terms after it, in y = x * x / 4.
 unfoldable pub seriesOf : ℕ → Float → Float
 unfolding sumAfter
 seriesOf terms x = sumAfter terms 0 (div binary64 (mul binary64 x x) four-f) one-f one-f

@@ -1,17 +1,17 @@
-// 000's bessel_i0, the sum that stands for I0 in a table's window, and the mode in which it goes on until its terms
-// no longer count.
+// 000's bessel_i0, the sum that stands for I0 in a table's window, and a mode in which it goes on until its terms no
+// longer count.
 ghost use mathlib.Core.Path.{_≡_};
 ghost use Rattle.bessel.specs.Series.{seriesOf};
 ghost use Rattle.bessel.specs.Modes.{termsOf, sumIn, modeOf, knownCode};
 
-// W5. Ported is 000's: 24 terms after the first do not reach I0 for a beta above about 10.9. In Full the tolerance
-// always ends the sum, for 41 terms do up to a beta of 20 (`tolerance-ends`).
+// W5. Ported is 000's sum: 24 terms after the first, which do not reach I0 for a beta above about 10.9. In Full the
+// tolerance always ends the sum, because 41 terms are enough up to a beta of 20 (`tolerance-ends`).
 pub enum Mode {
     Ported,
     Full,
 }
 
-// F5, T2. The series of I0: 1 and at most `terms` terms after it, up to the first that is below sum * 1.0e-16.
+// F5, T2. The series of I0: 1 and at most `terms` terms after it, up to the first one below sum * 1.0e-16.
 pub fn series(x: f64, terms: u32) -> f64
     ensures { λ r. ⌜ r ≡ seriesOf terms x ⌝ }
 {
@@ -33,14 +33,13 @@ pub fn series(x: f64, terms: u32) -> f64
     }
 }
 
-// 000's own number of terms.
+// 000 adds at most 24 terms.
 pub fn bessel_i0(x: f64) -> f64
     ensures { λ r. ⌜ r ≡ seriesOf 24 x ⌝ }
 {
     series(x, 24)
 }
 
-// The number of terms that a mode may add.
 fn terms(mode: Mode) -> u32
     ensures { λ r. ⌜ r ≡ termsOf mode ⌝ }
 {
@@ -50,14 +49,15 @@ fn terms(mode: Mode) -> u32
     }
 }
 
-// W5c. The sum called I0, in a mode.
+// W5c. The sum that stands for I0, in a mode.
 pub fn sum(mode: Mode, x: f64) -> f64
     ensures { λ r. ⌜ r ≡ sumIn mode x ⌝ }
 {
     series(x, terms(mode))
 }
 
-// The mode of a number, where only numbers cross. One above 1 is no mode's: who takes numbers from outside tests that.
+// The mode with a number, for callers that can only pass numbers. A number above 1 is not a mode's; whoever takes
+// numbers from outside tests that with `known`.
 pub fn of_code(code: u8) -> Mode
     ensures { λ r. ⌜ r ≡ modeOf code ⌝ }
 {

@@ -1,5 +1,5 @@
--- What the tests of `with_bias` say of a sum: whether it has a bias, and so what is given. And an f32 that is taken
--- stands in the biased sum. Assumes nothing.
+-- What the tests of `with_bias` show of a sum: whether it has a bias, and so what is returned. If it is accepted, the
+-- biased sum holds it exactly. Assumes nothing.
 use mathlib.Core.Path.{_≡_, refl, sym, ap, _∙_, subst}
 use mathlib.Core.Bool.{Bool, true, false, not, _&&_, false≢true}
 use Prim.Native.Nat.{ℕ, _-_, _%_, _≤_, _<_}
@@ -45,7 +45,7 @@ module _ (x : Float) where
       all true b c t e g = ap (λ (z : Bool). z && c) e ∙ g
       all false b c t e g = absurd t
 
-  -- ---- what is given
+  -- ---- what is returned
   abbrev found : Ends
   found = endsFor (leb 2048 (powerOf x)) (f - 898)
 
@@ -62,7 +62,7 @@ module _ (x : Float) where
       ∙ ap (λ (b : Ends). biasedBy b x) is
       ∙ sym (ap (λ (b : Bool). pickStart b (biasedBy found x) noBias) (with-one n lo hi))
 
-  -- ---- what is taken
+  -- ---- what is accepted
   abbrev IsBiased : Start → Type 0
   IsBiased r = r .fine ≡ true → Biased (r .bias) (r .low) (r .high) (r .sum) x
 

@@ -1,5 +1,5 @@
--- p + b as an f64, where b is a bias and Q units: between the ends of the bias's frame it is the bias and what p and Q
--- add up to as an f32. Assumes nothing.
+-- p + b as an f64, where b is a bias plus Q units. Between the ends of the bias it is the bias plus what p and Q add up
+-- to as an f32. Assumes nothing.
 use mathlib.Core.Path.{_≡_, sym, ap, _∙_, subst}
 use mathlib.Core.Bool.{Bool, true}
 use Prim.Native.Nat.{ℕ, _+_, _^_, _≤_, _<_}

@@ -1,4 +1,4 @@
--- What tests made together say. Assumes nothing.
+-- What combined tests show. Assumes nothing.
 use mathlib.Core.Path.{_≡_, refl, sym, _∙_}
 use mathlib.Core.Bool.{Bool, true, false, _&&_, false≢true}
 use lib.Ieee.{Float, binary64, add, lt}
@@ -21,7 +21,7 @@ between low high x sum z e t =
       upper = second-of z (lt low (add binary64 x sum)) (lt (add binary64 x sum) high) e t;
     }
 
--- four sums, tested in pairs
+-- Four sums are tested in pairs.
 module _ (low high sum a b c d : Float) where
   abbrev s1 : Float
   s1 = add binary64 a sum

@@ -1,4 +1,4 @@
--- The bias and its ends have an f64's digits, so that each has its size exactly. Assumes nothing.
+-- The bias and its ends have no more digits than an f64, so that each is exact. Assumes nothing.
 use mathlib.Core.Path.{_≡_, refl, subst}
 use mathlib.Core.Bool.{Bool, true, false}
 use Prim.Native.Nat.{ℕ, suc, _+_, _-_, _*_, _^_, _≤_, _<_}
@@ -17,7 +17,7 @@ own s q j few J =
     round-exact binary64 s (q * 2 ^ j) L q j (pow-pos 1074) few
     (lt-of-le-of-lt (mul-le-mul (le-of-lt few) (pow-mono J)) (lit< tt)) refl
 
--- the far end is an even number of the unit
+-- The far end is an even number of units.
 pub far-even : (k : ℕ) → (2 ^ 52 + 2 ^ 23) * 2 ^ suc (925 + k) ≡ far-of k
 far-even k = let t : 2 ^ suc (925 + k) ≡ digit k + digit k = two-pow-succ (925 + k) in omega arith
 

@@ -1,5 +1,5 @@
--- The bias and the ends, by the pattern of 2 ^ (e + 29): h is the sign and the exponent's field of 2 ^ e.
--- Each is the one f64 of its size. Assumes nothing.
+-- The bias and the ends, by the pattern of 2 ^ (e + 29), where h is the sign and the exponent field of 2 ^ e. Each is
+-- the one f64 of its size. Assumes nothing.
 use mathlib.Core.Path.{_≡_, sym, ap, _∙_, subst}
 use mathlib.Core.Bool.{Bool, true, false, not, cond}
 use Prim.Native.Nat.{ℕ, suc, _+_, _-_, _*_, _/_, _%_, _^_, _≤_, _<_}
@@ -26,7 +26,7 @@ same-ends : {a b c d e f : Float} → a ≡ d → b ≡ e → c ≡ f → ends a
 same-ends {a} {b} {c} {d} {e} {f} p q r =
     ap (λ (z : Float). ends z b c) p ∙ ap (λ (z : Float). ends d z c) q ∙ ap (λ (z : Float). ends d e z) r
 
--- q * 2 ^ (x - 1), for the pattern of the field x
+-- The value q * 2 ^ (x - 1), for the pattern with the field x.
 at : (s : Bool) (r q x A : ℕ) → r < 0x7ff0_0000_0000_0000 → r / 2 ^ 52 ≡ suc x → r ≡ x * 2 ^ 52 + q → q * 2 ^ x ≡ A
     → HasValue (ofBits binary64 (cond s 0x8000_0000_0000_0000 0 + r)) s A L
 at s r q x A fine e p a =
@@ -61,13 +61,13 @@ module _ (h : ℕ) (lo : 899 ≤ h % 2048) (hi : h % 2048 ≤ 1148) where
         sym (round-own binary64 (ofBits binary64 b) s A L (ofBits-fits binary64 b) (pow-pos 1074)
         (subst (λ (z : ℕ). HasValue (ofBits binary64 z) s A L) (sym e) (at s r q x A fine d p a)))
 
-    -- the sign's bit stays apart
+    -- The sign bit stays apart from the rest.
     beside : (s : Bool) (h f c d : ℕ) → h ≡ cond s 2048 0 + f → c ≤ 0x0100_0000
         → (h + 29) * 0x0010_0000_0000_0000 - c + d ≡ cond s 0x8000_0000_0000_0000 0 + ((f + 29) * 2 ^ 52 - c + d)
     beside true h f c d e l = omega arith
     beside false h f c d e l = omega arith
 
-    -- in either unit
+    -- The size in either unit.
     lower : (q : ℕ) → q * 2 ^ (f + 27) ≡ q * digit k
     lower q = ap (λ (z : ℕ). q * 2 ^ z) (omega arith)
 

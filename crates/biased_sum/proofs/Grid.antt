@@ -1,4 +1,4 @@
--- An even number of an f32's last digit, large enough, added to y: the sum rounds to an f64 as y does to an f32.
+-- An even number of an f32's last digit, large enough, added to y: rounding the sum to an f64 is rounding y to an f32.
 -- Assumes nothing.
 use mathlib.Core.Path.{_≡_, sym, ap, _∙_, subst}
 use mathlib.Core.Logic.{inl, inr}

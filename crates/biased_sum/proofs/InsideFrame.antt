@@ -1,5 +1,5 @@
--- An f64 sum between the ends of a frame: it is finite, has the frame's sign, and the exact sum lies between the ends
--- too, which are f64. Assumes nothing.
+-- An f64 sum between two ends is finite and has their sign; and since the ends are f64, the exact sum lies between them
+-- too. Assumes nothing.
 use mathlib.Core.Path.{_≡_, refl, sym, ap, _∙_, subst}
 use mathlib.Core.Logic.{inl, inr}
 use mathlib.Core.Bool.{Bool, true, false, _||_, _&&_, cond, false≢true}

@@ -1,5 +1,5 @@
--- A sum of two signed sizes, one of them with C added: where it keeps that one's sign and is above C,
--- it is the sum without C, and C. Assumes nothing.
+-- The sum of two signed sizes, to one of which C has been added. If it keeps that one's sign and is above C, it is C
+-- plus the sum without C. Assumes nothing.
 use mathlib.Core.Path.{_≡_, refl, sym, ap, _∙_}
 use mathlib.Core.Bool.{Bool, true, false, _&&_, cond, true≢false, false≢true}
 use Prim.Native.Nat.{ℕ, _+_, _-_, _≤_, _<_}
@@ -12,7 +12,7 @@ pub record Apart (t : Bool) (P : ℕ) (s : Bool) (Q C : ℕ) : Type 0 where
   pub sign : sum-sign t P s Q ≡ s
   pub size : sum-size t P s (C + Q) ≡ C + sum-size t P s Q
 
--- of two signs
+-- The case of different signs.
 unlike : (t s : Bool) (P Q C : ℕ) → (t ≡ s → ⊥) → (x : Bool) → ltb P (C + Q) ≡ x → cond x s (t && ltb (C + Q) P) ≡ s
     → C < cond x (C + Q - P) (P - (C + Q))
     → (cond (ltb P Q) s (t && ltb Q P) ≡ s) × (cond x (C + Q - P) (P - (C + Q)) ≡ C + cond (ltb P Q) (Q - P) (P - Q))

@@ -1,6 +1,5 @@
--- p + b as an f64, between the ends of b's frame, is the f32 sum of p and what b stands for, biased: `step`.
--- The first such sum is that of an f32 and the bias itself, `start`; and what is biased comes back exactly, `back`.
--- Assumes nothing.
+-- `step`: p + b as an f64, between the ends of b's bias, is the biased f32 sum of p and what b stands for. `start`: the
+-- first such sum is that of an f32 and the bias itself. `back`: taking the bias off is exact. Assumes nothing.
 use mathlib.Core.Path.{_≡_, refl, sym, ap, _∙_, subst}
 use mathlib.Core.Bool.{Bool, true, false, not, Bool·beq, cond, true≢false, false≢true}
 use Prim.Native.Nat.{ℕ, _+_, _-_, _<_}
@@ -55,7 +54,7 @@ module _ (m low high b q : Float) (B : Biased m low high b q) where
         biased = t .biased;
       }
 
-  -- ---- what is biased comes back
+  -- ---- taking the bias off
   pub back : sub binary64 b m ≡ q
   unfolding sub
   back =

@@ -1,5 +1,5 @@
--- K4. How a biased sum begins: with the bias for the power of two near it, if there is one. The sum is taken if it then
--- lies between that bias's ends. Definitions only.
+-- K4. How a biased sum begins: with the bias for the power of two near it, if there is one. The start is fine if the
+-- biased sum lies between that bias's ends. Definitions only.
 use mathlib.Core.Bool.{Bool, true, false, not, _&&_, cond}
 use Prim.Native.Nat.{ℕ, _+_, _-_, _/_, _%_, _^_}
 use lib.Dec.{leb}
@@ -9,8 +9,8 @@ use Rattle.biased_sum.specs.declared.Start.{Start}
 use Rattle.biased_sum.specs.Biased.{bias-of, near-of, far-of}
 use Rattle.biased_sum.specs.Sums.{taken}
 
--- The sign's bit and the exponent's field, as an f64's pattern has them, of the power of two near x: from about 1.414
--- times a power on that is the next one.
+-- The sign bit and the exponent field, as an f64's pattern has them, of the power of two near x: from about 1.414 times
+-- a power on, that is the next one.
 abbrev pub powerOf : Float → ℕ
 powerOf x = (toBits binary64 x + 0x0009_5f62_0000_0000) / 0x0010_0000_0000_0000
 
@@ -18,7 +18,7 @@ powerOf x = (toBits binary64 x + 0x0009_5f62_0000_0000) / 0x0010_0000_0000_0000
 abbrev pub hasBias : Float → Bool
 hasBias x = not (isNan x) && (leb 899 (powerOf x % 2048) && leb (powerOf x % 2048) 1148)
 
--- The bias of the sign s for an f32's last digit of 2 ^ (k - 149), and its ends in their order.
+-- The bias with the sign s for an f32 whose last digit is 2 ^ (k - 149), and its ends, the lower one first.
 unfoldable pub endsFor : Bool → ℕ → Ends
 endsFor s k = record {
   bias = round binary64 s (bias-of k) (2 ^ 1074);
@@ -26,7 +26,7 @@ endsFor s k = record {
   high = round binary64 s (cond s (near-of k) (far-of k)) (2 ^ 1074);
 }
 
--- x, biased.
+-- The start of a sum at x with these ends.
 abbrev pub biasedBy : Ends → Float → Start
 biasedBy e x = record {
   fine = taken (e .low) (e .high) (add binary64 x (e .bias));
@@ -36,7 +36,7 @@ biasedBy e x = record {
   sum = add binary64 x (e .bias);
 }
 
--- Nothing is taken.
+-- The start for a number that has no bias.
 abbrev pub noBias : Start
 noBias = record {
   fine = false;

@@ -1,7 +1,7 @@
--- K4. An f32 q kept as q + C, where C has q's sign and is so large that an f64's last digit is an f32's. With u the
--- last digit of an f32 below 2 ^ e, C is 2 ^ (e + 29) - 2 ^ e, which is (2 ^ 53 - 2 ^ 24) u. From C + 2 ^ (e - 1) to C
--- + 2 ^ (e + 1) an f64 counts u, and from 2 ^ (e + 29) on 2 u, just as an f32 does from 2 ^ (e - 1) to 2 ^ (e + 1).
--- Sizes are in units of 2 ^ -1074, the smallest f64; u is 2 ^ (925 + k) of them. Definitions only.
+-- K4. An f32 q is kept as q + C, where C has q's sign and is so large that the last digit of the f64 sum is that of the
+-- f32. With u the last digit of an f32 below 2 ^ e, C is 2 ^ (e + 29) - 2 ^ e, which is (2 ^ 53 - 2 ^ 24) u. From C + 2
+-- ^ (e - 1) to C + 2 ^ (e + 1) an f64 counts u, and from 2 ^ (e + 29) on 2 u, just as an f32 does from 2 ^ (e - 1) to 2
+-- ^ (e + 1). Sizes are in units of 2 ^ -1074, the smallest f64; u is 2 ^ (925 + k) of them. Definitions only.
 use mathlib.Core.Bool.{Bool, cond}
 use Prim.Native.Nat.{ℕ, _+_, _-_, _*_, _^_, _<_}
 use lib.Dec.{T}
@@ -20,14 +20,14 @@ near-of k = (2 ^ 53 - 2 ^ 23) * digit k
 abbrev pub far-of : ℕ → ℕ
 far-of k = (2 ^ 53 + 2 ^ 24) * digit k
 
--- m is the bias of the sign s, and low and high the ends between which a biased sum is taken, in their order.
+-- m is the bias with the sign s, and low and high are the ends between which a biased sum is accepted, in this order.
 pub record Frame (s : Bool) (k : ℕ) (m low high : Float) : Type 0 where
   pub small : k < 252
   pub bias : HasValue m s (bias-of k) (2 ^ 1074)
   pub lower : HasValue low s (cond s (far-of k) (near-of k)) (2 ^ 1074)
   pub upper : HasValue high s (cond s (near-of k) (far-of k)) (2 ^ 1074)
 
--- b is the f32 q, biased by m.
+-- b stands for the f32 q with the bias m added.
 pub record Biased (m low high b q : Float) : Type 0 where
   pub sign : Bool
   pub k : ℕ

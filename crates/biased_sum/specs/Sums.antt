@@ -1,4 +1,4 @@
--- Four sums, one behind the other, that are taken where they lie between two ends. Definitions only.
+-- Four sums one after the other, each of which is accepted if it lies between two ends. Definitions only.
 use mathlib.Core.Path.{_≡_}
 use mathlib.Core.Bool.{Bool, true, _&&_}
 use lib.Ieee.{Float, binary64, add, lt}
@@ -17,7 +17,7 @@ pub record Between (low high x sum : Float) : Type 0 where
   pub lower : lt low (add binary64 x sum) ≡ true
   pub upper : lt (add binary64 x sum) high ≡ true
 
--- Four sums, one behind the other, that all lie between low and high; r is the last.
+-- Four sums one after the other that all lie between low and high; r is the last of them.
 pub record Advanced (low high sum a b c d r : Float) : Type 0 where
   pub first : Between low high a sum
   pub second : Between low high b (add binary64 a sum)

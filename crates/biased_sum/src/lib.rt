@@ -9,14 +9,14 @@ ghost use Rattle.biased_sum.specs.Sums.{allTaken, Advanced};
 ghost use Rattle.biased_sum.specs.Beginning.{endsFor, noBias, withBias};
 use refusal_order::both;
 
-// A bias, and the ends between which a biased sum is taken.
+// A bias, and the two ends between which a biased sum has the right last digit.
 struct Ends {
     bias: f64,
     low: f64,
     high: f64,
 }
 
-// A sum that is biased, where it is fine.
+// A sum to which the bias has been added; the other fields mean something only if `fine`.
 pub struct Start {
     pub fine: bool,
     pub bias: f64,
@@ -61,8 +61,9 @@ fn no_bias() -> Start
     }
 }
 
-// The sum with the bias for the power of two near it; from about 1.414 times a power on that is the next power. An f32
-// that is accepted is held exactly (`begins` in proofs/BiasTests.antt).
+// Adds the bias for the power of two near the sum; from about 1.414 times a power on, that is the next power, so that
+// the sum may grow or shrink without leaving the ends. An f32 that is accepted is held exactly (`begins` in
+// proofs/BiasTests.antt).
 pub fn with_bias(sum: f64) -> Start
     ensures { λ r. ⌜ r ≡ withBias sum ⌝ }
 {
@@ -88,7 +89,7 @@ pub fn with_bias(sum: f64) -> Start
     }
 }
 
-// A biased sum that went on, where it is fine.
+// A biased sum after four more products; `sum` means something only if `fine`.
 pub struct Added {
     pub fine: bool,
     pub sum: f64,

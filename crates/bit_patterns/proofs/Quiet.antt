@@ -54,7 +54,7 @@ reads-nan f n h =
 pub reads-number : (f : Format) (n : ℕ) → n % top f ≤ ones f * hid f → T (not (nanBits f n))
 reads-number f n h = rw (nanBits-above f n, le-ltb (ones f * hid f) (n % top f) h) tt
 
--- ---- there and back
+-- ---- writing and reading undo each other
 pub float-back : (f : Format) (x : Float) → T (fits f x) → ofBits f (toBits f x) ≡ x
 float-back f x h = ofBits-toBits f x h
 

@@ -5,8 +5,8 @@ ghost use mathlib.Core.Path.{_≡_};
 ghost use lib.Ieee as Ieee;
 ghost use lib.Ieee.{binary32, binary64};
 
-// The number itself, or for every NaN the one that is handed out. In the logic there is one NaN, so nothing changes
-// there; compiled, `0.0 / 0.0` is the constant 7FF8000000000000 (`oracle/hostile` checks it).
+// The number itself; a NaN with any pattern becomes the one NaN that is handed out. In the logic there is one NaN, so
+// nothing changes there; compiled, `0.0 / 0.0` is the constant 7FF8000000000000 (`oracle/hostile` checks it).
 pub fn one_nan(y: f64) -> f64
     ensures { λ r. ⌜ r ≡ y ⌝ }
 {
@@ -16,7 +16,7 @@ pub fn one_nan(y: f64) -> f64
     y
 }
 
-// The same for f32: 7FC00000.
+// The same for f32, whose NaN is 7FC00000.
 pub fn one_nan_f32(b: f32) -> f32
     ensures { λ r. ⌜ r ≡ b ⌝ }
 {
@@ -26,7 +26,7 @@ pub fn one_nan_f32(b: f32) -> f32
     b
 }
 
-// Rust's f64::to_bits, with one NaN.
+// Rust's f64::to_bits, except that every NaN gives the same pattern: the language does not define `to_bits` at a NaN.
 pub fn bits_of(x: f64) -> u64
     ensures { λ r. ⌜ r ≡ Ieee.toBits binary64 x ⌝ }
 {
@@ -36,7 +36,8 @@ pub fn bits_of(x: f64) -> u64
     f64::to_bits(x)
 }
 
-// Rust's f64::from_bits: with the sign taken off, a NaN's pattern lies above an infinity's.
+// Rust's f64::from_bits. A pattern is a NaN's if, without the sign, it lies above an infinity's; `from_bits` is not
+// defined there.
 pub fn float_of(n: u64) -> f64
     ensures { λ r. ⌜ r ≡ Ieee.ofBits binary64 n ⌝ }
 {
@@ -46,7 +47,7 @@ pub fn float_of(n: u64) -> f64
     f64::from_bits(n)
 }
 
-// Rust's f32::to_bits, with one NaN.
+// Rust's f32::to_bits, except that every NaN gives the same pattern.
 pub fn bits_of_f32(a: f32) -> u32
     ensures { λ r. ⌜ r ≡ Ieee.toBits binary32 a ⌝ }
 {
@@ -56,7 +57,7 @@ pub fn bits_of_f32(a: f32) -> u32
     f32::to_bits(a)
 }
 
-// Rust's f32::from_bits.
+// Rust's f32::from_bits; NaN patterns are tested first, as in `float_of`.
 pub fn float_of_f32(n: u32) -> f32
     ensures { λ r. ⌜ r ≡ Ieee.ofBits binary32 n ⌝ }
 {

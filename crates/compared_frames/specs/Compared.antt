@@ -1,7 +1,8 @@
 -- Which frames of two files are compared. Definitions only.
-use Prim.Native.Nat.{ℕ, _-_, _*_, _/_, min}
+use Prim.Native.Nat.{ℕ, _+_, _-_, _*_, _/_, min}
 use mathlib.Core.Bool.{cond, _&&_}
-use lib.Dec.{ltb, leb}
+use lib.Dec.{eqb, ltb, leb}
+use Rattle.sizes.specs.Sizes.{most}
 use Rattle.arguments.specs.declared.Frames.{Frames}
 use Rattle.arguments.specs.declared.Frames.the-variants.{All, Number}
 use Rattle.compared_frames.specs.declared.Extent.{Extent}
@@ -31,3 +32,14 @@ spanOf a b first second frames =
 -- Where stretch k of n equal ones ends, counted from 1; the end of all for the last one and where n is not 1 to 1000.
 unfoldable pub endOf : ℕ → ℕ → ℕ → ℕ
 endOf frames n k = cond (ltb k n && leb n 1000) (k * frames / n) frames
+
+-- The stretch after k, counted from 0, once k has ended.
+abbrev pub nextOf : ℕ → ℕ
+nextOf k = min (k + 1) most
+
+unfoldable pub stretchOf : ℕ → ℕ → ℕ → ℕ → ℕ
+stretchOf frames n k done = cond (leb (endOf frames n (nextOf k)) done) (nextOf k) k
+
+-- Blocks of at most 4096 frames, and of one at the least.
+unfoldable pub blockOf : ℕ → ℕ
+blockOf left = cond (eqb left 0) 1 (min left 4096)

@@ -1,10 +1,11 @@
 // Which frames of two files are compared, how many are left over, and the stretches that a picture shows them in.
 ghost use mathlib.Core.Path.{_≡_};
 ghost use Prim.Native.Nat.{_*_, _/_, min};
-ghost use Rattle.compared_frames.specs.Compared.{spanOf, askedOf, endOf};
+ghost use Rattle.compared_frames.specs.Compared.{spanOf, askedOf, endOf, stretchOf, blockOf};
 use arguments::Frames;
 use sizes::fewer;
 use sizes::less;
+use sizes::plus;
 
 // From frame `first` and frame `second` on so many frames are compared; what each file has behind them.
 pub struct Extent {
@@ -54,4 +55,22 @@ pub fn stretch_end(frames: usize, n: usize, k: usize) -> usize
         return frames;
     }
     k * (frames / n) + k * (frames % n) / n
+}
+
+// The stretch that frame `done` lies in, counted from 0, where k is it or the one before.
+pub fn stretch_of(frames: usize, n: usize, k: usize, done: usize) -> usize
+    ensures { λ r. ⌜ r ≡ stretchOf frames n k done ⌝ }
+{
+    let next = plus(k, 1);
+    if stretch_end(frames, n, next) <= done {
+        return next;
+    }
+    k
+}
+
+// How many frames are compared at once, of so many that are left of a stretch: one at the least, so that a run ends.
+pub fn block_of(left: usize) -> usize
+    ensures { λ r. ⌜ r ≡ blockOf left ⌝ }
+{
+    if left == 0 { 1 } else { fewer(left, 4096) }
 }

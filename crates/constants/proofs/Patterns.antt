@@ -1,4 +1,4 @@
--- The two spellings of a number are one float. Computed. Assumes nothing.
+-- The two spellings of each number are one float. It is computed. Assumes nothing.
 use mathlib.Core.Path.{_≡_, refl}
 use lib.Ieee.{ofBits}
 use Rattle.constants.specs.Numbers.{zero-f, one-f, two-f, zero-bits, one-bits, two-bits}

@@ -5,7 +5,7 @@ use mathlib.Core.Bool.{true, false}
 use lib.IntN.{pos}
 use lib.Ieee.{Float, fin, binary64, ofBits}
 
--- +0.0, 1.0 and 2.0
+-- These are +0.0, 1.0 and 2.0.
 abbrev pub zero-f : Float
 zero-f = fin false 0 (pos 0)
 
@@ -15,8 +15,8 @@ one-f = fin false 1 (pos 0)
 abbrev pub two-f : Float
 two-f = fin false 1 (pos 1)
 
--- The same by their f64 patterns, as the code's literals are read. `same` in proofs/Patterns.antt shows that both
--- spellings are one float.
+-- The same numbers by their f64 patterns, which is how a literal of the code is read. The law `same` in
+-- proofs/Patterns.antt shows that both spellings are one float.
 abbrev pub zero-bits : Float
 zero-bits = ofBits binary64 0
 
@@ -26,8 +26,8 @@ one-bits = ofBits binary64 0x3ff0_0000_0000_0000
 abbrev pub two-bits : Float
 two-bits = ofBits binary64 0x4000_0000_0000_0000
 
--- 2^36: as many samples may be accepted, as far back may a delay reach, and as far on either side may a position lie
--- (01, 'Ranges').
+-- 2^36: the largest number of samples that a reader accepts, the largest delay, and the largest distance of a position
+-- from zero (01, 'Ranges').
 abbrev pub limit : ℕ
 limit = 2 ^ 36
 
@@ -37,6 +37,6 @@ limit-f = fin false 1 (pos 36)
 abbrev pub minus-limit-f : Float
 minus-limit-f = fin true 1 (pos 36)
 
--- T3. The f32 of a bank's set: Normal's, Hq's and Ultra's.
+-- T3. How many f32 one set of a bank has: those of Normal, of Hq and of Ultra.
 abbrev pub setLength : ℕ
 setLength = 163920 + 393312 + 524416

@@ -1,4 +1,4 @@
--- A call at the desk is accepted: no refusal is due, as its settings, ring, count, input and delay are in range.
+-- A call under the premises of Demand 3 is accepted, because its settings, ring, count, input and delay are in range.
 -- Assumes nothing.
 use mathlib.Core.Path.{_≡_}
 use mathlib.Core.Bool.{Bool, true, false, _&&_}

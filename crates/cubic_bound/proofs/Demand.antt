@@ -1,6 +1,6 @@
--- D3. Demand 3 of the cubic reader, over every run of calls from opening or reset: the call is accepted,
--- its position is exact, its taps are the neighbours, and the formula lies within 2^-50 of the exact cubic.
--- Assumes nothing.
+-- D3. Demand 3 for the cubic reader, over every run of calls from opening or reset on: the call is accepted, its
+-- position is exact, its taps are the neighbours, and the formula lies within 2^-50 of the exact cubic. Assumes
+-- nothing.
 use mathlib.Core.Path.{_≡_}
 use mathlib.Core.Bool.{true}
 use mathlib.Core.List.{List}
@@ -36,7 +36,7 @@ module _ {maximum margin : ℕ} {before : List Call} {c : Call} {ss : List ℤ} 
   abbrev len : ℕ
   len = lengthFor maximum margin
 
-  -- the samples accepted before, their number, and the reader that the run left
+  -- The samples accepted before, their number, and the reader that the run left.
   abbrev xs : List Float
   xs = since maximum margin len before
 
@@ -54,7 +54,7 @@ module _ {maximum margin : ℕ} {before : List Call} {c : Call} {ss : List ℤ} 
       accepted (desk .delay) (withCount (fresh maximum margin) n) (length (filled len xs)) (c .input) (desk .settings)
       (filled-holds len xs .long) room (desk .input .is .real)
 
-  -- the call is accepted, whatever the kernel reads
+  -- The call is accepted, whatever the kernel reads.
   pub answered : (read : Reading)
       → processed read (r .state) (r .ring) (c .input) (c .delay) .answer
       ≡ Sample (read (stored n (filled len xs) (c .input)) (n + 1) (positionOf n (c .delay)))

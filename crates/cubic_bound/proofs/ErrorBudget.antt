@@ -1,6 +1,6 @@
--- Demand 3's budget, in units of 2 ^ -54. A term is at most b / 6 in magnitude and off by e units;
--- sums add both up and round once more. With whole samples of magnitude at most 1 the four terms are off by 2, 1, 1,
--- 2 units, and the three sums add 2, 4 and 4: 16 units, which is 2 ^ -50. Assumes nothing.
+-- The error budget of Demand 3, in units of 2 ^ -54. A term is at most b / 6 in magnitude and off by e units; sums add
+-- both up and round once more. With whole samples of magnitude at most 1 the four terms are off by 2, 1, 1 and 2 units,
+-- and the three sums add 2, 4 and 4: together 16 units, which is 2 ^ -50. Assumes nothing.
 use Prim.Native.Nat.{ℕ, _+_, _-_, _*_, _^_, _≤_, _<_}
 use native.Mathlib.Nat.{add-sub-of-le, le-trans, mul-le-mul, mul-le-mul-left}
 use native.Mathlib.Omega.{arith}
@@ -17,13 +17,13 @@ use Rattle.cubic_bound.specs.Exact.{exactCubic}
 use Rattle.cubic_bound.proofs.Sixths.{Part, Weight}
 use Rattle.cubic_bound.proofs.Weights.{first, second, third, fourth}
 
--- x is z / (6M^3 * 2^23) with an error of e units, and |z| is at most b / 6 of that
+-- x is z / (6M^3 * 2^23) with an error of e units, and |z| is at most b / 6 of that.
 record Sum (e b : ℕ) (x : Float) (z : ℤ) : Type 0 where
   near : Rounds (2 ^ 54) e x (whole z (6 * 2 ^ 71))
   small : natAbs z ≤ b * 2 ^ 71
 
--- A product at magnitude at most 1 rounds by 1 unit, and a sample of at most 1 keeps its weight's error.
--- t is a bound of b / 6, in units.
+-- A product of magnitude at most 1 is rounded by at most 1 unit, and a sample of at most 1 keeps the error of its
+-- weight. t is a bound of b / 6, in units.
 term : {x c : Float} {s w : ℤ} {e b : ℕ} (t : ℕ) → 2 ^ 54 * (b * 2 ^ 71) ≤ t * (6 * 2 ^ 71)
     → (1 * e + t) * 1 ≤ 1 * 2 ^ 54 → Part x s 23 (2 ^ 23) → Weight e b c w
     → Sum (1 + 1 * e) b (mul binary64 x c) (s *ℤ w)
@@ -39,7 +39,7 @@ term {s = s} {w} {e} {b} t h l p c =
       small = n;
     }
 
--- One more term: a sum of at most 2^k rounds by r units.
+-- One more term: a sum of at most 2^k is rounded by at most r units.
 more : {x y : Float} {a c : ℤ} {e e' b b' : ℕ} (r k t : ℕ) → T (step binary64 (2 ^ 54) r 0 k)
     → 2 ^ 54 * ((b + b') * 2 ^ 71) ≤ t * (6 * 2 ^ 71) → (e + e' + t) * 1 ≤ 2 ^ k * 2 ^ 54
     → Sum e b x a → Sum e' b' y c → Sum (r + (e + e')) (b + b') (add binary64 x y) (a +ℤ c)
@@ -64,11 +64,11 @@ module _ {mu xm1 x0 x1 x2 : Float} {m : ℕ} {s0 s1 s2 s3 : ℤ} (M≥m : m ≤ 
       let t1 : Sum 1 6 _ _ = term (2 ^ 54) (lit≤ tt) (lit≤ tt) p1 (second u e fraction) in
       let t2 : Sum 1 6 _ _ = term (2 ^ 54) (lit≤ tt) (lit≤ tt) p2 (third u e fraction) in
       let t3 : Sum 2 2 _ _ = term (2 ^ 53) (lit≤ tt) (lit≤ tt) p3 (fourth u e fraction) in
-      -- at most 8/6, so rounded by 2 units: 2 + 2 + 1
+      -- The sum is at most 8/6, so it is rounded by 2 units: 2 + 2 + 1.
       let s1 : Sum 5 8 _ _ = more 2 1 (3 * 2 ^ 53) tt (lit≤ tt) (lit≤ tt) t0 t1 in
-      -- at most 14/6, so rounded by 4: 4 + 5 + 1
+      -- The sum is at most 14/6, so it is rounded by 4 units: 4 + 5 + 1.
       let s2 : Sum 10 14 _ _ = more 4 2 (5 * 2 ^ 53) tt (lit≤ tt) (lit≤ tt) s1 t2 in
-      -- at most 16/6: 4 + 10 + 2
+      -- The sum is at most 16/6: 4 + 10 + 2 units.
       let s3 : Sum 16 16 _ _ = more 4 2 (3 * 2 ^ 54) tt (lit≤ tt) (lit≤ tt) s2 t3 in
       s3 .near
 

@@ -1,5 +1,5 @@
--- The position is exact: i - d / 65536 has at most 53 digits. So the reader's integer part is the floor of the exact
--- position, and its fraction is m / 65536, m below 65536, exact as well. Assumes nothing.
+-- The position is exact, because i - d / 65536 has at most 53 digits. So the reader's integer part is the floor of the
+-- exact position, and its fraction m / 65536, with m below 65536, is exact too. Assumes nothing.
 use mathlib.Core.Path.{_≡_, sym, ap}
 use mathlib.Core.Bool.{true, false}
 use Prim.Native.Nat.{ℕ, suc, _+_, _-_, _*_, _/_, _%_, _^_, _≤_, _<_}

@@ -1,6 +1,5 @@
--- The four taps of a reading are the neighbours: after a run from opening and one sample more,
--- a tap of the ring is the sample of its number among those accepted (K8), and so is its whole number;
--- one that is not held reads 0.0. Assumes nothing.
+-- The four taps of a reading are the neighbours. After a run from opening and one more sample, a tap of the ring is the
+-- accepted sample with its number (K8), and so is its whole number; one that is not held reads 0.0. Assumes nothing.
 use mathlib.Core.Path.{_≡_, refl, ap, _∙_}
 use mathlib.Core.Bool.{Bool, true, false, _&&_, cond}
 use mathlib.Core.List.{List, [], _∷_, _++_}
@@ -20,7 +19,7 @@ use Rattle.runs.proofs.Filled.{tap-numbered}
 use Rattle.cubic_bound.specs.Desk.{WholeSample, WholeSamples, none, also, neighbour}
 use Rattle.cubic_bound.proofs.Sixths.{Part}
 
--- ---- one sample more
+-- ---- one more sample
 stored-last : (i : ℕ) (xs ss : List Float) (s : Float)
     → storedFrom i xs (ss ++ s ∷ []) ≡ stored (i + length ss) (storedFrom i xs ss) s
 unfolding storedFrom
@@ -63,7 +62,7 @@ numbered-is len {xs} {ss} w (pos k) = rw (as-many w) (go (ltb k (length ss)) (le
     go true false e = none-part
     go false b e = none-part
 
--- ---- the ring that a run from opening left, with one sample more
+-- ---- the ring that a run from opening left, with one more sample
 pub neighbour-is : (len : ℕ) {xs : List Float} {ss : List ℤ} {x : Float} {s : ℤ} → WholeSamples xs ss → WholeSample x s
     → (z : ℤ)
     → Part (tapOf (stored (length xs) (filled len xs) x) (length xs + 1) z) (neighbour len (ss ++ s ∷ []) z) 23 (2 ^ 23)

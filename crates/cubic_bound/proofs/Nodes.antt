@@ -1,5 +1,5 @@
 -- The exact weights are Lagrange's for the nodes -1, 0, 1 and 2: each is 1, that is 6M^3, at its own node and 0 at the
--- others. Computed. Assumes nothing.
+-- others. By computing. Assumes nothing.
 use mathlib.Core.Path.{_≡_, refl}
 use mathlib.Core.List.{List, [], _∷_, map}
 use Prim.Native.Nat.{_*_, _^_}
@@ -9,7 +9,7 @@ use Rattle.cubic_bound.specs.Exact.{M, weight0, weight1, weight2, weight
 abbrev unit : ℤ
 unit = pos (6 * 65536 ^ 3)
 
--- the weights at a node k, that is m = kM
+-- The weights at a node k, where m = kM.
 abbrev at : ℤ → List ℤ
 at k = let m = k *ℤ M in weight0 m ∷ weight1 m ∷ weight2 m ∷ weight3 m ∷ []
 

@@ -1,6 +1,6 @@
--- C2, D3. Demand 3 alone shuts out a reader that always answers the same, whatever it is, one that reads a sample late,
--- one with two weights exchanged, and one with a sixth rounded to an f32. Each fails at the first call on ring 8.
--- Assumes nothing.
+-- C2, D3. Demand 3 alone refuses a reader that always gives the same answer, whatever it is, one that reads a sample
+-- late, one with two weights exchanged, and one with a sixth rounded to an f32. Each fails at the first call on a ring
+-- of 8. Assumes nothing.
 use mathlib.Core.Path.{_≡_, refl, subst}
 use mathlib.Core.Bool.{false, not}
 use mathlib.Core.List.{[]}
@@ -28,7 +28,7 @@ use Rattle.cubic_bound.proofs.Demand.{answered}
 same-sample : {a : Answer} {v w : Float} → a ≡ Sample v → a ≡ Sample w → v ≡ w
 same-sample p q = cc
 
--- what a reader that meets Demand 3 answers to a first call
+-- What a reader that meets Demand 3 answers to a first call.
 first : (read : Reading) → Meets read → {x y : Float} {s : ℤ} {d : ℕ} → WholeSample x s → WholeDelay y d
     → Rounds (2 ^ 50) 1 (read (stored 0 (zeros 8) x) 1 (positionOf 0 y)) (exactAt 8 [] s d)
 unfolding runOf acceptedOf lengthFor size storedFrom
@@ -40,7 +40,7 @@ first read meets {x} {y} {s} {d} w v =
     subst (λ (v : Float). Rounds (2 ^ 50) 1 v (exactAt 8 [] s d)) (same-sample (close .given) (answered desk read))
     (close .near)
 
--- the samples 0 and 1, the delays 0 and 1.5
+-- The samples 0 and 1, and the delays 0 and 1.5.
 silence : WholeSample (fin false 0 (pos 0)) (pos 0)
 silence = record { is = record { real = tt; same = omega arith }; small = lit≤ tt }
 
@@ -56,13 +56,13 @@ delayed = record { is = record { real = tt; same = omega arith }; small = lit≤
 far : {a b : ℕ} → T (not (leb a b)) → a ≤ b → ⊥
 far {a} {b} t h = T-not (leb a b) t (le→leb a b h)
 
--- 0 and 1 are further apart than two bounds
+-- 0 and 1 are further apart than two bounds.
 pub not-constant : (k : Float) → Meets (constant k) → ⊥
 not-constant k m =
     far tt (chain (flip (first (constant k) m silence no-delay .near))
     (first (constant k) m full no-delay .near) .below)
 
--- 0 is answered for 1
+-- It answers 0 where 1 is right.
 pub not-late : Meets late → ⊥
 unfolding cubicAt floorOf fractionOf le add sub mul div neg ofInt
 not-late m = far tt (first late m full no-delay .near .below)
@@ -71,7 +71,7 @@ pub not-exchanged : Meets exchanged → ⊥
 unfolding cubicAt floorOf fractionOf le add sub mul div neg ofInt
 not-exchanged m = far tt (first exchanged m full no-delay .near .below)
 
--- -0.375 times the rounded sixth for -0.0625
+-- It answers -0.375 times the rounded sixth where -0.0625 is right.
 pub not-sixth : Meets roundedSixth → ⊥
 unfolding cubicAt floorOf fractionOf le add sub mul div neg ofInt
 not-sixth m = far tt (first roundedSixth m full delayed .near .below)

@@ -1,5 +1,5 @@
--- Products of whole numbers of 2 ^ -16, and their halves and sixths. Up to the division every step is exact:
--- three factors of 17 digits make 51, and 53 are kept. Halving is exact too; a sixth is rounded once. Assumes nothing.
+-- Products of whole numbers of 2 ^ -16, and their halves and sixths. Up to the division every step is exact: three
+-- factors of 17 digits make 51, and 53 are kept. Halving is exact too, and a sixth is rounded once. Assumes nothing.
 use Prim.Native.Nat.{ℕ, _+_, _*_, _^_, _≤_, _<_}
 use native.Mathlib.Nat.{le-trans, lt-of-le-of-lt, mul-le-mul, mul-le-mul-left}
 use native.Mathlib.Omega.{arith}
@@ -27,7 +27,7 @@ product {y' = y'} {z} l h p q =
     let s = le-trans (size-times y' z) (mul-le-mul (p .small) (q .small)) in
     record { steps = steps-mul binary64 (lt-of-le-of-lt s h) l (p .steps) (q .steps); small = s }
 
--- three factors of at most 2 ^ 17
+-- Three factors of at most 2 ^ 17.
 pub triple : {x y z : Float} {i j k : ℤ} {a b c : ℕ} → a ≤ 2 ^ 17 → b ≤ 2 ^ 17 → c ≤ 2 ^ 17 → Part x i 16 a
     → Part y j 16 b → Part z k 16 c → Part (mul binary64 (mul binary64 x y) z) (i *ℤ j *ℤ k) 48 (a * b * c)
 triple A B C p q r =
@@ -45,7 +45,7 @@ over-six w = omega arith
 over-two : (z : ℤ) → Same (over (whole z (2 ^ 48)) 2 1) (whole z (2 ^ 49))
 over-two z = omega arith
 
--- a sixth: one rounding at magnitude below 1, so 1 unit
+-- A sixth is one rounding at a magnitude below 1, so it is off by at most 1 unit.
 pub sixth : {x : Float} {w : ℤ} {b : ℕ} → b ≤ 2 ^ 49 → Part x w 48 b → Weight 1 2 (div binary64 x six) w
 sixth {w = w} h p =
     let s = le-trans (p .small) h in
@@ -57,7 +57,7 @@ sixth {w = w} h p =
       small = s;
     }
 
--- a half of z, which is a sixth of 3z: exact
+-- Half of z is a sixth of 3z, and exact.
 threefold : (z w : ℤ) → Rep w (3 * zp z) (3 * zn z) → Same (whole z (2 ^ 49)) (whole w (6 * 2 ^ 48))
 threefold z w r = same-trans (omega arith) (rep-same (6 * 2 ^ 48) (lit< tt) r)
 

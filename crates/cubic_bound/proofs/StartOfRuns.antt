@@ -1,5 +1,5 @@
--- Demand 3's runs start where opening and reset leave a reader: where neither is refused, its state has accepted
--- nothing and its ring, of the length that the settings need, is all zeros. Opening is the reset of such a state.
+-- The runs of Demand 3 start where opening and reset leave a reader. If these are not refused, the state has accepted
+-- nothing, and the ring, of the length that the settings need, is all zeros. Opening is the reset of such a state.
 -- Assumes nothing.
 use mathlib.Core.Path.{_≡_, ap, _∙_}
 use mathlib.Core.Bool.{true}

@@ -34,11 +34,9 @@ flat m u h =
 under : (a b c : ℕ) {x y z : ℕ} → x ≤ a → y ≤ b → z ≤ c → x * y * z ≤ a * b * c
 under a b c h k l = mul-le-mul (mul-le-mul h k) l
 
--- xyz, tripled, is 3(xyz)
 three-more : (x y z : ℤ) → Rep (pos 3 *ℤ (x *ℤ y *ℤ z)) (3 * zp (x *ℤ y *ℤ z)) (3 * zn (x *ℤ y *ℤ z))
 three-more x y z = rep-to (rep-mul (rep-pos 3) (rep-own (x *ℤ y *ℤ z))) (omega arith)
 
--- -(xyz), tripled, is -3(xyz)
 three-less : (x y z : ℤ) → Rep (negℤ (pos 3) *ℤ (x *ℤ y *ℤ z)) (3 * zp (negℤ x *ℤ y *ℤ z)) (3 * zn (negℤ x *ℤ y *ℤ z))
 three-less x y z =
     let r = rep-mul (rep-mul (rep-own x) (rep-own y)) (rep-own z) in
@@ -54,7 +52,7 @@ three-less x y z =
     go a b c d e f p n h = simp ring (omega (arith, simp ring at h))
 
 module _ {mu : Float} {m : ℕ} (u : ℕ) (h : m + u ≡ 65536) (is : Steps mu (pos m) 16) where
-  -- mu, mu - 1, mu - 2, mu + 1
+  -- The differences mu, mu - 1, mu - 2 and mu + 1.
   itself : Part mu (pos m) 16 m
   itself = record { steps = is; small = omega arith }
 

@@ -1,4 +1,4 @@
--- D3. Demand 3, of a delay reader and runs of its calls: what it supposes and what it promises. Definitions only.
+-- D3. Demand 3 for a delay reader and runs of its calls: its premises and its promise. Definitions only.
 use Prim.Native.Nat.{ℕ, _^_, _≤_, _<_}
 use mathlib.Core.Path.{_≡_}
 use mathlib.Core.List.{List}
@@ -18,8 +18,8 @@ use Rattle.cubic_bound.specs.Desk.{WholeSample, WholeSamples, WholeDelay
 abbrev pub start : ℕ → ℕ → Reader
 start maximum margin = opened maximum margin (lengthFor maximum margin)
 
--- What is supposed: the settings are in range, the samples accepted before are the whole numbers ss, fewer than 2^36,
--- the input is s and the delay is d.
+-- The premises: the settings are in range; the samples accepted before are the whole numbers ss, fewer than 2^36; the
+-- input is s and the delay is d.
 pub record Desk (maximum margin : ℕ) (before : List Call) (c : Call) (ss : List ℤ) (s : ℤ) (d : ℕ) : Type 0 where
   pub settings : need maximum margin ≤ 2 ^ 24
   pub earlier : WholeSamples (samples (accepted (start maximum margin) before)) ss
@@ -27,20 +27,20 @@ pub record Desk (maximum margin : ℕ) (before : List Call) (c : Call) (ss : Lis
   pub input : WholeSample (c .input) s
   pub delay : WholeDelay (c .delay) d
 
--- What is promised: the answer is a sample, a finite number within 2^-50 of q.
+-- The promise: the answer is a sample, a finite number within 2^-50 of q.
 pub record Close (a : Answer) (q : Frac) : Type 0 where
   pub value : Float
   pub given : a ≡ Sample value
   pub near : Rounds (2 ^ 50) 1 value q
 
--- Demand 3 of the answer a to a call: it holds after whatever run of calls, from opening or the last reset, led to the
--- reader.
+-- Demand 3 for the answer a to a call. It holds for a reader that any run of calls, from opening or the last reset on,
+-- has led to.
 pub record Demand3 (r : Reader) (c : Call) (a : Answer) : Type 0 where
   pub close : (maximum margin : ℕ) (before : List Call) (ss : List ℤ) (s : ℤ) (d : ℕ)
       → Desk maximum margin before c ss s d
       → r ≡ run (start maximum margin) before
       → Close a (exactAt (lengthFor maximum margin) ss s d)
 
--- A reader whose every answer meets it.
+-- Every answer of a reader over this reading meets Demand 3.
 abbrev pub Meets : Reading → Type 0
 Meets read = (r : Reader) (c : Call) → Demand3 r c (processed read (r .state) (r .ring) (c .input) (c .delay) .answer)

@@ -1,4 +1,4 @@
--- C2, D3. Readers that Demand 3 alone shuts out, and the one that meets it. Definitions only.
+-- C2, D3. Wrong readers that Demand 3 alone refuses, and the right one, which meets it. Definitions only.
 use mathlib.Core.Bool.{false}
 use lib.IntN.{pos, negsuc, _+ℤ_, _-ℤ_}
 use lib.Ieee.{Float, fin, binary64, add, sub, mul, neg}
@@ -7,7 +7,7 @@ use Rattle.integer_part.specs.Parts.{floorOf, fractionOf}
 use Rattle.cubic_farrow.specs.Cubic.{one, two, c0, c1, c2, c3, cubicAt}
 use Rattle.variable_delay.specs.Reader.{Reading}
 
--- A reading that always gives the same.
+-- A reading that always gives the same number.
 abbrev pub constant : Float → Reading
 constant k xs count p = k
 
@@ -41,6 +41,6 @@ roundedSixth =
     (c1 binary64) (c2 binary64)
     (λ mu. mul binary64 (mul binary64 (mul binary64 (add binary64 mu one) mu) (sub binary64 mu one)) sixth)
 
--- 000's own reading.
+-- The reading of 000, which meets Demand 3.
 abbrev pub reading : Reading
 reading = cubicAt

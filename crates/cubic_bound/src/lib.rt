@@ -1,5 +1,5 @@
-// Demand 3: how far the cubic reader's answers lie from the exact cubic on the desk's whole numbers, over runs of calls
-// (D3).
+// Demand 3: how far the cubic reader's answers lie from the exact cubic, on samples and delays that are whole numbers,
+// over runs of calls (D3).
 ghost use Rattle.runs.specs.Runs.{bareCall};
 ghost use Rattle.cubic_bound.specs.Demand.{Demand3};
 use variable_delay::Processed;

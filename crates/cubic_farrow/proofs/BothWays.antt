@@ -1,5 +1,5 @@
--- Both ways of a reading, taps one by one and taps side by side, are the definition's, at the integer part z that the
--- code holds. Assumes nothing.
+-- Both ways of a reading, taps one by one and taps side by side, give the definition's value, at the integer part z
+-- that the code holds. Assumes nothing.
 use mathlib.Core.Path.{_≡_, sym, _∙_, ap}
 use mathlib.Core.Bool.{true}
 use mathlib.Core.List.{List}
@@ -17,7 +17,7 @@ use Rattle.ring.specs.declared.Start.{Start}
 use Rattle.ring.proofs.HeldRuns.{straight}
 use Rattle.cubic_farrow.specs.Cubic.{weighed, cubicAt}
 
--- four elements side by side, weighed in either width, are the taps from z - 1 to z + 2
+-- Four elements that stand side by side, weighed in either width, are the taps from z - 1 to z + 2.
 module _ (f : Format) (mu : Float) (xs : List Float) (count : ℕ) (z : ℤ) (s : Start)
     (start : s ≡ startOf (length xs) count (z -ℤ pos 1) 4) (all : s .held ≡ true)
     (fits : s .place + 4 ≤ length xs) where

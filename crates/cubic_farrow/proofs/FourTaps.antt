@@ -1,5 +1,5 @@
--- The four taps around an index i, each read by itself, as the machine counts them: its indices are the definition's,
--- in either width. Assumes nothing.
+-- The four taps around an index i, each read by itself: the indices that the machine computes are the definition's, in
+-- either width. Assumes nothing.
 use mathlib.Core.Path.{_≡_, ap, _∙_}
 use mathlib.Core.List.{List}
 use Prim.Native.Nat.{ℕ, _^_, _≤_}
@@ -15,7 +15,7 @@ use Rattle.integer_part.proofs.IntegerSizes.{sum-fits}
 use Rattle.ring.specs.Taps.{tapOf}
 use Rattle.cubic_farrow.specs.Cubic.{weighed}
 
--- an integer as the code holds it
+-- An integer as the code holds it.
 abbrev word : ℤ → ℤ
 word z = toZ w64 (ofZ w64 z)
 

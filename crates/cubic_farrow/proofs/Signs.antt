@@ -1,5 +1,5 @@
--- A factor's or a dividend's sign goes outside, exactly; so the weights c0 and c2 may be worked out without it.
--- Assumes nothing.
+-- The sign of a factor or a dividend can be moved outside, exactly. So the weights c0 and c2 may be computed without
+-- it. Assumes nothing.
 use mathlib.Core.Path.{_≡_, refl, sym, ap, _∙_}
 use mathlib.Core.Bool.{Bool, true, false, not, cond}
 use Prim.Native.Nat.{ℕ, _*_}
@@ -21,7 +21,7 @@ unlike-right true false = refl
 unlike-right false true = refl
 unlike-right false false = refl
 
--- a NaN, or an infinity by its sign
+-- A NaN, or an infinity with its sign.
 none-or : (b s : Bool) → cond b nan (inf (not s)) ≡ neg (cond b nan (inf s))
 unfolding neg
 none-or true s = refl
@@ -67,7 +67,7 @@ div-left f (fin s m e) (fin t n d) = go (eqb n 0)
     go true = rw (unlike-left s t) (none-or (eqb m 0) (unlike s t))
     go false = rw (unlike-left s t) (round-neg f (unlike s t) (m * up e * down d) (n * up d * down e))
 
--- c0 and c2 without their signs
+-- The weights c0 and c2 without their signs.
 abbrev c0' : Format → Float → Float
 c0' f mu = div f (mul f (mul f mu (sub f mu one)) (sub f mu two)) six
 

@@ -13,7 +13,7 @@ use Rattle.integer_part.specs.Parts.{floorOf, fractionOf}
 abbrev pub six : Float
 six = fin false 3 (pos 1)
 
--- Over the format, because 000 has the same lines for f64 and for f32 (Draft).
+-- The definitions are over the format, because 000 has the same lines for f64 and for f32 (Draft).
 abbrev pub c0 : Format → Float → Float
 c0 f mu = div f (mul f (mul f (neg mu) (sub f mu one)) (sub f mu two)) six
 
@@ -30,13 +30,13 @@ abbrev pub weighed : Format → Float → Float → Float → Float → Float �
 weighed f mu xm1 x0 x1 x2 =
     add f (add f (add f (mul f xm1 (c0 f mu)) (mul f x0 (c1 f mu))) (mul f x1 (c2 f mu))) (mul f x2 (c3 f mu))
 
--- The reading at a position: integer part i, fraction mu, taps i - 1 to i + 2.
+-- K3. The reading at a position with the integer part i and the fraction mu, from the taps i - 1 to i + 2.
 unfoldable pub cubicAt : List Float → ℕ → Float → Float
 cubicAt xs count p =
     let i = floorOf p in
     weighed binary64 (fractionOf p) (tapOf xs count (i -ℤ pos 1)) (tapOf xs count i) (tapOf xs count (i +ℤ pos 1))
     (tapOf xs count (i +ℤ pos 2))
 
--- G3. Outside the positions' range `read` gives zero, and `sample` refuses by 1.
+-- G3. Outside the range of positions `read` gives zero, and `sample` refuses by 1.
 abbrev pub readOf : List Float → ℕ → Float → Float
 readOf xs count p = cond (positionOk p) (cubicAt xs count p) zero-f

@@ -25,7 +25,7 @@ pub fn weigh(mu: f64, xm1: f64, x0: f64, x1: f64, x2: f64) -> f64
     -(xm1 * c0) + x0 * c1 - x1 * c2 + x2 * c3
 }
 
-// The four taps from a place on, side by side.
+// Four taps that stand side by side are read without a test for each.
 fn side_by_side(source: &[f64], p: usize, mu: f64) -> f64
     requires { ⌜ p + 4 ≤ length (now source) ⌝ }
     ensures { λ r. ⌜ r ≡ weighed binary64 mu (getD (now (source .entry)) p nan) (getD (now (source .entry)) (p + 1) nan)
@@ -34,7 +34,7 @@ fn side_by_side(source: &[f64], p: usize, mu: f64) -> f64
     weigh(mu, source[p], source[p + 1], source[p + 2], source[p + 3])
 }
 
-// The four taps around an index, with a test for each.
+// The four taps around an index, each with its test.
 fn one_by_one(source: &[f64], count: u64, i: i64, mu: f64) -> f64
     requires { ⌜ mag i ≤ 2 ^ 36 ⌝ }
     ensures { λ r. ⌜ r ≡ weighed binary64 mu (tapOf (now (source .entry)) count (i -ℤ pos 1))
@@ -48,7 +48,6 @@ fn one_by_one(source: &[f64], count: u64, i: i64, mu: f64) -> f64
     weigh(mu, xm1, x0, x1, x2)
 }
 
-// The reading at a position in range.
 fn at(source: &[f64], count: u64, position: f64) -> f64
     requires { ⌜ positionOk position ≡ true ⌝ }
     ensures { λ r. ⌜ r ≡ cubicAt (now (source .entry)) count position ⌝ }
@@ -58,8 +57,8 @@ fn at(source: &[f64], count: u64, position: f64) -> f64
     one_by_one(source, count, i, mu)
 }
 
-// The reading at a position; 0.0 outside the positions' range. Fast path: if the four taps are held side by side they
-// are read without a test each.
+// Fast path: if the four taps are held side by side they are read without a test for each. Outside the range of
+// positions the answer is 0.0.
 pub fn read(source: &[f64], count: u64, position: f64) -> f64
     ensures { λ r. ⌜ r ≡ readOf (now (source .entry)) count position ⌝ }
 {
@@ -77,7 +76,7 @@ pub fn read(source: &[f64], count: u64, position: f64) -> f64
     0.0
 }
 
-// The reading of a lent slice: refusal 1 outside the positions' range.
+// N1. A position out of range is refused by 1.
 pub fn sample(source: &[f64], count: u64, position: f64) -> Answer
     ensures { λ r. ⌜ r ≡ answerOf (cond (positionOk position) 0 1) (readOf (now (source .entry)) count position) ⌝ }
 {

@@ -1,6 +1,5 @@
--- Both ways of a reading, taps one by one and taps side by side, are the definition's, at the integer part z and the
--- fraction mu that the code holds.
--- The taps are CubicFarrow's. Assumes nothing.
+-- Both ways of a reading, taps one by one and taps side by side, give the definition's value, at the integer part z and
+-- the fraction mu that the code holds. The laws about the taps are those of `cubic_farrow`. Assumes nothing.
 use mathlib.Core.Path.{_≡_, _∙_}
 use mathlib.Core.Bool.{true}
 use mathlib.Core.List.{List}

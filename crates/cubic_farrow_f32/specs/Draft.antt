@@ -12,13 +12,14 @@ use Rattle.ring.specs.Places.{positionOk}
 use Rattle.integer_part.specs.Parts.{floorOf, fractionOf}
 use Rattle.cubic_farrow.specs.Cubic.{weighed}
 
--- The reading at a position: integer part i, the fraction taken in f64 and then rounded to f32, taps i - 1 to i + 2.
+-- K3. The reading at a position with the integer part i, from the taps i - 1 to i + 2. The fraction is computed in f64
+-- and then rounded to f32.
 unfoldable pub draftAt : List Float → ℕ → Float → Float
 draftAt xs count p =
     let i = floorOf p in
     weighed binary32 (narrowed (fractionOf p)) (tapOf xs count (i -ℤ pos 1)) (tapOf xs count i)
     (tapOf xs count (i +ℤ pos 1)) (tapOf xs count (i +ℤ pos 2))
 
--- G3. Outside the positions' range the reading is zero.
+-- G3. Outside the range of positions the reading is zero.
 abbrev pub readOf : List Float → ℕ → Float → Float
 readOf xs count p = cond (positionOk p) (draftAt xs count p) zero-f

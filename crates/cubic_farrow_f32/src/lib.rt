@@ -26,7 +26,7 @@ fn weigh(mu: f32, xm1: f32, x0: f32, x1: f32, x2: f32) -> f32
     -(xm1 * c0) + x0 * c1 - x1 * c2 + x2 * c3
 }
 
-// The four taps from a place on, side by side.
+// Four taps that stand side by side are read without a test for each.
 fn side_by_side(source: &[f32], p: usize, mu: f32) -> f32
     requires { ⌜ p + 4 ≤ length (now source) ⌝ }
     ensures { λ r. ⌜ r ≡ weighed binary32 mu (getD (now (source .entry)) p nan) (getD (now (source .entry)) (p + 1) nan)
@@ -35,7 +35,7 @@ fn side_by_side(source: &[f32], p: usize, mu: f32) -> f32
     weigh(mu, source[p], source[p + 1], source[p + 2], source[p + 3])
 }
 
-// The four taps around an index, with a test for each.
+// The four taps around an index, each with its test.
 fn one_by_one(source: &[f32], count: u64, i: i64, mu: f32) -> f32
     requires { ⌜ mag i ≤ 2 ^ 36 ⌝ }
     ensures { λ r. ⌜ r ≡ weighed binary32 mu (tapOf (now (source .entry)) count (i -ℤ pos 1))
@@ -65,7 +65,6 @@ fn single(x: f64) -> f32
     narrowing::narrow(x)
 }
 
-// The reading at a position in range.
 fn at(source: &[f32], count: u64, position: f64) -> f32
     requires { ⌜ positionOk position ≡ true ⌝ }
     ensures { λ r. ⌜ r ≡ draftAt (now (source .entry)) count position ⌝ }
@@ -75,8 +74,8 @@ fn at(source: &[f32], count: u64, position: f64) -> f32
     one_by_one(source, count, i, mu)
 }
 
-// The reading at a position; 0.0 outside the positions' range. Fast path: if the four taps are held side by side they
-// are read without a test each.
+// Fast path: if the four taps are held side by side they are read without a test for each. Outside the range of
+// positions the answer is 0.0.
 pub fn read(source: &[f32], count: u64, position: f64) -> f32
     ensures { λ r. ⌜ r ≡ readOf (now (source .entry)) count position ⌝ }
 {

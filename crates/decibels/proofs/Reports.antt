@@ -1,4 +1,4 @@
--- The level of a report of `residual` that is not refused (W13g): it has one wherever its sum is above 0, so that only
+-- The level of a report of `residual` that is not refused (W13g): it exists if the sum is above 0, so that only
 -- stretches without a difference have none. Assumes nothing.
 use mathlib.Core.Path.{_≡_}
 use mathlib.Core.Bool.{true, and-true}

@@ -6,8 +6,8 @@ ghost use mathlib.Core.Path.{_≡_};
 ghost use Prim.Native.Nat.{_+_, _*_, _^_};
 ghost use Rattle.decibels.specs.Decibels.{levelOf};
 
-// What two stretches have: no level, where nothing was compared or nothing differs; or one as many tenths of a decibel
-// below +6.1 dB as it says.
+// The level of two stretches. There is none if nothing was compared or nothing differs; otherwise it is given by how
+// many tenths of a decibel it lies below +6.1 dB.
 pub enum Level {
     None,
     Below(u32),

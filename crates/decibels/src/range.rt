@@ -26,7 +26,7 @@ fn differs(high: u64, low: u64) -> bool
     0 < low
 }
 
-// 128 bits hold both sides, whatever the arguments.
+// Four limbs, 128 bits, hold both sides for all arguments.
 fn at_most_largest(number: u64, high: u64, low: u64) -> bool
     ensures { λ r. ⌜ r ≡ leb (high * 2 ^ 64 + low) (largest number) ⌝ }
 {

@@ -4,7 +4,7 @@ ghost use Prim.Native.Nat.{_≤_};
 ghost use Rattle.decimals.specs.Reading.{numberUpTo, wholeIn};
 use crate::Number;
 
-// A whole number of 64 bits: digits, at least one, and nothing else.
+// The text is a whole number of 64 bits: at least one digit, and nothing else.
 pub fn read_u64(text: &[u8]) -> Number
     ensures { λ r. ⌜ r ≡ wholeIn (now (text .entry)) ⌝ }
 {
@@ -14,7 +14,8 @@ pub fn read_u64(text: &[u8]) -> Number
     digits(text, 0, 18446744073709551615)
 }
 
-// The number that `start` and the digits of a text behind it make: none where a byte is no digit or it is above `most`.
+// The number that `start` and the digits of the text behind it make. There is none if a byte is not a digit or the
+// number is above `most`.
 pub(crate) fn digits(text: &[u8], start: u64, most: u64) -> Number
     requires { ⌜ 9 ≤ most ⌝ }
     requires { ⌜ start ≤ most ⌝ }
@@ -31,7 +32,7 @@ pub(crate) fn digits(text: &[u8], start: u64, most: u64) -> Number
             return Number::Not;
         }
         let d = c as u64 - 48;
-        // v * 10 + d ≤ most, without a product that wraps.
+        // This is v * 10 + d ≤ most, without a product that could overflow.
         if v > (most - d) / 10 {
             return Number::Not;
         }

@@ -1,4 +1,4 @@
--- Which delays will do for settings of the wandering. Definitions only.
+-- Which delays suit the settings of the wandering. Definitions only.
 use mathlib.Core.Bool.{Bool, _&&_}
 use lib.Ieee.{Float, binary64, add, sub, le, ofBits}
 use Rattle.elementary.specs.declared.Answer.{Answer}
@@ -7,7 +7,7 @@ use Rattle.min_max.specs.Choice.{larger}
 use Rattle.modulation_params.specs.declared.ModulationParams.{ModulationParams}
 use Rattle.oscillators.specs.Answers.{excursionOf}
 
--- 0.001, 16, 65512 and 65536
+-- The numbers 0.001, 16, 65512 and 65536.
 abbrev pub slowest : Float
 slowest = ofBits binary64 0x3f50_624d_d2f1_a9fc
 
@@ -24,7 +24,7 @@ abbrev pub valueOr : Float → Answer → Float
 valueOr d (Value x) = x
 valueOr d (Refused k) = d
 
--- 001's conservative bound of one oscillator's delay from its middle.
+-- 001's bound for the distance of one oscillator's delay from its middle.
 unfoldable pub excursionIn : Float → Float → Float → Float
 excursionIn depth frequency rate =
     valueOr ring (excursionOf (larger depth (ofBits binary64 0)) (larger frequency slowest) rate)
@@ -34,6 +34,6 @@ reachOf p rate =
     add binary64 (excursionIn (p .«wow_depth_cents») (p .«wow_rate_hz») rate)
     (excursionIn (p .«flutter_depth_cents») (p .«flutter_rate_hz») rate)
 
--- reach + 16 ≤ delay ≤ 65512 - reach
+-- The delay suits if reach + 16 ≤ delay ≤ 65512 - reach.
 unfoldable pub suitsOf : Float → Float → Bool
 suitsOf delay reach = le (add binary64 reach taps) delay && le delay (sub binary64 longest reach)

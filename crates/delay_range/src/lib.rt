@@ -1,5 +1,5 @@
-// Which delays will do for settings of the wandering: every offset that it can take must find its taps in a ring of
-// 65536, which holds delays up to 65528.
+// Which delays suit the settings of the wandering: at every offset that it can reach, the reader's taps must lie in a
+// ring of 65536, which holds delays up to 65528.
 ghost use mathlib.Core.Path.{_≡_};
 ghost use lib.Ieee as Ieee;
 ghost use Rattle.delay_range.specs.Reach.{excursionIn, reachOf, suitsOf};
@@ -7,7 +7,7 @@ use elementary::Answer;
 use modulation_params::ModulationParams;
 use oscillators::maximum_delay_excursion_samples;
 
-// How far the wandering takes a delay from its middle, at most: wow's and flutter's excursions.
+// The largest distance of the delay from its middle: the excursions of wow and of flutter.
 pub fn reach(params: ModulationParams, rate: f64) -> f64
     ensures { λ r. ⌜ r ≡ reachOf params rate ⌝ }
 {
@@ -16,7 +16,8 @@ pub fn reach(params: ModulationParams, rate: f64) -> f64
     wow + flutter
 }
 
-// As the engine does, a depth below 0 counts as 0, and a rate below 0.001 as 0.001. Past every range it is the ring.
+// As in the engine, a depth below 0 counts as 0, and a rate below 0.001 as 0.001. Out of range the excursion is the
+// length of the ring, which no delay suits.
 fn excursion(depth: f64, frequency: f64, rate: f64) -> f64
     ensures { λ r. ⌜ r ≡ excursionIn depth frequency rate ⌝ }
 {
@@ -31,7 +32,7 @@ fn excursion(depth: f64, frequency: f64, rate: f64) -> f64
     }
 }
 
-// The delay is as far from both ends of the ring as the wandering reaches, and 16 taps further.
+// From both ends of the ring the delay is as far away as the wandering reaches, and 16 taps more.
 pub fn suits(delay: f64, reach: f64) -> bool
     ensures { λ r. ⌜ r ≡ suitsOf delay reach ⌝ }
 {

@@ -6,16 +6,16 @@ use crate::whole::plus;
 use crate::whole::size;
 use crate::whole::times;
 
-// Distances are counted in 1 / (6 * 65536^3 * 2^23), of which 2^-54 has this many.
+// Distances are counted in units of 1 / (6 * 65536^3 * 2^23); 2^-54 is so many of them.
 pub const UNIT: u64 = 786432;
 
-// What an answer's bits say: its magnitude, in 2^-71, and 1 where digits below that were cut off.
+// An answer by its bits: its magnitude in units of 2^-71, and 1 if digits below that were cut off.
 struct Given {
     magnitude: Wide,
     cut: u64,
 }
 
-// The digits d at the binary exponent e, that is d * 2^(e - 1075), for a magnitude below 8.
+// The value d * 2^(e - 1075), from its digits d and its binary exponent e, for a magnitude below 8.
 fn taken_apart(d: u64, e: u64) -> Given {
     if e >= 1004 {
         let k = e - 1004;
@@ -39,8 +39,8 @@ fn taken_apart(d: u64, e: u64) -> Given {
     }
 }
 
-// How far an answer lies from the exact value, in units of 1 / (6 * 65536^3 * 2^23); up to 6 units more where digits
-// were cut off. The largest word means that it lies farther than any word can say.
+// How far an answer lies from the exact value, in units of 1 / (6 * 65536^3 * 2^23); up to 6 units more if digits were
+// cut off. The largest word means that it lies too far away for a word.
 pub fn distance(v: f64, e: Wide) -> u64 {
     let bits = bit_patterns::bits_of(v);
     let exponent = bits / 0x10_0000_0000_0000 % 0x800;
@@ -57,7 +57,7 @@ pub fn distance(v: f64, e: Wide) -> u64 {
     let six = if below_zero(bits) { minus(0, 6) } else { 6 };
     let p = minus(times(six, w.a), e.a);
     let q = minus(times(six, w.b), e.b);
-    // q is below 2^58, so a larger p is far, and a smaller one leaves the sum within a word
+    // q is below 2^58, so a larger p is far away, and with a smaller one the sum fits a word.
     if size(p) >= 0x800_0000 {
         return u64::MAX;
     }

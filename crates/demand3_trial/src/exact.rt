@@ -1,4 +1,4 @@
-// The exact value of a call, from the whole samples alone: 01's weights, each sample by its number.
+// The exact value of a call, from the whole samples alone, by the weights of document 01.
 use crate::whole::Wide;
 use crate::whole::below_zero;
 use crate::whole::minus;
@@ -21,8 +21,8 @@ fn weight(k: u64, m: u64) -> u64 {
     }
 }
 
-// Sample z of the first `count` samples, 0 if the ring does not hold it. A z below zero has wrapped and so is above
-// every count.
+// Sample z of the first `count` samples, 0 if the ring does not hold it. A z below zero has wrapped around and so lies
+// above every count.
 fn neighbour(told: &[u64], count: u64, z: u64) -> u64 {
     if z >= count {
         return 0;
@@ -34,7 +34,7 @@ fn neighbour(told: &[u64], count: u64, z: u64) -> u64 {
     if at < told.len() { told[at] } else { 0 }
 }
 
-// One term more: s * w, by the halves of w.
+// Adds one more term s * w, by the halves of w.
 fn with(e: Wide, s: u64, w: u64) -> Wide {
     Wide {
         a: plus(e.a, times(s, upper(w))),

@@ -1,16 +1,16 @@
-// The whole samples and delays that are tried: random, and looking bad.
+// The whole samples and delays that are tried: random ones, and ones that look bad for rounding.
 use crate::whole::below_zero;
 use crate::whole::minus;
 use crate::whole::plus;
 use crate::whole::times;
 
-// Knuth's congruential generator; its upper digits are used.
+// Knuth's linear congruential generator, of which the upper digits are used.
 pub fn next(g: u64) -> u64 {
     plus(times(g, 6364136223846793005), 1442695040888963407)
 }
 
-// Whole samples of a kind, in 2^-23: any, the two ends, ends and near ends with the signs of the weights, or small
-// ones.
+// Whole samples of a kind, in units of 2^-23: any, the two ends, ends and near ends with the signs of the weights, or
+// small ones.
 pub fn sample(kind: u64, i: usize, g: u64) -> u64 {
     let at = i % 4;
     let up = at == 1 || at == 2;
@@ -29,7 +29,7 @@ pub fn sample(kind: u64, i: usize, g: u64) -> u64 {
     }
 }
 
-// Whole delays of a kind, in 2^-16: below four samples, within the ring, about the ring's end, and any.
+// Whole delays of a kind, in units of 2^-16: below four samples, within the ring, about the ring's end, or any.
 pub fn delay(kind: u64, g: u64) -> u64 {
     let r = g >> 12;
     match kind {

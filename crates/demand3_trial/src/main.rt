@@ -1,11 +1,12 @@
 // The program that tries the bound of docs/DEMAND3.md on many calls.
-// Random and worst-looking whole samples and delays go through the cubic reader, and beside each answer the exact value
-// is worked out in whole numbers from the samples alone. It writes how many calls were made, how many answers were no
-// samples or lay further than 2^-50 away, and the largest distance seen, in 2^-54. The ring is 64 long.
+// Whole samples and delays, random ones and ones that look bad for rounding, go through the cubic reader, and beside
+// each answer the exact value is worked out in whole numbers from the samples alone. It writes how many calls were
+// made, how many answers were no samples or lay further than 2^-50 away, and the largest distance seen, in 2^-54. The
+// ring is 64 long.
 mod distance;
 mod exact;
 mod kinds;
-mod seen; // what was seen of all calls, and its report
+mod seen; // what was seen in all calls, and its report
 mod whole;
 
 use exact::RING;
@@ -25,7 +26,7 @@ const RUNS: u64 = 256;
 
 const CALLS: usize = 4096;
 
-// Between two calls of a run: the generator, the reader, and what was seen.
+// The state between two calls of a run: the generator, the reader, and what was seen.
 struct Turn {
     g: u64,
     state: VariableDelay,
@@ -38,7 +39,7 @@ fn tell(told: &mut [u64], i: usize, s: u64) {
     }
 }
 
-// Call number i of a run, whose samples before it were told.
+// Call number i of a run; `told` has the samples before it.
 fn call(
     samples: u64,
     delays: u64,
@@ -77,7 +78,7 @@ fn opened(ring: &mut [f64]) -> VariableDelay {
     }
 }
 
-// A run from opening, with samples and delays of a kind.
+// A run from opening on, with one kind of samples and one kind of delays.
 fn run(samples: u64, delays: u64, seed: u64, seen: Seen) -> Seen {
     let mut ring = [0.0f64; RING];
     let mut told = [0u64; CALLS];

@@ -1,4 +1,4 @@
-// What was seen of the calls so far, and how it is told.
+// What was seen in the calls so far, and its report.
 use crate::distance::UNIT;
 use crate::distance::distance;
 use crate::whole::Wide;
@@ -18,7 +18,7 @@ fn larger(a: u64, b: u64) -> u64 {
     if a < b { b } else { a }
 }
 
-// One call more, that was answered so where e is exact.
+// One more call with its answer, where e is the exact value.
 pub fn seen_too(seen: Seen, answer: Answer, e: Wide) -> Seen {
     let calls = plus(seen.calls, 1);
     match answer {

@@ -1,4 +1,5 @@
-// Whole numbers as words modulo 2^64; those from 2^63 on stand for the ones below zero. And wider ones, by halves.
+// Whole numbers as words modulo 2^64, where those from 2^63 on stand for the negative ones, and wider numbers by
+// halves.
 
 pub fn plus(a: u64, b: u64) -> u64 {
     std::num::wrapping_add_u64(a, b)
@@ -20,13 +21,13 @@ pub fn size(a: u64) -> u64 {
     if below_zero(a) { minus(0, a) } else { a }
 }
 
-// A whole number a * 2^32 + b.
+// The number is a * 2^32 + b.
 pub struct Wide {
     pub a: u64,
     pub b: u64,
 }
 
-// The floor of w / 2^32; w % 2^32 is the rest.
+// The floor of w / 2^32; the remainder is w % 2^32.
 pub fn upper(w: u64) -> u64 {
     let q = w / 0x1_0000_0000;
     if below_zero(w) {

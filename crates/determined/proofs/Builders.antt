@@ -1,5 +1,5 @@
--- C1. Each table builder's contract determines the answer, with the settings in it, and every element of the table, the
--- set or the bank. Assumes nothing.
+-- C1. The contract of each table builder determines the answer, including the settings in it, and every element of the
+-- table, the set or the bank. Assumes nothing.
 use contract.Lifetimes.{Lfts}
 use denote.Ref.{now}
 use Rattle.windowed_sinc.proofs.new.Reads as new

@@ -1,6 +1,6 @@
--- K8. What each reader's contract leaves is what a run of its calls has: state and ring, accepted or refused, with the
--- taps, the table or the bank of the call itself. So what `runs` and `quality_runs` say holds of the readers. By the
--- clauses. Assumes nothing.
+-- K8. What each reader's contract leaves is what a run of its calls has: state and ring, whether accepted or refused,
+-- with the taps, the table or the bank of the call itself. So the laws of `runs` and `quality_runs` hold for the
+-- readers. By the clauses of the contracts. Assumes nothing.
 use contract.Lifetimes.{Lfts}
 use denote.Ref.{now}
 use Rattle.cubic_delay.proofs.process_sample.Reads as cubic
@@ -14,7 +14,7 @@ use Rattle.runs.specs.Runs.{bareCall, after}
 use Rattle.quality_runs.specs.Runs as qualities
 use Rattle.determined.specs.Calls.{lagrangeCall, sincCall, qualityCall, Follows}
 
--- the arguments: state, ring, input, delay, and of Lagrange the taps
+-- The arguments are state, ring, input and delay, and for Lagrange the taps.
 module _ (κs : Lfts 1) where
   pub cubic-leaves : Follows after (cubic.Learnt κs)
       (λ a. record { state = a .0; ring = now (a .1 .0) })
@@ -34,8 +34,8 @@ module _ (κs : Lfts 1) where
       (λ r e. record { state = r .state; ring = now (e .1 .0) })
   lagrange-leaves f p a = λ i. record { state = p a .0 i .state; ring = p a .1 i }
 
--- state, ring, input, delay, table, taps, phases; of the quality reader state, ring, sets, maximum rate, input, delay,
--- quality and, where it is not the maximum, rate
+-- The arguments are state, ring, input, delay, table, taps and phases; for the quality reader state, ring, sets,
+-- maximum rate, input, delay, quality and, if it is not the maximum, the rate.
 module _ (κs : Lfts 2) where
   pub sinc-leaves : Follows after (sinc.Learnt κs)
       (λ a. record { state = a .0; ring = now (a .1 .0) })

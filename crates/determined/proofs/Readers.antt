@@ -1,6 +1,6 @@
--- C1. Each reader's contract determines the answer, the state in it and every element of the ring. `Learnt` is what a
--- caller learns of a call, which the toolchain reads off the function's own clauses: one that is left out or opens
--- something there is missed here. Assumes nothing.
+-- C1. The contract of each reader determines the answer, including the state in it, and every element of the ring.
+-- `Learnt` is what a caller learns from a call; the toolchain takes it from the function's own clauses, so that a
+-- missing clause, or one that leaves something open, makes a proof here fail. Assumes nothing.
 use contract.Lifetimes.{Lfts}
 use denote.Ref.{now}
 use Rattle.cubic_delay.proofs.process_sample.Reads as cubic
@@ -13,7 +13,7 @@ use Rattle.quality_variable_delay.proofs.process_sample_rate_aware.Reads as rat
 use Rattle.determined.specs.Determined.{Determined}
 use Rattle.determined.proofs.ByEquations.{agree}
 
--- without a table
+-- Readers without a table.
 module _ (κs : Lfts 1) where
   pub cubic-delay : Determined (cubic.Learnt κs) (λ e. now (e .1 .0))
   cubic-delay f g p q a = agree _ _ (p a) (q a)
@@ -24,7 +24,7 @@ module _ (κs : Lfts 1) where
   pub farrow8-delay : Determined (farrow8.Learnt κs) (λ e. now (e .1 .0))
   farrow8-delay f g p q a = agree _ _ (p a) (q a)
 
--- with a table or a bank that is lent beside the ring
+-- Readers to which a table or a bank is lent beside the ring.
 module _ (κs : Lfts 2) where
   pub sinc-delay : Determined (sinc.Learnt κs) (λ e. now (e .1 .0))
   sinc-delay f g p q a = agree _ _ (p a) (q a)

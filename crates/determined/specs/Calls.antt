@@ -1,5 +1,5 @@
 -- K8. The call that a reader's arguments make, with the settings and the table or bank that it is handed, and what it
--- is that a reader's contract follows runs of such calls. A kernel that asks nothing makes a `bareCall`.
+-- means that a reader's contract follows runs of such calls. A kernel without settings and table makes a `bareCall`.
 -- Definitions only.
 use Prim.Native.Nat.{ℕ, _*_}
 use mathlib.Core.Path.{_≡_}
@@ -40,7 +40,7 @@ qualityCall sets max-rate input delay q playback-rate = record {
   playback-rate = playback-rate;
 }
 
--- Whatever meets the contract leaves the reader as a run has it after the call, accepted or refused.
+-- Any function that meets the contract leaves the reader as a run has it after the call, whether accepted or refused.
 abbrev pub Follows : {A R E S C : Type 0} → (S → C → S) → (A → R → E → Type 0) → (A → S) → (A → C) → (R → E → S)
     → Type 0
 Follows {A} {R} {E} after contract before call left =

@@ -1,6 +1,5 @@
--- E2. Where the guess is one off, what is left lies at H / 2 or beyond, or below -H / 2; one turn more or less then
--- lies from -H / 2 to H / 2 and is a guess too.
--- Otherwise the guess stands. Assumes nothing.
+-- E2. If the guess is one off, the rest lies at H / 2 or beyond, or below -H / 2. With one turn more or less it lies
+-- from -H / 2 to H / 2 and is a guess too. Otherwise the guess is right. Assumes nothing.
 use mathlib.Core.Path.{_≡_}
 use mathlib.Core.Bool.{true, false}
 use Prim.Native.Nat.{ℕ, _+_, _*_, _^_, _≤_, _<_}
@@ -18,7 +17,7 @@ use Rattle.elementary.specs.Steps.{eighth, eighthBack, Guess, left, Rest
 use Rattle.elementary.proofs.GuessFromQuotient.{guess-of}
 use Rattle.elementary.proofs.QuarterTurns.{Halves, leftP, leftN}
 
--- ---- the guess stands
+-- ---- the guess is right
 pub stands : {x r : Float} {j : ℕ} → Rest x j r → lt r eighth ≡ true → lt r eighthBack ≡ false → Halves (left x j)
 stands w t s =
     record {
@@ -31,7 +30,7 @@ pub record Moved (x : Float) (i : ℕ) : Type 0 where
   pub guess : Guess x i
   pub halves : Halves (left x i)
 
--- what holds of i in place of j
+-- What holds for i in place of j.
 record Fine (xp xn xd i h t : ℕ) : Type 0 where
   above : 10 * (xp * (1 * t) + (i * 0 + 256 * h) * xd)
       ≤ 10 * ((i * h + 256 * 0) * xd + xn * (1 * t)) + 8 * (xd * (1 * t))
@@ -73,7 +72,7 @@ module _ (x : Float) (b : T (atMost 256 x)) where
         halves = record { low = w .low; high = w .high };
       }
 
-  -- the numbers in which H stands
+  -- The numbers in which H occurs.
   unit : 0 < val x .d * 884279719003555
   unit = mul-pos (val-pos x) (lit< tt)
 

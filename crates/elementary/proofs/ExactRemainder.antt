@@ -1,7 +1,6 @@
 -- E2. x - k * H in four exact steps, for 1 < |x| ≤ 256 and a guess k = j - 256. H is 26353589 / 2 ^ 24 + 8947107 / 2 ^
--- 49, so k times either part has few digits;
--- x is a whole number of 2 ^ -52, as k * H is, and both differences are below 1 in magnitude or nearly.
--- So the last step rounds x - k * H itself. Assumes nothing.
+-- 49, so k times either part has few digits. x is a whole number of 2 ^ -52, as k * H is, and both differences are at
+-- most about 1 in magnitude. So the last step rounds x - k * H itself. Assumes nothing.
 use mathlib.Core.Path.{_≡_, refl, ap, _∙_, subst}
 use mathlib.Core.Logic.{_⊎_, inl, inr}
 use mathlib.Core.Bool.{Bool, true, false, not}
@@ -38,7 +37,7 @@ count-is j h =
     (value-is (round binary64 false j 1) false j 1 (lit< tt) (round-whole binary64 false j (le-trans h (lit≤ tt))))
     (is-val (fin false 1 (pos 8)) tt) (omega arith) (omega arith)
 
--- (p - n) / F - (a - b) / D, where F is E * D
+-- (p - n) / F - (a - b) / D, where F is E * D.
 less-core : (p n a b D E : ℕ)
     → (p * D + b * (E * D)) * (E * D) + (n + a * E) * (E * D * D)
     ≡ (p + b * E) * (E * D * D) + (n * D + a * (E * D)) * (E * D)
@@ -63,7 +62,7 @@ module _ (x : Float) (j p n : ℕ) (k : Float) (x-is : Is x (frac p n (2 ^ 52)))
   k-lo : Is (mul binary64 k lowPart) (frac (j * 8947107) (256 * 8947107) (2 ^ 49))
   k-lo = mul-is {t = 49} k-is (is-val lowPart tt) (omega arith) (omega arith)
 
-  -- x less the high part, over 2 ^ 52
+  -- x less the high part, over 2 ^ 52.
   P : ℕ
   P = p + 256 * 26353589 * 2 ^ 28
 
@@ -85,7 +84,7 @@ module _ (x : Float) (j p n : ℕ) (k : Float) (x-is : Is x (frac p n (2 ^ 52)))
       (frac (P + 256 * 8947107 * 2 ^ 3) (N + j * 8947107 * 2 ^ 3) (2 ^ 52))
   last-same = less-same P N (j * 8947107) (256 * 8947107) (2 ^ 49) (2 ^ 3) (2 ^ 52) refl (lit< tt) (lit< tt)
 
-  -- and less the low part: that is x - k * H
+  -- Less the low part too it is x - k * H.
   x-left : Same (frac (P + 256 * 8947107 * 2 ^ 3) (N + j * 8947107 * 2 ^ 3) (2 ^ 52)) (left x j)
   unfolding P N
   x-left =
@@ -107,7 +106,7 @@ module _ (x : Float) (j p n : ℕ) (k : Float) (x-is : Is x (frac p n (2 ^ 52)))
       }) in
       record { real = i .real; same = same-trans (i .same) x-left }
 
-  -- the last step rounds that number itself, and its second operand is not zero
+  -- The last step rounds that number itself, and its second operand is not zero.
   rest-once : (j < 256) ⊎ (256 < j) → minusTurns x k ≡ nearestTo binary64 (left x j)
   unfolding sub
   rest-once away =
@@ -126,7 +125,7 @@ module _ (x : Float) (j p n : ℕ) (k : Float) (x-is : Is x (frac p n (2 ^ 52)))
       some zero (suc v) w W e away = omega arith
       some (suc u) v w W e away = omega arith
 
--- ---- x as a whole number of 2 ^ -52, and k not zero
+-- ---- x is a whole number of 2 ^ -52, and k is not zero
 apart : (s : Bool) (N j : ℕ) → 2 ^ 52 < N → Within 10 8 (signed s N (2 ^ 52)) (times (frac j 256 1) H)
     → (j < 256) ⊎ (256 < j)
 apart false N j h w = inr (omega (arith, w .above))

@@ -1,5 +1,5 @@
--- E4. Beyond 1/2 in magnitude, and up to 1, a number is a whole number of 2 ^ -53, so that x - 1 and x + 1 are exact.
--- Assumes nothing.
+-- E4. A number from 1/2 to 1 in magnitude is a whole number of 2 ^ -53, so that x - 1 and x + 1 are exact. Assumes
+-- nothing.
 use mathlib.Core.Path.{_≡_}
 use mathlib.Core.Bool.{Bool, true, false}
 use Prim.Native.Nat.{ℕ, zero, suc, _*_, _^_, _≤_, _<_}

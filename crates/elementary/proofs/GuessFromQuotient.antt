@@ -1,5 +1,5 @@
--- From a whole number near x / H to the guess. The multiplier need not be 1 / H: so near to it as `nearInverse` tests
--- is near enough. Assumes nothing.
+-- From a whole number near x / H to the guess. The multiplier need not be exactly 1 / H: what `nearInverse` tests is
+-- near enough. Assumes nothing.
 use mathlib.Core.Path.{_≡_}
 use mathlib.Core.Bool.{Bool, _&&_}
 use Prim.Native.Nat.{ℕ, _+_, _*_, _^_, _≤_, _<_}
@@ -23,7 +23,7 @@ use Rattle.elementary.specs.Steps.{Guess}
 abbrev pub u : ℕ
 u = 2 ^ 30
 
--- ---- a multiplier that serves: at most 0.64, and times H within 5 / 100000 of 1
+-- ---- a multiplier that is near enough: at most 0.64, and times H within 5 / 100000 of 1
 abbrev upto : ℕ → ℕ → Frac → Frac → Bool
 upto g e x y = leb (g * (x .p * y .d + y .n * x .d)) (g * (y .p * x .d + x .n * y .d) + e * (x .d * y .d))
 

@@ -1,5 +1,5 @@
--- E1, E2. The values of sine and cosine are as near as `Close` says: within 1 by the polynomials,
--- beyond 1 by what k modulo 4 picks, which is the polynomial of a number that lost nothing. Assumes nothing.
+-- E1, E2. Sine and cosine are as near as `Close` says: up to 1 by the polynomials, beyond 1 by the polynomial that k
+-- modulo 4 picks, at a rest that is exact. Assumes nothing.
 use mathlib.Core.Path.{_≡_, ap, _∙_, subst}
 use mathlib.Core.Bool.{Bool, true, false, not}
 use Prim.Native.Nat.{ℕ, zero, suc, _+_, _-_, _%_, _^_}
@@ -88,7 +88,7 @@ cosine-short x h e = (
   record { near = λ t. rw e (cosine-close x h); far = λ t. absurd (clash (atMost 1 x) h t) },
 )
 
--- ---- beyond
+-- ---- |x| > 1
 pub sine-long : {x v : Float} {q : ℕ} {r : Float} → T (not (atMost 1 x)) → Settled x q r → v ≡ pick q r
     → (v ≡ sineAt x) × SineClose x v
 unfolding sineAt

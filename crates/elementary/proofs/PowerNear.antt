@@ -1,6 +1,6 @@
 -- E4. The polynomial of 2 ^ x is within 53 units of 2 ^ -54 of the exponential fraction through the 16th power of L *
--- x, for |x| ≤ 1/2: thirteen steps of Horner's rule, each halving what the terms left out weigh.
--- The fraction lies within 7/10 of 1, so that is 2 ^ -45 of it. Assumes nothing.
+-- x, for |x| ≤ 1/2. There are thirteen steps of Horner's rule, each of which halves what the omitted terms weigh. The
+-- fraction lies within 7/10 of 1, so the error is within 2 ^ -45 of it. Assumes nothing.
 use mathlib.Core.Path.{_≡_}
 use Prim.Native.Nat.{ℕ, suc, _+_, _*_, _^_, _≤_}
 use native.Mathlib.Nat.{mul-pos}
@@ -26,7 +26,7 @@ one-on : (n : ℕ) → 2 * factorial n ≤ factorial (1 + n) * 2
 unfolding factorial
 one-on n = let e : 1 + n ≡ suc n = omega arith in rw e (omega arith)
 
--- off by 53 units, from a number within 7/10 of 1
+-- The error is 53 units, from a number within 7/10 of 1.
 pub record Tight (v : Float) (f : Frac) : Type 0 where
   pub near : Rounds g 53 v f
   pub about : Within 10 7 f (frac 1 0 1)
@@ -79,7 +79,7 @@ module _ (x : Float) (X : Frac) (x-is : Is x X) (half : Within 2 1 X nil) where
       (lit≤ tt) (lit≤ tt) (lit≤ tt) in
       record { near = record { real = w .real; near = to fraction-is (w .near) }; about = from fraction-is nest-about }
 
--- ---- u units are 2 ^ -45 of a fraction that is u / 512 at least; as it is, doubled and halved
+-- ---- u units are 2 ^ -45 of a fraction that is at least u / 512; as it is, doubled, and halved
 part : (u : ℕ) {v : Float} {f : Frac} → f .n * 512 + u * f .d ≤ f .p * 512 → Rounds g u v f → Part v f
 part u {f = f} h w = record { real = w .real; near = rescale (lit< tt) (omega arith) (w .near) }
 

@@ -1,6 +1,5 @@
--- E4. 2 ^ x in its three parts. Beyond 1/2 in magnitude x is a whole number of 2 ^ -53, so x - 1 and x + 1 are exact,
--- at most 1/2, and the value is doubled or halved.
--- Assumes nothing.
+-- E4. 2 ^ x in its three parts. Beyond 1/2 in magnitude x is a whole number of 2 ^ -53, so x - 1 and x + 1 are exact
+-- and at most 1/2, and the value is doubled or halved. Assumes nothing.
 use mathlib.Core.Path.{_≡_, sym, subst}
 use mathlib.Core.Bool.{Bool, true, false, not}
 use Prim.Native.Nat.{ℕ, _+_, _*_, _≤_, _<_}

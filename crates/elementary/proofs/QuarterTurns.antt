@@ -1,6 +1,6 @@
--- E2. The k of the definition, the floor of x / H + 1/2, is j - 256 wherever -H / 2 ≤ x - (j - 256) * H < H / 2;
--- so k modulo 4 is j modulo 4 and x - k * H is what was left. Inequalities between cross products,
--- with a common denominator cancelled. Assumes nothing.
+-- E2. The k of the definition, the floor of x / H + 1/2, is j - 256 if -H / 2 ≤ x - (j - 256) * H < H / 2. So k modulo
+-- 4 is j modulo 4, and x - k * H is the rest. These are inequalities between cross products, with a common denominator
+-- cancelled. Assumes nothing.
 use mathlib.Core.Path.{_≡_, sym, ap, _∙_, subst}
 use mathlib.Core.Bool.{Bool, true, false, not, cond}
 use Prim.Native.Nat.{ℕ, suc, _+_, _-_, _*_, _/_, _%_, _^_, _≤_, _<_}
@@ -74,7 +74,7 @@ pub record Halves (q : Frac) : Type 0 where
   pub low : q .n * 2 ^ 50 ≤ q .p * 2 ^ 50 + 884279719003555 * q .d
   pub high : q .p * 2 ^ 50 < q .n * 2 ^ 50 + 884279719003555 * q .d
 
--- x - (j - 256) * H over xd * t, H being h / t
+-- x - (j - 256) * H over xd * t, where H is h / t.
 abbrev pub leftP : ℕ → ℕ → ℕ → ℕ → ℕ → ℕ
 leftP xp xd j h t = xp * (1 * t) + (j * 0 + 256 * h) * xd
 
@@ -123,7 +123,7 @@ module _ (x : Float) (j : ℕ) (w : Halves (left x j)) where
   unfolding reduced
   reduced-is = sym (nearest-same binary64 remainder-is)
 
--- |r| ≤ H / 2 < 1
+-- |r| ≤ H / 2 < 1.
 within-one : (r : Float) (q : Frac) → Is r q → Halves q → T (atMost 1 r)
 within-one nan q i w = absurd (i .real)
 within-one (inf s) q i w = absurd (i .real)

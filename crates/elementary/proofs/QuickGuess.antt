@@ -1,6 +1,6 @@
--- The quick guess: x times a number next to 1 / H, plus 2 ^ 52 + 256, is a whole number 2 ^ 52 + j,
--- whose pattern ends in j, and |x - (j - 256) * H| ≤ 8/10: from 2 ^ 52 on the sum's rounding is to the nearest whole
--- number. The rest is the product's rounding and the multiplier's own error. Assumes nothing.
+-- The quick guess. x times a number next to 1 / H, plus 2 ^ 52 + 256, is a whole number 2 ^ 52 + j, whose pattern ends
+-- in j, and |x - (j - 256) * H| ≤ 8/10. From 2 ^ 52 on the sum rounds to the nearest whole number; the rest is the
+-- rounding of the product and the error of the multiplier. Assumes nothing.
 use mathlib.Core.Path.{_≡_, refl, sym, _∙_, subst}
 use mathlib.Core.Bool.{true, false, not}
 use Prim.Native.Nat.{ℕ, suc, _+_, _-_, _*_, _^_, _≤_, _<_}
@@ -26,7 +26,7 @@ use Rattle.elementary.specs.Steps.{Guess}
 use Rattle.polynomials.proofs.Squares.{at-most-finite, at-most-mag}
 use Rattle.elementary.proofs.GuessFromQuotient.{u, Inverse, nearInverse, inverse-of, guess-of, near-x}
 
--- 2 ^ 52 + 256
+-- The number 2 ^ 52 + 256.
 abbrev middle : Float
 middle = fin false 17592186044417 (pos 8)
 
@@ -52,7 +52,7 @@ module _ {i : Float} (I : Inverse i) (x : Float) (h : T (atMost 256 x)) where
       large = record { left = lit< tt; right = lit< tt; above = lit≤ tt; below = lit≤ tt }
 
 -- ---- from there to the guess
--- 2 ^ 52 + j less 2 ^ 52 + 256 is j - 256
+-- 2 ^ 52 + j less 2 ^ 52 + 256 is j - 256.
 whole-near : (w j : ℕ) {t : Frac} → w ≡ 2 ^ 52 + j → Within u (2 ^ 29 + 1) (frac w 0 1) (plus (val middle) t)
     → Within u (2 ^ 29 + 1) (frac j 256 1) t
 whole-near w j {t} e h =
@@ -65,7 +65,7 @@ whole-near w j {t} e h =
     off : (t : Frac) → 0 < t .d → Same (plus (plus (val middle) t) (frac 0 (2 ^ 52 + 256) 1)) t
     off t P = omega arith
 
--- 1075 * 2 ^ 52, the pattern of 2 ^ 52
+-- 1075 * 2 ^ 52 is the pattern of 2 ^ 52.
 abbrev pub zeroth : ℕ
 zeroth = 0x4330_0000_0000_0000
 
@@ -77,7 +77,7 @@ pub record Guessed (x y : Float) : Type 0 where
 abbrev reach : ℕ
 reach = 2 ^ 29 + 1 + 164 * u
 
--- a whole number of 2 ^ 52 + 92 to 2 ^ 52 + 420
+-- The sum is a whole number from 2 ^ 52 + 92 to 2 ^ 52 + 420.
 placed-whole : {i : Float} → Inverse i → (x : Float) → T (atMost 256 x) → (y : Float) (w j : ℕ) → w ≡ 2 ^ 52 + j
     → w ≤ 2 ^ 53 → T (not (isNan y)) → HasValue y false (w * 2 ^ 1074) (2 ^ 1074)
     → Within u (2 ^ 29 + 1) (frac w 0 1) (plus (val middle) (times (val x) (val i))) → Guessed x y

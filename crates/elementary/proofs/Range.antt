@@ -1,5 +1,5 @@
--- E3. Two comparisons tell whether a magnitude is at most 2 ^ k; a NaN and the infinities fail.
--- And an answer from its value, or a refusal. Assumes nothing.
+-- E3. Two comparisons show whether a magnitude is at most 2 ^ k; a NaN and the infinities fail them. And an answer is
+-- made of its value, or a refusal. Assumes nothing.
 use mathlib.Core.Path.{_≡_, refl, subst}
 use mathlib.Core.Bool.{Bool, true, false, _&&_, cond}
 use Prim.Native.Nat.{ℕ, _*_, _^_, _≤_}
@@ -23,7 +23,7 @@ both a b c d m n f g =
     (λ t. le→leb m n (f (leb→le a b (and-l (leb a b) (leb c d) t)) (leb→le c d (and-r (leb a b) (leb c d) t))))
     (λ t. let h = g (leb→le m n t) in and-i (leb a b) (leb c d) (le→leb a b (h .0)) (le→leb c d (h .1)))
 
--- from -t to t
+-- The value lies from -t to t.
 span : (s : Bool) (a c t : ℕ)
     → leb (side (frac 0 (1 * t) 1) (signed s a c)) (side (signed s a c) (frac 0 (1 * t) 1))
     && leb (side (signed s a c) (frac (1 * t) 0 1)) (side (frac (1 * t) 0 1) (signed s a c))

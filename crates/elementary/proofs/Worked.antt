@@ -1,5 +1,5 @@
--- E3, E4, E5. The constants by their bit patterns, 2 ^ 0, 2 ^ 1 and 2 ^ -1, zeros, and the edges of the ranges:
--- all computed. Assumes nothing.
+-- E3, E4, E5. The constants by their bit patterns, 2 ^ 0, 2 ^ 1 and 2 ^ -1, zeros, and the ends of the ranges, all by
+-- computing. Assumes nothing.
 use mathlib.Core.Path.{_≡_, refl}
 use mathlib.Core.List.{[], _∷_, map}
 use mathlib.Core.Bool.{true, false}
@@ -21,7 +21,7 @@ L-bits : ofBits binary64 0x3fe6_2e42_fefa_39ef ≡ ln2
 unfolding ofBits
 L-bits = refl
 
--- 1 / 2! to 1 / 18!
+-- The reciprocals 1 / 2! to 1 / 18!.
 reciprocals : map reciprocal (2 ∷ 3 ∷ 4 ∷ 5 ∷ 6 ∷ 7 ∷ 8 ∷ 9 ∷ 10 ∷ 11 ∷ 12 ∷ 13 ∷ 14 ∷ 15 ∷ 16 ∷ 17 ∷ 18 ∷ [])
     ≡ map (ofBits binary64)
     (0x3fe0_0000_0000_0000 ∷ 0x3fc5_5555_5555_5555 ∷ 0x3fa5_5555_5555_5555 ∷ 0x3f81_1111_1111_1111
@@ -59,7 +59,7 @@ cosine-0 : cosineOf (fin false 0 (pos 0)) ≡ Value one
 unfolding cosineOf round neg add mul
 cosine-0 = refl
 
--- a zero keeps its sign
+-- The sine of a zero keeps its sign.
 sine-0 : sineOf (fin false 0 (pos 0)) ≡ Value (fin false 0 (pos 0))
 unfolding sineOf round neg add mul
 sine-0 = refl
@@ -68,7 +68,7 @@ sine-minus-0 : sineOf (fin true 0 (pos 0)) ≡ Value (fin true 0 (pos 0))
 unfolding sineOf round neg add mul
 sine-minus-0 = refl
 
--- ---- refusals: 256, the next float, and what is no number
+-- ---- refusals: 256, the next float, the infinities and a NaN
 edge : map (λ x. refusalOf (sineOf x))
     (fin false 1 (pos 8) ∷ fin true 1 (pos 8) ∷ fin false 4503599627370497 (negsuc 43) ∷ inf true ∷ nan ∷ [])
     ≡ 0 ∷ 0 ∷ 1 ∷ 1 ∷ 1 ∷ []

@@ -10,12 +10,12 @@ use Rattle.polynomials.specs.Horner.{sineNear, cosineNear, powerNear}
 use Rattle.polynomials.specs.Range.{atMost}
 use Rattle.elementary.specs.Reduction.{turns, reduced, fourth, pick}
 
--- C4. The refusal's number, 0 for none.
+-- C4. The number of the refusal, 0 for none.
 abbrev pub refusalOf : Answer → ℕ
 refusalOf (Value v) = 0
 refusalOf (Refused n) = n
 
--- C4. An answer's value; a refusal has none, and 0.0 stands for it.
+-- C4. The value of an answer; a refusal has none, and 0.0 stands for it.
 abbrev pub orZero : Answer → Float
 orZero (Value v) = v
 orZero (Refused n) = ofBits binary64 0
@@ -24,7 +24,7 @@ unfoldable pub sineAt : Float → Float
 unfolding sineNear pick fourth turns reduced
 sineAt x = cond (atMost 1 x) (sineNear x) (pick (fourth (turns x)) (reduced x))
 
--- A cosine is the sine one quarter turn on.
+-- A cosine is the sine one quarter turn further on.
 unfoldable pub cosineAt : Float → Float
 unfolding cosineNear pick fourth turns reduced
 cosineAt x = cond (atMost 1 x) (cosineNear x) (pick ((fourth (turns x) + 1) % 4) (reduced x))
@@ -32,7 +32,7 @@ cosineAt x = cond (atMost 1 x) (cosineNear x) (pick ((fourth (turns x) + 1) % 4)
 abbrev pub half : Float
 half = fin false 1 (negsuc 0)
 
--- 2 ^ x
+-- The power 2 ^ x. Beyond one half x is moved by 1 towards zero, and the power doubled or halved, which is exact.
 unfoldable pub powerAt : Float → Float
 unfolding powerNear
 powerAt x =

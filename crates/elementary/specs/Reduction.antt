@@ -9,7 +9,7 @@ use Rattle.rounding_error.specs.Fraction.{Frac, frac, plus, times, opp, over, w
 use Rattle.rounding_error.specs.Value.{val, nearestTo}
 use Rattle.polynomials.specs.Horner.{sineNear, cosineNear}
 
--- The value of 3FF921FB54442D18.
+-- A quarter turn: the value of the f64 with the pattern 3FF921FB54442D18, next to half of pi.
 abbrev pub H : Frac
 H = frac 884279719003555 0 (2 ^ 49)
 
@@ -17,12 +17,12 @@ H = frac 884279719003555 0 (2 ^ 49)
 unfoldable pub floorOf : Frac → ℤ
 floorOf q = cond (leb (q .n) (q .p)) (pos ((q .p - q .n) / q .d)) (negℤ (pos ((q .n - q .p + (q .d - 1)) / q .d)))
 
--- k, by the exact quotient.
+-- The number k of quarter turns, by the exact quotient.
 unfoldable pub turns : Float → ℤ
 unfolding floorOf
 turns x = floorOf (plus (over (val x) (H .p) (H .d)) (frac 1 0 2))
 
--- x - k * H
+-- The exact rest x - k * H.
 unfoldable pub remainder : Float → Frac
 unfolding turns
 remainder x = plus (val x) (opp (times (whole (turns x) 1) H))
@@ -36,7 +36,7 @@ unfoldable pub fourth : ℤ → ℕ
 fourth (pos k) = k % 4
 fourth (negsuc k) = 3 - k % 4
 
--- The sine of r and q quarter turns.
+-- The sine of r plus q quarter turns.
 unfoldable pub pick : ℕ → Float → Float
 unfolding sineNear cosineNear
 pick zero r = sineNear r

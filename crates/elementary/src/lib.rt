@@ -1,8 +1,8 @@
 // Sine, cosine and powers of two (E1 to E5).
-// They are the port's own and divide nothing, since a rendering asks for a cosine a dozen times a sample.
+// They are the port's own, and they do not divide, since a rendering needs a dozen cosines for each sample.
 // docs/ELEMENTARY.md has the steps.
-mod quarters; // what is left of an argument beyond 1
-mod values; // of arguments in range
+mod quarters; // arguments beyond 1 in size, by quarter turns
+mod values; // the values, for arguments in range
 
 ghost use mathlib.Core.Path.{_≡_};
 ghost use mathlib.Core.Bool.{_&&_};
@@ -25,7 +25,7 @@ pub(crate) fn inside(x: f64, b: f64) -> bool
     if x >= -b { x <= b } else { false }
 }
 
-// 000 calls f64::sin.
+// The original's f64::sin (000); an argument beyond 256 is refused by 1.
 pub fn sine(x: f64) -> Answer
     ensures { λ r. ⌜ r ≡ sineOf x ⌝ }
     ensures { λ r. ⌜ Each r (SineClose x) ⌝ }
@@ -37,7 +37,7 @@ pub fn sine(x: f64) -> Answer
     }
 }
 
-// 001 calls f64::cos.
+// The original's f64::cos (001); an argument beyond 256 is refused by 1.
 pub fn cosine(x: f64) -> Answer
     ensures { λ r. ⌜ r ≡ cosineOf x ⌝ }
     ensures { λ r. ⌜ Each r (CosineClose x) ⌝ }
@@ -49,7 +49,7 @@ pub fn cosine(x: f64) -> Answer
     }
 }
 
-// 2 to the power x: 001 calls f64::powf, always of 2.
+// The original's f64::powf (001), whose base is always 2; an exponent beyond 1 is refused by 1.
 pub fn exp2(x: f64) -> Answer
     ensures { λ r. ⌜ r ≡ exp2Of x ⌝ }
     ensures { λ r. ⌜ Each r (PowerClose x) ⌝ }
@@ -61,15 +61,15 @@ pub fn exp2(x: f64) -> Answer
     }
 }
 
-// The cosine as a plain number, 0.0 if refused, so that it comes back in a register; for a caller whose arguments are
-// in range.
+// The cosine as a plain number, 0.0 if refused, so that it comes back in a register. It is for a caller whose arguments
+// are in range.
 pub fn cosine_or_zero(x: f64) -> f64
     ensures { λ r. ⌜ r ≡ orZero (cosineOf x) ⌝ }
 {
     if inside(x, 256.0) { cosine_at(x) } else { 0.0 }
 }
 
-// The power of two in the same way.
+// The power of two as a plain number, for the same reason.
 pub fn exp2_or_zero(x: f64) -> f64
     ensures { λ r. ⌜ r ≡ orZero (exp2Of x) ⌝ }
 {

@@ -1,4 +1,4 @@
-// E2. Quarter turns: how many an argument beyond 1 has, and what is left.
+// E2. How many quarter turns an argument beyond 1 has, and what is left of it.
 ghost use lib.Dec.{T};
 ghost use mathlib.Core.Bool.{not};
 ghost use Rattle.polynomials.specs.Range.{atMost};
@@ -9,8 +9,8 @@ pub(crate) struct Turned {
     pub(crate) rest: f64,
 }
 
-// A whole number near x / H + 256. From 2^52 on the floats are the whole numbers, so the sum rounds to one, and the
-// sum's pattern ends in it.
+// A whole number near x / H + 256, where H is a quarter turn. From 2^52 on the floats are the whole numbers, so the sum
+// rounds to one, and the sum's pattern ends in it.
 fn guess(x: f64) -> u64
     requires { ⌜ T (atMost 256 x) ⌝ }
     ensures { λ r. ⌜ Guess x r ⌝ }
@@ -18,7 +18,7 @@ fn guess(x: f64) -> u64
     f64::to_bits(x * 0.6366197723675814 + 4503599627370752.0) - 0x4330_0000_0000_0000
 }
 
-// x - k * H, k being j - 256: H in two parts, so that each step is exact.
+// The rest x - (j - 256) * H. H is split into two parts, so that each step is exact.
 fn rest(x: f64, j: u64) -> f64
     requires { ⌜ T (not (atMost 1 x)) ⌝ ∗ ⌜ T (atMost 256 x) ⌝ ∗ ⌜ Guess x j ⌝ }
     ensures { λ r. ⌜ Rest x j r ⌝ }
@@ -28,8 +28,8 @@ fn rest(x: f64, j: u64) -> f64
     x - k * 1.570796310901641845703125 - k * 0.0000000158932547122958567342720925807952880859375
 }
 
-// How many quarter turns x has, modulo 4, and what is left. The guess is at most one off; then r lies outside -H/2 to
-// H/2.
+// How many quarter turns x has, modulo 4, and what is left. The guess is at most one off, and if it is, the rest lies
+// outside -H/2 to H/2.
 pub(crate) fn turn(x: f64) -> Turned
     requires { ⌜ T (not (atMost 1 x)) ⌝ ∗ ⌜ T (atMost 256 x) ⌝ }
     ensures { λ r. ⌜ Settled x (r .quarter) (r .rest) ⌝ }

@@ -1,4 +1,4 @@
-// E1, E2, E4. The three values, of arguments in range.
+// E1, E2, E4. The three functions, for arguments in range.
 ghost use mathlib.Core.Path.{_≡_};
 ghost use lib.Dec.{T};
 ghost use Rattle.polynomials.specs.Range.{atMost};
@@ -11,7 +11,7 @@ use polynomials::cosine_near;
 use polynomials::power_near;
 use polynomials::sine_near;
 
-// The sine of r and q quarter turns.
+// The sine of r plus q quarter turns.
 fn choose(q: u64, r: f64) -> f64
     ensures { λ s. ⌜ s ≡ pick q r ⌝ }
 {

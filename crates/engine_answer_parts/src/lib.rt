@@ -1,5 +1,5 @@
 // The engine's answers (001) taken apart into plain numbers: the refusal, 0 for none, the state, and the offsets.
-// A caller that takes numbers alone is served by these (M1, M2, M5).
+// They serve a caller that can only take numbers (M1, M2, M5).
 ghost use mathlib.Core.Path.{_≡_};
 ghost use Rattle.modulation_engine.specs.Engine.{numberOf};
 ghost use Rattle.modulation.specs.Step.{numberOf as refusalOf};

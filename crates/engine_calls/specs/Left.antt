@@ -1,5 +1,5 @@
--- What a call of the engine on its 15 words leaves: the refusal's number, which it returns, 0 for none; the words, the
--- very ones where it is refused (D1c); of a step also the two sides' offsets. Definitions only.
+-- What a call of the engine on its 15 words leaves: the refusal number, which it returns, 0 for none; the words,
+-- unchanged if it is refused (D1c); and for a step also the offsets of the two sides. Definitions only.
 use Prim.Native.Nat.{ℕ}
 use mathlib.Core.List.{List}
 use lib.Ieee.{Float}
@@ -20,7 +20,7 @@ pub record Renewed : Type 0 where
 abbrev pub renews : ℕ → List ℕ → Renewed
 renews number words = record { number = number; words = words }
 
--- What an engine becomes, as words.
+-- The words after a change of the engine.
 abbrev pub renewedBy : (ModulationEngine → Opened) → List ℕ → Renewed
 renewedBy change words =
     let o = change (engineOf words) in

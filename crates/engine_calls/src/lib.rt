@@ -1,5 +1,5 @@
 // The engine's calls (001) on a state of 15 words (M1, M2, M5).
-// Each answers with the refusal's number, 0 for none; a refused call leaves the very same words (D1c).
+// Each returns the refusal number, 0 for none; a refused call leaves the words exactly as they were (D1c).
 ghost use mathlib.Core.Path.{_≡_};
 ghost use Rattle.modulation_engine.specs.Engine.{openedOf, setSampleRateOf, setSeedOf, resetOf};
 ghost use Rattle.engine_calls.specs.Left.{renews, renewedBy, steps, steppedBy};
@@ -54,7 +54,7 @@ pub fn reset(words: &mut [u64; 15]) -> u8
     number
 }
 
-// The offsets of the two sides through pointers, 0.0 where the step is refused.
+// M5. Writes the offsets of the two sides through pointers, 0.0 if the step is refused.
 pub fn next(words: &mut [u64; 15], params: ModulationParams, left: &mut f64, right: &mut f64) -> u8
     ensures { λ r. ⌜ steps r (now (words .exit)) (now (left .exit)) (now (right .exit))
         ≡ steppedBy params (now (words .entry)) ⌝ }

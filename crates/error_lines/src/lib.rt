@@ -1,5 +1,10 @@
 // What a program says on standard error, each time a line in one piece, and the sign that ./run looks for: a program
-// has no exit status. No contract can say what a call of C's writes.
+// has no exit status. What a line says is given by equations; that C's `write` takes it is assumed (docs/TRUST.md), so
+// each call answers how many bytes it has handed over.
+ghost use mathlib.Core.Path.{_≡_};
+ghost use lib.ListN.{length};
+ghost use Rattle.text.specs.Text.{putAt, placeAfter};
+ghost use Rattle.error_lines.specs.Lines.{nameText, startText, lineText, plainText, endSign, usageSign};
 use libc::STDERR_FILENO;
 use sizes::begun;
 use text::put;
@@ -7,36 +12,106 @@ use text::put;
 // The descriptor that ./run opens for the sign.
 const SIGN: i32 = 3;
 
+// Puts a file's name as a line shows it.
+pub fn put_name(out: &mut [u8], at: usize, name: &[u8]) -> usize
+    ensures { λ r. ⌜ r ≡ placeAfter (length (now (out .entry))) at (nameText (now (name .entry))) ⌝ }
+    ensures { λ r. ⌜ now (out .exit) ≡ putAt (now (out .entry)) at (nameText (now (name .entry))) ⌝ }
+{
+    if name.len() == 0 {
+        return put(out, at, b"''");
+    }
+    put(out, at, name)
+}
+
+// Puts the beginning of a line: the command, and a file's name or an argument.
+pub fn put_start(out: &mut [u8], at: usize, command: &[u8], name: &[u8]) -> usize
+    ensures { λ r. ⌜ r ≡ placeAfter (length (now (out .entry))) at
+        (startText (now (command .entry)) (now (name .entry))) ⌝ }
+    ensures { λ r. ⌜ now (out .exit) ≡ putAt (now (out .entry)) at
+        (startText (now (command .entry)) (now (name .entry))) ⌝ }
+{
+    let one = put(out, at, command);
+    let two = put(out, one, b": ");
+    put_name(out, two, name)
+}
+
+// The beginning, and what is to be said of the file or the argument, which ends the line.
+pub fn put_line(out: &mut [u8], at: usize, command: &[u8], name: &[u8], words: &[u8]) -> usize
+    ensures { λ r. ⌜ r ≡ placeAfter (length (now (out .entry))) at
+        (lineText (now (command .entry)) (now (name .entry)) (now (words .entry))) ⌝ }
+    ensures { λ r. ⌜ now (out .exit) ≡ putAt (now (out .entry)) at
+        (lineText (now (command .entry)) (now (name .entry)) (now (words .entry))) ⌝ }
+{
+    let one = put_start(out, at, command, name);
+    put(out, one, words)
+}
+
+// The same of nothing that has a name.
+pub fn put_plain(out: &mut [u8], at: usize, command: &[u8], words: &[u8]) -> usize
+    ensures { λ r. ⌜ r ≡ placeAfter (length (now (out .entry))) at
+        (plainText (now (command .entry)) (now (words .entry))) ⌝ }
+    ensures { λ r. ⌜ now (out .exit) ≡ putAt (now (out .entry)) at
+        (plainText (now (command .entry)) (now (words .entry))) ⌝ }
+{
+    let one = put(out, at, command);
+    let two = put(out, one, b": ");
+    put(out, two, words)
+}
+
+fn hand_over(fd: i32, words: &[u8]) -> usize
+    ensures { λ r. ⌜ r ≡ length (now (words .entry)) ⌝ }
+{
+    io::write_all(fd, words);
+    words.len()
+}
+
 // All went well.
-pub fn succeed() {
-    libc::write(SIGN, b"end\n");
+pub fn succeed() -> usize
+    ensures { λ r. ⌜ r ≡ length endSign ⌝ }
+{
+    hand_over(SIGN, b"end\n")
 }
 
 // The arguments were wrong.
-pub fn misused() {
-    libc::write(SIGN, b"usage\n");
+pub fn misused() -> usize
+    ensures { λ r. ⌜ r ≡ length usageSign ⌝ }
+{
+    hand_over(SIGN, b"usage\n")
 }
 
-pub fn say(words: &[u8]) {
-    io::write_all(STDERR_FILENO, words);
+pub fn say(words: &[u8]) -> usize
+    ensures { λ r. ⌜ r ≡ length (now (words .entry)) ⌝ }
+{
+    hand_over(STDERR_FILENO, words)
 }
 
-// A line: the command, a file's name or an argument, and what is to be said of it, which ends the line.
-pub fn say_of(command: &[u8], name: &[u8], words: &[u8]) {
-    let mut line = [0u8; 5120];
-    let at = put(&mut line, 0, command);
-    let at = put(&mut line, at, b": ");
-    let at = put(&mut line, at, name);
-    let at = put(&mut line, at, words);
-    say(begun(&line, at));
+// Two names of 4096 bytes and what is said of them fit.
+pub fn say_of(command: &[u8], name: &[u8], words: &[u8]) -> usize
+    ensures { λ r. ⌜ r ≡ placeAfter 9216 0
+        (lineText (now (command .entry)) (now (name .entry)) (now (words .entry))) ⌝ }
+{
+    let mut line = [0u8; 9216];
+    let n = put_line(&mut line, 0, command, name, words);
+    io::write_all(STDERR_FILENO, begun(&line, n));
+    n
 }
 
-// A line where a call of C's failed: the command, a file's name and errno's text. Nothing is called between, so that
-// errno is still the failed call's.
-pub fn say_failed(command: &[u8], name: &[u8]) {
-    let mut line = [0u8; 4160];
-    let at = put(&mut line, 0, command);
-    let at = put(&mut line, at, b": ");
-    let at = put(&mut line, at, name);
-    os::fail(begun(&line, at));
+pub fn say_plain(command: &[u8], words: &[u8]) -> usize
+    ensures { λ r. ⌜ r ≡ placeAfter 1024 0 (plainText (now (command .entry)) (now (words .entry))) ⌝ }
+{
+    let mut line = [0u8; 1024];
+    let n = put_plain(&mut line, 0, command, words);
+    io::write_all(STDERR_FILENO, begun(&line, n));
+    n
+}
+
+// A line where a call of C's failed: its beginning, and then errno's text, which is not counted. Nothing is called
+// between, so that errno is still the failed call's.
+pub fn say_failed(command: &[u8], name: &[u8]) -> usize
+    ensures { λ r. ⌜ r ≡ placeAfter 4608 0 (startText (now (command .entry)) (now (name .entry))) ⌝ }
+{
+    let mut line = [0u8; 4608];
+    let n = put_start(&mut line, 0, command, name);
+    os::fail(begun(&line, n));
+    n
 }

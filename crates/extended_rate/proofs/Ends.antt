@@ -1,5 +1,5 @@
 -- W12e. Numbers as they are stored, on both sides of each end: 8000, 44100 and 768000 are rates; 7999, 768001, 44100.5,
--- -48000 and infinity are none; digits that are not normalised count by their value. Assumes nothing.
+-- -48000 and infinity are not; digits that are not normalised count by their value. Assumes nothing.
 use mathlib.Core.Path.{_≡_, refl}
 use mathlib.Core.List.{[], _∷_}
 use Rattle.extended_rate.specs.Rate.{rateBy, rateOf}
@@ -16,7 +16,7 @@ pub known : rateOf 0x400e 0xac44_0000_0000_0000 ∷ rateOf 0x400e 0xac44_8000_00
 unfolding rateBy
 known = refl
 
--- 48000 with its digits at the right, and 8000 by one digit too few
+-- 48000 with its digits at the right, and 8000 with one digit too few.
 pub unnormalised : rateOf 0x403e 48000 ∷ rateOf 0x403f 4000 ∷ rateOf 0x4044 125 ∷ rateOf 0x403d 48001 ∷ []
     ≡ 48000 ∷ 8000 ∷ 8000 ∷ 0 ∷ []
 unfolding rateBy

@@ -1,5 +1,5 @@
--- W12e. Which rate a number is, over the exponent of a 1: the only one that meets the equation, and none where no
--- number in range does. Then the two ways to an exponent of a 1: halving and doubling. Assumes nothing.
+-- W12e. The rate that a number is, over the exponent of a 1: it is the only one that satisfies the equation, and there
+-- is none if no number in range does. Then the two ways to an exponent of a 1: halving and doubling. Assumes nothing.
 use mathlib.Core.Path.{_≡_, refl, sym, ap, _∙_}
 use mathlib.Core.Logic.{_↔_}
 use mathlib.Core.Bool.{Bool, true, false, true≢false, cond, _&&_}
@@ -15,7 +15,7 @@ both-hold : (a b : Bool) → a && b ≡ true → (a ≡ true) × (b ≡ true)
 both-hold true b h = (refl, h)
 both-hold false b h = absurd (true≢false (sym h))
 
--- what a rate meets
+-- What holds for a rate.
 pub record Rate (one field digits rate : ℕ) : Type 0 where
   pub no-sign : field < 0x8000
   pub low : 8000 ≤ rate
@@ -35,11 +35,11 @@ module _ (one field digits : ℕ) where
         equation = eqb-true _ _ (q .1);
       }
 
-  -- where the equation holds of a number it is the quotient
+  -- If the equation holds for a number, it is the quotient.
   quotient : (rate : ℕ) → digits * 2 ^ field ≡ rate * 2 ^ one → digits * 2 ^ field / 2 ^ one ≡ rate
   quotient rate e = ap (λ (n : ℕ). n / 2 ^ one) e ∙ mul-div-cancel rate (pow-pos one)
 
-  -- a number by the equation: it, where it is in range
+  -- A number that satisfies the equation is the rate if it is in range.
   pub whole : (rate : ℕ) → field < 0x8000 → digits * 2 ^ field ≡ rate * 2 ^ one
       → rateBy one field digits ≡ cond (inRange rate) rate 0
   unfolding rateBy
@@ -61,7 +61,7 @@ module _ (one field digits : ℕ) where
       by true e = absurd (h rate (met rate e))
       by false e = refl
 
-  -- W12e. A rate is handed out exactly when the number is that whole number, in range and without a sign.
+  -- W12e. A rate is handed out exactly if the number is that whole number, in range and without a sign.
   pub exactly : (rate : ℕ) → (0 < rate) × (rateBy one field digits ≡ rate) ↔ Rate one field digits rate
   unfolding rateBy
   exactly rate = (given, λ m. (omega (arith, m .low), whole rate (m .no-sign) (m .equation) ∙ in-range m))
@@ -79,12 +79,12 @@ module _ (one field digits : ℕ) where
       given : (0 < rate) × (rateBy one field digits ≡ rate) → Rate one field digits rate
       given h = by (isRateBy one field digits q) refl (h .0) (h .1)
 
--- ---- digits and exponents, as the loops go
+-- ---- digits and exponents, as the loops change them
 cancel : (k : ℕ) {a b : ℕ} → a * 2 ^ k ≡ b * 2 ^ k → a ≡ b
 cancel k {a} {b} e =
     sym (mul-div-cancel a (pow-pos k)) ∙ ap (λ (n : ℕ). n / 2 ^ k) e ∙ mul-div-cancel b (pow-pos k)
 
--- a power, by a lower one
+-- A power of two by a lower one.
 above : (lower higher n : ℕ) → lower ≤ higher → n * 2 ^ higher ≡ n * 2 ^ (higher - lower) * 2 ^ lower
 above lower higher n h =
     let e : higher ≡ higher - lower + lower = omega arith in
@@ -105,7 +105,7 @@ double d f h =
     let e : f - (f - 1) ≡ 1 = omega arith in
     sym (above (f - 1) f d (omega arith) ∙ ap (λ (k : ℕ). d * 2 ^ k * 2 ^ (f - 1)) e)
 
--- odd digits at an exponent below that of a 1
+-- Odd digits at an exponent below that of a 1 are not a whole number.
 pub odd-digits : (one f d rate : ℕ) → f < one → (d % 2 ≡ 0 → ⊥) → d * 2 ^ f ≡ rate * 2 ^ one → ⊥
 odd-digits one f d rate l h e =
     let k = one - f - 1 in
@@ -115,7 +115,7 @@ odd-digits one f d rate l h e =
     (w ∙ ap (λ (n : ℕ). rate * 2 ^ n) g ∙ ap (λ (n : ℕ). rate * n) (pow-suc 2 k) ∙ sym (mul-assoc rate (2 ^ k) 2))
     ∙ mul-mod-left (rate * 2 ^ k) 2)
 
--- digits above half the range at an exponent above that of a 1
+-- Digits above half the range, at an exponent above that of a 1, are out of range.
 pub past-range : (one f d rate : ℕ) → one < f → 384000 < d → rate ≤ 768000 → d * 2 ^ f ≡ rate * 2 ^ one → ⊥
 past-range one f d rate l h r e =
     let k = f - one - 1 in

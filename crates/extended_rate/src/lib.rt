@@ -1,15 +1,15 @@
-// W12e. The rate of an AIFF, an 80-bit extended number: 2 bytes of sign and exponent, 8 bytes of digits. It has to be a
-// whole number from 8000 to 768000. Any field and any digits are taken.
+// W12e. The rate of an AIFF, an 80-bit extended number: 2 bytes of sign and exponent, 8 bytes of digits. It must be a
+// whole number from 8000 to 768000. Every field and all digits are accepted.
 ghost use mathlib.Core.Path.{_≡_};
 ghost use mathlib.Core.Bool.{cond};
 ghost use Prim.Native.Nat.{_≤_};
 ghost use Rattle.extended_rate.specs.Rate.{rateOf, inRange};
 
-// The rate, 0 where there is none.
+// The rate, or 0 if the number is not a whole number in range.
 pub fn rate_of(field: u32, digits: u64) -> u32
     ensures { λ r. ⌜ r ≡ rateOf field digits ⌝ }
 {
-    // The first bit is the sign.
+    // The first bit of the field is the sign.
     if field >= 0x8000 {
         return 0;
     }
@@ -19,7 +19,7 @@ pub fn rate_of(field: u32, digits: u64) -> u32
     doubled(field, digits)
 }
 
-// An exponent that is too small by one counts for a factor of two in the digits. Where they are odd it is a fraction.
+// Each step of the exponent below that of a 1 halves the digits. If they are odd the number is not whole.
 fn halved(field: u32, digits: u64) -> u32
     requires { ⌜ field ≤ 16446 ⌝ }
     ensures { λ r. ⌜ r ≡ rateOf field digits ⌝ }
@@ -36,8 +36,8 @@ fn halved(field: u32, digits: u64) -> u32
     if_in_range(d)
 }
 
-// An exponent that is too large by one counts for a factor of two too: digits that are not normalised count by their
-// value. Those above 384000 are past the range with it.
+// Each step of the exponent above that of a 1 doubles the digits, which need not be normalised. Above 384000 the double
+// is out of range.
 fn doubled(field: u32, digits: u64) -> u32
     requires { ⌜ (16446 ≤ field) × (field ≤ 0x7fff) ⌝ }
     ensures { λ r. ⌜ r ≡ rateOf field digits ⌝ }

@@ -1,5 +1,5 @@
--- Both ways of a reading, taps one by one and taps side by side, are the definition's, at the integer part z and the
--- fraction mu that the code holds. Assumes nothing.
+-- Both ways of a reading, taps one by one and taps side by side, give the definition's value, at the integer part z and
+-- the fraction mu that the code holds. Assumes nothing.
 use mathlib.Core.Path.{_≡_, sym, _∙_, ap}
 use mathlib.Core.Bool.{true}
 use mathlib.Core.List.{List, [], _∷_}

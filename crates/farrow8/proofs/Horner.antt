@@ -1,4 +1,4 @@
--- Horner's rule over the sums of the powers is the polynomial, and what was worked out by floats is taken where it is
+-- Horner's rule over the sums of the powers is the polynomial, and the result by ordinary floats is used only if it is
 -- finite. Assumes nothing.
 use mathlib.Core.Path.{_≡_, sym, ap, _∙_, subst}
 use mathlib.Core.Bool.{Bool, true}
@@ -14,6 +14,6 @@ pub horner-is : (x : List Float) (s : Powers) (mu : Float) → s ≡ powersOf x 
 unfolding polynomialOf
 horner-is x s mu e = ap (λ (s : Powers). horner s mu) e
 
--- t is what the test of r found
+-- Let t be the result of the test of r.
 pub sure : {r w : Float} {t : Bool} → (T (finite r) → r ≡ w) → t ≡ finite r → t ≡ true → r ≡ w
 sure h e taken = h (subst T (sym (sym e ∙ taken)) tt)

@@ -1,4 +1,5 @@
--- K3, K4, K6. 000's Farrow8: a sum by each column, then fused steps in the fraction, in 000's order. Definitions only.
+-- K3, K4, K6. 000's Farrow8: a sum for each column of the table, then fused steps in the fraction, in 000's order.
+-- Definitions only.
 use Prim.Native.Nat.{ℕ}
 use mathlib.Core.Bool.{false, cond}
 use mathlib.Core.List.{List, [], _∷_}
@@ -12,7 +13,7 @@ use Rattle.integer_part.specs.Parts.{floorOf, fractionOf}
 use Rattle.farrow8_powers.specs.Sums.{dotOf, powersOf}
 use Rattle.farrow8_powers.specs.declared.Powers.{Powers}
 
--- One step: value * mu + the next power's sum, rounded once.
+-- One step: value * mu + the sum of the next power, rounded once.
 abbrev pub step : Float → Float → Float → Float
 step mu value next = fused binary64 value mu next
 
@@ -27,7 +28,7 @@ unfoldable pub polynomialOf : List Float → Float → Float
 unfolding dotOf
 polynomialOf x mu = horner (powersOf x) mu
 
--- The eight taps, integer - 3 to integer + 4.
+-- The eight taps from integer - 3 to integer + 4.
 abbrev pub tapsAt : List Float → ℕ → ℤ → List Float
 tapsAt xs count i =
     tapOf xs count (i -ℤ pos 3) ∷ tapOf xs count (i -ℤ pos 2) ∷ tapOf xs count (i -ℤ pos 1) ∷ tapOf xs count i

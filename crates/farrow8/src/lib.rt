@@ -16,8 +16,8 @@ use steps::slow;
 use taps::one_by_one;
 use taps::side_by_side;
 
-// The reading at a position; 0.0 outside the positions' range. Fast path: if the eight taps are held side by side they
-// are read without a test each. The two ways of `over` are written out here, because a function that takes the sums
+// Fast path: if the eight taps are held side by side they are read without a test for each. Outside the range of
+// positions the answer is 0.0. The two ways of `over` are written out here, because a function that takes the sums
 // would copy them before handing them on.
 pub fn read(source: &[f64], count: u64, position: f64) -> f64
     ensures { λ r. ⌜ r ≡ readOf (now (source .entry)) count position ⌝ }
@@ -42,7 +42,7 @@ pub fn read(source: &[f64], count: u64, position: f64) -> f64
     0.0
 }
 
-// The reading of a lent slice: refusal 1 outside the positions' range.
+// N1. A position out of range is refused by 1.
 pub fn sample(source: &[f64], count: u64, position: f64) -> Answer
     ensures { λ r. ⌜ r ≡ answerOf (cond (positionOk position) 0 1) (readOf (now (source .entry)) count position) ⌝ }
 {

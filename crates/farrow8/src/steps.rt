@@ -5,7 +5,8 @@ ghost use lib.Ieee.Scale.{finite};
 ghost use Rattle.farrow8.specs.Kernel.{horner};
 use farrow8_powers::Powers;
 
-// Horner's rule by floats. If one step is in doubt it gives a NaN, and then so do all that follow.
+// Horner's rule by ordinary float operations. If one step cannot be decided it gives a NaN, and then so do all that
+// follow.
 pub(crate) fn quick(s: Powers, mu: f64) -> f64
     ensures { λ r. ⌜ (T (finite r) → r ≡ horner s mu) ⌝ }
 {
@@ -18,7 +19,7 @@ pub(crate) fn quick(s: Powers, mu: f64) -> f64
     near_fused::near_fused(p1, mu, s.s0)
 }
 
-// The same by whole numbers, for every input.
+// Horner's rule on whole numbers, which serves every input.
 pub(crate) fn slow(s: Powers, mu: f64) -> f64
     ensures { λ r. ⌜ r ≡ horner s mu ⌝ }
 {
@@ -31,7 +32,7 @@ pub(crate) fn slow(s: Powers, mu: f64) -> f64
     fused64::fused64(p1, mu, s.s0)
 }
 
-// Horner's rule over the sums.
+// Horner's rule over the sums, on whole numbers only if the quick way cannot decide.
 pub(crate) fn over(s: Powers, mu: f64) -> f64
     ensures { λ r. ⌜ r ≡ horner s mu ⌝ }
 {

@@ -7,7 +7,7 @@ ghost use lib.Ieee.{nan};
 ghost use lib.Signed.{mag};
 ghost use Rattle.farrow8.specs.Kernel.{tapsAt};
 
-// From a place on, side by side.
+// Eight taps that stand side by side are read without a test for each.
 pub(crate) fn side_by_side(source: &[f64], p: usize) -> [f64; 8]
     requires { ⌜ p + 8 ≤ length (now source) ⌝ }
     ensures { λ r. ⌜ r ≡ getD (now (source .entry)) p nan ∷ getD (now (source .entry)) (p + 1) nan
@@ -27,7 +27,7 @@ pub(crate) fn side_by_side(source: &[f64], p: usize) -> [f64; 8]
     ]
 }
 
-// Around an index, with a test for each.
+// The eight taps around an index, each with its test.
 pub(crate) fn one_by_one(source: &[f64], count: u64, i: i64) -> [f64; 8]
     requires { ⌜ mag i ≤ 2 ^ 36 ⌝ }
     ensures { λ r. ⌜ r ≡ tapsAt (now (source .entry)) count i ⌝ }

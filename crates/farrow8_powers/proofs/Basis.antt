@@ -1,5 +1,5 @@
--- K6. Farrow8's fractions are Lagrange's basis for the nodes -3 to 4: one test that antt computes over the whole table,
--- and the law that turns it into the rule at each entry. Assumes nothing.
+-- K6. Farrow8's fractions are Lagrange's basis for the nodes -3 to 4: one computed test of the whole table, and the law
+-- that turns it into the rule for each entry. Assumes nothing.
 use mathlib.Core.Path.{_≡_, refl, ap, _∙_}
 use mathlib.Core.Bool.{Bool, true, false, _&&_, cond}
 use mathlib.Core.List.{List, [], _∷_}
@@ -89,7 +89,7 @@ pub full : Full nums × Full dens × Full quotients
 unfolding quotients
 full = (refl, refl, refl)
 
--- ---- that these polynomials are the basis: each is 0 at every node but its own
+-- ---- these polynomials are the basis: each is 0 at every node but its own
 vanishes : ℕ → ℕ → Bool
 vanishes r i = eqZ (valueAt (node i) (product r 8)) (cond (eqb i r) (distances r 8) (pos 0))
 
@@ -101,7 +101,7 @@ pub at-nodes : (r i : ℕ) → r < 8 → i < 8 → valueAt (node i) (product r 8
 unfolding vanishes
 at-nodes r i h l = eqZ-true _ _ (each-of-eight vanishes all-vanish r i h l)
 
--- column 0: the polynomial's value at the integer is the sample there
+-- Column 0: the value of the polynomial at the integer is the sample there.
 pub centre : columnIn quotients 0 ≡ eight (λ r. cond (eqb r 3) (fin false 1 (pos 0)) (fin false 0 (pos 0)))
 unfolding quotients div ofInt
 centre = refl

@@ -13,7 +13,7 @@ use Rattle.farrow8_powers.specs.Sums.{dotOf, power, powersOf}
 use Rattle.farrow8_powers.proofs.Basis.{centre}
 use Rattle.farrow8_powers.proofs.Zeros.{Like, Sample, sample, plus-null, null-plus, by-zero, by-one, equal}
 
--- a finite f64
+-- y is a finite f64.
 abbrev pub Finite : Float → Type 0
 Finite y = T (finite y) × T (fits binary64 y)
 
@@ -24,7 +24,7 @@ module _ (x : List Float) (samples : (k : ℕ) → k < 8 → Finite (getD x k na
   zero-at : (s : Bool) (k : ℕ) → k < 8 → Like s 0 (mul binary64 (getD x k nan) (fin false 0 (pos 0)))
   zero-at s k h = let v = at k h in by-zero s (v .sign) (v .size) (v .like)
 
-  -- as IEEE 754 compares: -0 equals 0
+  -- The two are equal as IEEE 754 compares them, for which -0 equals 0.
   pub power-0 : eq (power x 0) (powersOf x .s0) ≡ true
   unfolding dotOf
   power-0 =

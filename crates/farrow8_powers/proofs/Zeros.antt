@@ -1,5 +1,5 @@
--- Sums and products of finite samples with zeros: a zero added changes no value, a product by 0 is a zero,
--- and one by 1 is the factor. Every value is counted in units of the smallest. Assumes nothing.
+-- Sums and products of finite samples with zeros: adding a zero changes no value, a product with 0 is a zero, and one
+-- with 1 is the factor. Every value is counted in the smallest value. Assumes nothing.
 use mathlib.Core.Path.{_≡_, refl, sym, ap, _∙_, subst}
 use mathlib.Core.Bool.{Bool, true, false, _&&_, and-true, or-true, cond, Bool·beq}
 use Prim.Native.Nat.{ℕ, zero, suc, _+_, _-_, _*_, _^_, _<_}
@@ -20,11 +20,11 @@ use Rattle.rounding.proofs.SumSymmetry.{add-swap}
 use Rattle.rounding.proofs.Products.{mul-value}
 use Rattle.rounding.proofs.Comparing.{eq-units}
 
--- the smallest values in 1
+-- How many of the smallest values 1 is.
 abbrev pub units : ℕ
 units = 2 ^ low binary64
 
--- y is a units, with the sign s where that is not 0
+-- y is a units, and has the sign s if a is not 0.
 pub record Like (s : Bool) (a : ℕ) (y : Float) : Type 0 where
   pub fit : T (fits binary64 y)
   pub sign : Bool

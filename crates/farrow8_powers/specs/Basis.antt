@@ -1,5 +1,5 @@
--- K6. Lagrange's basis for the nodes -3 to 4 by powers of x: of each node the product of (x - j) over the other nodes,
--- divided by the product of the node's distances from them. Definitions only.
+-- K6. Lagrange's basis for the nodes -3 to 4 by powers of x. The polynomial of a node is the product of (x - j) over
+-- the other nodes j, divided by the product of the node's distances from them. Definitions only.
 use Prim.Native.Nat.{ℕ, zero, suc, _<_}
 use mathlib.Core.Path.{_≡_}
 use mathlib.Core.Bool.{Bool, cond}
@@ -9,7 +9,7 @@ use lib.IntN.{ℤ, pos, natAbs, _+ℤ_, _-ℤ_, _*ℤ_}
 use lib.ListN.{length, getD}
 use Rattle.farrow8_powers.specs.Table.{eight, numAt, denAt, roundedAt, quotients, quotientIn}
 
--- The nodes, -3 to 4.
+-- The nodes are -3 to 4.
 abbrev pub node : ℕ → ℤ
 node i = pos i -ℤ pos 3
 
@@ -18,7 +18,7 @@ unfoldable pub timesLess : ℤ → ℤ → List ℤ → List ℤ
 timesLess j below [] = below ∷ []
 timesLess j below (a ∷ rest) = (below -ℤ j *ℤ a) ∷ timesLess j a rest
 
--- The product of (x - j) over the first n nodes j but node r.
+-- The product of (x - j) over the first n nodes j, without node r.
 unfoldable pub product : ℕ → ℕ → List ℤ
 unfolding timesLess
 product r zero = pos 1 ∷ []
@@ -29,8 +29,8 @@ unfoldable pub distances : ℕ → ℕ → ℤ
 distances r zero = pos 1
 distances r (suc i) = cond (eqb i r) (distances r i) (distances r i *ℤ (node r -ℤ node i))
 
--- What such a list means. By `at-nodes` in proofs/Basis.antt a product is 0 at every node but its own, and there it is
--- the distances.
+-- The value of such a polynomial at x. By `at-nodes` in proofs/Basis.antt a product is 0 at every node but its own, and
+-- there it is the product of the distances.
 unfoldable pub valueAt : ℤ → List ℤ → ℤ
 valueAt x [] = pos 0
 valueAt x (a ∷ rest) = a +ℤ x *ℤ valueAt x rest
@@ -39,7 +39,7 @@ valueAt x (a ∷ rest) = a +ℤ x *ℤ valueAt x rest
 abbrev pub coefficient : ℕ → ℕ → ℤ
 coefficient r p = getD (product r 8) p (pos 0)
 
--- The rule of an entry: the table's fraction is the coefficient, as an equation of whole numbers between two fractions
+-- The rule for an entry. The table's fraction is the coefficient, as an equation of whole numbers between two fractions
 -- whose denominators are not zero, and the table's quotient is that fraction rounded once.
 pub record Entry (r p : ℕ) : Type 0 where
   pub proper : 0 < denAt r p
@@ -47,6 +47,6 @@ pub record Entry (r p : ℕ) : Type 0 where
   pub same : numAt r p *ℤ distances r 8 ≡ coefficient r p *ℤ pos (denAt r p)
   pub rounded : quotientIn quotients r p ≡ roundedAt r p
 
--- Eight rows of eight.
+-- The table has eight rows of eight.
 abbrev pub Full : {A : Type 0} → List (List A) → Type 0
 Full t = map length t ≡ eight (λ r. 8)

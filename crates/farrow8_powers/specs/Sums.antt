@@ -16,12 +16,12 @@ dotOf x c =
     add binary64 (add binary64 (add binary64 (add binary64 (add binary64 (add binary64 (add binary64
     (term x c 0) (term x c 1)) (term x c 2)) (term x c 3)) (term x c 4)) (term x c 5)) (term x c 6)) (term x c 7)
 
--- The sum of one power.
+-- The sum that belongs to the power p.
 abbrev pub power : List Float → ℕ → Float
 power x p = dotOf x (columnIn quotients p)
 
--- The powers 1 to 7, and for power 0 the sample at the integer itself, which the sum by column 0 equals (`power-0` in
--- proofs/Centre.antt).
+-- The sums of the powers 1 to 7, and for power 0 the sample at the integer itself, which the sum by column 0 equals
+-- (`power-0` in proofs/Centre.antt).
 abbrev pub powersOf : List Float → Powers
 powersOf x =
     record {

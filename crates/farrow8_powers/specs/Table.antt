@@ -12,7 +12,8 @@ eight f = f 0 ∷ f 1 ∷ f 2 ∷ f 3 ∷ f 4 ∷ f 5 ∷ f 6 ∷ f 7 ∷ []
 abbrev neg : ℕ → ℤ
 neg n = negℤ (pos n)
 
--- The exact fractions: a row for each node from -3 to 4, a column for each power of the fraction from 0 to 7.
+-- The exact fractions by their numerators and denominators: a row for each node from -3 to 4, a column for each power
+-- of the fraction from 0 to 7.
 abbrev pub nums : List (List ℤ)
 nums = (pos 0 ∷ neg 1 ∷ pos 1 ∷ pos 1 ∷ neg 1 ∷ neg 1 ∷ pos 1 ∷ neg 1 ∷ [])
     ∷ (pos 0 ∷ pos 1 ∷ neg 3 ∷ neg 71 ∷ pos 1 ∷ neg 1 ∷ neg 1 ∷ pos 1 ∷ [])
@@ -40,18 +41,18 @@ numAt r p = getD (getD nums r []) p (pos 0)
 abbrev pub denAt : ℕ → ℕ → ℕ
 denAt r p = getD (getD dens r []) p 0
 
--- That fraction, rounded once.
+-- The fraction of row r and power p, rounded once.
 abbrev pub roundedAt : ℕ → ℕ → Float
 roundedAt r p = div binary64 (ofInt binary64 (numAt r p)) (ofInt binary64 (pos (denAt r p)))
 
--- 000's constant.
+-- 000's constant: each fraction rounded once.
 unfoldable pub quotients : List (List Float)
 quotients = eight (λ r. eight (roundedAt r))
 
--- The quotient of row r and power p, in such a table.
+-- The quotient of row r and power p in a table.
 abbrev pub quotientIn : List (List Float) → ℕ → ℕ → Float
 quotientIn c r p = getD (getD c r []) p nan
 
--- The quotients of power p.
+-- The quotients that belong to the power p.
 abbrev pub columnIn : List (List Float) → ℕ → List Float
 columnIn c p = eight (λ r. quotientIn c r p)

@@ -7,7 +7,7 @@ ghost use Rattle.farrow8_powers.specs.Table.{columnIn};
 ghost use Rattle.farrow8_powers.specs.Sums.{dotOf, powersOf};
 use quotients::table;
 
-// 000's `dot!`.
+// 000's `dot!`: eight products, added from the first on.
 fn dot(x: [f64; 8], c: [f64; 8]) -> f64
     ensures { λ r. ⌜ r ≡ dotOf x c ⌝ }
 {
@@ -21,7 +21,7 @@ fn dot(x: [f64; 8], c: [f64; 8]) -> f64
         + x[7] * c[7]
 }
 
-// A column of such a table: the quotients of the n-th power.
+// A column of such a table: the quotients that belong to the n-th power.
 fn column(c: [[f64; 8]; 8], n: usize) -> [f64; 8]
     requires { ⌜ n < 8 ⌝ }
     ensures { λ r. ⌜ r ≡ columnIn c n ⌝ }
@@ -38,8 +38,8 @@ fn column(c: [[f64; 8]; 8], n: usize) -> [f64; 8]
     ]
 }
 
-// The sums of the powers, and the sample itself. Neighbours in memory have quotients of the same signs, so that the
-// compiler works out two sums at once.
+// The sums of the powers; s0 is the sample itself. Fields that are neighbours in memory have quotients of the same
+// signs, so that the compiler computes two sums at once.
 pub struct Powers {
     pub s2: f64,
     pub s6: f64,

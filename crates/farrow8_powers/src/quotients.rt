@@ -85,7 +85,7 @@ const C: [[f64; 8]; 8] = [
     ],
 ];
 
-// The whole of it, with column 0, which no sum takes.
+// The whole table. No sum uses its column 0, because that sum is the sample itself.
 pub(crate) fn table() -> [[f64; 8]; 8]
     ensures { λ r. ⌜ r ≡ quotients ⌝ }
 {

@@ -1,5 +1,5 @@
--- The length of a number in binary digits: the zeros above it fill the word, and moved up to a length it fills that.
--- Assumes nothing.
+-- The length of a number in binary digits. The zeros above it fill the word, and a number that is moved up to a length
+-- has that length. Assumes nothing.
 use mathlib.Core.Path.{_≡_, refl, sym, ap, _∙_, subst}
 use Prim.Native.Nat.{ℕ, zero, suc, _+_, _-_, _*_, _^_, _≤_, _<_}
 use native.Mathlib.Nat.{le-trans, le-of-eq, le-add-right, lt-of-lt-of-le, lt-of-le-of-lt, mul-le-mul-right, pow-suc}
@@ -32,7 +32,7 @@ size-some d h = go (size d) (size-lt d)
     go zero l = omega arith
     go (suc z) l = omega arith
 
--- a number of k digits under another
+-- A number of k digits below another.
 pub size-over : (k hi lo : ℕ) → 0 < hi → lo < 2 ^ k → size (hi * 2 ^ k + lo) ≡ size hi + k
 size-over k hi lo H L =
     let s = size-some hi H in
@@ -46,7 +46,7 @@ size-over k hi lo H L =
     size-le n (size hi + k) (lt-of-lt-of-le (digits-lt (size-lt hi) L) (le-of-eq (sym (pow-add 2 (size hi) k)))) in
     omega arith
 
--- d, moved up until it has k digits
+-- The number d, moved up until it has k digits.
 module _ (d k : ℕ) (D : 0 < d) (K : size d ≤ k) where
   pub filled-least : 2 ^ (k - 1) ≤ d * 2 ^ (k - size d)
   filled-least =

@@ -1,5 +1,5 @@
--- What `pack` means: a number of 55 digits, the last of them sticky, becomes the exact value rounded once,
--- carry and overflow included. Assumes nothing.
+-- What `pack` means: a number of 55 digits, of which the last is odd if digits were cut off, becomes the exact value
+-- rounded once, carry and overflow included. Assumes nothing.
 use mathlib.Core.Path.{_≡_, refl, sym, ap, _∙_}
 use mathlib.Core.Logic.{dite}
 use mathlib.Core.Bool.{Bool, true, false, cond}
@@ -23,7 +23,7 @@ use Rattle.float_digits.specs.Jam.{Jam}
 pub quarter : (v : ℕ) → (v + (1 + bitAnd (v / 4) 1)) / 4 ≡ closest v 4
 quarter v = ap (λ (z : ℕ). (v + (1 + z)) / 4) (and-mask (v / 4) 1) ∙ sym (closest-by-add v 2 (zero-lt-suc 1))
 
--- the pattern lies not above infinity's
+-- The pattern does not lie above an infinity's.
 pub magnitude-le : (w k : ℕ) → magnitudeOf w k ≤ 0x7ff0_0000_0000_0000
 magnitude-le w k =
     let q : closest (w % 2 ^ 55) 4 ≤ 2 ^ 53 =

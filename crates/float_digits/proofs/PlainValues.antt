@@ -1,4 +1,4 @@
--- Plain values: how comparisons tell them, and what they are. Assumes nothing.
+-- Plain values: how comparisons recognise them, and what they are. Assumes nothing.
 use mathlib.Core.Path.{_≡_, refl, sym, ap, _∙_}
 use mathlib.Core.Bool.{Bool, true, false, not, true≢false}
 use Prim.Native.Nat.{ℕ, zero, suc, _*_, _<_}

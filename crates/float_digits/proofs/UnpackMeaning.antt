@@ -1,5 +1,5 @@
--- What `unpack` means: the digits and the place of a finite value that is no zero, read off its pattern.
--- Assumes nothing.
+-- What `unpack` means: the digits and the place of a finite value that is not zero, read from its pattern. Assumes
+-- nothing.
 use mathlib.Core.Path.{_≡_, sym, ap, _∙_, subst}
 use mathlib.Core.Logic.{dite}
 use mathlib.Core.Bool.{Bool, cond}
@@ -23,7 +23,7 @@ use Rattle.float_digits.specs.Pattern.{placeOf, digitsOf, unpacked, plai
 use Rattle.float_digits.proofs.PlainValues.{plain-finite, plain-some}
 use Rattle.float_digits.proofs.Lengths.{filled-least, filled-below}
 
--- the value x is (-1) ^ s * m * 2 ^ e / 2 ^ 1137, and m has 63 digits, the last of them 0
+-- The value x is (-1) ^ s * m * 2 ^ e / 2 ^ 1137, and m has 63 digits, the last of them 0.
 pub record Scaling (x : Float) (p : Scaled) : Type 0 where
   pub sign : p .s < 2
   pub least : 2 ^ 62 ≤ p .m
@@ -32,7 +32,6 @@ pub record Scaling (x : Float) (p : Scaled) : Type 0 where
   pub bounded : p .e ≤ 2098
   pub value : HasValue x (eqb (p .s) 1) (p .m * 2 ^ p .e) (2 ^ 1137)
 
--- the sign's bit
 sign-bit : (n : ℕ) → n < 2 ^ 64 → leb (2 ^ 63) n ≡ eqb (n / 2 ^ 63) 1
 sign-bit n h =
     dite (decLt n (2 ^ 63)) (λ l. lt-leb (2 ^ 63) n l ∙ sym (ne-eqb (n / 2 ^ 63) 1 (omega arith)))

@@ -1,5 +1,5 @@
--- What `unpack` takes out of a normal value's pattern: the 52 digits under the field and a 1 before them,
--- ten places up. Assumes nothing.
+-- What `unpack` takes out of a normal value's pattern: the 52 digits below the exponent field with a 1 before them,
+-- moved up ten places. Assumes nothing.
 use mathlib.Core.Path.{_≡_, ap, _∙_}
 use Prim.Native.Nat.{ℕ, _+_, _-_, _*_, _/_, _%_, _^_, _≤_, _<_}
 use native.Mathlib.Nat.{lt-of-le-of-lt}

@@ -10,14 +10,14 @@ pub struct Scaled {
     pub e: u64,
 }
 
-// How many places above the smallest value the digits under the exponent's field stand: a field of 0 counts as 1.
+// How many places above the smallest value the digits stand. A field of 0 (a subnormal number) counts as 1.
 fn place(field: u64) -> u64
     ensures { λ r. ⌜ r ≡ field - 1 ⌝ }
 {
     if field == 0 { 0 } else { field - 1 }
 }
 
-// The values whose digits can be taken out.
+// Whether x is finite and not zero, so that its digits can be taken out.
 pub fn is_plain(x: f64) -> bool
     ensures { λ r. ⌜ r ≡ plain x ⌝ }
 {
@@ -51,8 +51,8 @@ pub fn sticky(w: u64, rest: u64) -> u64
     if rest == 0 { w } else { w | 1 }
 }
 
-// Rounds a quotient by 4 to the nearest, a tie to even, by adding 1, and one more if the quotient is odd. A carry out
-// of the digits adds one to the exponent field, as it should.
+// Rounds w / 4 to the nearest whole number, a tie to even, by adding 1, and one more if the quotient is odd. A carry
+// out of the digits adds one to the exponent field, as it should.
 fn magnitude(w: u64, k: u64) -> u64
     ensures { λ r. ⌜ r ≡ magnitudeOf w k ⌝ }
 {
@@ -64,7 +64,7 @@ fn magnitude(w: u64, k: u64) -> u64
     (k << 52) + q
 }
 
-// For a number of 55 digits the law `packed-rounds` says what the result means.
+// For a w of 55 digits the law `packed-rounds` says what the result means.
 pub fn pack(s: u64, w: u64, k: u64) -> f64
     ensures { λ r. ⌜ r ≡ packed s w k ⌝ }
 {

@@ -1,5 +1,5 @@
--- W12b. Where no chunk runs past the end, what was found of an identifier lies before it, whether one was found or not.
--- Assumes nothing.
+-- W12b. If no chunk runs past the end, what was found for an identifier lies before it, whether a chunk was found or
+-- not. Assumes nothing.
 use mathlib.Core.Path.{_≡_, refl}
 use mathlib.Core.Bool.{Bool, true, false, true≢false, cond}
 use mathlib.Core.List.{List, [], _∷_}

@@ -1,4 +1,4 @@
--- W12. The identifiers are their letters: `COMM` and `SSND`. Assumes nothing.
+-- W12. The identifiers are the letters `COMM` and `SSND`. Assumes nothing.
 use mathlib.Core.Path.{_≡_, refl}
 use mathlib.Core.List.{[], _∷_}
 use Rattle.word_bytes.specs.Bytes.{bytesValue}

@@ -1,4 +1,4 @@
--- W12. The chunks of a FORM: Wish 1's, but that a size has its high byte first. Definitions only.
+-- W12. The chunks of a FORM: those of RIFF, except that a size has its high byte first. Definitions only.
 use Prim.Native.Nat.{ℕ}
 use mathlib.Core.Bool.{false}
 use mathlib.Core.List.{List}
@@ -15,13 +15,13 @@ commId = 0x4d4d_4f43
 abbrev pub ssndId : ℕ
 ssndId = 0x444e_5353
 
--- In either order: neither ends the walk.
+-- The two may stand in either order, so neither ends the walk.
 abbrev pub formSought : Sought
 formSought = record { format = commId; samples = ssndId; ends = false }
 
 abbrev pub formChunk : List ℕ → ℕ → Chunk
 formChunk b = chunkAt bigValue b
 
--- As far as the file goes.
+-- The walk goes no further than the file.
 abbrev pub formWalk : List ℕ → ℕ → Walked
 formWalk b end = walkTo formSought (formChunk b) (endIn b end)

@@ -1,6 +1,6 @@
-// W12. The walk over the chunks of an AIFF file: Wish 1's walk, with sizes whose high byte comes first. `COMM` and
-// `SSND` are sought, the first of each counts, and nothing ends the walk before the FORM does. Any bytes and any end
-// are taken.
+// W12. The walk over the chunks of an AIFF file: the walk of RIFF, with sizes whose high byte comes first. It looks for
+// `COMM` and `SSND`; the first of each counts, and nothing ends the walk before the FORM does. Any bytes and any end
+// are accepted.
 ghost use mathlib.Core.Path.{_≡_};
 ghost use Prim.Native.Nat.{_+_, _<_, min};
 ghost use Rattle.riff_chunks.specs.Walk.{walkTo};
@@ -13,7 +13,7 @@ use riff_chunks::begin;
 use riff_chunks::turn;
 use word_bytes::low_first_u32;
 
-// The chunks between the 12 bytes of a FORM's beginning and its end, or the file's where that comes first.
+// The chunks behind the 12 bytes of a FORM's beginning, up to its end or the end of the file, whichever comes first.
 pub fn walk(file: &[u8], end: usize) -> Walked
     ensures { λ r. ⌜ r ≡ formWalk (now (file .entry)) end ⌝ }
 {
@@ -39,7 +39,7 @@ fn walk_to(file: &[u8], end: usize) -> Walked
     walking.seen
 }
 
-// `COMM` and `SSND`, in either order.
+// The walk looks for `COMM` and `SSND`, which may stand in either order.
 pub fn form_sought() -> Sought
     ensures { λ r. ⌜ r ≡ formSought ⌝ }
 {

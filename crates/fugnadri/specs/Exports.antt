@@ -1,5 +1,5 @@
--- What stands in the exports' contracts: what a call of a reader leaves, where its kernel's settings are in range or
--- not (G5), and where it has none. Definitions only.
+-- Definitions for the exports' contracts: what a call of a reader leaves, for a kernel that has settings (G5) and for
+-- one that has none. Definitions only.
 use Prim.Native.Nat.{ℕ}
 use mathlib.Core.Bool.{Bool, true}
 use mathlib.Core.List.{List}

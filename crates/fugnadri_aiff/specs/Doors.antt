@@ -1,5 +1,5 @@
--- W12. What stands in the exports' contracts: an answer as a number and plain numbers, zeros where it is a refusal, and
--- a kind by its code. A record has all that its export may write, so that one equation gives it. Definitions only.
+-- W12. Definitions for the exports' contracts: an answer as a number and plain numbers, zeros if it is a refusal, and a
+-- kind by its code. A record holds all that its export may write, so that one equation gives it. Definitions only.
 use Prim.Native.Nat.{ℕ}
 use mathlib.Core.Bool.{cond}
 use lib.Dec.{leb}
@@ -18,7 +18,7 @@ abbrev pub soundOf : Found → Sound
 soundOf (found.Sound f) = f
 soundOf (found.Refused k) = record { kind = Pcm16; channels = 0; rate = 0; start = 0; length = 0 }
 
--- What a reading leaves: the refusal's number, which it returns, 0 for none, and what was found.
+-- What a reading leaves: the refusal number, which it returns, 0 for none, and what was found.
 pub record Left : Type 0 where
   pub refusal : ℕ
   pub kind : ℕ
@@ -36,7 +36,7 @@ leftBy a =
     let f = soundOf a in
     leaves (numberOf a) (codeOf (f .kind)) (f .channels) (f .rate) (f .start) (f .length)
 
--- What a `COMM` and an `SSND` tell.
+-- What a `COMM` and an `SSND` say.
 abbrev pub tells : ℕ → ℕ → ℕ → ℕ → ℕ → ℕ → ℕ → ℕ → Told
 tells comm channels frames bits exponent digits ssnd offset =
     record {
@@ -50,6 +50,6 @@ tells comm channels frames bits exponent digits ssnd offset =
       offset = offset;
     }
 
--- A code that is none of the three has no channels, so that it is refused by 1.
+-- A code that is none of the three gives no channels, so that it is refused by 1.
 abbrev pub channelsOf : ℕ → ℕ → ℕ
 channelsOf n channels = cond (leb n 2) channels 0

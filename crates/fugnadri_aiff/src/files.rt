@@ -1,5 +1,5 @@
-// W12. A file read: the refusal's number, 0 for none, and what was found, zeros where it is refused. What its `COMM`
-// and its `SSND` tell, refused or not, is for who explains a refusal.
+// W12. Reading a file returns the refusal number, 0 for none, and writes what was found, zeros if it is refused. A
+// second export gives what its `COMM` and its `SSND` say, refused or not, to a caller that explains a refusal.
 ghost use mathlib.Core.Path.{_≡_};
 ghost use Rattle.aiff.specs.Aiff.{foundIn, toldIn};
 ghost use Rattle.fugnadri_aiff.specs.Doors.{numberOf, soundOf, leaves, leftBy, tells};
@@ -32,7 +32,7 @@ pub extern "C" fn fugnadri_aiff_read(
     number(found)
 }
 
-// It refuses nothing: zeros where there is no `COMM` or no `SSND`.
+// Nothing is refused: what is missing gives zeros.
 #[no_mangle]
 pub extern "C" fn fugnadri_aiff_told(
     file: &[u8],

@@ -1,4 +1,4 @@
-// W12. One channel's samples into a lent slice: the refusal's number, 0 for none.
+// W12. Writes the samples of one channel into a lent slice and returns the refusal number, 0 for none.
 ghost use mathlib.Core.Path.{_≡_};
 ghost use lib.ListN.{length};
 ghost use lib.Ieee.{binary32, binary64};
@@ -45,7 +45,7 @@ pub extern "C" fn fugnadri_aiff_samples_f32(
     filling::fill_f32(k, n, channel, part, &mut out[..])
 }
 
-// In units of 2^-23, as the residual takes them.
+// The samples are whole numbers of 2^-23, as the residual takes them.
 #[no_mangle]
 pub extern "C" fn fugnadri_aiff_whole(
     kind: u8,

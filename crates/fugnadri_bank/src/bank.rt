@@ -1,4 +1,4 @@
-// T3, T4. The bank: how many sets and f32 it needs, each set's rate, its building, and the choice for a rate.
+// T3, T4. The bank: how many sets and f32 it needs, the rate of each set, its building, and the choice for a rate.
 ghost use mathlib.Core.Path.{_≡_};
 ghost use lib.ListN.{length};
 ghost use Rattle.windowed_sinc.specs.Table.{tableAfter};
@@ -24,7 +24,7 @@ pub extern "C" fn fugnadri_bank_steps(max_rate: f64) -> usize
     bank_choice::steps(max_rate)
 }
 
-// Zero where there is no such set.
+// The answer is zero if there is no such set.
 #[no_mangle]
 pub extern "C" fn fugnadri_bank_set_rate(max_rate: f64, set: usize) -> f64
     ensures { λ r. ⌜ r ≡ setRateOf «max_rate» set ⌝ }
@@ -55,7 +55,7 @@ fn choice(s: Selected) -> Choice
     }
 }
 
-// 1 where the bank's rate is out of its range, 7 where the rate is a NaN, and then zeros; else 0.
+// Returns 1 if the bank's rate is out of range, 7 if the rate is a NaN, and otherwise 0. A refusal writes zeros.
 #[no_mangle]
 pub extern "C" fn fugnadri_bank_choose(
     max_rate: f64,

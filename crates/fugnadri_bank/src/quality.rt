@@ -15,6 +15,8 @@ pub extern "C" fn fugnadri_quality_process<'a>(
     target: &mut u8,
     crossfade_position: &mut u32,
     crossfade_samples: u32,
+    rule: u8,
+    direction: &mut u8,
     ring: &mut [f32],
     sets: &'a [f32],
     max_rate: f64,
@@ -24,11 +26,12 @@ pub extern "C" fn fugnadri_quality_process<'a>(
     sample: &mut f32,
 ) -> u8
     ensures { λ r. ⌜ leaves r (now (sample .exit))
-        (changed (now (accepted .exit)) (now (current .exit)) (now (target .exit)) (now («crossfade_position» .exit)))
+        (changed (now (accepted .exit)) (now (current .exit)) (now (target .exit)) (now («crossfade_position» .exit))
+        (now (direction .exit)))
         (now (ring .exit))
         ≡ leftBy (now (sets .entry)) «max_rate»
         (stateOf maximum margin (now (accepted .entry)) (now (current .entry)) (now (target .entry))
-        (now («crossfade_position» .entry)) «crossfade_samples»)
+        (now («crossfade_position» .entry)) «crossfade_samples» rule (now (direction .entry)))
         (now (ring .entry)) input delay quality «max_rate» ⌝ }
 {
     quality_codes::call_through(
@@ -39,6 +42,8 @@ pub extern "C" fn fugnadri_quality_process<'a>(
         target,
         crossfade_position,
         crossfade_samples,
+        rule,
+        direction,
         ring,
         sets,
         max_rate,
@@ -59,6 +64,8 @@ pub extern "C" fn fugnadri_quality_process_rate_aware<'a>(
     target: &mut u8,
     crossfade_position: &mut u32,
     crossfade_samples: u32,
+    rule: u8,
+    direction: &mut u8,
     ring: &mut [f32],
     sets: &'a [f32],
     max_rate: f64,
@@ -69,11 +76,12 @@ pub extern "C" fn fugnadri_quality_process_rate_aware<'a>(
     sample: &mut f32,
 ) -> u8
     ensures { λ r. ⌜ leaves r (now (sample .exit))
-        (changed (now (accepted .exit)) (now (current .exit)) (now (target .exit)) (now («crossfade_position» .exit)))
+        (changed (now (accepted .exit)) (now (current .exit)) (now (target .exit)) (now («crossfade_position» .exit))
+        (now (direction .exit)))
         (now (ring .exit))
         ≡ leftBy (now (sets .entry)) «max_rate»
         (stateOf maximum margin (now (accepted .entry)) (now (current .entry)) (now (target .entry))
-        (now («crossfade_position» .entry)) «crossfade_samples»)
+        (now («crossfade_position» .entry)) «crossfade_samples» rule (now (direction .entry)))
         (now (ring .entry)) input delay quality «playback_rate» ⌝ }
 {
     quality_codes::call_at_once(
@@ -84,6 +92,8 @@ pub extern "C" fn fugnadri_quality_process_rate_aware<'a>(
         target,
         crossfade_position,
         crossfade_samples,
+        rule,
+        direction,
         ring,
         sets,
         max_rate,

@@ -17,6 +17,8 @@ pub extern "C" fn fugnadri_quality_process_bits<'a>(
     target: &mut u8,
     crossfade_position: &mut u32,
     crossfade_samples: u32,
+    rule: u8,
+    direction: &mut u8,
     ring: &mut [f32],
     sets: &'a [f32],
     max_rate: f64,
@@ -26,11 +28,12 @@ pub extern "C" fn fugnadri_quality_process_bits<'a>(
     sample: &mut u32,
 ) -> u8
     ensures { λ r. ⌜ leaves r (now (sample .exit))
-        (changed (now (accepted .exit)) (now (current .exit)) (now (target .exit)) (now («crossfade_position» .exit)))
+        (changed (now (accepted .exit)) (now (current .exit)) (now (target .exit)) (now («crossfade_position» .exit))
+        (now (direction .exit)))
         (now (ring .exit))
         ≡ inBits binary32 (leftBy (now (sets .entry)) «max_rate»
         (stateOf maximum margin (now (accepted .entry)) (now (current .entry)) (now (target .entry))
-        (now («crossfade_position» .entry)) «crossfade_samples»)
+        (now («crossfade_position» .entry)) «crossfade_samples» rule (now (direction .entry)))
         (now (ring .entry)) input delay quality «max_rate») ⌝ }
 {
     let mut y: f32 = 0.0;
@@ -42,6 +45,8 @@ pub extern "C" fn fugnadri_quality_process_bits<'a>(
         target,
         crossfade_position,
         crossfade_samples,
+        rule,
+        direction,
         ring,
         sets,
         max_rate,
@@ -64,6 +69,8 @@ pub extern "C" fn fugnadri_quality_process_rate_aware_bits<'a>(
     target: &mut u8,
     crossfade_position: &mut u32,
     crossfade_samples: u32,
+    rule: u8,
+    direction: &mut u8,
     ring: &mut [f32],
     sets: &'a [f32],
     max_rate: f64,
@@ -74,11 +81,12 @@ pub extern "C" fn fugnadri_quality_process_rate_aware_bits<'a>(
     sample: &mut u32,
 ) -> u8
     ensures { λ r. ⌜ leaves r (now (sample .exit))
-        (changed (now (accepted .exit)) (now (current .exit)) (now (target .exit)) (now («crossfade_position» .exit)))
+        (changed (now (accepted .exit)) (now (current .exit)) (now (target .exit)) (now («crossfade_position» .exit))
+        (now (direction .exit)))
         (now (ring .exit))
         ≡ inBits binary32 (leftBy (now (sets .entry)) «max_rate»
         (stateOf maximum margin (now (accepted .entry)) (now (current .entry)) (now (target .entry))
-        (now («crossfade_position» .entry)) «crossfade_samples»)
+        (now («crossfade_position» .entry)) «crossfade_samples» rule (now (direction .entry)))
         (now (ring .entry)) input delay quality «playback_rate») ⌝ }
 {
     let mut y: f32 = 0.0;
@@ -90,6 +98,8 @@ pub extern "C" fn fugnadri_quality_process_rate_aware_bits<'a>(
         target,
         crossfade_position,
         crossfade_samples,
+        rule,
+        direction,
         ring,
         sets,
         max_rate,

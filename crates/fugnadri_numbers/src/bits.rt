@@ -1,5 +1,5 @@
-// The number functions for C on bit patterns (O3): every NaN is read; the only NaNs handed out are 7FF8000000000000 and
-// 7FC00000.
+// The number functions for C on bit patterns (O3). Every NaN is accepted; the only NaNs handed out are 7FF8000000000000
+// and 7FC00000.
 ghost use mathlib.Core.Path.{_≡_};
 ghost use lib.Ieee.{binary32, binary64, ofBits, toBits};
 ghost use Rattle.rounding.specs.Operations.{narrowed, fused, root};

@@ -1,5 +1,5 @@
-// Sine, cosine and 2^x for C (E2 to E4): each returns the refusal number, 0 for none, and writes the value (0.0 if
-// refused) through a pointer; and each once more with the value alone.
+// Sine, cosine and 2^x for C (E2 to E4). Each returns the refusal number, 0 for none, and writes the value (0.0 if
+// refused) through a pointer. A second form of each returns the value alone.
 ghost use mathlib.Core.Path.{_≡_};
 ghost use Rattle.elementary.specs.Answers.{sineOf, cosineOf, exp2Of, refusalOf};
 ghost use Rattle.answer_parts.specs.Values.{valueOf};

@@ -1,5 +1,5 @@
--- W13 at the C boundary: a report as six numbers. `placed` is 0 or 1; where it is 0 the place is ignored and left.
--- Definitions only.
+-- W13 at the C boundary: a report as six numbers. `placed` is 0 or 1; if it is 0 the place is not read and keeps its
+-- value. Definitions only.
 use Prim.Native.Nat.{ℕ, _-_, _^_}
 use mathlib.Core.Bool.{cond}
 use mathlib.Core.List.{List}
@@ -30,7 +30,7 @@ numbers number largest placed place high low = record {
   low = low;
 }
 
--- A `placed` above 1 stands for a place that is below no number: it is refused by 3.
+-- A `placed` above 1 stands for the place 2^64 - 1, which is not below any number, so that it is refused by 3.
 abbrev pub placeFrom : ℕ → ℕ → Place
 placeFrom placed k = cond (eqb placed 0) Nowhere (At (cond (eqb placed 1) k (2 ^ 64 - 1)))
 
@@ -51,18 +51,18 @@ abbrev pub indexOr : Place → ℕ → ℕ
 indexOr Nowhere n = n
 indexOr (At k) n = k
 
--- The refusal's number, 0 for none.
+-- The refusal number, 0 for none.
 abbrev pub refusalOf : Compared → ℕ
 refusalOf (compared.Carried r) = 0
 refusalOf (compared.Refused k) = k
 
--- The numbers as they are left: those of the report carried on, and all as they were where the call is refused.
+-- The numbers after the call: those of the extended report, or all as they were if the call is refused.
 abbrev pub numbersLeft : Numbers → Compared → Numbers
 numbersLeft n (compared.Carried r) =
     numbers (r .number) (r .largest) (placedOf (r .place)) (indexOr (r .place) (n .place)) (r .high) (r .low)
 numbersLeft n (compared.Refused k) = n
 
--- What a call leaves: the refusal's number, which it returns, and the numbers.
+-- What a call leaves: the refusal number, which it returns, and the numbers.
 pub record Left : Type 0 where
   pub refusal : ℕ
   pub report : Numbers

@@ -37,7 +37,7 @@ fn index_or(p: Place, index: u64) -> u64
     }
 }
 
-// The report's six numbers go in and, where the call is not refused, come out carried on. The refusal's number is
+// The six numbers of the report go in and, if the call is not refused, come out extended. The refusal number is
 // returned, 0 for none.
 #[no_mangle]
 pub extern "C" fn fugnadri_residual_compare(

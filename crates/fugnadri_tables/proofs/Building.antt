@@ -1,4 +1,4 @@
--- What a builder leaves, over what it answers: each of the four exports is one line. Assumes nothing.
+-- What a builder leaves, over its answer, so that the proof of each of the four exports is one line. Assumes nothing.
 use mathlib.Core.Path.{_≡_}
 use mathlib.Core.List.{List}
 use Prim.Native.Nat.{ℕ}

@@ -1,5 +1,4 @@
--- T1. What a builder leaves: the refusal's number, which it returns, 0 for none, and the table,
--- in f64 and in f32 alike.
+-- T1. What a builder leaves: the refusal number, which it returns, 0 for none, and the table, in f64 or in f32.
 -- Definitions only.
 use Prim.Native.Nat.{ℕ}
 use mathlib.Core.List.{List}
@@ -20,7 +19,7 @@ pub record Made : Type 0 where
 abbrev pub makes : ℕ → List Float → Made
 makes number table = record { number = number; table = table }
 
--- in a mode, by the refusal that is due, and from the settings
+-- What is left in a mode, for a refusal number and the settings.
 abbrev pub madeIn : Mode → ℕ → Settings → List Float → Made
 madeIn mode v s table = makes (numberOf (builtIn mode v s)) (tableAfter v (tableIn mode s) table)
 
@@ -28,18 +27,18 @@ abbrev pub madeF32In : Mode → ℕ → Settings → List Float → Made
 madeF32In mode v s table =
     makes (single.numberOf (single.builtIn mode v s)) (tableAfter v (single.tableF32In mode s) table)
 
--- 000's
+-- 000's table, which is that of the ported mode.
 abbrev pub madeBy : ℕ → Settings → List Float → Made
 madeBy = madeIn Ported
 
 abbrev pub madeF32By : ℕ → Settings → List Float → Made
 madeF32By = madeF32In Ported
 
--- W5. By a mode's number: 1 where it names none.
+-- W5. The same for the number of a mode; one that is no mode's is refused by 1.
 abbrev pub coded : (Mode → ℕ → Settings → List Float → Made) → ℕ → ℕ → Settings → List Float → Made
 coded made code v = made (modeOf code) (dueIn code v)
 
--- new and for_max_rate, of either width
+-- The builders `new` and `for_max_rate`, of either width.
 abbrev pub newOf : (ℕ → Settings → List Float → Made) → Settings → List Float → Made
 newOf made s table = made (verdict s (length table)) s table
 

@@ -1,4 +1,4 @@
--- What the exports' contracts name: settings as the plain numbers that another language hands in, and a call of a
+-- Definitions for the exports' contracts: settings as the plain numbers that another language hands in, and a call of a
 -- reader over a lent table. Definitions only.
 use Prim.Native.Nat.{ℕ}
 use mathlib.Core.Bool.{_&&_}
@@ -22,7 +22,7 @@ use Rattle.answer_parts.specs.Left.{Left, leaves, leftBy}
 abbrev pub settingsOf : ℕ → ℕ → Float → Float → Settings
 settingsOf taps phases cutoff beta = record { taps = taps; phases = phases; cutoff = cutoff; beta = beta }
 
--- The refusal that a call is due: the taps and the phases are settings of the table, which must have its length.
+-- The refusal number of a call. The taps and the phases are settings of the table, which must have its length.
 abbrev pub callVerdict : VariableDelay → List Float → Float → Float → List Float → ℕ → ℕ → ℕ
 callVerdict d ring input delay table taps phases =
     verdict (tapsOk taps && phasesOk phases) (eqb (length table) (tableLength taps phases)) d (length ring) input delay
@@ -35,7 +35,7 @@ abbrev pub calledF32 : VariableDelay → List Float → Float → Float → List
 calledF32 d ring input delay table taps phases =
     processedF32By (sincF32At table taps phases) (callVerdict d ring input delay table taps phases) d ring input delay
 
--- What the call leaves.
+-- What the call leaves, for either width.
 abbrev pub leftOf : VariableDelay → List Float → Float → Float → List Float → ℕ → ℕ → Left Float ℕ
 leftOf d ring input delay table taps phases =
     leftBy (called d ring input delay table taps phases)

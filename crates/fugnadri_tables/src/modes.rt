@@ -1,5 +1,5 @@
-// W5. A table built in a mode of the sum called I0, 0 for the ported one and 1 for the full one, any other number being
-// refused by 1.
+// W5. A table built in a mode of the sum that stands for I0: 0 is the ported one and 1 the full one; any other number
+// is refused by 1.
 ghost use mathlib.Core.Path.{_≡_};
 ghost use Rattle.fugnadri_tables.specs.Building.{makes, madeIn, madeF32In, coded, newOf, forRateOf};
 ghost use Rattle.fugnadri_tables.specs.Exports.{settingsOf};

@@ -1,4 +1,4 @@
-// K1. An f32 reader's ring and count, opened and reset: the refusal's number, 0 for none.
+// K1. Opening and reset of an f32 reader's ring and count for C. Each returns the refusal number, 0 for none.
 ghost use mathlib.Core.Path.{_≡_};
 ghost use Rattle.answer_parts.specs.States.{stateOf};
 ghost use Rattle.answer_parts.specs.Left.{renews, openedLeft, resetLeft};

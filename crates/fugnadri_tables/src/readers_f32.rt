@@ -1,4 +1,4 @@
-// K1. The calls of `readers` for samples and tables of single precision.
+// K1. The calls of `readers` for f32 samples and tables.
 ghost use mathlib.Core.Path.{_≡_};
 ghost use lib.Ieee.{binary32};
 ghost use Rattle.fugnadri_tables.specs.Exports.{leftF32Of};

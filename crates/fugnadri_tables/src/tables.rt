@@ -1,4 +1,4 @@
-// T1, N1, N2. A table built into a lent slice: the refusal's number, 0 for none.
+// T1, N1, N2. Builds a table into a lent slice and returns the refusal number, 0 for none.
 ghost use mathlib.Core.Path.{_≡_};
 ghost use Rattle.windowed_sinc.specs.Table.{numberOf};
 ghost use Rattle.windowed_sinc_f32.specs.Table as single;

@@ -36,7 +36,7 @@ pub extern "C" fn fugnadri_engine_reset(words: &mut [u64; 15]) -> u8
     engine_calls::reset(words)
 }
 
-// The offsets of the two sides through pointers, 0.0 where the step is refused.
+// M5. Writes the offsets of the two sides through pointers, 0.0 if the step is refused.
 #[no_mangle]
 pub extern "C" fn fugnadri_engine_next(
     words: &mut [u64; 15],

@@ -66,7 +66,7 @@ pub extern "C" fn fugnadri_wav_told(
     *samples = t.samples;
 }
 
-fn hand_out(
+pub(crate) fn hand_out(
     found: Found,
     kind: &mut u8,
     channels: &mut u8,

@@ -1,18 +1,29 @@
--- W2. What the exports' contracts name: a kind by its code, an answer as plain numbers, and all that an export may
--- write as one record, so that one equation gives it. A code above 2 is no kind's: it is refused by 13, or by 1 if that
--- is due for the rate or for broken frames, since its samples have no width. Definitions only.
+-- W2, W10. What the exports' contracts name: a kind and a form by their codes, an answer as plain numbers, and all that
+-- an export may write as one record, so that one equation gives it. A code above 2 is no kind's: it is refused by 13,
+-- or by 1 if that is due for the rate or for broken frames, since its samples have no width. Definitions only.
 use Prim.Native.Nat.{ℕ}
 use mathlib.Core.Bool.{cond}
 use mathlib.Core.List.{List}
-use lib.Dec.{leb}
+use lib.Dec.{eqb, leb}
 use lib.ListN.{length}
 use lib.Ieee.{Float}
 use Rattle.sample_kind.specs.Kinds.{kindOf}
-use Rattle.wav_header.specs.Refusals.{unlistedVerdict, headerVerdict, headerIn, lengthFor}
+use Rattle.wav_header.specs.Refusals.{unlistedVerdict}
+use Rattle.long_header.specs.declared.Form.{Form}
+use Rattle.long_header.specs.declared.Form.the-variants.{Rf64, Bw64}
+use Rattle.long_header.specs.LongHeader.{headerLengthFor}
+use Rattle.long_header.specs.Refusals.{headerVerdictFor, headerAfter, lengthFor64}
 use Rattle.wav_store.specs.Storing as storing
 use Rattle.wav_write.specs.declared.Written.{Written}
 use Rattle.wav_write.specs.declared.Written.the-variants as answers
 use Rattle.wav_write.specs.Writing.{answerOf, written}
+
+-- 0 is RF64, 1 BW64. A code above 1 is no form's: it has no rate, so that 1 is due.
+abbrev pub formOf : ℕ → Form
+formOf form = cond (eqb form 0) Rf64 Bw64
+
+abbrev pub rateFor : ℕ → ℕ → ℕ
+rateFor form rate = cond (leb form 1) rate 0
 
 -- What writing a file leaves: the refusal number that it returns, 0 for none, the file's length, and the lent bytes.
 pub record Left : Type 0 where
@@ -33,12 +44,13 @@ abbrev pub sizeOf : Written → ℕ
 sizeOf (answers.Length n) = n
 sizeOf (answers.Refused k) = 0
 
-abbrev pub fileLeft : ℕ → ℕ → ℕ → List Float → List ℕ → Left
-fileLeft code channels rate samples old =
-    let answer = answerOf (kindOf code) channels rate samples (length old) in
+abbrev pub fileLeft : ℕ → ℕ → ℕ → ℕ → List Float → List ℕ → Left
+fileLeft form code channels rate samples old =
+    let answer = answerOf (kindOf code) channels (rateFor form rate) samples (length old) in
     cond (leb code 2)
-    (leaves (numberOf answer) (sizeOf answer) (written (kindOf code) channels rate samples old))
-    (leaves (unlistedVerdict channels rate (length samples)) 0 old)
+    (leaves (numberOf answer) (sizeOf answer)
+    (written (formOf form) (kindOf code) channels (rateFor form rate) samples old))
+    (leaves (unlistedVerdict channels (rateFor form rate) (length samples)) 0 old)
 
 -- ---- its parts, which tell no length
 pub record Block : Type 0 where
@@ -48,12 +60,15 @@ pub record Block : Type 0 where
 abbrev pub holds : ℕ → List ℕ → Block
 holds refusal bytes = record { refusal = refusal; bytes = bytes }
 
-abbrev pub headerLeft : ℕ → ℕ → ℕ → ℕ → List ℕ → Block
-headerLeft code channels rate count old =
+abbrev pub headerLeft : ℕ → ℕ → ℕ → ℕ → ℕ → List ℕ → Block
+headerLeft form code channels rate count old =
     cond (leb code 2)
-    (holds (headerVerdict (kindOf code) channels rate count (length old))
-    (headerIn (kindOf code) channels rate count old))
-    (holds (unlistedVerdict channels rate count) old)
+    (holds (headerVerdictFor (kindOf code) channels (rateFor form rate) count (length old))
+    (headerAfter (formOf form) (kindOf code) channels (rateFor form rate) count old))
+    (holds (unlistedVerdict channels (rateFor form rate) count) old)
+
+abbrev pub headerLengthOf : ℕ → ℕ → ℕ
+headerLengthOf code count = cond (leb code 2) (headerLengthFor (kindOf code) count) 0
 
 -- A block of samples of an unknown kind has no length that could be wrong: 13.
 abbrev pub blockLeft : ℕ → List Float → List ℕ → Block
@@ -63,4 +78,4 @@ blockLeft code samples old =
     (holds 13 old)
 
 abbrev pub lengthOf : ℕ → ℕ → ℕ → ℕ
-lengthOf code channels count = cond (leb code 2) (lengthFor (kindOf code) channels count) 0
+lengthOf code channels count = cond (leb code 2) (lengthFor64 (kindOf code) channels count) 0

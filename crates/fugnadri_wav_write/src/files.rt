@@ -1,13 +1,17 @@
-// W2. A whole file into a lent buffer: the refusal's number, 0 for none, and the file's length, 0 where it is refused.
+// W2, W10e. A whole file into a lent buffer: the refusal's number, 0 for none, and the file's length, 0 where it is
+// refused.
 ghost use mathlib.Core.Path.{_≡_};
 ghost use Rattle.fugnadri_wav_write.specs.Exports.{leaves, fileLeft, numberOf, sizeOf, lengthOf};
+use crate::codes::form_of;
 use crate::codes::known;
+use crate::codes::rate_for;
 use sample_kind::of_code;
 use wav_header::refusal_unlisted;
 use wav_write::Written;
 
 #[no_mangle]
 pub extern "C" fn fugnadri_wav_write(
+    form: u8,
     kind: u8,
     channels: u8,
     rate: u32,
@@ -16,19 +20,23 @@ pub extern "C" fn fugnadri_wav_write(
     written: &mut usize,
 ) -> u8
     ensures { λ r. ⌜ leaves r (now (written .exit)) (now (out .exit))
-        ≡ fileLeft kind channels rate (now (samples .entry)) (now (out .entry)) ⌝ }
+        ≡ fileLeft form kind channels rate (now (samples .entry)) (now (out .entry)) ⌝ }
 {
+    let f = form_of(form);
+    let hertz = rate_for(form, rate);
     if known(kind) {
-        let answer = wav_write::write(of_code(kind), channels, rate, samples, &mut out[..]);
+        let k = of_code(kind);
+        let answer = wav_write::write(f, k, channels, hertz, samples, &mut out[..]);
         *written = size(answer);
         return number(answer);
     }
     *written = 0;
-    refusal_unlisted(channels, rate, samples.len())
+    refusal_unlisted(channels, hertz, samples.len())
 }
 
 #[no_mangle]
 pub extern "C" fn fugnadri_wav_write_f32(
+    form: u8,
     kind: u8,
     channels: u8,
     rate: u32,
@@ -37,24 +45,28 @@ pub extern "C" fn fugnadri_wav_write_f32(
     written: &mut usize,
 ) -> u8
     ensures { λ r. ⌜ leaves r (now (written .exit)) (now (out .exit))
-        ≡ fileLeft kind channels rate (now (samples .entry)) (now (out .entry)) ⌝ }
+        ≡ fileLeft form kind channels rate (now (samples .entry)) (now (out .entry)) ⌝ }
 {
+    let f = form_of(form);
+    let hertz = rate_for(form, rate);
     if known(kind) {
-        let answer = wav_write::write_f32(of_code(kind), channels, rate, samples, &mut out[..]);
+        let k = of_code(kind);
+        let answer = wav_write::write_f32(f, k, channels, hertz, samples, &mut out[..]);
         *written = size(answer);
         return number(answer);
     }
     *written = 0;
-    refusal_unlisted(channels, rate, samples.len())
+    refusal_unlisted(channels, hertz, samples.len())
 }
 
-// How long a file of `count` samples is, over all channels; 0 where it would be refused by 1 or 13 whatever the rate.
+// How long a file of `count` samples is, over all channels; 0 where it would be refused by 1, 19 or 13 whatever the
+// rate.
 #[no_mangle]
 pub extern "C" fn fugnadri_wav_file_length(kind: u8, channels: u8, count: usize) -> usize
     ensures { λ r. ⌜ r ≡ lengthOf kind channels count ⌝ }
 {
     if known(kind) {
-        return wav_header::file_length(of_code(kind), channels, count);
+        return long_header::file_length_for(of_code(kind), channels, count);
     }
     0
 }

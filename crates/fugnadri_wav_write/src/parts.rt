@@ -1,25 +1,43 @@
-// W2. A file's header and its samples apart, for who writes a file piece by piece: the refusal's number, 0 for none.
+// W2, W10. A file's header and its samples apart, for who writes a file piece by piece: the refusal's number, 0 for
+// none.
 ghost use mathlib.Core.Path.{_≡_};
-ghost use Rattle.fugnadri_wav_write.specs.Exports.{holds, headerLeft, blockLeft};
+ghost use Rattle.fugnadri_wav_write.specs.Exports.{holds, headerLeft, headerLengthOf, blockLeft};
+use crate::codes::form_of;
 use crate::codes::known;
+use crate::codes::rate_for;
 use sample_kind::of_code;
 use wav_header::refusal_unlisted;
 
-// The bytes before the samples, `count` of them over all channels: 44 for PCM, 58 for float.
+// How many bytes stand before `count` samples: 44 for PCM, 58 for float, 36 more past RIFF; 0 for an unknown kind.
+#[no_mangle]
+pub extern "C" fn fugnadri_wav_header_length(kind: u8, count: usize) -> usize
+    ensures { λ r. ⌜ r ≡ headerLengthOf kind count ⌝ }
+{
+    if known(kind) {
+        return long_header::header_length_for(of_code(kind), count);
+    }
+    0
+}
+
+// The bytes before the samples, `count` of them over all channels.
 #[no_mangle]
 pub extern "C" fn fugnadri_wav_header(
+    form: u8,
     kind: u8,
     channels: u8,
     rate: u32,
     count: usize,
     out: &mut [u8],
 ) -> u8
-    ensures { λ r. ⌜ holds r (now (out .exit)) ≡ headerLeft kind channels rate count (now (out .entry)) ⌝ }
+    ensures { λ r. ⌜ holds r (now (out .exit)) ≡ headerLeft form kind channels rate count (now (out .entry)) ⌝ }
 {
+    let f = form_of(form);
+    let hertz = rate_for(form, rate);
     if known(kind) {
-        return wav_header::write_header(of_code(kind), channels, rate, count, &mut out[..]);
+        let k = of_code(kind);
+        return long_header::header_of(f, k, channels, hertz, count, &mut out[..]);
     }
-    refusal_unlisted(channels, rate, count)
+    refusal_unlisted(channels, hertz, count)
 }
 
 // A block of samples as they are stored.

@@ -1,5 +1,5 @@
--- How s - x compares with y tells how s, which is G units, compares with x + y: s - x is exact.
--- x and s are not below zero, and y has either sign. Assumes nothing.
+-- How s - x compares with y shows how s, which is G units, compares with x + y, because s - x is exact. Here x and s
+-- are not below zero, and y has either sign. Assumes nothing.
 use mathlib.Core.Path.{_≡_, refl, sym, ap, _∙_, subst}
 use mathlib.Core.Logic.{inl, inr}
 use mathlib.Core.Bool.{Bool, true, false}
@@ -21,7 +21,7 @@ use Rattle.rounding.proofs.Values.{neg-value}
 abbrev L : ℕ
 L = 2 ^ 1074
 
--- G units stand to v units as s - x stands to y
+-- G units compare with v units as s - x compares with y.
 pub record Tests (s x y : Float) (G v : ℕ) : Type 0 where
   pub less : lt (sub binary64 s x) y ≡ ltb G v
   pub same : eq (sub binary64 s x) y ≡ eqb G v
@@ -36,7 +36,7 @@ exact t D (q, i, e, few) b =
 
 module _ (s x y : Float) (G X Y : ℕ) (fine : G < 2 ^ (1074 + 1024)) (bound : X < 2 ^ (1074 + 1024))
     (g : HasValue s false G L) (h : HasValue x false X L) where
-  -- y above zero
+  -- The case of a y above zero.
   module _ (k : HasValue y false Y L) (o : X ≤ G) (few : Few (G - X)) where
     over-value : HasValue (sub binary64 s x) false (G - X) L
     over-value =
@@ -57,7 +57,7 @@ module _ (s x y : Float) (G X Y : ℕ) (fine : G < 2 ^ (1074 + 1024)) (bound : X
     pub tests-plus : Tests s x y G (X + Y)
     tests-plus = record { less = lt-plus; same = eq-plus }
 
-  -- y below zero, or -0.0
+  -- The case of a y below zero, or -0.0.
   module _ (k : HasValue y true Y L) (r : Y ≤ X) (o : G ≤ X) (few : Few (X - G)) where
     difference : sub binary64 s x ≡ sum binary64 false G true X L
     unfolding sub

@@ -1,6 +1,5 @@
--- The exact sum of an x that is not below zero and a y that is no larger in size, with either sign;
--- and the tests of `odd_sum`, which compare it with the f64 nearest to it.
--- Assumes nothing.
+-- The exact sum of an x that is not below zero and a y that is no larger in size, with either sign, and the tests of
+-- `odd_sum`, which compare it with the f64 nearest to it. Assumes nothing.
 use mathlib.Core.Path.{_≡_, refl, sym, ap, _∙_}
 use mathlib.Core.Bool.{Bool, true, false, cond}
 use Prim.Native.Nat.{ℕ, _+_, _-_, _*_, _^_, _≤_, _<_}
@@ -17,7 +16,7 @@ use Rattle.rounding.proofs.NumberOrders.{sub-mul}
 use Rattle.rounding.proofs.Sums.{sum-is, sum-like}
 use Rattle.rounding.proofs.WholeUnits.{near, places}
 
--- the exact sum, in units
+-- The exact sum in units.
 abbrev pub total : Bool → ℕ → ℕ → ℕ
 total t X Y = cond t (X - Y) (X + Y)
 
@@ -30,7 +29,7 @@ total-le : (t : Bool) (X Y : ℕ) → Y ≤ X → total t X Y ≤ X + X
 total-le true X Y o = omega arith
 total-le false X Y o = omega arith
 
--- a unit that divides both parts divides the sum
+-- A unit that divides both parts divides the sum.
 divided : {x y : Float} (t : Bool) (p : Short x) (q : Short y) (j : ℕ) → j ≤ p .places → j ≤ q .places
     → (w : ℕ) × (total t (amount p) (amount q) ≡ w * 2 ^ j)
 divided t p q j a b =

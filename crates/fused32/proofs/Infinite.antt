@@ -1,5 +1,5 @@
--- v units, rounded to an f64: a finite one is below the size from which an f64 is an infinity;
--- and where it is an infinity, so it is as an f32. Assumes nothing.
+-- v units rounded to an f64. A finite result lies below the size from which an f64 is an infinity; and if it is an
+-- infinity as an f64, it is one as an f32. Assumes nothing.
 use mathlib.Core.Path.{_≡_, sym, ap, _∙_, subst}
 use mathlib.Core.Logic.{inl, inr}
 use mathlib.Core.Bool.{Bool}

@@ -1,5 +1,5 @@
--- A sum that is not zero. Where it is above zero, its larger part has no sign; where it is below,
--- the negatives have such a sum. Assumes nothing.
+-- A sum that is not zero. If it is above zero, its larger part has no minus sign; if it is below, the negated parts
+-- have such a sum. Assumes nothing.
 use mathlib.Core.Path.{_≡_, refl, sym, ap, _∙_}
 use mathlib.Core.Logic.{inl, inr}
 use mathlib.Core.Bool.{Bool, true, false, not, cond, true≢false, false≢true}
@@ -23,7 +23,7 @@ use Rattle.rounding.proofs.Sums.{sum-sign, sum-size}
 use Rattle.rounding.proofs.Values.{neg-value, value-finite}
 use Rattle.rounding.proofs.WholeUnits.{exact-multiple, places}
 
--- the larger of two parts whose sum is above zero has no sign; a comparison tells which it is
+-- The larger of two parts whose sum is above zero has no minus sign. A comparison shows which it is.
 larger : (s t : Bool) (X Y : ℕ) → sum-sign s X t Y ≡ false → 0 < sum-size s X t Y
     → (below s X t Y ≡ true → (t ≡ false) × (X ≤ Y)) × (below s X t Y ≡ false → (s ≡ false) × (Y ≤ X))
 larger true true X Y e h = absurd (true≢false e)

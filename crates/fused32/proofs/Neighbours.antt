@@ -1,6 +1,5 @@
--- v units, rounded to a finite f64: where that is v, or has an odd last digit, or is clear, it rounds to an f32 as v
--- does; else its neighbour towards v does, which is odd.
--- Assumes nothing.
+-- v units rounded to a finite f64. If that is exact, has an odd last digit or is clear, it rounds to an f32 as v does;
+-- otherwise its neighbour towards v does, which is odd. Assumes nothing.
 use mathlib.Core.Path.{_≡_, sym, ap, _∙_, subst}
 use mathlib.Core.Logic.{_⊎_, inl, inr}
 use mathlib.Core.Bool.{Bool, false, cond}
@@ -23,7 +22,7 @@ use Rattle.rounding.proofs.WholeUnits.{exact-short, near, near-ge, near-le, pla
 use Rattle.rounding.proofs.WholeUnits.{v-lt}
 use Rattle.rounding.proofs.WithinHalfDivisor.{closest-near}
 
--- what a pattern j * 2 ^ 52 + Q says of j and of Q
+-- What a pattern j * 2 ^ 52 + Q shows of j and of Q.
 normal : (j Q : ℕ) → Q < 2 ^ 53 → 0x3810_0000_0000_0000 ≤ j * 2 ^ 52 + Q → 896 ≤ j
 normal j Q h k = omega arith
 
@@ -80,7 +79,7 @@ module _ (v : ℕ) (bound : near binary64 v * 2 ^ places binary64 v < 2 ^ (1074 
         few : Q < 2 ^ 53
         few = omega (arith, near-le binary64 v)
 
-    -- where Q is 2 ^ 53, the pattern is that of 2 ^ 52 with the next exponent
+    -- If Q is 2 ^ 53, the pattern is that of 2 ^ 52 with the next exponent.
     pub as-clear : 0x3810_0000_0000_0000 ≤ j * 2 ^ 52 + Q → ((j * 2 ^ 52 + Q) % 2 ^ 29 ≡ 2 ^ 28 → ⊥)
         → narrowed (round binary64 s v (2 ^ 1074)) ≡ round binary32 s v (2 ^ 1074)
     as-clear ge no-mid = narrows ∙ sym (go (eq-or-lt-of-le (near-le binary64 v)))

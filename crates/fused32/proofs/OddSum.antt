@@ -1,5 +1,5 @@
--- The cases of `odd_sum`: what it tests tells where s, x + y as an f64, lies beside x + y, and so which f64 rounds to
--- an f32 as x + y does. Assumes nothing.
+-- The cases of `odd_sum`. Its tests show on which side of x + y the f64 sum s lies, and so which f64 rounds to an f32
+-- as x + y does. Assumes nothing.
 use mathlib.Core.Path.{_≡_, sym, ap, _∙_, subst}
 use mathlib.Core.Logic.{inl, inr}
 use mathlib.Core.Bool.{Bool, true, false, not}
@@ -102,7 +102,7 @@ module _ (x y s : Float) (O : Ordered x y) (E : SumOf x y s) where
       ∙ as-down w fine (even n) (beyond e l)
       ∙ sym (sum-is-total binary32)
 
-  -- ---- what the steps ask
+  -- ---- what the steps need
   pub s-no-nan : T (not (isNan s))
   s-no-nan = value-no-nan s false (Q * 2 ^ j) (2 ^ 1074) s-value
 

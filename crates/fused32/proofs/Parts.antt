@@ -1,4 +1,4 @@
--- A finite f64 has 53 digits at most; the product of two f32 has 48, so that it is an f64 exactly. Assumes nothing.
+-- A finite f64 has at most 53 digits, and the product of two f32 has 48, so that it is exactly an f64. Assumes nothing.
 use mathlib.Core.Path.{_≡_, refl, sym, ap, _∙_, subst}
 use mathlib.Core.Bool.{Bool}
 use Prim.Native.Nat.{ℕ, _+_, _*_, _^_, _<_}
@@ -73,7 +73,7 @@ module _ (s : Bool) (m : ℕ) (e : ℤ) (t : Bool) (n : ℕ) (d : ℤ) (h : T (f
       ∙ ap (λ (z : ℕ). z * (down e * down d)) count))
       exact
 
--- ---- `fused` is the exact product, added
+-- ---- `fused` is the exact product, with the addend
 pub fused-is : (a b c : Float) → T (fits binary32 a) → T (fits binary32 b)
     → add binary32 (mul binary64 a b) c ≡ fused binary32 a b c
 unfolding fused

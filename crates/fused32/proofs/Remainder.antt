@@ -1,6 +1,6 @@
--- The sum of two f64 as an f64, less the larger of them, has no more digits than an f64, so that it is exact.
--- Either nothing was rounded, and the smaller is left; or the unit that was rounded to, or half of it,
--- divides the larger, and so what is left, which is no more than the smaller and half that unit. Assumes nothing.
+-- The f64 sum of two f64, less the larger of them, has no more digits than an f64, so that this difference is exact.
+-- Either nothing was rounded, and the smaller is left; or the unit that was rounded to, or half of it, divides the
+-- larger and so also what is left, which is at most the smaller plus half that unit. Assumes nothing.
 use mathlib.Core.Path.{_≡_, sym, ap, _∙_}
 use mathlib.Core.Logic.{_⊎_, inl, inr}
 use Prim.Native.Nat.{ℕ, suc, _+_, _-_, _*_, _^_, _≤_, _<_}
@@ -18,7 +18,7 @@ use Rattle.rounding.proofs.Units.{up-hid}
 use Rattle.rounding.proofs.WholeUnits.{near, places}
 use Rattle.rounding.proofs.WithinHalfDivisor.{closest-most, closest-near}
 
--- D has no more digits than an f64
+-- D has no more digits than an f64.
 abbrev pub Few : ℕ → Type 0
 Few D = (q : ℕ) × (i : ℕ) × (D ≡ q * 2 ^ i) × (q < 2 ^ 53)
 
@@ -38,7 +38,7 @@ module _ {x y : Float} (p : Short x) (q : Short y) (o : amount q ≤ amount p) w
   abbrev t : ℕ
   t = 2 ^ p .places
 
-  -- q's own digits
+  -- What is left is the smaller number, with its own digits.
   own : (D : ℕ) → D ≡ Y → Few D
   own D e = (q .digits, q .places, e, q .few)
 
@@ -58,7 +58,7 @@ module _ {x y : Float} (p : Short x) (q : Short y) (o : amount q ≤ amount p) w
     abbrev Aligned : Type 0
     Aligned = (G ≡ v) ⊎ (Divides p q v le mult ⊎ (j ≡ suc (p .places)))
 
-    -- what is left, D, where it is d of the unit
+    -- What is left is D, which is d of the unit.
     rest : (D d : ℕ) → q .places < j → D ≡ d * u → D * 2 ≤ Y * 2 + u → Few D
     rest D d l e h =
         let a : Y < 2 ^ 53 * 2 ^ q .places = mul-lt-mul-of-pos-right (q .few) (pow-pos (q .places)) in

@@ -1,5 +1,5 @@
--- v units, and Q * 2 ^ j units that are less than 2 ^ j away, round to the same f32 if Q is odd,
--- or if they are normal as an f32 and no midpoint of two. Assumes nothing.
+-- v units, and Q * 2 ^ j units that are less than 2 ^ j away, round to the same f32 if Q is odd, or if they are normal
+-- as an f32 and no midpoint of two f32. Assumes nothing.
 use mathlib.Core.Path.{_≡_, refl, sym, ap, _∙_}
 use mathlib.Core.Logic.{inl, inr}
 use mathlib.Core.Bool.{Bool}
@@ -14,13 +14,13 @@ use Rattle.rounding.proofs.Sticky.{again, odd-mid}
 
 module _ (s : Bool) (v Q j : ℕ) (few : Q < 2 ^ 53) (lead : 0 < j → 2 ^ 52 ≤ Q) (lo : Q * 2 ^ j < v + 2 ^ j)
     (hi : v < Q * 2 ^ j + 2 ^ j) where
-  -- an f32 drops 29 digits of Q
+  -- The f32 drops 29 digits of Q.
   pub again-normal : 896 ≤ j → (Q % 2 ^ 29 ≡ 2 ^ 28 → ⊥)
       → round binary32 s v (2 ^ 1074) ≡ round binary32 s (Q * 2 ^ j) (2 ^ 1074)
   again-normal J no-mid =
       again binary32 s v Q j 925 (j - 896) 28 (omega arith) (lit≤ tt) (λ _. lead (omega arith)) few no-mid lo hi
 
-  -- or more
+  -- The f32 drops more than 29 digits of Q.
   again-low : j < 896 → Q % 2 ≡ 1 → round binary32 s v (2 ^ 1074) ≡ round binary32 s (Q * 2 ^ j) (2 ^ 1074)
   again-low J o =
       let c = 924 - j in

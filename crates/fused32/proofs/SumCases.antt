@@ -87,6 +87,6 @@ module _ (s : Float) (held : T (fits binary64 s)) (d : ne s s ≡ false) where
       lower : bitAnd (bitAnd n (2 ^ 63 - 1)) (2 ^ 29 - 1) ≡ n % 2 ^ 29
       lower = and-mask (bitAnd n (2 ^ 63 - 1)) 29 ∙ omega (arith, and-mask n 63)
 
-      -- an infinity's lower digits are 0
+      -- The lower digits of an infinity are 0.
       small : bitAnd (bitAnd n (2 ^ 63 - 1)) (2 ^ 29 - 1) ≡ 0x1000_0000 → n % 2 ^ 63 < 0x7ff0_0000_0000_0000
       small e = omega (arith, lower, no-nan-rest binary64 n (value-bits binary64 s held (differs-no-nan s d)))

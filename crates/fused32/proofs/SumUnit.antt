@@ -1,5 +1,5 @@
--- The unit to which the sum v of two f64 is rounded as an f64: nothing is rounded, or that unit divides the larger of
--- the two, or it is twice the larger's own, where the sum has a digit more. Assumes nothing.
+-- The unit to which the sum v of two f64 is rounded as an f64. Either nothing is rounded, or that unit divides the
+-- larger of the two, or it is twice the larger's own unit, because the sum has a digit more. Assumes nothing.
 use mathlib.Core.Path.{_≡_, sym, ap, _∙_, subst}
 use mathlib.Core.Logic.{_⊎_, inl, inr}
 use Prim.Native.Nat.{ℕ, suc, _+_, _-_, _*_, _^_, _≤_, _<_}
@@ -13,7 +13,7 @@ use Rattle.fused32.specs.Parts.{Short, amount}
 use Rattle.rounding.proofs.NumberOrders.{lt-or-ge, pow-lt-back}
 use Rattle.rounding.proofs.WholeUnits.{exact-multiple, exact-short, near, places, v-ge}
 
--- P * 2 ^ a in units of 2 ^ j
+-- P * 2 ^ a in units of 2 ^ j.
 pub whole : (P a j : ℕ) → j ≤ a → P * 2 ^ a ≡ P * 2 ^ (a - j) * 2 ^ j
 whole P a j h =
     ap (λ (z : ℕ). P * 2 ^ z) (sym (back a j h))
@@ -24,7 +24,7 @@ module _ {x y : Float} (p : Short x) (q : Short y) where
   abbrev X : ℕ
   X = amount p
 
-  -- the larger's own unit, of which it has less than 2 ^ 53
+  -- The larger's own unit, of which it has fewer than 2 ^ 53.
   abbrev t : ℕ
   t = 2 ^ p .places
 
@@ -65,7 +65,7 @@ module _ {x y : Float} (p : Short x) (q : Short y) where
         within a (inl l) = inr (inl (p .digits * 2 ^ (p .places - j), whole (p .digits) (p .places) j a, l))
         within a (inr g) = let m = mult j a g in inl (exact-multiple binary64 v (m .0) (m .1))
 
-    -- a digit more
+    -- The sum has one digit more than the larger.
     pub twice : j ≡ suc (p .places) → (u ≡ t + t) × (X + t ≤ v)
     twice e =
         let d : u ≡ t + t = ap (λ (z : ℕ). 2 ^ z) e ∙ two-pow-succ (p .places) in

@@ -1,5 +1,5 @@
--- p + c of two finite f64, as an f64 and as an f32: one exact sum, rounded. Where the f64 is clear, or zero,
--- it rounds to the f32. Assumes nothing.
+-- p + c of two finite f64, as an f64 and as an f32, is one exact sum, rounded. If the f64 is clear or zero, it rounds
+-- to the f32. Assumes nothing.
 use mathlib.Core.Path.{_≡_, sym, ap, _∙_, subst}
 use mathlib.Core.Logic.{inl, inr}
 use mathlib.Core.Bool.{Bool, true, false, cond}
@@ -73,7 +73,7 @@ module _ (p c : Float) (P : Short p) (C : Short c) where
         lower true m = omega arith
         lower false m = omega arith
 
-    -- a sum that is zero
+    -- A sum that is zero rounds to the same zero.
     pub zero-sum : lt (ofBits binary64 0) (add binary64 p c) ≡ false → lt (add binary64 p c) (ofBits binary64 0) ≡ false
         → narrowed (add binary64 p c) ≡ add binary32 p c
     zero-sum a b =

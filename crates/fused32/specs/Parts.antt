@@ -1,4 +1,4 @@
--- What the parts of `fused32` ask of each other. A unit is 2 ^ -1074, the smallest f64. Definitions only.
+-- What the private functions of `fused32` promise and need. A unit is 2 ^ -1074, the smallest f64. Definitions only.
 use mathlib.Core.Path.{_≡_}
 use mathlib.Core.Bool.{Bool, true, false}
 use Prim.Native.Nat.{ℕ, _+_, _*_, _%_, _^_, _≤_, _<_}
@@ -43,7 +43,7 @@ abbrev pub Clear : Float → Type 0
 Clear s =
     T (finite s) → (0x3810_0000_0000_0000 ≤ toBits binary64 s % 2 ^ 63) × (toBits binary64 s % 2 ^ 29 ≡ 2 ^ 28 → ⊥)
 
--- What a test for that finds: a sum that is not clear is finite.
+-- What the test for this finds. It may fail for a clear sum, but a sum for which it fails is finite.
 pub record Tested (s : Float) (r : Bool) : Type 0 where
   pub clear : r ≡ true → Clear s
   pub plain : r ≡ false → T (finite s)

@@ -6,9 +6,10 @@ ghost use Rattle.rounding.specs.Operations.{fused};
 ghost use Rattle.fused32.specs.Parts.{SumOf, Ordered, Above, Tested};
 use narrowing::narrow;
 
-// x + y rounded once, where x is not below zero, y is no larger in size, and s is x + y as an f64. s - x is exact, so
-// it tells on which side of x + y s lies. If s is not exact and its last digit is even, its neighbour towards x + y is
-// taken: an odd last digit is neither an f32's nor a midpoint's, so it rounds to f32 as x + y does.
+// x + y rounded once, where x is not below zero, y is no larger in size, and s is x + y as an f64. The difference s - x
+// is exact, so it tells on which side of x + y the float s lies. If s is not exact and its last digit is even, its
+// neighbour towards x + y is taken: an odd last digit is neither an f32's nor a midpoint's, so it rounds to f32 as x +
+// y does.
 fn odd_sum(x: f64, y: f64, s: f64) -> f32
     requires { ⌜ Ordered x y ⌝ ∗ ⌜ SumOf x y s ⌝ }
     ensures { λ r. ⌜ r ≡ add binary32 x y ⌝ }
@@ -27,7 +28,8 @@ fn odd_sum(x: f64, y: f64, s: f64) -> f32
     narrow(f64::from_bits(n - 1))
 }
 
-// p + c rounded once, where s, p + c as an f64, is above zero: the larger of the two then has no sign.
+// The sum p + c rounded once, where s, which is p + c as an f64, is above zero. Then the larger of the two has no minus
+// sign, as `odd_sum` needs it.
 fn positive_sum(p: f64, c: f64, s: f64) -> f32
     requires { ⌜ Above p c s ⌝ }
     ensures { λ r. ⌜ r ≡ add binary32 p c ⌝ }
@@ -53,7 +55,7 @@ fn is_clear(s: f64) -> bool
     m & 0x1fff_ffff != 0x1000_0000
 }
 
-// K4, K5. p + c of any two f64, rounded once to an f32.
+// K4, K5. p + c of any two f64, rounded once to an f32: quickly where rounding twice cannot go wrong.
 pub fn sum32(p: f64, c: f64) -> f32
     ensures { λ r. ⌜ r ≡ add binary32 p c ⌝ }
 {

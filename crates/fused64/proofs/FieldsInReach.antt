@@ -1,5 +1,5 @@
--- One word of the quick way: fields in reach, told by one test of all three; and a product cut to a word.
--- Assumes nothing.
+-- The quick way in one word: one test of all three fields shows that each is small enough, and a product is cut to a
+-- word. Assumes nothing.
 use mathlib.Core.Path.{_≡_, sym, ap, _∙_}
 use mathlib.Core.Logic.{inl, inr}
 use Prim.Native.Nat.{ℕ, _+_, _-_, _*_, _/_, _%_, _^_, _≤_, _<_}
@@ -16,7 +16,7 @@ use Rattle.float_digits.proofs.Jams.{jam-cut}
 use Rattle.fused64.specs.Wide.{val, lower}
 use Rattle.fused64.specs.Word.{Heads, Tells, Cutoff}
 
--- ---- all three
+-- ---- one test for all three fields
 or-ge-l : (x y : ℕ) → x ≤ bitOr x y
 or-ge-l x y = omega (arith, or-add-and x y, and-le-r x y)
 
@@ -37,7 +37,7 @@ heads f g h l =
       third = omega arith;
     }
 
--- ---- cut to a word
+-- ---- a product is cut to a word
 sticky-same : (q r r' : ℕ) → (r ≡ 0 → r' ≡ 0) → (r' ≡ 0 → r ≡ 0) → withSticky q r ≡ withSticky q r'
 sticky-same q r r' f g = elim (eq-zero-or-pos r) [
   | inl z ↦ rw (eq-eqb r 0 z, eq-eqb r' 0 (f z))
@@ -57,7 +57,7 @@ nothing x y lo t z =
     let n = t .nothing (omega arith) in
     omega (arith, or-add-and x y)
 
--- the columns of a word tell it
+-- The columns of a word show whether it is zero.
 pub columns-tell : (middle low : ℕ) → Tells (bitAnd (bitOr middle low) 0xffff_ffff) (lower middle low)
 columns-tell middle low =
     let e : bitAnd (bitOr middle low) 0xffff_ffff ≡ bitOr (middle % 2 ^ 32) (low % 2 ^ 32) =

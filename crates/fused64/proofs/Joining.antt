@@ -1,5 +1,5 @@
--- The sum of a number that may have been cut and an even one that was not, both at one place:
--- what is packed for each case of their signs and sizes is the exact sum, rounded once. Assumes nothing.
+-- The sum of a number that may have been cut short and an even one that was not, both at one place: in each case of
+-- signs and sizes what is packed is the exact sum, rounded once. Assumes nothing.
 use mathlib.Core.Path.{_≡_, sym, ap, _∙_, subst}
 use mathlib.Core.Bool.{false, Bool·beq}
 use Prim.Native.Nat.{ℕ, _+_, _-_, _*_, _/_, _%_, _^_, _≤_, _<_}
@@ -14,7 +14,7 @@ use Rattle.fused64.specs.Word.{Headed, Placed, Beside, Joined}
 use Rattle.fused64.proofs.TwoWords.{unlike-bits}
 use Rattle.fused64.proofs.JammedSums.{jam-plus, jam-less, jam-more, less-kept, more-kept}
 
--- a head is its sign and its place
+-- A head is a sign and a place.
 head-place : (s e : ℕ) → s % 2 ^ 11 ≡ 0 → e < 1600 → (e + s) % 2 ^ 11 ≡ e
 head-place s e h l = omega arith
 
@@ -25,7 +25,7 @@ module _ (s p t z e r : ℕ) (B : Beside s p t z e) where
   abbrev U : ℕ
   U = 2 ^ (e + 1189)
 
-  -- what `placed` rounds, with the head taken apart
+  -- What `placed` rounds, with the head taken apart.
   rounds : (n x : ℕ) → x % 2 ^ 11 ≡ 0 → Placed n (e + x) r → (v : ℕ) → Jam v U n
       → ofBits binary64 r ≡ round binary64 (eqb (x / 2 ^ 11) 1) v (2 ^ 2274)
   rounds n x X P v J =

@@ -1,5 +1,5 @@
--- The sum that the quick way rounds is `fused`: what `unpack` would take out of three normal patterns is what it takes.
--- Assumes nothing.
+-- The sum that the quick way rounds is `fused`: it takes the same digits out of three normal patterns as `unpack`
+-- would. Assumes nothing.
 use mathlib.Core.Path.{_≡_, refl, sym, ap, _∙_, subst}
 use mathlib.Core.Bool.{Bool, true, false, not}
 use Prim.Native.Nat.{ℕ, zero, suc, _+_, _*_, _/_, _%_, _^_, _≤_, _<_}
@@ -20,7 +20,7 @@ use Rattle.fused64.specs.Wide.{val}
 use Rattle.fused64.specs.Word.{Normal, Quick, digits53, fieldOf}
 use Rattle.fused64.proofs.Terms.{widened, terms-sum}
 
--- a zero's pattern is its sign's bit
+-- The pattern of a zero is its sign bit.
 nothing : (e : ℤ) → 0 * up e * 2 ^ 1074 ≡ 0 * down e
 nothing e = ap (λ (x : ℕ). x * 2 ^ 1074) (zero-mul (up e)) ∙ sym (zero-mul (down e))
 

@@ -1,5 +1,5 @@
--- A number of 56 to 63 digits at a place: moved up to 63, its last ten rounded off by an addition,
--- and put under a field, it is every value that it stands for, rounded once. Assumes nothing.
+-- A number of 56 to 63 digits at a place. Moved up to 63 digits, with the last ten rounded off by an addition, and put
+-- below an exponent field, it is every value that it stands for, rounded once. Assumes nothing.
 use mathlib.Core.Path.{_≡_, refl, sym, ap, _∙_, subst}
 use mathlib.Core.Bool.{cond}
 use Prim.Native.Nat.{ℕ, zero, suc, _+_, _-_, _*_, _/_, _%_, _^_, _≤_, _<_}
@@ -50,7 +50,7 @@ module _ (n g : ℕ) (H : Headed n g) (N : 2 ^ 55 ≤ n) where
   pub moved-lt : n * 2 ^ (l - 1) % 2 ^ 64 < 2 ^ 63
   moved-lt = rw moved filled
 
-  -- the unit of the last digit kept, in n's
+  -- The unit of the last digit that is kept, in units of n.
   abbrev h : ℕ
   h = 2 ^ (10 - l)
 

@@ -1,5 +1,5 @@
--- The places of the quick way: what fields in reach say of product and addend, and that the sum at either's place is
--- the exact sum. Assumes nothing.
+-- The places of the quick way: what fields in range show of the product and the addend, and that the sum at either's
+-- place is the exact sum. Assumes nothing.
 use mathlib.Core.Path.{_≡_, sym, ap, _∙_, subst}
 use Prim.Native.Nat.{ℕ, suc, _+_, _-_, _*_, _/_, _%_, _^_, _≤_, _<_}
 use native.Mathlib.Nat.{le-of-eq, lt-of-lt-of-le, lt-of-le-of-lt, mul-assoc, mul-comm, mul-le-mul, mul-div-cancel}
@@ -14,7 +14,7 @@ use Rattle.float_digits.proofs.Jams.{jam-scale}
 use Rattle.fused64.specs.Wide.{val}
 use Rattle.fused64.specs.Word.{Heads, Cutoff, Beside, Joined, Normal, Quick, digits53, fieldOf}
 
--- a head in reach is the sign and the field, the field less 768
+-- A head in range is the sign and the field less 768.
 pub reached : (n f : ℕ) → n < 2 ^ 64 → f < 2 ^ 64 → (f + 768) % 2 ^ 64 ≡ n / 2 ^ 52 → f % 2 ^ 11 < 2 ^ 9
     → (f % 2 ^ 11 + 768 ≡ fieldOf n) × (f / 2 ^ 11 ≡ n / 2 ^ 63) × (f < 2 ^ 12)
 reached n f N F e h =
@@ -42,7 +42,7 @@ high-lt a b hi lo M =
 normal : (n x : ℕ) → x < 2 ^ 9 → x + 768 ≡ fieldOf n → Normal n
 normal n x h e = record { least = omega arith; below = omega arith }
 
--- fewer than eight of the eight zeros that end the addend are dropped
+-- The addend ends in eight zeros, and fewer than eight digits are dropped.
 pub halved : (n d : ℕ) → d < 8 → (n * 2 ^ 8 / 2 ^ d ≡ n * 2 ^ (8 - d)) × (n * 2 ^ (8 - d) * 2 ^ d ≡ n * 2 ^ 8)
 halved n d h =
     let e : 8 - d + d ≡ 8 = omega arith in
@@ -75,7 +75,7 @@ module _ (a b c f g h hi lo : ℕ) (A : (f % 2 ^ 11 + 768 ≡ fieldOf a) × (f /
   abbrev X : ℕ
   X = fieldOf a + 52 + (fieldOf b + 52)
 
-  -- the sum at the place e
+  -- The sum at the place e.
   at : (s p t z e r d : ℕ) → s / 2 ^ 11 ≡ (a / 2 ^ 63 + b / 2 ^ 63) % 2 → t / 2 ^ 11 ≡ c / 2 ^ 63 → Cutoff hi lo d p
       → 64 + d + X ≡ e + 1189 → z * 2 ^ (e + 1189) ≡ digits53 c * 2 ^ 8 * 2 ^ (fieldOf c + 1191) → Joined s p t z e r
       → Quick a b c r
@@ -92,7 +92,7 @@ module _ (a b c f g h hi lo : ℕ) (A : (f % 2 ^ 11 + 768 ≡ fieldOf a) × (f /
         sums = rw (← S, ← T, ← Z, ← M) (J .sums (val hi lo * 2 ^ X) jam);
       }
 
-  -- the sum's heads, as the code has them
+  -- The heads of the sum, as the code has them.
   pub sign-is : (f + g) / 2 ^ 11 % 2 * 2 ^ 11 / 2 ^ 11 ≡ (a / 2 ^ 63 + b / 2 ^ 63) % 2
   sign-is = omega (arith, A .1, B .1, R .first, R .second)
 
@@ -121,12 +121,12 @@ module _ (a b c f g h hi lo : ℕ) (A : (f % 2 ^ 11 + 768 ≡ fieldOf a) × (f /
     end : j + 1189 ≡ fieldOf c + 1191
     end = omega (arith, C .0)
 
-    -- at the addend's place
+    -- The sum is made at the addend's place.
     pub at-addend : i ≤ j → Cutoff hi lo (j - i) p → Joined s p t z j r → Quick a b c r
     at-addend l K J =
         at s p t z j r (j - i) sign-is lower-sign K (omega (arith, product-place)) (ap (λ (x : ℕ). z * 2 ^ x) end) J
 
-    -- at the product's
+    -- The sum is made at the product's place.
     pub at-product : j < i → i - j < 8 → Cutoff hi lo 0 p → Joined s p t (z / 2 ^ (i - j)) i r → Quick a b c r
     at-product l m K J =
         let e : i + 1189 ≡ i - j + (j + 1189) = omega arith in

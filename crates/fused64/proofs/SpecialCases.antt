@@ -27,7 +27,7 @@ factor-not-plain (fin s (suc m) e) (fin t zero d) z h =
     (ap (λ (x : ℕ). suc m * up e * x) (zero-mul (up d)) ∙ mul-zero (suc m * up e))
 factor-not-plain (fin s (suc m) e) (fin t (suc n) d) z h = absurd (true≢false h)
 
--- a zero leaves the product, an infinity or a NaN is all that is left
+-- Adding a zero leaves the product; an infinity or a NaN is the result.
 pub addend-not-plain : (x y z : Float) → (plain x && plain y) ≡ true → plain z ≡ false
     → (eq z (ofBits binary64 0) ≡ true → mul binary64 x y ≡ fused binary64 x y z)
     × (eq z (ofBits binary64 0) ≡ false → z ≡ fused binary64 x y z)
@@ -47,7 +47,7 @@ addend-not-plain (fin s (suc m) e) (fin t (suc n) d) (fin u zero g) p q = (
 )
 addend-not-plain (fin s (suc m) e) (fin t (suc n) d) (fin u (suc k) g) p q = absurd (true≢false q)
 
--- a sum that is no NaN has no NaN among its three
+-- If the sum is not a NaN, none of the three numbers is one.
 no-nan-addend : (p z : Float) → eq (add binary64 p z) (add binary64 p z) ≡ true → T (not (isNan z))
 unfolding add eq isNan
 no-nan-addend nan nan h = true≢false (sym h)

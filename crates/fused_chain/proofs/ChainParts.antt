@@ -1,14 +1,16 @@
 -- Parts of a chain, one behind the other, and that a loop over them ends. Assumes nothing.
-use mathlib.Core.Path.{_≡_, sym, subst}
+use mathlib.Core.Path.{_≡_, sym, _∙_, subst}
 use mathlib.Core.List.{List}
 use mathlib.Core.Logic.{inl, inr}
 use Prim.Native.Nat.{ℕ, _+_, _-_, _≤_, _<_}
 use native.Mathlib.Omega.{arith}
 use lib.Dec.{T}
 use lib.Ieee.{Float, binary32, fits}
-use Rattle.loop_laws.proofs.Folds.{turn}
+use Rattle.loop_laws.proofs.Folds.{turn, none}
+use Rattle.rounding.specs.Operations.{narrowed}
 use Rattle.rounding.proofs.NumberOrders.{lt-or-ge}
 use Rattle.rounding.proofs.Fusing.{fused-fits}
+use Rattle.rounding.proofs.RoundsToItself.{narrowed-own}
 use Rattle.fused_chain.specs.Chain.{turnOf, chainOf}
 use Rattle.fused_chain.specs.Blocks.{Carries}
 
@@ -34,3 +36,8 @@ module _ (xs row0 row1 : List Float) (blend : Float) where
     is =
         λ a is. subst (λ (z : ℕ). r ≡ chainOf xs row0 row1 blend a z) e (turn (turnOf xs row0 row1 blend) a k s r is h);
   }
+
+  -- all turns carried from the start, and the sum narrowed: it is an f32 already
+  pub whole : (n : ℕ) (a s r : Float) → r ≡ narrowed s → Carries xs row0 row1 blend 0 n a s
+      → r ≡ chainOf xs row0 row1 blend a n
+  whole n a s r e h = e ∙ narrowed-own s (h .held) ∙ h .is a (none (turnOf xs row0 row1 blend) a)

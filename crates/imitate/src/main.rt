@@ -1,15 +1,24 @@
 // The program `imitate FROM TO [NAME=VALUE …]`: FROM read back at a wandering delay.
+mod asking; // what the arguments ask for
+mod hearing; // a block's samples
+mod running; // block after block
 mod sayings; // what is said of settings and samples
+mod storing; // a block's bytes
 
 use arguments::Kind;
 use asked::Imitation;
+use asking::help_asked;
+use asking::tell_usage;
+use asking::to_imitate;
 use error_lines::misused;
 use error_lines::succeed;
 use file_words::say_unopened;
 use file_words::say_wrapped;
-use imitating::Job;
+use libc::STDERR_FILENO;
+use libc::STDOUT_FILENO;
 use outcomes::is_well;
 use part_file::Made;
+use running::Job;
 use sample_kind::SampleKind;
 use sayings::say_outcome;
 use sayings::suits;
@@ -21,7 +30,12 @@ use wave_output::write_header;
 use wave_output::write_pad;
 
 fn main() {
-    let asked = words_asked::to_imitate();
+    if help_asked() {
+        tell_usage(STDOUT_FILENO);
+        succeed();
+        return;
+    }
+    let asked = to_imitate();
     let names = asked.names;
     let settings = asked.settings;
     if !names.good {
@@ -103,9 +117,9 @@ fn write_all(from: &[u8], to: &[u8], job: Job, count: usize) -> bool {
     ) {
         return false;
     }
-    let outcome = imitating::imitate(job);
+    let outcome = running::imitate(job);
     if is_well(outcome) {
-        progress::clear();
+        progress::clear(libc::isatty(STDERR_FILENO) == 1);
         return write_pad(
             b"imitate",
             to,
@@ -113,6 +127,6 @@ fn write_all(from: &[u8], to: &[u8], job: Job, count: usize) -> bool {
             times(count, sample_kind::width(kind)),
         );
     }
-    say_outcome(from, to, job.fd, outcome);
+    say_outcome(from, to, outcome);
     false
 }

@@ -1,4 +1,4 @@
--- A single call, from what the reader handed back, over variables. Assumes nothing.
+-- A single call, from what the reader returned, over variables. Assumes nothing.
 use mathlib.Core.Path.{_≡_, refl}
 use mathlib.Core.Bool.{_&&_}
 use mathlib.Core.List.{List}
@@ -16,7 +16,7 @@ use Rattle.variable_delay_f32.specs.Call.{processedF32By}
 use Rattle.variable_delay_f32.specs.declared.ProcessedF32.{ProcessedF32}
 use Rattle.imitation.specs.Reading.{callOf}
 
--- the reader's verdict, with the tests of the settings 32 and 64 as it makes them
+-- The reader's refusal, with the tests of the settings 32 and 64 as it makes them.
 abbrev pub due : List Float → VariableDelay → List Float → Float → Float → ℕ
 due table d ring x y = verdict (tapsOk 32 && phasesOk 64) (eqb (length table) (tableLength 32 64)) d (length ring) x y
 

@@ -1,4 +1,4 @@
--- The engine after no frame and after one frame more, and that frame's delays. Assumes nothing.
+-- The engine after no frame and after one more frame, and the delays of that frame. Assumes nothing.
 use mathlib.Core.Path.{_≡_, refl, ap, _∙_}
 use Prim.Native.Nat.{ℕ, _+_}
 use native.Mathlib.Numerals.{add-one}
@@ -19,7 +19,7 @@ pub turned-more : (params : ModulationParams) (e : ModulationEngine) (k : ℕ) {
 unfolding turnedBy
 turned-more params e k p q = rw (add-one k, q, p)
 
--- a frame's delays, from what the engine handed back
+-- The delays of a frame, from what the engine returned.
 pub left-turned : (params : ModulationParams) (e : ModulationEngine) (k : ℕ) (middle : Float) {f : ModulationEngine}
     {n : Next} {y : Float}
     → f ≡ turnedBy params e k

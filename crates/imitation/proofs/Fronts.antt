@@ -1,4 +1,4 @@
--- A list of which a loop writes the first elements by a rule and leaves the others. Assumes nothing.
+-- A list whose first elements a loop writes by a rule, while it leaves the others. Assumes nothing.
 use mathlib.Core.Path.{_≡_, refl, sym, ap, _∙_}
 use mathlib.Core.List.{List, _++_}
 use Prim.Native.Nat.{ℕ, suc, _+_, _≤_, _<_}

@@ -1,5 +1,5 @@
--- One channel at the middle 512 with the default settings becomes what the program `render` writes for it,
--- as long as no sample is refused. Sample by sample, over the definitions. Assumes nothing.
+-- One channel at the middle 512 with the default settings becomes what the program `render` writes for it, as long as
+-- no sample is refused. By induction over the samples, on the definitions. Assumes nothing.
 use mathlib.Core.Path.{_≡_, refl, sym, ap, _∙_}
 use mathlib.Core.Bool.{false}
 use mathlib.Core.List.{List, [], _∷_, _++_}
@@ -23,7 +23,6 @@ use Rattle.stretch.specs.Stretch.{Ran, andThen, stretchOf}
 use Rattle.imitation.specs.Reading.{callOf, heard}
 use Rattle.imitation.specs.Delays.{leftOf, turnedBy, offsetAt, leftDelays}
 
--- a list by its first element
 list-first : (f : ℕ → Float) (n : ℕ) → listOf f (suc n) ≡ f 0 ∷ listOf (λ (k : ℕ). f (suc k)) n
 unfolding listOf
 list-first f zero = refl
@@ -35,7 +34,7 @@ unfolding turnedBy
 turned-first params e zero = refl
 turned-first params e (suc k) = ap (λ (f : ModulationEngine). nextOf f params .engine) (turned-first params e k)
 
--- the delays behind the first frame are those of the engine after it
+-- The delays behind the first frame are those of the engine after it.
 delays-behind : (params : ModulationParams) (m : Float) (e : ModulationEngine) (n : ℕ)
     → leftDelays params m e (suc n)
     ≡ leftOf m (nextOf e params .offset) ∷ leftDelays params m (nextOf e params .engine) n
@@ -54,12 +53,12 @@ same-delay (Delay d) = refl
 same-delay (Refused k) = refl
 
 module _ (table : List Float) where
-  -- the channel whose reader, ring and engine a rendering holds
+  -- The channel whose reader, ring and engine a rendering holds.
   abbrev pub imitated : Held → List Float → Ran VariableDelay
   imitated h xs =
       heard table (h .state .reader) (h .ring) xs (leftDelays defaultParams middle (h .state .engine) (length xs))
 
-  -- the first sample, and those behind it
+  -- The first sample, and those behind it.
   first-behind : (h : Held) (x : Float) (xs : List Float) → dueFor table h x ≡ 0
       → imitated h (x ∷ xs)
       ≡ andThen 0 (callOf table (h .state .reader) (h .ring) x (delayFor h)) (imitated (afterSample table h x) xs)

@@ -1,4 +1,4 @@
--- The delays of frames that follow one another: the engine steps once a frame. Definitions only.
+-- The delays of consecutive frames. The engine steps once for each frame. Definitions only.
 use Prim.Native.Nat.{ℕ, zero, suc}
 use mathlib.Core.List.{List}
 use lib.Ieee.{Float, nan, binary64, add}
@@ -9,8 +9,8 @@ use Rattle.modulation_engine.specs.declared.ModulationEngine.{ModulationEngine}
 use Rattle.modulation_sample.specs.declared.Offset.{Offset}
 use Rattle.modulation_sample.specs.declared.Offset.the-variants.{Delay, Refused}
 
--- The middle and a channel's offset. A state or settings that the engine refuses have no offset: a NaN, which every
--- reader refuses by 5.
+-- The middle plus the offset of a channel. If the engine refuses its state or its settings there is no offset; the
+-- delay is then a NaN, which every reader refuses by 5.
 abbrev pub leftOf : Float → Offset → Float
 leftOf middle (Delay d) = add binary64 middle (d .left)
 leftOf middle (Refused k) = nan
@@ -19,12 +19,12 @@ abbrev pub rightOf : Float → Offset → Float
 rightOf middle (Delay d) = add binary64 middle (d .right)
 rightOf middle (Refused k) = nan
 
--- The engine after so many frames.
+-- The engine after some frames.
 unfoldable pub turnedBy : ModulationParams → ModulationEngine → ℕ → ModulationEngine
 turnedBy params e zero = e
 turnedBy params e (suc n) = nextOf (turnedBy params e n) params .engine
 
--- Frame k's offsets, and the delays of n frames.
+-- The offsets of frame k, and the delays of n frames.
 abbrev pub offsetAt : ModulationParams → ModulationEngine → ℕ → Offset
 offsetAt params e k = nextOf (turnedBy params e k) params .offset
 

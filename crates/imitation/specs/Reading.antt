@@ -1,5 +1,5 @@
--- One channel of a transfer read by a WindowedSincF32 of 32 taps and 64 phases, each sample at its own delay: single
--- calls in order, up to the first that is refused. Definitions only.
+-- One channel of a transfer, read by a WindowedSincF32 of 32 taps and 64 phases, each sample at its own delay. These
+-- are single calls in order, up to the first that is refused. Definitions only.
 use Prim.Native.Nat.{ℕ}
 use mathlib.Core.Bool.{true}
 use mathlib.Core.List.{List, _++_}
@@ -15,7 +15,7 @@ use Rattle.variable_delay_f32.specs.Call.{processedF32By}
 use Rattle.stretch.specs.Stretch.{Called, Call, Ran, stretchOf}
 use Rattle.imitation.specs.declared.reading.Ended.{Ended}
 
--- The refusal that is due: 32 taps and 64 phases are in range.
+-- The number of the refusal, 0 for none. The 32 taps and 64 phases are in range.
 abbrev pub dueOf : List Float → VariableDelay → List Float → Float → Float → ℕ
 dueOf table d ring x y = verdict true (eqb (length table) (tableLength 32 64)) d (length ring) x y
 
@@ -39,6 +39,6 @@ heard table = stretchOf (callOf table)
 abbrev pub endedOf : Ran VariableDelay → Ended
 endedOf r = record { reader = r .state; done = length (r .samples); refusal = r .number }
 
--- The samples' place afterwards: those that were read, then the others as they were.
+-- The samples' slice after the stretch: those that were read, then the others as they were.
 abbrev pub leftIn : List Float → Ran VariableDelay → List Float
 leftIn xs r = r .samples ++ drop (length (r .samples)) xs

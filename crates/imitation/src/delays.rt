@@ -1,4 +1,5 @@
-// The delays of a stretch of frames: the engine steps once a frame, and gives the left and the right channel's offset.
+// The delays of a stretch of frames. The engine steps once for each frame and gives the offsets of the left and the
+// right channel.
 ghost use mathlib.Core.Path.{_≡_};
 ghost use mathlib.Core.List.{_++_};
 ghost use Prim.Native.Nat.{min};
@@ -15,7 +16,7 @@ pub struct Wandered {
     pub frames: usize,
 }
 
-// The delays of as many frames as both slices have, `middle` samples and the engine's offsets.
+// Fills both slices with delays, for as many frames as both have: `middle` plus the engine's offsets.
 pub fn wander(
     engine: ModulationEngine,
     params: ModulationParams,

@@ -1,25 +1,26 @@
-// One channel's samples, each read at its delay, in place.
+// The samples of one channel, each read at its delay, in place.
 ghost use mathlib.Core.Path.{_≡_};
 ghost use Prim.Native.Nat.{min};
 ghost use lib.ListN.{length};
 ghost use Rattle.imitation.specs.Reading.{callOf, heard, endedOf, leftIn};
 use variable_delay::VariableDelay;
 
-// The reader behind a stretch, how many samples were read, and the refusal that ended it, 0 for none.
+// The reader after a stretch, how many samples were read, and the number of the refusal that ended it, 0 for none.
 pub struct Ended {
     pub reader: VariableDelay,
     pub done: usize,
     pub refusal: u8,
 }
 
-// A call's answer as plain numbers.
+// The answer of a call as plain numbers.
 struct Heard {
     state: VariableDelay,
     number: u8,
     sample: f32,
 }
 
-// The samples in place, as many as there are delays for, up to the first that is refused: it and those behind it stay.
+// Replaces the samples by what is read, for as many as there are delays, up to the first that is refused. That one and
+// those behind it stay.
 pub fn read_stretch<'a>(
     reader: VariableDelay,
     ring: &mut [f32],

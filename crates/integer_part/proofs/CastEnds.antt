@@ -1,5 +1,5 @@
--- The cast to an `i64` past the ends of its range: at 2 ^ 63 or above it is the largest, below -2 ^ 63 the smallest.
--- Assumes nothing.
+-- The cast to an `i64` beyond the ends of its range: from 2 ^ 63 on it is the largest `i64`, below -2 ^ 63 the
+-- smallest. Assumes nothing.
 use mathlib.Core.Path.{_≡_, refl, sym, ap, subst}
 use mathlib.Core.Bool.{Bool, true, false, true≢false}
 use Prim.Native.Nat.{ℕ, _+_, _-_, _*_, _/_, _^_, _≤_, _<_, min}
@@ -14,7 +14,7 @@ use lib.Ieee.Fits.{down-pos}
 use Rattle.magnitude.specs.Bounds.{AtMost}
 use Rattle.magnitude.proofs.OrderAndBounds.{at-most-ge}
 
--- 2 ^ 63 ≤ a / d
+-- 2 ^ 63 ≤ a / d, so the minimum is the end.
 reached : (a d c : ℕ) → 0 < d → c ≤ 2 ^ 63 → 2 ^ 63 * d ≤ a → min (a / d) c ≡ c
 reached a d c D C h = min-eq-right (le-trans C (le-div-iff-mul-le D .1 h))
 

@@ -1,7 +1,6 @@
--- The floor by one sum with a whole number, for a number x of magnitude at most 2 ^ 36. Rounding keeps the order,
--- so the sum lies between the floor and the next whole number, each with that number added; where it is so large that
--- they lie from 2 ^ 52 to 2 ^ 53, where every f64 is whole, the sum is one of the two, and a comparison with x says
--- which. Assumes nothing.
+-- The floor by one sum with a whole number, for an x of magnitude at most 2 ^ 36. Rounding keeps the order, so the sum
+-- lies between the floor and the next whole number, each with that number added. If these lie from 2 ^ 52 to 2 ^ 53,
+-- where every f64 is whole, the sum is one of the two, and a comparison with x shows which. Assumes nothing.
 use mathlib.Core.Path.{_≡_, refl, sym, ap, _∙_, subst}
 use mathlib.Core.Bool.{Bool, true, false, cond, _&&_, true≢false}
 use mathlib.Core.Logic.{_⊎_, inl, inr, ⊎-elim}
@@ -29,7 +28,7 @@ use Rattle.integer_part.proofs.FloorOfLarge.{placed}
 use Rattle.integer_part.proofs.WholeThroughFloat.{parts, parts-less, below, is-below}
 use Rattle.integer_part.proofs.Floors.{posPart, negPart, floor-at-most, floor-around, equal}
 
--- a number m * 2 ^ k that is large enough, and not too large
+-- The number m * 2 ^ k is large enough, and not too large.
 abbrev pub fitting : ℕ → ℕ → Bool
 fitting m k = ltb (2 ^ 52 + 2 ^ 36 + 1) (m * 2 ^ k) && ltb (m * 2 ^ k + 2 ^ 36 + 1) (2 ^ 53)
 
@@ -128,7 +127,7 @@ module _ (m k : ℕ) (f : T (fitting m k)) (x : Float) (h : AtMost (2 ^ 36) x) w
       shape t low (add-fits binary64 x big-f) p (small .0) (values-of-le under t low 1 (num t) (den t) up p u v above)
       (values-of-le t over (num t) (den t) (suc low) 1 p op v o below)
 
-  -- n less b is the lower of the two, so n less b less that number is the floor
+  -- If n - b is the lower of the two, then n - b less that number is the floor.
   lands : (n b : ℕ) (s : Float) → HasValue t false n 1 → HasValue s false b 1 → n ≡ low + b
       → sub binary64 (sub binary64 t s) big-f ≡ ofInt binary64 (floorOf x)
   lands n b s v w e =

@@ -1,6 +1,6 @@
--- Inside ±2 ^ 52 the floor is the cut towards zero, or one less where the cut lies above x: below zero the cut and the
--- quotient rounded up differ by one just where something was cut off, and that is what one comparison with the cut
--- tells. Assumes nothing.
+-- Within ±2 ^ 52 the floor is x cut towards zero, or one less if the cut lies above x. Below zero the cut and the
+-- quotient rounded up differ by one exactly if something was cut off, and one comparison with the cut shows that.
+-- Assumes nothing.
 use mathlib.Core.Path.{_≡_, refl, sym, ap, _∙_, subst}
 use mathlib.Core.Bool.{Bool, true, false, cond, true≢false}
 use Prim.Native.Nat.{ℕ, zero, suc, _+_, _-_, _*_, _/_, _^_, _≤_, _<_, min}
@@ -21,7 +21,7 @@ use Rattle.integer_part.specs.Parts.{floorOf}
 use Rattle.integer_part.proofs.IntegerSizes.{natAbs-neg, mag-le}
 use Rattle.integer_part.proofs.Floors.{quotient-at-most, floor-negative, quotient-around}
 
--- ---- what the cast to an `i64` asks
+-- ---- what the cast to an `i64` needs
 pub in-range : (x : Float) → AtMost (2 ^ 52) x → T (le (fin true 1 (pos 63)) x) × T (lt x (fin false 1 (pos 63)))
 in-range x h = (
   at-most-ge (2 ^ 63) x (fin true 1 (pos 63)) (refl, refl) (at-most-mono x (lit≤ tt) h),
@@ -47,7 +47,7 @@ unfolding inFloat
 in-float (pos n) h = le→leb n (2 ^ 53) (omega arith)
 in-float (negsuc n) h = lt→ltb n (2 ^ 53) (omega arith)
 
--- ---- x against a whole number of its own sign
+-- ---- x compared with a whole number of its own sign
 ltb-scale : (a b c : ℕ) → 0 < c → ltb (a * c) (b * c) ≡ ltb a b
 ltb-scale a b c C = go (ltb a b) refl
   where
@@ -75,7 +75,7 @@ against s m e (fin u n d) q v =
     (λ (u : Bool). lt (fin s m e) (fin u n d) ≡ cond s (ltb (q * down e) (m * up e)) (ltb (m * up e) (q * down e)))
     (sym (v .0)) (scaled s m e n d q (v .1))
 
--- ---- x against its cut, which is exact as a float
+-- ---- x compared with its cut, which is exact as a float
 cut-not-negative : (m : ℕ) (e : ℤ) → AtMost (2 ^ 52) (fin false m e)
     → lt (fin false m e) (ofInt binary64 (toSigned 63 (fin false m e))) ≡ false
 unfolding toSigned

@@ -1,5 +1,5 @@
--- Outside ±2 ^ 52 an f64 is whole, an infinity or a NaN, so its floor is what the cast gives:
--- a value with places below the point is a number below 2 ^ 53 over 2 at least. Assumes nothing.
+-- Outside ±2 ^ 52 an f64 is whole, an infinity or a NaN, so its floor is what the cast gives. A value with digits
+-- behind the point is a number below 2 ^ 53 divided by at least 2. Assumes nothing.
 use mathlib.Core.Path.{_≡_, refl, subst}
 use mathlib.Core.Bool.{Bool, true, false, _&&_}
 use Prim.Native.Nat.{ℕ, zero, suc, _*_, _%_, _^_, _<_, zero-le}
@@ -21,7 +21,7 @@ inside x out h =
     (at-most-ge (2 ^ 52) x (fin true 1 (pos 52)) (refl, refl) h)
     (at-most-le (2 ^ 52) x (fin false 1 (pos 52)) (refl, refl) h))
 
--- places below the point
+-- A value with digits behind the point is at most 2 ^ 52.
 pub placed : (s : Bool) (m k : ℕ) → T (fits binary64 (fin s m (negsuc k))) → AtMost (2 ^ 52) (fin s m (negsuc k))
 unfolding fits
 placed s zero k h = zero-le

@@ -1,6 +1,6 @@
--- The floor of a number of magnitude at most b, for any b inside the range of an `i64`: it is the quotient,
--- or below zero the quotient rounded up, with its sign, so it is at most the number and the number is below the next,
--- and its own magnitude is at most b. Assumes nothing.
+-- The floor of a number of magnitude at most b, for any b in the range of an `i64`. It is the quotient, or below zero
+-- the quotient rounded up, with its sign. So it is at most the number, the number is below the next, and its own
+-- magnitude is at most b. Assumes nothing.
 use mathlib.Core.Path.{_≡_, ap}
 use mathlib.Core.Bool.{true, false}
 use Prim.Native.Nat.{ℕ, zero, suc, _+_, _-_, _*_, _/_, _^_, _≤_, _<_}
@@ -47,7 +47,7 @@ floor-negative b m e B h =
     ap (λ (z : ℕ). negℤ (pos z))
     (min-eq-left (le-trans (ceiling-at-most (m * up e) (down e) b (down-pos e) h) (omega arith)))
 
--- ---- its magnitude
+-- ---- the magnitude of the floor
 pub floor-at-most : (b : ℕ) (x : Float) → b < 2 ^ 63 → AtMost b x → natAbs (floorOf x) ≤ b
 floor-at-most b nan B h = absurd h
 floor-at-most b (inf s) B h = absurd h
@@ -60,7 +60,7 @@ floor-at-most b (fin true m e) B h =
 pub floor-mag : (b : ℕ) (x : Float) → b < 2 ^ 63 → AtMost b x → mag (floorOf x) ≤ b
 floor-mag b x B h = le-trans (mag-le (floorOf x)) (floor-at-most b x B h)
 
--- ---- z ≤ x < z + 1: z is posPart - negPart, x is (gain - loss) / den, and what is taken off stands on the other side
+-- ---- z ≤ x < z + 1, where z is posPart - negPart and x is (gain - loss) / den: negative parts stand on the other side
 abbrev pub posPart : ℤ → ℕ
 posPart (pos n) = n
 posPart (negsuc n) = 0
@@ -89,7 +89,7 @@ floor-around b (fin true m e) B h =
     let c = ceiling-around (m * up e) (down e) (down-pos e) in
     rw (floor-negative b m e B h) (negated ((m * up e + (down e - 1)) / down e) m e (c .0) (c .1))
 
--- no other integer lies so
+-- No other integer has this property.
 pub equal : (z w : ℤ) → posPart z + negPart w ≡ posPart w + negPart z → z ≡ w
 equal (pos a) (pos b) e = ap pos (omega arith)
 equal (pos a) (negsuc b) e = absurd (omega arith)

@@ -1,5 +1,5 @@
--- The fraction of a number of magnitude at most 2 ^ 52 lies from 0 to 1, the ends included: the floor is exact as a
--- float, the exact difference lies from 0 to 1, and rounding keeps the order. Assumes nothing.
+-- The fraction of a number of magnitude at most 2 ^ 52 lies from 0 to 1, both included. The floor is exact as a float,
+-- the exact difference lies from 0 to 1, and rounding keeps the order. Assumes nothing.
 use mathlib.Core.Path.{_≡_, refl, sym, _∙_}
 use mathlib.Core.Bool.{true, false, not, true≢false}
 use Prim.Native.Nat.{ℕ, suc, _+_, _*_, _^_, _≤_, _<_}
@@ -20,7 +20,7 @@ use Rattle.interval.proofs.Operations.{Rounds, in-order, added}
 use Rattle.integer_part.specs.Parts.{floorOf, fractionOf}
 use Rattle.integer_part.proofs.Floors.{posPart, negPart, floor-at-most, floor-around}
 
--- from 0.0 to 1.0
+-- x lies from 0.0 to 1.0.
 abbrev pub Unit : Float → Type 0
 Unit x = T (le (ofBits binary64 0) x) × T (le x (ofBits binary64 0x3ff0_0000_0000_0000))
 
@@ -32,7 +32,7 @@ one-rounds : Rounds binary64 (ofBits binary64 0x3ff0_0000_0000_0000) 1 0 1
 unfolding round ofBits
 one-rounds = record { sign = false; size = 1; is = refl; same = refl }
 
--- a whole number taken off: y is -z
+-- A whole number is taken off: y is -z.
 record Opposite (y : Float) (z : ℤ) : Type 0 where
   number : T (finite y)
   gains : gain y ≡ negPart z * den y
@@ -49,7 +49,7 @@ opposite (fin true n d) (negsuc k) v =
     record { number = tt; gains = sym (mul-one (n * up d)) ∙ v .1; loses = sym (zero-mul (down d)) }
 opposite (fin false n d) (negsuc k) v = absurd (true≢false (sym (v .0)))
 
--- (g - l) / c less z, over one denominator
+-- (g - l) / c less z, over one denominator.
 apart : (g l c g' l' c' : ℕ) (z : ℤ) → g' ≡ negPart z * c' → l' ≡ posPart z * c'
     → (posPart z * c + l ≤ negPart z * c + g) × (negPart z * c + g < suc (posPart z) * c + l)
     → (0 * (c * c') + (l * c' + l' * c) * 1 ≤ (g * c' + g' * c) * 1 + 0 * (c * c'))

@@ -1,5 +1,5 @@
--- How large an integer is: `mag` is at most the magnitude, and that of a sum little more than the two together,
--- so that a sum stays in the range of an `i64`. Assumes nothing.
+-- How large an integer is. `mag` is at most the magnitude, and that of a sum is little more than the two together, so
+-- that a sum stays in the range of an `i64`. Assumes nothing.
 use mathlib.Core.Path.{_≡_, refl}
 use mathlib.Core.Bool.{Bool, true, false, cond}
 use Prim.Native.Nat.{ℕ, zero, suc, _+_, _-_, _^_, _≤_, _<_}

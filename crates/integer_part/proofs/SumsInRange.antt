@@ -1,4 +1,4 @@
--- Signed sums near a place: a small unsigned number read as a signed one, and a sum and a difference that stay in the
+-- Signed sums near a place: a small unsigned number read as a signed one, and sums and differences that stay in the
 -- range of an `i64`. Assumes nothing.
 use mathlib.Core.Path.{_≡_, _∙_}
 use Prim.Native.Nat.{ℕ, zero, suc, _+_, _^_, _≤_, _<_}
@@ -13,7 +13,7 @@ use Rattle.integer_part.proofs.IntegerSizes.{mag-sum, sum-fits}
 pub small : (k : ℕ) → k < 2 ^ 63 → toZ w64 k ≡ pos k
 small k h = toZ-ofZ w64 (pos k) (record { sfits = h })
 
--- an `i64` and a small number behind it, as the code adds them
+-- An `i64` plus a small number, as the code adds them.
 module _ {z : ℤ} (fits : SFits w64 z) (k : ℕ) (h : mag z + k + 1 < 2 ^ 63) where
   sum-is : toZ w64 (ofZ w64 z) +ℤ toZ w64 k ≡ z +ℤ pos k
   sum-is = rw (toZ-ofZ w64 z fits, small k (omega arith))

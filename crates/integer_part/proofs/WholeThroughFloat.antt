@@ -1,5 +1,5 @@
--- A number against a whole number that is given as n less another, and a whole number through a float and back.
--- Assumes nothing.
+-- A number compared with a whole number that is given as n less another, and a whole number turned into a float and
+-- back. Assumes nothing.
 use mathlib.Core.Path.{_≡_, refl, sym, ap, _∙_}
 use mathlib.Core.Bool.{Bool, true, false, cond, not, true≢false}
 use Prim.Native.Nat.{ℕ, suc, _+_, _-_, _*_, _^_, _≤_, _<_}
@@ -40,7 +40,7 @@ abs-less a b c A B = go (ltb a b) refl
     go true h = omega (arith, ltb-true a b h)
     go false h = omega arith
 
--- ---- x against a whole number: g less l is x's numerator over d
+-- ---- x compared with a whole number, where (g - l) / d is x
 record Whole (y : Float) (z : ℤ) : Type 0 where
   number : T (finite y)
   gains : gain y ≡ posPart z * den y
@@ -54,7 +54,7 @@ whole (fin false n d) (pos k) v = record { number = tt; gains = omega (arith, v 
 whole (fin true n d) (negsuc k) v = record { number = tt; gains = omega arith; loses = omega (arith, v .1) }
 whole (fin false n d) (negsuc k) v = absurd (true≢false (sym (v .0)))
 
--- x below z, over the denominators d and c, where z is n less big
+-- x lies below z, over the denominators d and c, where z is n less big.
 module _ (big g l d g' l' c p q n : ℕ) (G : g' ≡ p * c) (L : l' ≡ q * c) (e : p + big ≡ n + q) (C : 0 < c) where
   scaled : p * d + big * d ≡ n * d + q * d
   scaled = sym (add-mul p big d) ∙ ap (λ (z : ℕ). z * d) e ∙ add-mul n q d

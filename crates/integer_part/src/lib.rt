@@ -7,7 +7,7 @@ ghost use Rattle.magnitude.specs.Bounds.{AtMost};
 ghost use Rattle.integer_part.specs.Parts.{floorOf, fractionOf};
 use constants::LIMIT_F64;
 
-// Rust's `x as i64`: towards zero, an end of the range where x lies past it, and 0 at a NaN.
+// Rust's `x as i64`: rounded towards zero; if x lies outside of i64, the nearer end of its range; 0 at a NaN.
 fn truncated(x: f64) -> i64
     ensures { λ r. ⌜ r ≡ Ieee.toSigned 63 x ⌝ }
 {
@@ -20,7 +20,7 @@ fn truncated(x: f64) -> i64
     if x == x { i64::MAX } else { 0 }
 }
 
-// Where x has places below the point: what is cut towards zero, and one less where that lies above x.
+// For an x that may have digits behind the point: it is cut towards zero, and one less is taken if that lies above x.
 fn stepped(x: f64) -> i64
     requires { ⌜ AtMost (2 ^ 52) x ⌝ }
     ensures { λ r. ⌜ r ≡ floorOf x ⌝ }
@@ -29,7 +29,7 @@ fn stepped(x: f64) -> i64
     if x < (t as f64) { t - 1 } else { t }
 }
 
-// From 2^52 on every f64 is whole, so there is nothing to step over.
+// From 2^52 on every f64 is a whole number, so the cast alone is the floor.
 fn beyond(x: f64) -> i64
     ensures { λ r. ⌜ r ≡ floorOf x ⌝ }
 {
@@ -41,7 +41,7 @@ fn beyond(x: f64) -> i64
 }
 
 // The floor as a float, without a cast. Between 2^52 and 2^53 the floats are the whole numbers, so adding 3 * 2^51
-// rounds x to a neighbouring whole number, which is one too many if it lies above x.
+// rounds x to a neighbouring whole number, which is the floor, or one too many if it lies above x.
 fn floored(x: f64) -> f64
     requires { ⌜ AtMost (2 ^ 36) x ⌝ }
     ensures { λ r. ⌜ r ≡ Ieee.ofInt binary64 (floorOf x) ⌝ }
@@ -51,8 +51,8 @@ fn floored(x: f64) -> f64
     t - step - 6755399441055744.0
 }
 
-// Rust's `x.floor() as i64` (K3). The fast path covers all positions of a reader; its test is the one of
-// `ring::position_ok`, so that the compiler makes it once.
+// Rust's `x.floor() as i64` (K3). The fast path covers all positions of a reader; its test is that of
+// `ring::position_ok`, so that the compiler does it once for both.
 pub fn floor(x: f64) -> i64
     ensures { λ r. ⌜ r ≡ floorOf x ⌝ }
 {

@@ -1,5 +1,5 @@
--- Where a float lies: between two finite ones, its ends. What is made of floats so bounded lies between what is made of
--- their ends, so that a bound is computed at the ends alone. Assumes nothing.
+-- A float lies between two finite ones, its ends. The result of an operation on such floats lies between results at
+-- their ends, so that a bound has to be computed only there. Assumes nothing.
 use mathlib.Core.Path.{_≡_}
 use mathlib.Core.Bool.{true, false}
 use Prim.Native.Nat.{ℕ, _≤_}
@@ -17,7 +17,7 @@ pub record Between (low high x : Float) : Type 0 where
   pub above : Ordered low x
   pub below : Ordered x high
 
--- From the tests of a range with finite ends.
+-- What the tests of a range with finite ends show.
 pub between : {low high x : Float} → T (finite low) → T (finite high) → T (le low x) → T (le x high)
     → Between low high x
 unfolding le
@@ -38,7 +38,7 @@ between {low} {high} {x} p q h k =
 pub point : (x : Float) → T (finite x) → Between x x x
 point x p = between p p (of-under x x p p (le-refl _)) (of-under x x p p (le-refl _))
 
--- ---- in each law l and h are the new ends, computed
+-- ---- in each law l and h are the new ends, which are computed
 pub whole-between : (f : Format) {k n m : ℕ} {l h : Float} → k ≤ n → n ≤ m → ofInt f (pos k) ≡ l → ofInt f (pos m) ≡ h
     → T (finite l) → T (finite h) → Between l h (ofInt f (pos n))
 unfolding ofInt

@@ -1,6 +1,6 @@
--- Which operations keep the order, and where: a sum grows with either part; a product whose first factor is not
--- negative grows with both factors up to a second that is not negative either, and shrinks as the first grows by a
--- second that is not positive; a quotient grows as its divisor shrinks. Assumes nothing.
+-- Which operations keep the order, and where. A sum grows with either part. A product with a first factor that is not
+-- negative grows with both factors if the second is not negative either, and shrinks as the first grows if the second
+-- is not positive. A quotient grows as its divisor shrinks. Assumes nothing.
 use mathlib.Core.Path.{_≡_}
 use Prim.Native.Nat.{_*_, _<_}
 use native.Mathlib.Nat.{mul-le-mul-right, mul-pos}

@@ -1,6 +1,5 @@
--- A sum, a product and a quotient of finite floats are each one rounding of an exact (p - n) / c,
--- and two roundings are in the order of what they round.
--- Assumes nothing.
+-- A sum, a product and a quotient of finite floats are each one rounding of an exact (p - n) / c, and two roundings
+-- have the order of the numbers that are rounded. Assumes nothing.
 use mathlib.Core.Path.{_≡_, refl, sym, ap}
 use mathlib.Core.Bool.{Bool, true, false, not, cond}
 use Prim.Native.Nat.{ℕ, zero, suc, _+_, _-_, _*_, _≤_, _<_}

@@ -1,6 +1,6 @@
--- A fact of every float between two ends, piece by piece: the pieces' ends are a list that goes up,
--- each float lies in one of them, and a test of the two ends of each piece, computed, gives the fact there.
--- Assumes nothing.
+-- A fact about every float between two ends, shown piece by piece. The ends of the pieces are an ascending list, each
+-- float lies in one of the pieces, and a computed test of the two ends of a piece gives the fact there. Assumes
+-- nothing.
 use mathlib.Core.Bool.{Bool, true, false, not, _&&_}
 use mathlib.Core.List.{List, [], _∷_}
 use lib.Dec.{T}
@@ -24,7 +24,7 @@ pub all-of : (bs : List Bool) → T (all bs) → All bs
 all-of [] h = tt
 all-of (b ∷ bs) h = (and-l b (all bs) h, all-of bs (and-r b (all bs) h))
 
--- ---- the pieces from a by b on
+-- ---- the pieces that begin with a and b
 abbrev pub passed : (Float → Float → Bool) → Float → Float → List Float → Bool
 passed test a b [] = test a b
 passed test a b (c ∷ cs) = finite b && (test a b && passed test b c cs)

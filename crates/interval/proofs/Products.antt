@@ -1,5 +1,6 @@
--- A product whose first factor is not negative lies between products of ends, which ones by the signs of the other's
--- ends; a quotient of floats that are not negative, by one above zero, between quotients of ends. Assumes nothing.
+-- A product whose first factor is not negative lies between products of ends; which ones depends on the signs of the
+-- other factor's ends. A quotient of floats that are not negative, by one above zero, lies between quotients of ends.
+-- Assumes nothing.
 use mathlib.Core.Path.{_≡_, refl}
 use mathlib.Core.Bool.{Bool, true, false, not, cond}
 use Prim.Native.Nat.{_+_, _*_, _≤_, _<_}
@@ -31,7 +32,7 @@ not-positive (inf s) p h = absurd p
 not-positive (fin true m e) p h = refl
 not-positive (fin false m e) p h = omega (arith, under (fin false m e) zero tt tt h)
 
--- Above a float that is not negative nothing is negative; below one that is not positive nothing is positive.
+-- Nothing above a float that is not negative is negative, and nothing below one that is not positive is positive.
 pub rises : {x y : Float} → Ordered x y → loss x ≡ 0 → loss y ≡ 0
 rises {x} {y} o n = go y (o .second) (rw n at (bound o))
   where
@@ -53,8 +54,8 @@ falls {x} {y} o n = go x (o .first) (rw n at (bound o))
 pub rises-above : {x y : Float} → Ordered x y → loss x ≡ 0 → 0 < gain x → 0 < gain y
 rises-above {x} {y} o n g = first-pos (gain y) (den x) (omega (arith, mul-pos g (den-pos y), rw n at (bound o)))
 
--- The ends of a product whose first factor lies in [a, b] and is not negative: where the other begins at c,
--- and where it ends at d.
+-- The ends of a product whose first factor lies in [a, b] and is not negative: the lower end if the other begins at c,
+-- the upper if it ends at d.
 abbrev pub least : Format → Float → Float → Float → Float
 least f a b c = mul f (cond (le zero c) a b) c
 

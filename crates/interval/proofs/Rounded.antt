@@ -1,6 +1,6 @@
--- Rounding keeps the order, whatever the signs: of two signed fractions the larger rounds to a value that is no
--- smaller. `lib.Ieee.Order.round-mono` says it where neither is negative; a negative fraction rounds to the negated
--- value. Assumes nothing.
+-- Rounding keeps the order, whatever the signs: the larger of two signed fractions rounds to a value that is no
+-- smaller. `lib.Ieee.Order.round-mono` says it for fractions that are not negative; a negative fraction rounds to the
+-- negated value. Assumes nothing.
 use mathlib.Core.Path.{_≡_, refl, sym, ap, _∙_}
 use mathlib.Core.Bool.{Bool, true, false, not, cond}
 use Prim.Native.Nat.{ℕ, zero, suc, _+_, _*_, _^_, _≤_, _<_, zero-le}
@@ -85,7 +85,7 @@ le-neg (fin false m e) (fin true n d) h =
 le-neg (fin false m e) (fin false n d) h =
     of-under (fin true n d) (fin true m e) tt tt (omega (arith, under (fin false m e) (fin false n d) tt tt h))
 
--- ---- of nothing, zero
+-- ---- zero rounds to zero
 nothing : (f : Format) (s : Bool) (a c : ℕ) → 0 < c → a ≡ 0 → round f s a c ≡ fin s 0 (pos 0)
 unfolding round size units odd
 nothing f s a c C e = round-same f s a c 0 1 C (lit< tt) (simp (e, zero-mul)) ∙ at-one f

@@ -1,5 +1,5 @@
--- The order of finite floats as one of whole numbers. A float is (gain - loss) / den, one of gain and loss being 0,
--- so that no sign is left and `omega` reads the rest. Assumes nothing.
+-- The order of finite floats as an order of whole numbers. A float is (gain - loss) / den, where gain or loss is 0, so
+-- that no sign is left and `omega` reads the rest. Assumes nothing.
 use mathlib.Core.Bool.{Bool, true, false, not, cond}
 use Prim.Native.Nat.{ℕ, _+_, _*_, _≤_, _<_}
 use native.Mathlib.Nat.{lt-of-not-le, lt-of-mul-lt-mul-right, le-of-mul-le-mul-right, mul-le-mul-right}
@@ -32,7 +32,7 @@ loss nan = 0
 loss (inf s) = 0
 loss (fin s m e) = less s (m * up e)
 
--- Both sides of x ≤ y, times both denominators.
+-- Both sides of x ≤ y, multiplied by both denominators.
 abbrev pub left : Float → Float → ℕ
 left x y = gain x * den y + loss y * den x
 
@@ -67,7 +67,7 @@ of-under (fin true m e) (fin false n d) p q h = nlt→le (fin true m e) (fin fal
 of-under (fin false m e) (fin true n d) p q h =
     nlt→le (fin false m e) (fin true n d) tt tt (le→nltb 0 (n * up d * down e + m * up e * down d) (omega arith))
 
--- ---- the same of the strict order
+-- ---- the same for the strict order
 pub strictly : (x y : Float) → T (finite x) → T (finite y) → T (lt x y) → left x y < right x y
 unfolding lt
 strictly nan y p q h = absurd p
@@ -117,7 +117,6 @@ le-lt x y z p q r h k =
       simp ring at (mul-lt-mul-of-pos-right (strictly y z q r k) (den-pos x)),
     ))))
 
--- Two finite floats in order.
 pub record Ordered (x y : Float) : Type 0 where
   pub first : T (finite x)
   pub second : T (finite y)

@@ -1,5 +1,5 @@
--- Eight taps more, or fewer, of the outer loop: the weights that the lanes hold are the definition's,
--- and so are the samples. Assumes nothing.
+-- Eight more taps, or fewer, of the outer loop: the weights in the lanes are the definition's, and so are the samples.
+-- Assumes nothing.
 use mathlib.Core.Path.{_≡_, ap, _∙_}
 use mathlib.Core.List.{List}
 use Prim.Native.Nat.{ℕ, _+_, _<_, _≤_}

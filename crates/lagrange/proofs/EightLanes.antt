@@ -1,5 +1,5 @@
--- Two turns of the inner loop over eight lanes are two factors of each of eight weights. The difference of two nodes
--- depends on their distance alone, since whole numbers are subtracted exactly. Assumes nothing.
+-- Two turns of the inner loop over eight lanes are two factors for each of eight weights. The difference of two nodes
+-- depends only on their distance, since whole numbers are subtracted exactly. Assumes nothing.
 use mathlib.Core.Path.{_≡_, refl, sym, ap, _∙_}
 use mathlib.Core.Bool.{Bool, true, false, cond}
 use mathlib.Core.List.{List, [], _∷_}
@@ -54,7 +54,7 @@ same-gap : (c a b : ℕ) {a′ b′ : ℕ} → c + a ≡ a′ → c + b ≡ b′
 same-gap c a b {a′} {b′} e f l m =
     differ a b (omega arith) (omega arith) ∙ ap (ofInt binary64) (shift c a b ∙ rw (e, f)) ∙ sym (differ a′ b′ l m)
 
--- ---- one factor, and none at the own node
+-- ---- one factor, and none at the weight's own node
 more : (local : Float) (k j : ℕ) {n : ℕ} {w x d : Float} → (j ≡ k → ⊥) → j + 1 ≡ n
     → w ≡ weightOf j local k → x ≡ sub binary64 local (num j) → d ≡ sub binary64 (num k) (num j)
     → mul binary64 w (div binary64 x d) ≡ weightOf n local k

@@ -1,4 +1,4 @@
--- What is known where the taps and the position are in range. Assumes nothing.
+-- What follows if the taps and the position are in range. Assumes nothing.
 use mathlib.Core.Path.{_≡_, refl}
 use mathlib.Core.Bool.{Bool, true, false, _&&_}
 use Prim.Native.Nat.{ℕ, _%_, _^_, _≤_}

@@ -1,5 +1,5 @@
--- K4, K7. 000's Lagrange<TAPS>: its two loops in 000's order, each step rounded. The taps are a number. Definitions
--- only.
+-- K4, K7. 000's Lagrange<TAPS>: its two loops in 000's order, each step rounded. The number of taps is an argument.
+-- Definitions only.
 use Prim.Native.Nat.{ℕ, _-_, _/_, _%_}
 use mathlib.Core.Bool.{Bool, true, false, _&&_, cond}
 use mathlib.Core.List.{List}
@@ -13,23 +13,24 @@ use Rattle.ring.specs.Taps.{tapOf}
 use Rattle.ring.specs.Places.{positionOk}
 use Rattle.integer_part.specs.Parts.{floorOf}
 
--- G5. Taps: even, 2 to 16.
+-- G5. The taps are even and from 2 to 16.
 abbrev pub tapsOk : ℕ → Bool
 tapsOk taps = leb taps 16 && leb 2 taps && eqb (taps % 2) 0
 
 abbrev pub num : ℕ → Float
 num n = ofInt binary64 (pos n)
 
--- The inner loop in floats; in fractions it is Lagrange's formula (`formula` in lagrange_factors/proofs/Nodes.antt).
+-- The weight by the inner loop in floats. In fractions the same loop is Lagrange's formula (`formula` in
+-- lagrange_factors/proofs/Nodes.antt).
 abbrev pub weightOf : ℕ → Float → ℕ → Float
 weightOf taps local k = weight floats local k taps
 
--- `sum += source.at(base + k) * weight`
+-- In 000: `sum += source.at(base + k) * weight`.
 abbrev pub turnOf : List Float → ℕ → ℤ → Float → ℕ → ℕ → Float → Float
 turnOf xs count base local taps k sum =
     add binary64 sum (mul binary64 (tapOf xs count (base +ℤ pos k)) (weightOf taps local k))
 
--- The first tap stands taps / 2 - 1 before the integer part; `local` is the position from there.
+-- The first tap stands taps / 2 - 1 before the integer part; `local` is the position counted from there.
 abbrev pub baseOf : Float → ℕ → ℤ
 baseOf p taps = floorOf p -ℤ pos (taps / 2 - 1)
 

@@ -1,4 +1,4 @@
-// The weights of eight nodes at once, the factors in 000's order.
+// The weights of eight nodes at once. The factors are multiplied in 000's order, which the roundings depend on.
 ghost use mathlib.Core.Path.{_≡_};
 ghost use Prim.Native.Nat.{_+_, _*_, _≤_, _<_, min};
 ghost use Rattle.lagrange.specs.Kernel.{num};
@@ -11,7 +11,7 @@ fn number(n: u64) -> f64
     (n as i64) as f64
 }
 
-// The nodes from `first` on.
+// The numbers of eight nodes as floats, from `first` on.
 fn nodes(first: u64) -> [f64; 8]
     requires { ⌜ first ≤ 16 ⌝ }
     ensures { λ r. ⌜ Nodes first r ⌝ }
@@ -28,7 +28,7 @@ fn nodes(first: u64) -> [f64; 8]
     ]
 }
 
-// The factors of the eight nodes themselves, or of the first pairs of them.
+// Multiplies in the factors of the eight nodes themselves, or of the first pairs of them if there are fewer.
 fn among(w: [f64; 8], own: [f64; 8], first: u64, local: f64, pairs: u64) -> [f64; 8]
     requires { ⌜ (first ≤ 16) × (1 ≤ pairs) × Nodes first own × Weights local first first w ⌝ }
     ensures { λ r. ⌜ Weights local first (first + 2 * min pairs 4) r ⌝ }
@@ -50,7 +50,7 @@ fn among(w: [f64; 8], own: [f64; 8], first: u64, local: f64, pairs: u64) -> [f64
     lagrange_factors::fourth_pair(w6, up, down, local - own[6], local - own[7])
 }
 
-// The factors of the pairs of nodes before pair f, where the eight begin.
+// The weights with the factors of the nodes before the eight, which begin at pair f.
 fn nodes_before(own: [f64; 8], f: u64, local: f64) -> [f64; 8]
     requires { ⌜ (f ≤ 8) × Nodes (2 * f) own ⌝ }
     ensures { λ r. ⌜ Weights local (2 * f) (2 * f) r ⌝ }
@@ -65,7 +65,7 @@ fn nodes_before(own: [f64; 8], f: u64, local: f64) -> [f64; 8]
     w
 }
 
-// The factors of the pairs behind the eight, if there are any.
+// Multiplies in the factors of the nodes behind the eight, if there are any.
 fn nodes_behind(w: [f64; 8], own: [f64; 8], f: u64, local: f64, pairs: u64) -> [f64; 8]
     requires { ⌜ (f ≤ 8) × (pairs ≤ 8) × (f < pairs) × Nodes (2 * f) own
         × Weights local (2 * f) (2 * min (f + 4) pairs) w ⌝ }
@@ -81,7 +81,7 @@ fn nodes_behind(w: [f64; 8], own: [f64; 8], f: u64, local: f64, pairs: u64) -> [
     w
 }
 
-// The weights of the eight nodes from pair f on, among 2 * pairs of them.
+// The weights of the eight nodes from pair f on, among 2 * pairs nodes.
 pub(crate) fn weights(f: u64, local: f64, pairs: u64) -> [f64; 8]
     requires { ⌜ (f < pairs) × (pairs ≤ 8) ⌝ }
     ensures { λ r. ⌜ Weights local (2 * f) (2 * pairs) r ⌝ }

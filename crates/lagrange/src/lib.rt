@@ -9,7 +9,7 @@ ghost use Rattle.ring.specs.Places.{positionOk};
 ghost use Rattle.lagrange.specs.Kernel.{tapsOk, readOf};
 use answer::Answer;
 
-// G5. Whether a number of taps is even and from 2 to 16.
+// G5. A number of taps is even and lies from 2 to 16.
 pub fn taps_ok(taps: u64) -> bool
     ensures { λ r. ⌜ r ≡ tapsOk taps ⌝ }
 {
@@ -20,7 +20,7 @@ pub fn taps_ok(taps: u64) -> bool
     }
 }
 
-// G3, G5. Whether the taps and the position are in range.
+// G3, G5. Both the taps and the position are in range.
 pub fn in_range(position: f64, taps: u64) -> bool
     ensures { λ r. ⌜ r ≡ (tapsOk taps && positionOk position) ⌝ }
 {
@@ -31,7 +31,7 @@ pub fn in_range(position: f64, taps: u64) -> bool
     }
 }
 
-// The reading at a position; zero where the taps or the position are out of range.
+// If the taps or the position are out of range the reading is zero.
 pub fn read(source: &[f64], count: u64, position: f64, taps: u64) -> f64
     ensures { λ r. ⌜ r ≡ readOf taps (now (source .entry)) count position ⌝ }
 {
@@ -44,7 +44,7 @@ pub fn read(source: &[f64], count: u64, position: f64, taps: u64) -> f64
     }
 }
 
-// The reading of a lent slice: refusal 1 where the taps or the position are out of range.
+// N1. Taps or a position out of range are refused by 1.
 pub fn sample(source: &[f64], count: u64, position: f64, taps: u64) -> Answer
     ensures { λ r. ⌜ r ≡
         answerOf (cond (tapsOk taps && positionOk position) 0 1) (readOf taps (now (source .entry)) count position) ⌝ }

@@ -1,4 +1,4 @@
-// The sum over the taps, eight nodes at a time.
+// The sum over the taps, for eight nodes at a time.
 ghost use mathlib.Core.Path.{_≡_};
 ghost use mathlib.Core.Bool.{true};
 ghost use Prim.Native.Nat.{_+_, _*_, _^_, _≤_, _<_, min};
@@ -13,7 +13,7 @@ ghost use Rattle.lagrange.specs.Eights.{tapTurn, SideBySide};
 use crate::lanes::weights;
 use ring::Start;
 
-// The tap k behind the first.
+// Tap k, counted from the first.
 fn tap_after(source: &[f64], count: u64, base: i64, k: u64) -> f64
     requires { ⌜ (mag base ≤ 2 ^ 37) × (k ≤ 16) ⌝ }
     ensures { λ r. ⌜ r ≡ tapOf (now (source .entry)) count (base +ℤ pos k) ⌝ }
@@ -42,7 +42,7 @@ fn one_by_one(
     sum
 }
 
-// Taps side by side from a place on: none is tested.
+// Adds taps that stand side by side from a place on, without a test for each.
 fn run(source: &[f64], place: usize, w: [f64; 8], n: usize, sum: f64) -> f64
     requires { ⌜ (place + n ≤ length (now source)) × (n ≤ 8) ⌝ }
     ensures { λ r. ⌜ r ≡ fold (tapTurn (λ k. getD (now (source .entry)) (place + k) nan) w) sum n ⌝ }
@@ -80,7 +80,7 @@ fn start(source: &[f64], count: u64, base: i64, taps: u64) -> Start
     }
 }
 
-// The next eight taps, or those that are left.
+// Adds the next eight taps, or those that are left.
 fn block(
     source: &[f64],
     count: u64,
@@ -106,7 +106,7 @@ fn block(
     one_by_one(source, count, base, 2 * f, w, n as usize, sum)
 }
 
-// The outer loop.
+// The outer loop of 000, with eight turns at a time.
 pub(crate) fn sum(source: &[f64], count: u64, base: i64, local: f64, pairs: u64) -> f64
     requires { ⌜ (mag base ≤ 2 ^ 37) × (1 ≤ pairs) × (pairs ≤ 8) ⌝ }
     ensures { λ r. ⌜ r ≡ fold (turnOf (now (source .entry)) count base local (2 * pairs)) zero-f (2 * pairs) ⌝ }

@@ -1,5 +1,5 @@
--- K7, D2b. The weights' loop in fractions is Lagrange's formula, and at the nodes it gives 1 at a weight's own and 0 at
--- the others, once over the taps. By induction over the factors. Assumes nothing.
+-- K7, D2b. The weights' loop in fractions is Lagrange's formula. At the nodes it gives 1 for a weight's own node and 0
+-- for the others, for any number of taps. By induction over the factors. Assumes nothing.
 use mathlib.Core.Path.{_≡_, refl, sym, ap, _∙_}
 use mathlib.Core.Bool.{Bool, true, false, cond}
 use Prim.Native.Nat.{ℕ, zero, suc, _-_, _*_, _<_}

@@ -6,12 +6,12 @@ use mathlib.Core.Bool.{Bool, cond}
 use lib.Dec.{eqb}
 use lib.IntN.{ℤ, pos, _-ℤ_, _*ℤ_}
 
--- The product of (p - j q) over the nodes j below n other than k: the numerator, over q for each factor.
+-- The numerator: the product of (p - j q) over the nodes j below n other than k. Each factor stands over a q.
 unfoldable pub numerator : ℤ → ℤ → ℕ → ℕ → ℤ
 numerator p q k zero = pos 1
 numerator p q k (suc j) = cond (eqb j k) (numerator p q k j) (numerator p q k j *ℤ (p -ℤ pos j *ℤ q))
 
--- The product of (k - j) over the same nodes, with as many factors q.
+-- The denominator: the product of (k - j) over the same nodes, with a factor q for each.
 unfoldable pub denominator : ℤ → ℕ → ℕ → ℤ
 denominator q k zero = pos 1
 denominator q k (suc j) = cond (eqb j k) (denominator q k j) (denominator q k j *ℤ ((pos k -ℤ pos j) *ℤ q))

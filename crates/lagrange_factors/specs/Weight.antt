@@ -1,5 +1,5 @@
--- K7. The weight of a node by 000's inner loop, over the arithmetic that it is worked out in: in floats it is the
--- kernel's, in fractions it is Lagrange's formula. Definitions only.
+-- K7. The weight of a node by 000's inner loop, over any arithmetic: in floats it is the kernel's, in fractions it is
+-- Lagrange's formula. Definitions only.
 use Prim.Native.Nat.{ℕ, zero, suc, _<_}
 use mathlib.Core.Path.{_≡_}
 use mathlib.Core.Bool.{Bool, false, cond}
@@ -8,7 +8,7 @@ use lib.IntN.{ℤ, pos, natAbs, _-ℤ_, _*ℤ_}
 use lib.Ieee.{Float, fin, binary64, sub, mul, div, ofInt}
 use Rattle.constants.specs.Numbers.{one-f}
 
--- What the loop does with numbers.
+-- The operations that the loop uses.
 pub record Arithmetic (A : Type 0) : Type 0 where
   pub one : A
   pub number : ℕ → A
@@ -16,7 +16,7 @@ pub record Arithmetic (A : Type 0) : Type 0 where
   pub times : A → A → A
   pub over : A → A → A
 
--- `if j != k { weight *= (local - j) / (k - j) }`
+-- In 000: `if j != k { weight *= (local - j) / (k - j) }`.
 abbrev pub factor : {A : Type 0} → Arithmetic A → A → ℕ → ℕ → A → A
 factor a local k j w =
     cond (eqb j k) w (a .times w (a .over (a .less local (a .number j)) (a .less (a .number k) (a .number j))))
@@ -26,7 +26,7 @@ unfoldable pub weight : {A : Type 0} → Arithmetic A → A → ℕ → ℕ → 
 weight a local k zero = a .one
 weight a local k (suc j) = factor a local k j (weight a local k j)
 
--- K4. 000's own: every operation is rounded.
+-- K4. The arithmetic of 000, in which every operation is rounded.
 abbrev pub floats : Arithmetic Float
 floats =
     record {
@@ -37,7 +37,7 @@ floats =
       over = div binary64;
     }
 
--- A numerator and a denominator; it has a value where the denominator is not zero.
+-- A numerator and a denominator; the fraction has a value if the denominator is not zero.
 pub record Fraction : Type 0 where
   pub top : ℤ
   pub bottom : ℤ
@@ -46,7 +46,7 @@ pub record Is (z : ℤ) (f : Fraction) : Type 0 where
   pub proper : 0 < natAbs (f .bottom)
   pub value : f .top ≡ z *ℤ f .bottom
 
--- D2b. Nothing is rounded.
+-- D2b. The arithmetic of exact fractions, in which nothing is rounded.
 abbrev pub fractions : Arithmetic Fraction
 fractions =
     record {

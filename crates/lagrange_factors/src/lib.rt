@@ -1,11 +1,12 @@
-// Two turns of the original's inner loop over Lagrange weights, for eight nodes at once (000).
+// Two rounds of the original's inner loop over Lagrange weights, for eight nodes at once (000).
 // The differences of two nodes are computed and not written as constants: the compiler would turn a division by a power
 // of two into a product and no longer work on two lanes at a time.
 ghost use mathlib.Core.Path.{_≡_};
 ghost use lib.Ieee.{binary64, sub};
 ghost use Rattle.lagrange_factors.specs.Lanes.{aboveOf, belowOf, turned, passed};
 
-// K7. How far the nodes lie above the first, and the first above them.
+// K7. The distances of the nodes from the first: upwards here, downwards in the next function. They serve for any two
+// nodes, because a difference depends only on how far two nodes lie apart.
 pub fn above(own: [f64; 8]) -> [f64; 8]
     ensures { λ r. ⌜ r ≡ aboveOf own ⌝ }
 {
@@ -36,7 +37,8 @@ pub fn below(own: [f64; 8]) -> [f64; 8]
     ]
 }
 
-// At the first two of the eight nodes, and so on; a and b are the position less each. A weight's own node is skipped.
+// Multiplies in the factors of the first two of the eight nodes; the next three functions do the other pairs. The
+// position less each of the two nodes is a and b. A weight has no factor for its own node.
 pub fn first_pair(w: [f64; 8], up: [f64; 8], down: [f64; 8], a: f64, b: f64) -> [f64; 8]
     ensures { λ r. ⌜ r ≡ turned up down a b 0 w ⌝ }
 {
@@ -97,7 +99,7 @@ pub fn fourth_pair(w: [f64; 8], up: [f64; 8], down: [f64; 8], a: f64, b: f64) ->
     ]
 }
 
-// The factors of two other nodes.
+// Multiplies in the factors of two nodes that are not among the eight.
 pub fn pass(w: [f64; 8], own: [f64; 8], local: f64, other: f64, next: f64) -> [f64; 8]
     ensures { λ r. ⌜ r ≡ passed own other next (sub binary64 local other) (sub binary64 local next) w ⌝ }
 {

@@ -1,4 +1,4 @@
--- Levels as texts, at both sides of 0.0 dB and at both ends of the range. Assumes nothing.
+-- Levels as texts, on both sides of 0.0 dB and at both ends of the range. Assumes nothing.
 use mathlib.Core.Path.{_≡_, refl}
 use Rattle.text.specs.Text.{ascii, decimalTo}
 use Rattle.decibels.specs.declared.Level.the-variants.{None, Below}

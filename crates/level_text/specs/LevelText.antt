@@ -11,12 +11,12 @@ use Rattle.decibels.specs.declared.Level.the-variants.{None, Below}
 unfoldable pub sizeText : ℕ → List ℕ
 sizeText t = decimal (t / 10) ++ (ascii "." ++ (decimal (t % 10) ++ ascii " dB"))
 
--- The level that lies j tenths below +6.1 dB: above 0 with a plus, below with a minus, and 0 with neither.
+-- The level that lies j tenths below +6.1 dB. Above 0 it has a plus, below 0 a minus, and at 0 neither.
 unfoldable pub tenthsText : ℕ → List ℕ
 tenthsText j =
     cond (ltb j 61) (ascii "+" ++ sizeText (61 - j)) (cond (ltb 61 j) (ascii "-" ++ sizeText (j - 61)) (sizeText 0))
 
--- Stretches without a level are the same, sample for sample.
+-- Two stretches without a level are the same, sample for sample.
 abbrev pub levelText : Level → List ℕ
 levelText None = ascii "no difference"
 levelText (Below j) = tenthsText j

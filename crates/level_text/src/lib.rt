@@ -5,7 +5,6 @@ ghost use Rattle.text.specs.Text.{putAt, placeAfter};
 ghost use Rattle.level_text.specs.LevelText.{sizeText, tenthsText, levelText};
 use decibels::Level;
 
-// Puts a level's text at a place, and gives the place after it.
 pub fn put_level(out: &mut [u8], at: usize, level: Level) -> usize
     ensures { λ r. ⌜ r ≡ placeAfter (length (now (out .entry))) at (levelText level) ⌝ }
     ensures { λ r. ⌜ now (out .exit) ≡ putAt (now (out .entry)) at (levelText level) ⌝ }
@@ -16,7 +15,7 @@ pub fn put_level(out: &mut [u8], at: usize, level: Level) -> usize
     }
 }
 
-// j tenths below +6.1 dB.
+// Puts the level that lies j tenths below +6.1 dB.
 fn put_tenths(out: &mut [u8], at: usize, j: u32) -> usize
     ensures { λ r. ⌜ r ≡ placeAfter (length (now (out .entry))) at (tenthsText j) ⌝ }
     ensures { λ r. ⌜ now (out .exit) ≡ putAt (now (out .entry)) at (tenthsText j) ⌝ }
@@ -32,7 +31,7 @@ fn put_tenths(out: &mut [u8], at: usize, j: u32) -> usize
     put_size(out, at, 0)
 }
 
-// A number of tenths with one place behind the point, without a sign.
+// Puts a number of tenths with one place behind the point, without a sign.
 fn put_size(out: &mut [u8], at: usize, tenths: u32) -> usize
     ensures { λ r. ⌜ r ≡ placeAfter (length (now (out .entry))) at (sizeText tenths) ⌝ }
     ensures { λ r. ⌜ now (out .exit) ≡ putAt (now (out .entry)) at (sizeText tenths) ⌝ }

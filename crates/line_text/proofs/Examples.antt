@@ -1,4 +1,4 @@
--- Parts of lines, computed from the definitions alone: a wrong definition shows here. Assumes nothing.
+-- Parts of lines, computed from the definitions alone, so that a wrong definition shows here. Assumes nothing.
 use mathlib.Core.Path.{_≡_, refl}
 use Rattle.text.specs.Text.{ascii, decimalTo}
 use Rattle.line_text.specs.Columns.{blanks, rightOf, lastDigits, placesIn, tenthsOf}
@@ -28,12 +28,12 @@ a-tenth : tenthsOf 1 ≡ ascii "0.1"
 unfolding ascii decimalTo lastDigits
 a-tenth = refl
 
--- an hour, two minutes and three seconds and a half at 48000 Hz
+-- An hour, two minutes and three and a half seconds at 48000 Hz.
 hour : timeOf 178728000 48000 ≡ ascii "1:02:03.500"
 unfolding ascii decimalTo lastDigits
 hour = refl
 
--- one frame at 44100 Hz is less than a thousandth
+-- One frame at 44100 Hz is less than a thousandth.
 one-frame : timeOf 1 44100 ≡ ascii "0:00:00.000"
 unfolding ascii decimalTo lastDigits
 one-frame = refl
@@ -42,7 +42,7 @@ no-rate : timeOf 48000 0 ≡ ascii "?"
 unfolding ascii
 no-rate = refl
 
--- the longest that 64 bits can count
+-- The longest time that 64 bits can count.
 longest : timeOf 18446744073709551615 1 ≡ ascii "5124095576030431:00:15.000"
 unfolding ascii decimalTo lastDigits
 longest = refl

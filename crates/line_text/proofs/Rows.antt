@@ -1,4 +1,4 @@
--- One blank more, and one digit more in front of those that are written. Assumes nothing.
+-- One more blank, and one more digit in front of those that are written. Assumes nothing.
 use mathlib.Core.Path.{_≡_, refl}
 use mathlib.Core.List.{List, _++_, append-assoc}
 use Prim.Native.Nat.{ℕ, zero, suc, _+_, _/_, _%_, _<_}
@@ -18,7 +18,7 @@ pub blank-next : (xs : List ℕ) (at : ℕ) {j k : ℕ} → suc j ≡ k
 unfolding blanks
 blank-next xs at e = rw (← e)
 
--- the digits of v, all but the last j of them written from suc k on: the next, at k
+-- All but the last j digits of v are written from suc k on; the next is written at k.
 pub digit-next : (xs : List ℕ) (k v : ℕ) {j l : ℕ} → suc j ≡ l → k < length xs
     → lastDigits l v ++ drop (suc k) xs ≡ lastDigits j (v / 10) ++ drop k (set xs k (48 + v % 10))
 unfolding lastDigits

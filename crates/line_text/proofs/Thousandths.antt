@@ -1,5 +1,5 @@
--- Frames as thousandths of a second, by whole seconds and what is left over: nothing is lost by dividing first.
--- Assumes nothing.
+-- Frames as thousandths of a second, by whole seconds and the remainder: nothing is lost by dividing first. Assumes
+-- nothing.
 use mathlib.Core.Path.{_≡_, sym, ap, _∙_}
 use Prim.Native.Nat.{ℕ, _+_, _*_, _/_, _%_, _<_}
 use native.Mathlib.Nat.{div-add-mod', mod-lt, mul-add-div-right, div-lt-iff-lt-mul, mul-right-comm}

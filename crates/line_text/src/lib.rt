@@ -12,7 +12,6 @@ use text::put;
 use text::put_decimal;
 pub use time::put_time;
 
-// Puts so many blanks at a place, and gives the place after them.
 pub fn put_blanks(out: &mut [u8], at: usize, count: usize) -> usize
     ensures { λ r. ⌜ r ≡ placeAfter (length (now (out .entry))) at (blanks count) ⌝ }
     ensures { λ r. ⌜ now (out .exit) ≡ putAt (now (out .entry)) at (blanks count) ⌝ }
@@ -33,7 +32,7 @@ pub fn put_blanks(out: &mut [u8], at: usize, count: usize) -> usize
     to
 }
 
-// Puts a number so that it ends where a column of that width ends: blanks, then its digits.
+// Puts a number at the right of a column of that width: blanks, then its digits.
 pub fn put_right(out: &mut [u8], at: usize, n: u64, width: usize) -> usize
     ensures { λ r. ⌜ r ≡ placeAfter (length (now (out .entry))) at (rightOf n width) ⌝ }
     ensures { λ r. ⌜ now (out .exit) ≡ putAt (now (out .entry)) at (rightOf n width) ⌝ }
@@ -44,14 +43,14 @@ pub fn put_right(out: &mut [u8], at: usize, n: u64, width: usize) -> usize
     put_decimal(out, to, n)
 }
 
-// a - b, 0 where b is more.
+// The difference a - b, or 0 if b is larger.
 fn less(a: usize, b: usize) -> usize
     ensures { λ r. ⌜ r ≡ a - b ⌝ }
 {
     if a < b { 0 } else { a - b }
 }
 
-// Puts the last digits of a number, with zeros in front, at most 20.
+// Puts the last digits of a number, at most 20, with zeros in front.
 pub fn put_places(out: &mut [u8], at: usize, n: u64, places: usize) -> usize
     ensures { λ r. ⌜ r ≡ placeAfter (length (now (out .entry))) at (placesIn places n) ⌝ }
     ensures { λ r. ⌜ now (out .exit) ≡ putAt (now (out .entry)) at (placesIn places n) ⌝ }
@@ -68,7 +67,7 @@ pub fn put_places(out: &mut [u8], at: usize, n: u64, places: usize) -> usize
     put(out, at, &digits[from..])
 }
 
-// Puts a number of tenths: the whole part, a point, one digit.
+// Puts a number of tenths as the whole part, a point and one digit.
 pub fn put_tenths(out: &mut [u8], at: usize, n: u64) -> usize
     ensures { λ r. ⌜ r ≡ placeAfter (length (now (out .entry))) at (tenthsOf n) ⌝ }
     ensures { λ r. ⌜ now (out .exit) ≡ putAt (now (out .entry)) at (tenthsOf n) ⌝ }

@@ -1,4 +1,4 @@
-// How long so many frames last: hours, minutes and seconds, to a thousandth.
+// How long some frames last: hours, minutes and seconds, to a thousandth.
 ghost use mathlib.Core.Path.{_≡_};
 ghost use lib.ListN.{length};
 ghost use Rattle.text.specs.Text.{putAt, placeAfter};
@@ -7,7 +7,7 @@ use crate::put_places;
 use text::put;
 use text::put_decimal;
 
-// Puts h:mm:ss.ttt for frames at a rate of so many in a second, or `?` where the rate is 0.
+// Puts h:mm:ss.ttt for frames at a rate in Hz, or `?` if the rate is 0.
 pub fn put_time(out: &mut [u8], at: usize, frames: u64, rate: u32) -> usize
     ensures { λ r. ⌜ r ≡ placeAfter (length (now (out .entry))) at (timeOf frames rate) ⌝ }
     ensures { λ r. ⌜ now (out .exit) ≡ putAt (now (out .entry)) at (timeOf frames rate) ⌝ }
@@ -16,7 +16,7 @@ pub fn put_time(out: &mut [u8], at: usize, frames: u64, rate: u32) -> usize
         return put(out, at, b"?");
     }
     let second = rate as u64;
-    // The rest is below the rate, so times 1000 it fits, as frames * 1000 need not.
+    // The remainder is below the rate, so 1000 times it fits a word; 1000 times the frames might not.
     put_clock(out, at, frames / second, frames % second * 1000 / second)
 }
 

@@ -1,5 +1,5 @@
--- The number of k + 1 bytes at a place is its byte and the number of k bytes behind it, past the end too. By the place.
--- Assumes nothing.
+-- The number of k + 1 bytes at a place is made of its first byte and the number of the k bytes behind it, also past the
+-- end. By induction over the place. Assumes nothing.
 use mathlib.Core.Path.{_≡_, refl}
 use mathlib.Core.List.{List, [], _∷_}
 use Prim.Native.Nat.{ℕ, zero, suc, _+_, _*_}
@@ -22,7 +22,7 @@ byte-at k [] (suc at) = omega (arith, none k)
 byte-at k (x ∷ xs) zero = refl
 byte-at k (x ∷ xs) (suc at) = byte-at k xs at
 
--- as code counts the places: the first byte, and the one that stands j behind it
+-- The places as the code counts them: the first byte, and the one that stands j behind it.
 pub first-byte : (k : ℕ) (b : List ℕ) (at : ℕ) → bytesValue (take (suc k) (drop at b))
     ≡ bytesValue (take k (drop (at + 1) b)) * 256 + getD b at 0
 first-byte k b at = rw add-one (byte-at k b at)

@@ -1,4 +1,4 @@
--- The first k bytes of a number are its remainder by 256 ^ k, over the number of bytes. Assumes nothing.
+-- The first k bytes of a number are its remainder by 256 ^ k, for any number of bytes. Assumes nothing.
 use mathlib.Core.Path.{_≡_, refl, sym, ap, _∙_}
 use mathlib.Core.List.{List, [], _∷_}
 use Prim.Native.Nat.{ℕ, zero, suc, _+_, _*_, _/_, _%_, _^_, _≤_, _<_}
@@ -9,7 +9,7 @@ use lib.Dec.{lit≤}
 use lib.ListN.{take, getD}
 use Rattle.word_bytes.specs.Bytes.{bytesValue}
 
--- one byte below a number that is cut
+-- One byte below a number that is cut off.
 below : (n v x : ℕ) → 0 < n → x < 256 → (v * 256 + x) % (n * 256) ≡ v % n * 256 + x
 below n v x p h =
     let e : v * 256 + x ≡ n * 256 * (v / n) + (v % n * 256 + x) =

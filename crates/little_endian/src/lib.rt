@@ -1,5 +1,6 @@
 // Numbers of two, three and four bytes, low byte first (W1).
-// They are read at a place of a slice, where bytes that are missing count as 0, or made of bytes at hand.
+// They are read at a place of a slice, where bytes that are missing count as 0, or made of bytes that have been read
+// already.
 ghost use mathlib.Core.Path.{_≡_};
 ghost use mathlib.Core.List.{[], _∷_};
 ghost use Prim.Native.Nat.{_<_};

@@ -17,24 +17,26 @@ use Rattle.sample_kind.specs.declared.SampleKind.{SampleKind}
 use Rattle.sample_kind.specs.declared.SampleKind.the-variants.{Pcm16, Pcm24, Float32}
 use Rattle.wav_format.specs.Tags.{plainTag, wrappedTag}
 use Rattle.wav.specs.declared.Found.the-variants as found
-use Rattle.wav.specs.declared.Wave.{Wave}
 use Rattle.wav.specs.Wave.{foundBy}
 use Rattle.true_sizes.specs.Sizes.{isLong}
 use Rattle.long_wav.specs.Reading.{headerBy, headerIn, headerWrapped}
 use Rattle.long_laws.proofs.AsBefore.{as-before}
 use Rattle.long_laws.proofs.Behind.{prefix-decides}
 use Rattle.wav_header.specs.Header.{headerLength, sizeOf, padOf, fileLength, headerOf}
-use Rattle.wav_header.specs.Refusals.{rateOk, oneOrTwo, wholeFrames, fitsRiff, countOk, fileVerdict}
+use Rattle.wav_header.specs.Refusals.{fitsRiff}
+use Rattle.wav_settings.specs.Settings.{rateOk, oneOrTwo, wholeFrames}
 use Rattle.wav_header.proofs.Planned.{both-hold, Planned, planned}
 use Rattle.wav_header.proofs.Long.{length-header}
 use Rattle.wav_back.proofs.Read.{waveFor}
 use Rattle.wav_back.proofs.Read.{read-plain as riff-plain}
 use Rattle.wav_back.proofs.Read.{read-wrapped as riff-wrapped}
+use Rattle.wav_back.proofs.Written.{waveOfAny}
 use Rattle.long_header.specs.declared.Form.{Form}
 use Rattle.long_header.specs.declared.Form.the-variants.{Rf64, Bw64}
 use Rattle.long_header.specs.LongHeader.{longHeaderLength, headerLengthFor, fileLengthFor, openingOf, longHeaderOf}
 use Rattle.long_header.specs.LongHeader.{headerFor}
 use Rattle.long_header.specs.Refusals.{sizeOk, fileTests, fileVerdictFor}
+use Rattle.wav_write.proofs.Planned.{length-long}
 use Rattle.long_back.proofs.Read.{Fits, longWave, read-plain, read-wrapped}
 
 -- W10e. A file that fits RIFF has Wish 2's header and length.
@@ -45,17 +47,6 @@ riff-header form kind channels rate count f = rw f
 pub riff-length : (kind : SampleKind) (count : ℕ) → fitsRiff kind count ≡ true
     → fileLengthFor kind count ≡ fileLength kind count
 riff-length kind count f = rw f
-
--- What is read of a file of so many samples.
-abbrev pub waveOfAny : SampleKind → ℕ → ℕ → ℕ → Wave
-waveOfAny kind channels rate count =
-    record {
-      kind = kind;
-      channels = channels;
-      rate = rate;
-      start = headerLengthFor kind count;
-      length = sizeOf kind count;
-    }
 
 -- RIFF's letters are not RF64's
 not-long : (kind : SampleKind) (channels rate count : ℕ) (rest : List ℕ)
@@ -89,16 +80,6 @@ module _ (kind : SampleKind) (channels rate count : ℕ) (p : Planned kind chann
       ∙ ap (λ (b : List ℕ). headerBy told b (length file)) (sym front)
       ∙ prefix-decides told file (length file) (waveFor kind channels rate count) whole
 
-length-long : (form : Form) (kind : SampleKind) (channels rate count : ℕ)
-    → length (longHeaderOf form kind channels rate count) ≡ longHeaderLength kind
-unfolding lowBytes openingOf longHeaderOf
-length-long Rf64 Pcm16 channels rate count = refl
-length-long Rf64 Pcm24 channels rate count = refl
-length-long Rf64 Float32 channels rate count = refl
-length-long Bw64 Pcm16 channels rate count = refl
-length-long Bw64 Pcm24 channels rate count = refl
-length-long Bw64 Float32 channels rate count = refl
-
 -- ---- what the tests tell
 between : (channels : ℕ) → oneOrTwo channels ≡ true → (1 ≤ channels) × (channels ≤ 2)
 between channels h = by (eqb channels 1) (eqb channels 2) refl refl h
@@ -121,7 +102,7 @@ module _ (form : Form) (kind : SampleKind) (channels rate count : ℕ) (z : file
   first = both-hold (rateOk rate) (wholeFrames channels count) (test 0)
 
   plan : fitsRiff kind count ≡ true → Planned kind channels rate count
-  plan f = planned kind channels rate count (rw (first .0, first .1, f, test 2))
+  plan f = planned kind channels rate count (first .0) (first .1) f (test 2)
 
   fits : Fits kind channels rate count
   fits =

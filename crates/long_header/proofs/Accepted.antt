@@ -10,7 +10,8 @@ use lib.ListN.{length, take, drop, length-take}
 use Rattle.refusal_order.proofs.First.{none}
 use Rattle.sample_kind.specs.declared.SampleKind.{SampleKind}
 use Rattle.wav_header.specs.Header.{headerLength, sizeOf, headerOf}
-use Rattle.wav_header.specs.Refusals.{rateOk, wholeFrames, fitsRiff, headerVerdict, headerIn, writtenBy}
+use Rattle.wav_header.specs.Refusals.{fitsRiff, headerVerdict, headerIn, writtenBy}
+use Rattle.wav_settings.specs.Settings.{rateOk, wholeFrames}
 use Rattle.wav_header.proofs.Planned.{both-hold}
 use Rattle.wav_header.proofs.Taken.{given}
 use Rattle.long_header.specs.declared.Form.{Form}

@@ -8,7 +8,8 @@ use Rattle.sample_kind.specs.declared.SampleKind.{SampleKind}
 use Rattle.sample_kind.specs.declared.SampleKind.the-variants.{Pcm16, Pcm24, Float32}
 use Rattle.sample_kind.specs.Kinds.{widthOf}
 use Rattle.wav_header.specs.Header.{headerLength, sizeOf}
-use Rattle.wav_header.specs.Refusals.{oneOrTwo, wholeFrames, fitsRiff}
+use Rattle.wav_header.specs.Refusals.{fitsRiff}
+use Rattle.wav_settings.specs.Settings.{oneOrTwo, wholeFrames}
 use Rattle.wav_header.proofs.Planned.{both-hold}
 use Rattle.wav_header.proofs.Sizes.{short-header}
 use Rattle.long_header.specs.LongHeader.{headerLengthFor}

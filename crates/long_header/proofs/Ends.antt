@@ -25,6 +25,13 @@ above = (refl, refl)
 pub every-count : fileVerdictFor Pcm24 1 48000 (2 ^ 64 - 1) ≡ 19
 every-count = refl
 
+-- ---- the pad byte counts
+pub odd-length : lengthFor64 Pcm24 1 3 ≡ 54
+odd-length = refl
+
+pub empty-lengths : (lengthFor64 Pcm16 1 0 ≡ 44) × (lengthFor64 Float32 2 0 ≡ 58)
+empty-lengths = (refl, refl)
+
 -- ---- the order: 1, 19, 13, 14
 pub one-first : headerVerdictFor Pcm16 3 7999 (2 ^ 64 - 1) 0 ≡ 1
 one-first = refl

@@ -13,7 +13,8 @@ use Rattle.word_bytes.specs.Bytes.{lowBytes}
 use Rattle.sample_kind.specs.declared.SampleKind.{SampleKind}
 use Rattle.sample_kind.specs.declared.SampleKind.the-variants.{Pcm16, Pcm24, Float32}
 use Rattle.wav_header.specs.Header.{headerLength, headerOf}
-use Rattle.wav_header.specs.Refusals.{rateOk, oneOrTwo, countOk, headerVerdict, headerIn}
+use Rattle.wav_header.specs.Refusals.{countOk, headerVerdict, headerIn}
+use Rattle.wav_settings.specs.Settings.{rateOk, oneOrTwo}
 use Rattle.wav_header.proofs.Taken.{given}
 use Rattle.wav_header.proofs.Long.{length-header}
 use Rattle.long_header.specs.LongHeader.{full, longHeaderLength}

@@ -7,7 +7,7 @@ use lib.ListN.{take, drop}
 use Rattle.word_bytes.specs.Bytes.{lowBytes}
 use Rattle.sample_kind.specs.declared.SampleKind.{SampleKind}
 use Rattle.sample_kind.specs.declared.SampleKind.the-variants.{Pcm16, Pcm24, Float32}
-use Rattle.wav_header.specs.Refusals.{rateOk, oneOrTwo}
+use Rattle.wav_settings.specs.Settings.{rateOk, oneOrTwo}
 use Rattle.long_header.specs.LongHeader.{full, longHeaderLength}
 
 -- FFFFFFFF written over four bytes at a place.

@@ -9,7 +9,8 @@ use lib.ListN.{length, drop}
 use Rattle.refusal_order.specs.Order.{Test, _unless_, firstOf}
 use Rattle.sample_kind.specs.declared.SampleKind.{SampleKind}
 use Rattle.wav_header.specs.Header.{sizeOf}
-use Rattle.wav_header.specs.Refusals.{rateOk, oneOrTwo, wholeFrames, writtenBy}
+use Rattle.wav_header.specs.Refusals.{writtenBy}
+use Rattle.wav_settings.specs.Settings.{rateOk, oneOrTwo, wholeFrames}
 use Rattle.long_header.specs.declared.Form.{Form}
 use Rattle.long_header.specs.LongHeader.{headerLengthFor, fileLengthFor, longHeaderLength, headerFor}
 

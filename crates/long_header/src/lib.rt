@@ -17,8 +17,8 @@ use tests::header_refusal;
 use tests::size_ok;
 use wav_header::fits_riff;
 use wav_header::header_length;
-use wav_header::one_or_two;
-use wav_header::whole_frames;
+use wav_settings::one_or_two;
+use wav_settings::whole_frames;
 
 // The identifier of a file past RIFF.
 pub enum Form {

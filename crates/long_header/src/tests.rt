@@ -7,9 +7,9 @@ use crate::header_length_for;
 use refusal_order::both;
 use sample_kind::SampleKind;
 use sample_kind::width;
-use wav_header::one_or_two;
-use wav_header::rate_ok;
-use wav_header::whole_frames;
+use wav_settings::one_or_two;
+use wav_settings::rate_ok;
+use wav_settings::whole_frames;
 
 // A count above 2^40 is out before it is multiplied, so that no product passes a word.
 pub(crate) fn size_ok(kind: SampleKind, count: usize) -> bool

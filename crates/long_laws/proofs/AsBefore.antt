@@ -1,4 +1,4 @@
--- W10a. RIFF files read as before: with the whole file at hand, one that begins neither with RF64 nor with BW64 is
+-- W10a. RIFF files read as before: if the whole file is there, one that begins neither with RF64 nor with BW64 is
 -- answered as Wish 1 answers it, by either reading. Assumes nothing.
 use mathlib.Core.Path.{_≡_, refl, sym, ap, _∙_}
 use mathlib.Core.Bool.{Bool, true, false, not, cond, _&&_, _||_}
@@ -48,7 +48,7 @@ module _ (tagOf : List ℕ → ℕ → ℕ) (b : List ℕ) (plain : isLong b ≡
       (ap (λ (t : Bool). leb 12 (length b) && t)
       (and-assoc (eqb (number 4 b 0) riffId) (eqb (number 4 b 8) waveId) (leb 4 (riffSize b))))
 
-  -- the tests that Wish 1 does not make pass
+  -- The tests that Wish 1 does not make pass.
   judged : headerBy tagOf b size
       ≡ judgedBy tagOf (wav.isWave b) (leb (8 + riffSize b) size && not (walkIn b size .overruns)) (walkIn b size)
       (fmtIn b size)
@@ -63,7 +63,7 @@ module _ (tagOf : List ℕ → ℕ → ℕ) (b : List ℕ) (plain : isLong b ≡
   pub as-before : headerBy tagOf b (length b) ≡ foundBy tagOf b
   as-before = by (leb (8 + riffSize b) size) refl
     where
-      -- where the RIFF runs past the file the walk does not matter
+      -- If the RIFF runs past the file the walk does not matter.
       gone : (t : Bool) (v : Walked) (f : List ℕ) → judgedBy tagOf t false v f ≡ found.Refused (cond t 10 9)
       gone true v f = refl
       gone false v f = refl

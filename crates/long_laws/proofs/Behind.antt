@@ -1,5 +1,5 @@
--- W10b. Where samples are found the bytes before them decide: another file of the same length that begins with the same
--- is answered alike, whatever stands at its samples and behind. Assumes nothing.
+-- W10b. If samples are found the bytes before them decide: another file of the same length that begins with the same
+-- bytes is answered alike, whatever its samples are and whatever follows. Assumes nothing.
 use mathlib.Core.Path.{_≡_, refl, sym, ap, _∙_}
 use mathlib.Core.Bool.{Bool, true, false, true≢false, not, cond, _&&_, _||_}
 use mathlib.Core.List.{List, [], _∷_}
@@ -35,7 +35,7 @@ use Rattle.long_laws.proofs.Openings.{Opens, opens, fixedOf, and-false,
 use Rattle.long_laws.proofs.Missing.{up-to-samples, found-at-hand}
 use Rattle.long_laws.proofs.Longer.{opening-enough, longer-same}
 
--- a `ds64` has its 32-bit size
+-- A `ds64` keeps its 32-bit size.
 own-size : (b : List ℕ) → trueSize b ds64Id (ds64Size b) ≡ ds64Size b
 own-size b = by (isLong b) (eqb (ds64Size b) full) refl
   where
@@ -44,7 +44,7 @@ own-size b = by (isLong b) (eqb (ds64Size b) full) refl
     by true false e = refl
     by true true e = sym (eqb-true (ds64Size b) full e)
 
--- the samples of an RF64 or BW64 stand behind its table
+-- The samples of an RF64 or BW64 stand behind its table.
 module _ (b : List ℕ) (size : ℕ) (d : hasDs64 b size ≡ true) (found : walkIn b size .samples .found ≡ true)
     (room : 12 + 8 ≤ endOf b size) where
   table-before : 48 + 12 * entryCount b ≤ walkIn b size .samples .body
@@ -80,7 +80,7 @@ module _ (b : List ℕ) (size : ℕ) (d : hasDs64 b size ≡ true) (found : walk
           let least = leb-true 28 (ds64Size b) (both-hold (leb 28 (ds64Size b)) _ (p .1) .0) in
           omega arith
 
--- ---- a file in which samples are found: its bytes before them are enough
+-- ---- a file in which samples are found: the bytes before them are enough
 module _ (tagOf : List ℕ → ℕ → ℕ) (b : List ℕ) (size : ℕ) (z : verdict tagOf b size ≡ 0) where
   test : (k : ℕ) → testOf (lineOf (tests tagOf b size) k) ≡ true
   test = none (tests tagOf b size) refl .0 z
@@ -180,7 +180,7 @@ module _ (tagOf : List ℕ → ℕ → ℕ) (b : List ℕ) (size : ℕ) (z : ver
       ∙ ap (λ (n : ℕ). take n c) (sym long-prefix))
       prefix-enough
 
--- W10b. Where samples are found the bytes before them decide.
+-- W10b. If samples are found the bytes before them decide.
 pub header-decides : (tagOf : List ℕ → ℕ → ℕ) (b c : List ℕ) (size : ℕ) (w : Wave)
     → headerBy tagOf b size ≡ found.Wave w
     → take (w .start) b ≡ take (w .start) c → w .start ≤ length c → length c ≤ size
@@ -195,7 +195,7 @@ header-decides tagOf b c size w e same h inside =
     ∙ sym (decides tagOf b size (o .0) b (reached tagOf b size (o .0)) all refl)
     ∙ e
 
--- W10b. So those bytes alone are answered as the file is, whatever stands behind.
+-- W10b. So those bytes alone are answered as the file is, whatever follows.
 pub prefix-decides : (tagOf : List ℕ → ℕ → ℕ) (b : List ℕ) (size : ℕ) (w : Wave) → headerBy tagOf b size ≡ found.Wave w
     → headerBy tagOf (take (w .start) b) size ≡ found.Wave w
 prefix-decides tagOf b size w e =

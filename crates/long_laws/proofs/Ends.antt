@@ -14,13 +14,13 @@ use Rattle.wav.specs.declared.Found.the-variants as found
 use Rattle.true_sizes.specs.Sizes.{entriesFrom, sizeIn, allSmall}
 use Rattle.long_wav.specs.Reading.{missing, needsOf, headerIn}
 
--- `fmt ` and the head of `data`
+-- The `fmt ` and the head of the `data`.
 abbrev rest : ℕ → List ℕ
 rest field =
     102 ∷ 109 ∷ 116 ∷ 32 ∷ 16 ∷ 0 ∷ 0 ∷ 0 ∷ 1 ∷ 0 ∷ 1 ∷ 0 ∷ 64 ∷ 31 ∷ 0 ∷ 0 ∷ 128 ∷ 62 ∷ 0 ∷ 0 ∷ 2 ∷ 0 ∷ 16 ∷ 0
     ∷ 100 ∷ 97 ∷ 116 ∷ 97 ∷ lowBytes 4 field
 
--- the letters, the size of `ds64`, the RIFF's and `data`'s true sizes, and the 32-bit size of `data`
+-- The letters, the size of `ds64`, the true sizes of the RIFF and of `data`, and the 32-bit size of `data`.
 abbrev header : List ℕ → ℕ → ℕ → ℕ → ℕ → List ℕ
 header letters ds riff samples field =
     letters ++ (lowBytes 4 (2 ^ 32 - 1) ++ (87 ∷ 65 ∷ 86 ∷ 69 ∷ 100 ∷ 115 ∷ 54 ∷ 52 ∷ (lowBytes 4 ds
@@ -35,7 +35,7 @@ bw64 = 66 ∷ 87 ∷ 54 ∷ 52 ∷ []
 abbrev full : ℕ
 full = 2 ^ 32 - 1
 
--- two samples, behind 80 bytes
+-- Two samples, behind 80 bytes.
 abbrev two : Found
 two = found.Wave (record { kind = Pcm16; channels = 1; rate = 8000; start = 80; length = 4 })
 
@@ -43,12 +43,12 @@ pub both-identifiers : (headerIn (header rf64 28 76 4 full) 84 ≡ two) × (head
 unfolding lowBytes bytesValue chunksFrom overrun first upTo formatOk entriesFrom sizeIn allSmall missing needsOf
 both-identifiers = (refl, refl)
 
--- a 32-bit size that is not FFFFFFFF stands, whatever `ds64` says
+-- A 32-bit size other than FFFFFFFF counts, whatever `ds64` says.
 pub own-size : headerIn (header rf64 28 76 999 4) 84 ≡ two
 unfolding lowBytes bytesValue chunksFrom overrun first upTo formatOk entriesFrom sizeIn allSmall missing needsOf
 own-size = refl
 
--- the largest size, and one byte more: 19 is due before 10
+-- The largest size, and one byte more: 19 comes before 10.
 pub largest : headerIn (header rf64 28 (2 ^ 40 + 72) (2 ^ 40) full) (2 ^ 40 + 80)
     ≡ found.Wave (record { kind = Pcm16; channels = 1; rate = 8000; start = 80; length = 2 ^ 40 })
 unfolding lowBytes bytesValue chunksFrom overrun first upTo formatOk entriesFrom sizeIn allSmall missing needsOf
@@ -58,7 +58,8 @@ pub above : headerIn (header rf64 28 (2 ^ 40 + 73) (2 ^ 40 + 1) full) 84 ≡ fou
 unfolding lowBytes bytesValue chunksFrom overrun first upTo formatOk entriesFrom sizeIn allSmall missing needsOf
 above = refl
 
--- a `ds64` of 27 bytes is missing, and 18 is due before 19; other letters are 9, before 18; a RIFF of 3 bytes too
+-- A `ds64` of 27 bytes counts as missing, and 18 comes before 19. Other letters give 9, before 18, and so does a RIFF
+-- of 3 bytes.
 pub short-ds64 : headerIn (header rf64 27 76 (2 ^ 41) full) 84 ≡ found.Refused 18
 unfolding lowBytes bytesValue chunksFrom overrun first upTo formatOk entriesFrom sizeIn allSmall missing needsOf
 short-ds64 = refl
@@ -71,12 +72,12 @@ pub small-riff : headerIn (header rf64 28 3 (2 ^ 41) full) 84 ≡ found.Refused 
 unfolding lowBytes bytesValue chunksFrom overrun first upTo formatOk entriesFrom sizeIn allSmall missing needsOf
 small-riff = refl
 
--- the RIFF ends where the file does, and runs one byte past it
+-- The RIFF ends where the file does, and one byte past it.
 pub past-the-file : headerIn (header rf64 28 77 4 full) 84 ≡ found.Refused 10
 unfolding lowBytes bytesValue chunksFrom overrun first upTo formatOk entriesFrom sizeIn allSmall missing needsOf
 past-the-file = refl
 
--- one byte of a head too few, and how many are needed; the letters alone
+-- One byte of a head is missing, and how many are needed; then the same with the letters alone.
 pub one-missing : (headerIn (take 79 (header rf64 28 76 4 full)) 84
     ≡ found.Refused 2) × (needsOf (take 79 (header rf64 28 76 4 full)) 84 ≡ 80)
 unfolding lowBytes bytesValue chunksFrom overrun first upTo formatOk entriesFrom sizeIn allSmall missing needsOf
@@ -87,7 +88,7 @@ pub steps-asked : (needsOf [] 84 ≡ 12) × ((needsOf (take 12 (header rf64 28 7
 unfolding lowBytes bytesValue chunksFrom overrun first upTo formatOk entriesFrom sizeIn allSmall missing needsOf
 steps-asked = (refl, (refl, (refl, refl)))
 
--- a file of fewer than 12 bytes is 9 by its length alone; more at hand than it has is 1
+-- A file of fewer than 12 bytes gives 9 by its length alone; more bytes than the file has give 1.
 pub too-short : (headerIn [] 11 ≡ found.Refused 9) × (headerIn (header rf64 28 76 4 full) 79 ≡ found.Refused 1)
 unfolding lowBytes bytesValue chunksFrom overrun first upTo formatOk entriesFrom sizeIn allSmall missing needsOf
 too-short = (refl, refl)

@@ -1,5 +1,5 @@
--- W10b. Where nothing is asked for, whatever stands behind the bytes at hand does not show: more of them are answered
--- alike. By the opening and the walk, which look at no others. Assumes nothing.
+-- W10b. If no more bytes are needed, what follows those that are there does not count: more of them are answered alike.
+-- By the opening and the walk, which look at no others. Assumes nothing.
 use mathlib.Core.Path.{_≡_, refl, sym, ap, _∙_}
 use mathlib.Core.Bool.{Bool, true, false, not, cond}
 use mathlib.Core.List.{List}
@@ -36,7 +36,7 @@ opening-enough b size z = by (eqb (openingNeeds b size) 0) refl
 hand-passes : (b : List ℕ) (size : ℕ) → length b ≤ size → openingNeeds b size ≡ 0 → firstOf (handTests b size) ≡ 0
 hand-passes b size h o = rw (le-leb (length b) size h, o)
 
--- a file whose opening is refused, and one whose heads are at hand
+-- A file whose opening is refused, and one whose heads are all there.
 module _ (tagOf : List ℕ → ℕ → ℕ) (b : List ℕ) (size : ℕ) (h : length b ≤ size) (o : openingNeeds b size ≡ 0) where
   pub refused-is : (firstOf (openingTests b size) ≡ 0 → ⊥)
       → found.Refused (firstOf (openingTests b size)) ≡ headerBy tagOf b size
@@ -104,7 +104,7 @@ module _ (tagOf : List ℕ → ℕ → ℕ) (b c : List ℕ) (size : ℕ) (longe
           ∙ ap (missing (length c)) (sym chunks)
           ∙ more-at-hand (length b) (length c) (walkedFrom riffSought (chunkIn b) end 12) longer at-hand
 
-      -- where the body of the `fmt ` matters it stands before the samples, whose head is at hand
+      -- Where the body of the `fmt ` matters it stands before the samples, whose head is there.
       body : not (walkIn b size .overruns) ≡ true → walkIn b size .format .found ≡ true
           → walkIn b size .samples .found ≡ true
           → fmtIn b size ≡ partOf c (walkIn b size .format .body) (walkIn b size .format .size)
@@ -113,7 +113,7 @@ module _ (tagOf : List ℕ → ℕ → ℕ) (b c : List ℕ) (size : ℕ) (longe
           let n = found-at-hand (length b) (riffSought .samples) (walkedFrom riffSought (chunkIn b) end 12) at-hand g in
           same-part (length b) b c same (walkIn b size .format .body) (walkIn b size .format .size) (omega arith)
 
-  -- W10b. More bytes at hand are answered alike.
+  -- W10b. More bytes are answered alike.
   pub longer-same : headerBy tagOf c size ≡ headerBy tagOf b size
   longer-same = by (eqb (firstOf (openingTests b size)) 0) refl
     where

@@ -1,6 +1,6 @@
--- W10b. Which heads of a walk are at hand: two layouts whose chunks are the same there are walked alike where none is
--- missing, none is missing up to the samples where these are at hand, and none where the walk's end is. By the chunks,
--- one after the other. Assumes nothing.
+-- W10b. Which heads of a walk are there. Two layouts whose chunks are the same there are walked alike if none is
+-- missing; none is missing up to the samples if their head is there, and none at all if the walk's end is. By induction
+-- over the chunks. Assumes nothing.
 use mathlib.Core.Path.{_≡_, refl, sym, ap, _∙_}
 use mathlib.Core.Bool.{Bool, true, false, true≢false, cond, _&&_}
 use mathlib.Core.List.{List, [], _∷_}
@@ -16,7 +16,7 @@ use Rattle.riff_chunks.proofs.Agree.{Alike}
 use Rattle.riff_chunks.proofs.Found.{behind}
 use Rattle.long_wav.specs.Reading.{missing}
 
--- none is missing exactly where the first is at hand and none of the others is missing
+-- None is missing exactly if the first is there and none of the others is missing.
 here : (n : ℕ) (c : Chunk) (cs : List Chunk) → missing n (c ∷ cs) ≡ 0 → (c .body ≤ n) × (missing n cs ≡ 0)
 unfolding missing
 here n c cs z = by (leb (c .body) n) refl z
@@ -50,7 +50,7 @@ found-at-hand n id (c ∷ cs) z f = let a = here n c cs z in by (eqb (c .id) id)
     by false f a h = h f
 
 module _ (s : Sought) (f : ℕ → Chunk) (placed : Placed f) (end n : ℕ) where
-  -- two layouts
+  -- Two layouts that are alike.
   module _ (g : ℕ → Chunk) (alike : Alike f g n) where
     same-from : (most : ℕ) (more : Bool) (at : ℕ) → missing n (upTo s (chunksFrom f most more end at)) ≡ 0
         → upTo s (chunksFrom f most more end at) ≡ upTo s (chunksFrom g most more end at)
@@ -74,7 +74,7 @@ module _ (s : Sought) (f : ℕ → Chunk) (placed : Placed f) (end n : ℕ) wher
     pub same-at-hand : (at : ℕ) → missing n (walkedFrom s f end at) ≡ 0 → walkedFrom s f end at ≡ walkedFrom s g end at
     same-at-hand at z = same-from end (leb (at + 8) end) at z
 
-  -- up to the samples
+  -- The heads up to the samples.
   up-to : s .ends ≡ true → (most : ℕ) (more : Bool) (at : ℕ)
       → first (s .samples) (upTo s (chunksFrom f most more end at)) .found ≡ true
       → first (s .samples) (upTo s (chunksFrom f most more end at)) .body ≤ n
@@ -105,7 +105,7 @@ module _ (s : Sought) (f : ℕ → Chunk) (placed : Placed f) (end n : ℕ) wher
       → walkFrom s f end at .samples .body ≤ n → missing n (walkedFrom s f end at) ≡ 0
   up-to-samples ends at p q = up-to ends end (leb (at + 8) end) at p q
 
-  -- up to the end
+  -- The heads up to the end.
   to-end : end ≤ n → (most : ℕ) (more : Bool) (at : ℕ) → (more ≡ true → at + 8 ≤ end)
       → missing n (upTo s (chunksFrom f most more end at)) ≡ 0
   unfolding chunksFrom upTo

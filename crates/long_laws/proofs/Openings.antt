@@ -1,5 +1,5 @@
--- W10b. An opening that is enough tells the same in every longer one: step by step, as far as it asks, the bytes that
--- are looked at are at hand. Assumes nothing.
+-- W10b. An opening that is long enough gives the same in every longer one: in each step the bytes that are looked at
+-- are there. Assumes nothing.
 use mathlib.Core.Path.{_≡_, refl, sym, ap, _∙_}
 use mathlib.Core.Bool.{Bool, true, false, true≢false, cond, _&&_, _||_}
 use mathlib.Core.List.{List, [], _∷_}
@@ -15,7 +15,7 @@ use Rattle.true_sizes.specs.Sizes.{isLong, ds64Size, riffSize64, entryCount, sm
 use Rattle.true_sizes.proofs.Same.{same-long, same-count, same-small, same-size}
 use Rattle.wav_opening.specs.Opening.{hasLetters, hasDs64, trueRiff, endOf, asks, openingNeeds, openingTests}
 
--- a step that is made and asks for nothing has its bytes at hand
+-- A step that is made and needs no more has its bytes.
 asked : (n : ℕ) (made : Bool) (reach later : ℕ) → made ≡ true → 0 < reach → asks n made reach later ≡ 0
     → (reach ≤ n) × (later ≡ 0)
 asked n made reach later m p z = by (leb reach n) refl (sym (rw m) ∙ z)
@@ -31,7 +31,7 @@ pub met : (n : ℕ) (made : Bool) (reach later : ℕ) → reach ≤ n → later 
 met n true reach later h z = rw (le-leb reach n h) z
 met n false reach later h z = refl
 
--- the steps of an opening, the last first
+-- The steps of an opening, the last first.
 abbrev pub tableOf : List ℕ → ℕ → ℕ
 tableOf b size = asks (length b) (leb 4 (trueRiff b size)) (48 + 12 * entryCount b) 0
 
@@ -72,7 +72,7 @@ refused-both b c size e h n =
 module _ (b c : List ℕ) (size : ℕ) (longer : length b ≤ length c)
     (same : (k at : ℕ) → at + k ≤ length b → number k b at ≡ number k c at) where
   -- ---- the steps from the last to the first
-  -- a `ds64` whose fixed part is at hand
+  -- The fixed part of a `ds64` is there.
   module _ (s : leb 12 size ≡ true) (p : hasLetters b ≡ true) (q : hasLetters c ≡ true) (l : isLong b ≡ true)
       (m : isLong c ≡ true) (d : hasDs64 b size ≡ true) (e : hasDs64 c size ≡ true) (h : 48 ≤ length b) where
     riff : trueRiff b size ≡ trueRiff c size
@@ -101,7 +101,7 @@ module _ (b c : List ℕ) (size : ℕ) (longer : length b ≤ length c)
           sizes = λ y. same-size b c (length b) same h table;
         }
 
-  -- no `ds64`
+  -- There is no `ds64`.
   without : leb 12 size ≡ true → 12 ≤ length b → hasLetters b ≡ true → hasLetters c ≡ true → isLong b ≡ true
       → isLong c ≡ true → hasDs64 b size ≡ false → hasDs64 c size ≡ false → openingNeeds c size ≡ 0 → Opens b c size
   without s h p q l m d e n =
@@ -109,7 +109,7 @@ module _ (b c : List ℕ) (size : ℕ) (longer : length b ≤ length c)
       refused-both b c size (due ∙ rw (same 4 4 (omega arith)) (sym (rw (q, m, e, s))))
       (λ y. nine-or-18 (leb 4 (riffSize b)) (sym due ∙ y)) n
 
-  -- RF64 or BW64
+  -- The file is RF64 or BW64.
   module _ (s : leb 12 size ≡ true) (h : 12 ≤ length b) (p : hasLetters b ≡ true) (q : hasLetters c ≡ true)
       (l : isLong b ≡ true) (m : isLong c ≡ true) where
     too-short : leb 20 size ≡ false → (f : List ℕ) → hasDs64 f size ≡ false
@@ -145,7 +145,7 @@ module _ (b c : List ℕ) (size : ℕ) (longer : length b ≤ length c)
         (omega arith) z in
         with-ds64 (hasDs64 b size) refl (a .0) (a .1)
 
-  -- the letters are at hand
+  -- The letters are there.
   module _ (s : leb 12 size ≡ true) (h : 12 ≤ length b) (z : headOf b size ≡ 0) where
     letters : hasLetters b ≡ hasLetters c
     letters = rw (same 4 0 (omega arith), same 4 8 (omega arith))

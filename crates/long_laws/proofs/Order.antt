@@ -1,5 +1,5 @@
--- W10f. A header's refusals, each exactly when its test is the first that fails, and none exactly when all tests
--- hold. From the laws over any table. Assumes nothing.
+-- W10f. Each refusal of a header is given exactly if its test is the first that fails, and none exactly if all tests
+-- hold. By the laws for any table. Assumes nothing.
 use mathlib.Core.Path.{_≡_, refl}
 use mathlib.Core.Logic.{_↔_}
 use mathlib.Core.Bool.{true}

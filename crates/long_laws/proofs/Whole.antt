@@ -1,4 +1,4 @@
--- W10f. With the whole file at hand nothing is asked for: 2 is due only where a byte below the file's length is
+-- W10f. If the whole file is there no more bytes are needed: 2 is given only if a byte below the file's length is
 -- missing. Assumes nothing.
 use mathlib.Core.Path.{_≡_, refl, sym, _∙_}
 use mathlib.Core.Bool.{Bool, true, false, cond, _&&_}
@@ -20,7 +20,7 @@ use Rattle.long_wav.proofs.Verdicts.{asked-none, asked-heads}
 use Rattle.long_laws.proofs.Openings.{fixedOf, headOf, tableOf, met, unmade}
 use Rattle.long_laws.proofs.Missing.{to-the-end}
 
--- the table lies in a `ds64` that lies in the file
+-- The table lies in a `ds64` that lies in the file.
 pub table-inside : (b : List ℕ) (size : ℕ) → hasDs64 b size ≡ true → 48 + 12 * entryCount b ≤ size
 table-inside b size d =
     let p = both-hold (eqb (number 4 b 12) ds64Id) _ d in

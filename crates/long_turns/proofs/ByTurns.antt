@@ -1,5 +1,5 @@
--- W10c. By turns a file gives the answer of the whole file at once, from any opening that is enough. By the opening,
--- the walk, and the fields of `fmt `. Assumes nothing.
+-- W10c. Reading a file step by step gives the answer of the whole file at once, from any opening that is long enough.
+-- By the opening, the walk, and the fields of `fmt `. Assumes nothing.
 use mathlib.Core.Path.{_≡_, refl, sym, ap, _∙_}
 use mathlib.Core.Bool.{Bool, true, false, not, cond}
 use mathlib.Core.List.{List}
@@ -32,7 +32,7 @@ use Rattle.long_laws.proofs.Longer.{refused-is, walked-is}
 use Rattle.long_turns.specs.Turns.{chunkBy, turnedBy, turnsOf, byTurns, foundByTurns}
 
 module _ (o b : List ℕ) (end : ℕ) (sizes : (id field : ℕ) → trueSize o id field ≡ trueSize b id field) where
-  -- the 8 bytes at a place are the head of the chunk there
+  -- The 8 bytes at a place are the head of the chunk there.
   head-is : (left : ℕ) → chunkBy o end left (take 8 (drop (end - left) b)) ≡ chunkIn b (end - left)
   head-is left =
       let at = drop (end - left) b in
@@ -87,7 +87,7 @@ module _ (o b : List ℕ) (size : ℕ) (whole : length b ≡ size) (shorter : le
       held : endOf b size ≤ size
       held = leb-true (endOf b size) size (none (openingTests b size) refl .0 y 3)
 
-  -- W10c. By turns as at once.
+  -- W10c. Step by step the answer is the same as at once.
   pub by-turns : foundByTurns o b size ≡ headerWrapped b size
   by-turns = rw told (by (eqb (firstOf (openingTests o size)) 0) refl)
     where

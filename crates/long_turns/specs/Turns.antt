@@ -1,6 +1,6 @@
--- W10c. A WAV file of any length by turns: what its opening tells, a chunk more by its first 8 bytes, and the answer
--- from the walk and the first bytes of `fmt `. The opening is lent again at every turn, as the table of a `ds64` may
--- hold the chunk's size. Definitions only.
+-- W10c. A WAV file of any length read step by step: what its opening shows, one more chunk by its first 8 bytes, and
+-- the answer from the walk and the first bytes of `fmt `. The opening is lent again at every step, because the table of
+-- its `ds64` may hold the chunk's size. Definitions only.
 use Prim.Native.Nat.{ℕ, zero, suc, _+_, _-_}
 use mathlib.Core.Bool.{Bool, cond}
 use mathlib.Core.List.{List}
@@ -15,7 +15,7 @@ use Rattle.wav_turns.specs.Turns.{goesOn, finishedOf}
 use Rattle.true_sizes.specs.Sizes.{trueSize}
 use Rattle.wav_opening.specs.Opening.{begunOf}
 
--- The chunk whose first 8 bytes are at hand, where `left` bytes are left before the end.
+-- The chunk with these first 8 bytes, when `left` bytes are left before the end.
 abbrev pub chunkBy : List ℕ → ℕ → ℕ → List ℕ → Chunk
 chunkBy opening end left head =
     record {
@@ -27,7 +27,7 @@ chunkBy opening end left head =
 abbrev pub turnedBy : List ℕ → Walking → ℕ → List ℕ → Walking
 turnedBy opening w end head = cond (goesOn w end) (turned riffSought w (chunkBy opening end (w .left) head)) w
 
--- ---- a whole file by turns: each turn is lent the opening and the 8 bytes at its place
+-- ---- a whole file step by step: each step is lent the opening and the 8 bytes at its place
 abbrev pub turnsOf : List ℕ → List ℕ → ℕ → ℕ → Walking → Walking
 turnsOf opening b end = turnsBy (λ (w : Walking). turnedBy opening w end (take 8 (drop (end - w .left) b)))
 
@@ -37,6 +37,6 @@ byTurns zero opening end b =
     finishedOf w (take 40 (take (w .format .size) (drop (w .format .body) b)))
 byTurns (suc k) opening end b = found.Refused (suc k)
 
--- The answer, from what is lent turn by turn.
+-- The answer, from what is lent step by step.
 abbrev pub foundByTurns : List ℕ → List ℕ → ℕ → Found
 foundByTurns opening b size = byTurns (begunOf opening size .refusal) opening (begunOf opening size .end) b

@@ -1,6 +1,6 @@
-// W10c. A WAV file of any length read by turns, where it is too long to be held. `wav_opening::begin` takes its
-// opening and its length, `turn` the 8 bytes at the head of each chunk that is walked, and `wav_turns::finish` the
-// first 40 bytes of `fmt `. The answer is the one of `long_wav::read_header_wrapped`.
+// W10c. A WAV file of any length read step by step, for files that are too long to be held. `wav_opening::begin` takes
+// its opening and its length, `turn` the 8 bytes at the head of each chunk that is walked, and `wav_turns::finish` the
+// first 40 bytes of `fmt `. The answer is that of `long_wav::read_header_wrapped`.
 ghost use mathlib.Core.Path.{_≡_};
 ghost use Rattle.long_turns.specs.Turns.{turnedBy};
 use riff_chunks::Chunk;
@@ -9,8 +9,8 @@ use riff_chunks::riff_sought;
 use true_sizes::true_size;
 use word_bytes::low_first_u32;
 
-// One chunk more: `head` is the 8 bytes at the place `end` less what is left. Where fewer are left the walk is over.
-// The opening is lent again, since a walk holds no table.
+// One more chunk. `head` is the 8 bytes at the place `end` less what is left; if fewer than 8 are left the walk is
+// over. The opening is lent again, because it has the table of sizes.
 pub fn turn(opening: &[u8], walking: Walking, end: usize, head: &[u8]) -> Walking
     ensures { λ r. ⌜ r ≡ turnedBy (now (opening .entry)) walking end (now (head .entry)) ⌝ }
 {

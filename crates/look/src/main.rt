@@ -1,26 +1,45 @@
-// The program `look FILE …`: what each WAV file holds, or why it is refused and what to do. A file that is refused does
-// not keep the others from being looked at.
+// The program `look FILE …`: what each recording holds, or why it is refused and what to do. A refused file does not
+// keep the others from being looked at.
 use error_lines::misused;
-use error_lines::say;
 use error_lines::say_failed;
-use error_lines::say_of;
 use error_lines::succeed;
+use libc::STDERR_FILENO;
 use libc::STDOUT_FILENO;
 use sizes::begun;
 use text::put;
 use wave_file::Opened;
 use wave_file::WaveFile;
+use words_asked::say_too_long;
 
 fn main() {
     let count = os::arg_count();
+    if help_asked() {
+        tell_usage(STDOUT_FILENO);
+        succeed();
+        return;
+    }
     if count < 2 {
-        say(b"usage: ./run look FILE ...\n./run --help tells more\n");
+        tell_usage(STDERR_FILENO);
         misused();
         return;
     }
     if look(count) {
         succeed();
     }
+}
+
+// Whether the first argument asks for the usage.
+fn help_asked() -> bool {
+    let mut words = io::buffer();
+    let n = os::arg(1, &mut words);
+    words_asked::is_help(&words[..n])
+}
+
+fn tell_usage(fd: i32) {
+    io::write_all(
+        fd,
+        b"usage: ./run look FILE ... (./run --help tells more)\n",
+    );
 }
 
 // A line for each file, in order. Whether all are read.
@@ -40,11 +59,7 @@ fn look_at(i: usize) -> bool {
     let mut name = io::buffer();
     let n = os::arg(i, &mut name);
     if os::errno() != 0 {
-        say_of(
-            b"look",
-            b"",
-            b"an argument is longer than any file's name can be\n",
-        );
+        say_too_long(b"look");
         return false;
     }
     look_into(&name[..n])
@@ -67,8 +82,10 @@ fn look_into(name: &[u8]) -> bool {
 fn tell(name: &[u8], file: WaveFile) -> bool {
     let mut line = [0u8; 4400];
     let kind = file.kind;
+    let layout = file.layout;
     let at = put(&mut line, 0, name);
     let at = put(&mut line, at, b": ");
+    let at = layout_text::put_layout(&mut line, at, layout);
     let at = report_lines::put_looked(
         &mut line,
         at,

@@ -1,5 +1,5 @@
--- A loop that lends a table's rows `&mut table[p * width..p * width + width]` one after the other:
--- its invariant, over any rule for a row. Assumes nothing.
+-- The invariant of a loop that lends the rows `&mut table[p * width..p * width + width]` of a table one after the
+-- other, for any rule for a row. Assumes nothing.
 use mathlib.Core.Path.{_≡_, ap, _∙_}
 use mathlib.Core.List.{List, _++_}
 use Prim.Native.Nat.{ℕ, _+_, _-_, _*_, _≤_, _<_}
@@ -10,13 +10,13 @@ use lib.Ieee.{Float}
 use Rattle.loop_laws.specs.Loops.{rows}
 use Rattle.loop_laws.proofs.Rows.{no-row, row-more, length-after, all-rows, length-part}
 
--- of n rows the first p are written
+-- The first p of n rows are written.
 pub record Filled (f : ℕ → List Float) (width n : ℕ) (xs : List Float) (p : ℕ) : Type 0 where
   pub long : length xs ≡ n * width
   pub most : p ≤ n
   pub front : take (p * width) xs ≡ rows f p
 
--- row p as it is lent, and the table once ys came back in its place
+-- Row p as it is lent, and the table when ys has come back in its place.
 abbrev pub lentRow : ℕ → List Float → ℕ → List Float
 lentRow width xs p = take (p * width + width - p * width) (drop (p * width) xs)
 

@@ -1,5 +1,5 @@
--- A loop by its turns: none, one more, one loop behind another, and two loops whose turns are the same.
--- Assumes nothing.
+-- A loop as a function of its turns: no turn, one more turn, two loops one after the other, and two loops with the same
+-- turns. Assumes nothing.
 use mathlib.Core.Path.{_≡_, refl, sym, ap, _∙_}
 use Prim.Native.Nat.{ℕ, zero, suc, _+_, _<_}
 use native.Mathlib.Nat.{add-zero, add-suc}

@@ -1,4 +1,4 @@
--- A list that a loop writes from the front on by a rule, and its elements. Assumes nothing.
+-- A list that a loop writes by a rule, from the front on, and its elements. Assumes nothing.
 use mathlib.Core.Path.{_≡_, refl, sym, _∙_, ap, subst}
 use mathlib.Core.List.{List, [], _∷_, _++_}
 use mathlib.Core.Logic.{⊎-elim}
@@ -31,7 +31,7 @@ unfolding listOf
 same-list f g zero h = refl
 same-list f g (suc n) h = rw (same-list f g n (λ k l. h k (omega arith)), h n (omega arith))
 
--- ---- the loop: nothing written, one element more, all
+-- ---- the loop: nothing written, one more element, all of them
 pub nothing : {A : Type 0} (f : ℕ → A) (xs : List A) → take 0 xs ≡ listOf f 0
 unfolding listOf
 nothing f xs = refl

@@ -1,5 +1,5 @@
--- One function over every element: of a list by a rule, of a table by its rows, and of a list that a loop changes in
--- place. Assumes nothing.
+-- One function applied to every element: of a list that is given by a rule, of a table by its rows, and of a list that
+-- a loop changes in place. Assumes nothing.
 use mathlib.Core.Path.{_≡_, refl, sym, _∙_, ap}
 use mathlib.Core.List.{List, [], _∷_, _++_, map, append-assoc, append-nil}
 use Prim.Native.Nat.{ℕ, zero, suc, _+_, _<_}
@@ -38,7 +38,7 @@ module _ (f : Float → Float) where
   pub map-part : (xs : List Float) (a k : ℕ) → take k (drop a (map f xs)) ≡ map f (take k (drop a xs))
   map-part xs a k = ap (take k) (map-drop a xs) ∙ map-take k (drop a xs)
 
-  -- the first k elements changed
+  -- The list with its first k elements changed.
   abbrev pub halfway : List Float → ℕ → List Float
   halfway xs k = map f (take k xs) ++ drop k xs
 

@@ -17,7 +17,7 @@ module _ (f : ℕ → List Float) (width : ℕ) where
   unfolding rows
   no-row xs = ap (λ (n : ℕ). take n xs) (zero-mul width)
 
-  -- the table after ys was written as row p; k is how the code counts the width
+  -- The table after ys has been written as row p; k is the width as the code counts it.
   module _ (xs ys : List Float) (p k : ℕ) (e : k ≡ width) (fits : p * width + width ≤ length xs)
       (long : length ys ≡ width) where
     abbrev after : List Float
@@ -41,7 +41,7 @@ module _ (f : ℕ → List Float) (width : ℕ) where
   pub all-rows : (xs : List Float) (n : ℕ) → length xs ≡ n * width → take (n * width) xs ≡ rows f n → xs ≡ rows f n
   all-rows xs n l h = sym (take-all (n * width) xs (omega arith)) ∙ h
 
--- a part as it is lent
+-- A part has its length when it is lent.
 pub length-part : (xs : List Float) (a k width : ℕ) → k ≡ width → a + width ≤ length xs
     → length (take k (drop a xs)) ≡ width
 length-part xs a k width e fits = simp (length-take, length-drop) (omega arith)
@@ -71,7 +71,7 @@ module _ (f : ℕ → List Float) (width : ℕ) (long : (p : ℕ) → length (f 
       ∙ row n p l)
       (eq-or-lt-of-le (le-of-suc-le-suc h))
 
-  -- element k of row p
+  -- Element k of row p.
   pub cell : (n p k : ℕ) (d : Float) → p < n → k < width → getD (rows f n) (p * width + k) d ≡ getD (f p) k d
   cell n p k d h l =
       sym (getD-take width (drop (p * width) (rows f n)) k d l ∙ getD-drop (p * width) (rows f n) k d)

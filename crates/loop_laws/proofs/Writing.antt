@@ -1,4 +1,4 @@
--- A loop that writes a lent list `&mut xs[k]` from the front on: its invariant, over any rule for an element. Assumes
+-- The invariant of a loop that writes a lent list `&mut xs[k]` from the front on, for any rule for an element. Assumes
 -- nothing.
 use mathlib.Core.Path.{_≡_, refl, ap, _∙_}
 use mathlib.Core.List.{List}
@@ -8,7 +8,7 @@ use lib.ListN.{length, take, set, length-set}
 use Rattle.loop_laws.specs.Loops.{listOf}
 use Rattle.loop_laws.proofs.Lists.{nothing, written, whole}
 
--- the list is as long as it was lent, and its first k elements are written
+-- The list is as long as it was lent, and its first k elements are written.
 pub record Written {A : Type 0} (f : ℕ → A) (lent xs : List A) (k : ℕ) : Type 0 where
   pub long : length xs ≡ length lent
   pub most : k ≤ length xs

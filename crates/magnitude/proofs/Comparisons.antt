@@ -1,5 +1,5 @@
--- The order of floats: total but for a NaN, and what it says of two numbers' magnitudes, each times the other's
--- denominator. Assumes nothing.
+-- The order of floats: it is total except for a NaN. And what it shows of the magnitudes of two numbers, each times the
+-- other's denominator. Assumes nothing.
 use mathlib.Core.Path.{_≡_, sym}
 use mathlib.Core.Bool.{Bool, true, false, not, _&&_, _||_}
 use mathlib.Core.Logic.{inl, inr}
@@ -13,7 +13,7 @@ use lib.Ieee.{Float, nan, inf, fin, up, down, below, level, lt, eq, le, isNan}
 use lib.Ieee.Scale.{finite}
 use lib.Ieee.Fits.{and-i, and-l, eq→eqb}
 
--- ---- either test
+-- ---- one of two tests
 or-l : (a b : Bool) → T a → T (a || b)
 or-l true b t = tt
 or-l false b t = absurd t
@@ -49,7 +49,7 @@ pub le-negative : (s : Bool) (m : ℕ) (e : ℤ) (n : ℕ) (d : ℤ) → T (le (
 unfolding le
 le-negative s m e n d = negative s (m * up e * down d) (n * up d * down e)
 
--- ---- total
+-- ---- any two numbers are in order, one way or the other
 zeros : (a b : ℕ) → a + b ≤ 0 → T (eqb a b && eqb a 0)
 zeros a b h =
     let p : a ≡ 0 = omega arith in
@@ -103,7 +103,7 @@ pub lt→le : (x y : Float) → T (lt x y) → T (le x y)
 unfolding le
 lt→le x y h = or-l (lt x y) (eq x y) h
 
--- ---- no NaN
+-- ---- not a NaN
 pub finite-number : (x : Float) → T (finite x) → T (not (isNan x))
 unfolding isNan
 finite-number nan h = h

@@ -1,5 +1,5 @@
--- `finite` by one subtraction and one test: a number less itself is zero, so not below zero,
--- and an infinity or a NaN less itself is a NaN. Assumes nothing.
+-- `finite` by one subtraction and one test. A number less itself is zero and so not below zero; an infinity or a NaN
+-- less itself is a NaN. Assumes nothing.
 use mathlib.Core.Path.{_≡_, refl, sym}
 use mathlib.Core.Bool.{Bool, true, false, not}
 use Prim.Native.Nat.{ℕ, _*_, _<_}
@@ -22,7 +22,7 @@ nothing-left f false a c C =
 nothing-left f true a c C =
     rw (le-ltb a a (le-refl a), sub-self a) (round-same f false 0 c 0 1 C (lit< tt) (sym (zero-mul c)))
 
--- nothing compares with a NaN
+-- No comparison with a NaN holds.
 unordered : (f : Format) → le (ofBits f 0) nan ≡ false
 unfolding le ofBits
 unordered binary32 = refl

@@ -71,7 +71,7 @@ mul-at-most f a b (fin s m e) (fin t n d) B h k =
     round-at-most f (a * b) (unlike s t) (m * up e * (n * up d)) (down e * down d) B (mul-pos (down-pos e) (down-pos d))
     (le-trans (mul-le-mul h k) (le-of-eq (mul-mul-mul-comm a (down e) b (down d))))
 
--- by a factor that is the fraction p / q
+-- A product with a factor that is the fraction p / q.
 pub scale-at-most : (f : Format) (a b : ℕ) (x y : Float) (s : Bool) (p q : ℕ) → b ≤ 2 ^ prec f → 0 < q
     → HasValue x s p q → AtMost a y → p * a ≤ b * q → AtMost b (mul f x y)
 unfolding mul

@@ -1,5 +1,5 @@
--- Between the order of floats and `AtMost`: what lies between two numbers of magnitude at most b has magnitude at most
--- b itself, and what has lies between -b and b. Assumes nothing.
+-- The order of floats and `AtMost`: what lies between two numbers of magnitude at most b has magnitude at most b
+-- itself, and such a number lies between -b and b. Assumes nothing.
 use mathlib.Core.Path.{_≡_, sym, ap, _∙_, subst}
 use mathlib.Core.Bool.{Bool, true, false, cond, _&&_}
 use Prim.Native.Nat.{ℕ, _+_, _*_, _≤_, _<_}
@@ -28,7 +28,7 @@ at-most-mono nan l h = h
 at-most-mono (inf s) l h = h
 at-most-mono (fin s m e) l h = le-trans h (mul-le-mul-right (down e) l)
 
--- x / p ≤ y / q ≤ b
+-- If x / p ≤ y / q ≤ b then x / p ≤ b.
 through : (x p y q b : ℕ) → 0 < q → x * q ≤ y * p → y ≤ b * q → x ≤ b * p
 through x p y q b Q h k =
     le-of-mul-le-mul-right (le-trans h (le-trans (mul-le-mul-right p k) (le-of-eq (mul-right-comm b q p)))) Q

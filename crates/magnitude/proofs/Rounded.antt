@@ -1,5 +1,5 @@
--- One rounding keeps `AtMost b`, for a whole b that the format counts without a gap: the fraction lies between 0 and b,
--- rounding keeps the order, and 0 and b round to themselves. Assumes nothing.
+-- One rounding keeps `AtMost b`, for a whole number b up to which the format has every whole number. The fraction lies
+-- between 0 and b, rounding keeps the order, and 0 and b round to themselves. Assumes nothing.
 use mathlib.Core.Path.{sym, subst}
 use mathlib.Core.Bool.{Bool, true, false, cond}
 use Prim.Native.Nat.{ℕ, zero, suc, _+_, _*_, _^_, _≤_, _<_, zero-le}

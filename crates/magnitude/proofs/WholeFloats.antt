@@ -1,6 +1,6 @@
--- Whole numbers as floats: up to 2 ^ prec each is held exactly, their difference is the whole difference, rounded,
--- their product the whole product, rounded, and a quotient that leaves no remainder the whole quotient, rounded.
--- In each the exact value is a fraction that equals a whole number over 1. Assumes nothing.
+-- Whole numbers as floats. Up to 2 ^ prec each is exact. Their difference is the whole difference, rounded; their
+-- product is the whole product, rounded; and a quotient without remainder is the whole quotient, rounded. In each case
+-- the exact value is a fraction that equals a whole number over 1. Assumes nothing.
 use mathlib.Core.Path.{_≡_, refl, sym, ap, _∙_}
 use mathlib.Core.Bool.{Bool, true, false, cond, true≢false, not}
 use Prim.Native.Nat.{ℕ, zero, suc, _-_, _*_, _^_, _≤_, _<_}
@@ -22,7 +22,7 @@ unfolding ofInt
 whole-value f (pos n) h = round-whole f false n h
 whole-value f (negsuc n) h = round-whole f true (suc n) h
 
--- x / e is a, over the denominator e * d
+-- x / e is a, over the denominator e * d.
 over : (x e a d : ℕ) → x * 1 ≡ a * e → x * d ≡ a * (e * d)
 over x e a d v = ap (λ (z : ℕ). z * d) (sym (mul-one x) ∙ v) ∙ mul-assoc a e d
 

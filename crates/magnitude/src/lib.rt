@@ -4,7 +4,7 @@ ghost use mathlib.Core.Bool.{_&&_};
 ghost use lib.Ieee as Ieee;
 ghost use lib.Ieee.Scale.{finite};
 
-// Rust's f64::is_finite: a number minus itself is zero, an infinity or a NaN minus itself is a NaN. `>=` compiles to
+// Rust's f64::is_finite. A number minus itself is zero; an infinity or a NaN minus itself is a NaN. `>=` compiles to
 // one jump, `==` to two.
 pub fn is_finite(x: f64) -> bool
     ensures { λ r. ⌜ r ≡ finite x ⌝ }
@@ -19,7 +19,7 @@ pub fn is_finite_f32(x: f32) -> bool
     x - x >= 0.0f32
 }
 
-// Whether x lies from low to high, the ends included. A NaN lies nowhere.
+// Whether x lies from low to high, both included. No comparison with a NaN holds, so a NaN never does.
 pub fn within(x: f64, low: f64, high: f64) -> bool
     ensures { λ r. ⌜ r ≡ (Ieee.le low x && Ieee.le x high) ⌝ }
 {

@@ -1,5 +1,5 @@
--- Which argument `chosen` hands back, by the tests that the code makes; and what is known of it:
--- whatever holds of both arguments, and on which side of the second it lies. Assumes nothing.
+-- Which argument `chosen` returns, by the tests of the code; and what is known of the result: whatever holds for both
+-- arguments, and on which side of the second it lies. Assumes nothing.
 use mathlib.Core.Path.{_≡_, refl, sym}
 use mathlib.Core.Bool.{Bool, true, false, not, cond, true≢false}
 use lib.Dec.{T}
@@ -34,7 +34,7 @@ pub lone : {t : Bool} (x y : Float) → t ≡ false → eq y y ≡ false → x �
 unfolding ne
 lone x y h k = rw (h, differs-from-itself y (rw k tt)) (beside-nan x)
 
--- ---- what is known of it
+-- ---- what is known of the result
 pub chosen-keeps : (P : Float → Type 0) (t : Bool) (x y : Float) → P x → P y → P (chosen t x y)
 unfolding chosen
 chosen-keeps P t x y p q =

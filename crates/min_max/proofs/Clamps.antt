@@ -1,5 +1,5 @@
--- A clamped number lies from low to high, so its magnitude is at most theirs: each test that failed says the order the
--- other way round. Assumes nothing.
+-- A clamped number lies from low to high, so its magnitude is at most theirs. A test that failed shows the opposite
+-- order. Assumes nothing.
 use mathlib.Core.Path.{_≡_, refl}
 use mathlib.Core.Bool.{Bool, true, false, not, cond}
 use Prim.Native.Nat.{ℕ}

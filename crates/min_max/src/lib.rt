@@ -33,8 +33,8 @@ pub fn min_f32(a: f32, b: f32) -> f32
     if b == b { b } else { a }
 }
 
-// Rust's f64::clamp. Rust panics if low is above high or one of them is a NaN; here the same tests follow in the same
-// order.
+// Rust's f64::clamp. Rust panics if low is above high or one of them is a NaN; here the same two tests are made in the
+// same order, and x is given if both fail.
 pub fn clamp(x: f64, low: f64, high: f64) -> f64
     ensures { λ r. ⌜ r ≡ clamped x low high ⌝ }
 {

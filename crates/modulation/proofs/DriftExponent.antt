@@ -1,6 +1,5 @@
--- A drift's value lies from -2 to 2 (`smooth_random`), so half of it, times an amount from 0 to 1, lies from -1 to 1:
--- an argument that exp2 does not refuse.
--- Assumes nothing.
+-- The value of a drift lies from -2 to 2 (`smooth_random`), so half of it, times an amount from 0 to 1, lies from -1 to
+-- 1. Such an argument exp2 does not refuse. Assumes nothing.
 use Prim.Native.Nat.{ℕ, zero, suc}
 use lib.Count.{trailingZeros}
 use lib.Dec.{T, lit≤}

@@ -1,5 +1,5 @@
--- G8. What an engine in range holds: `Sound`. Opening gives it, and each method keeps it: the phases by
--- `advance-cycle`, the generators by what stands in Generators. Assumes nothing.
+-- G8. What holds for an engine in range: `Sound`. Opening gives it, and each method keeps it, for the phases by
+-- `advance-cycle` and for the generators by the laws of Generators. Assumes nothing.
 use mathlib.Core.Path.{refl}
 use mathlib.Core.Bool.{_&&_}
 use Prim.Native.Nat.{ℕ, _^_, _<_}
@@ -76,7 +76,7 @@ restarted-sound {e} h =
       flutter = reset-steady (e .«flutter_drift») (h .flutter);
     }
 
--- a rate of at most 1000 times a power of two is not huge
+-- A rate of at most 1000 times a power of two is not huge.
 slow : (rate drift-amount value : Float) → AtMost 1000 rate
     → T (le (mul binary64 rate (multiplierOf drift-amount value)) huge)
 unfolding multiplierOf trailingZeros odd ofFields ofBits

@@ -1,5 +1,5 @@
--- G8. What a generator in range holds, words of 64 digits included: `Steady`. A seed gives it, and reset,
--- another seed and a step keep it. Assumes nothing.
+-- G8. What holds for a generator in range, including that its numbers are words of 64 digits: `Steady`. A seed gives
+-- it, and reset, a new seed and a step keep it. Assumes nothing.
 use mathlib.Core.Path.{sym, subst}
 use mathlib.Core.Bool.{Bool, true, false, cond}
 use Prim.Native.Nat.{ℕ, _^_, _<_}

@@ -1,6 +1,6 @@
--- In a sound engine with settings in range a step asks no cosine and no power of two that is refused,
--- so that `cos` and `pow2` in its definition are the port's own functions, with their bounds:
--- phases from -TAU/4 to 5 TAU/4, depths of at most an octave, drifts of at most 1. Assumes nothing.
+-- In a sound engine with settings in range no cosine and no power of two of a step is refused, so that `cos` and `pow2`
+-- in its definition are the port's own functions, with their bounds: phases from -TAU/4 to 5 TAU/4, depths of at most
+-- an octave, drifts of at most 1. Assumes nothing.
 use mathlib.Core.Path.{_≡_, ap, _∙_}
 use Prim.Native.Nat.{ℕ, zero, suc}
 use lib.Count.{trailingZeros}
@@ -39,7 +39,7 @@ use Rattle.modulation.proofs.TermBounds.{lies-between}
 use Rattle.modulation.proofs.DriftExponent.{wander-at-most}
 use Rattle.modulation.proofs.EngineInRange.{Sound}
 
--- ---- a phase, and the side that it is displaced by
+-- ---- a phase, and the displacement of a side
 abbrev far : Float
 far = ofBits binary64 0x4049_8000_0000_0000
 
@@ -99,7 +99,7 @@ wanders amount r pace sample-rate real ok valid =
     ap (multiplierOf amount) (drawn r pace sample-rate ok valid)
     ∙ power-answers (wander amount r) (wander-at-most r amount valid real)
 
--- ---- all that a step asks
+-- ---- all cosines and powers of a step
 pub record Answered (e : ModulationEngine) (p : ModulationParams) : Type 0 where
   pub wow-left : Cosines (add binary64 (e .«wow_phase») (neg (sidePhase p)))
   pub wow-right : Cosines (add binary64 (e .«wow_phase») (sidePhase p))

@@ -1,5 +1,5 @@
--- The rates at which drift targets come are in the range that a generator asks: each is clamped between ends that are.
--- So a generator refuses only where its state is out of range. Assumes nothing.
+-- The rates at which drift targets come are in the range of a generator's argument, because each is clamped between
+-- ends that are. So a generator refuses only if its state is out of range. Assumes nothing.
 use mathlib.Core.Path.{_≡_, refl}
 use mathlib.Core.Bool.{Bool, true, false, not, cond}
 use lib.Count.{trailingZeros}
@@ -25,7 +25,7 @@ use Rattle.modulation.specs.Step.{tenth, wowPace, flutterPace}
 use Rattle.modulation_params.specs.declared.ModulationParams.{ModulationParams}
 use Rattle.modulation.proofs.SettingsInRange.{Held}
 
--- 0 ≤ low ≤ high < 1000
+-- The ends satisfy 0 ≤ low ≤ high < 1000.
 clamped-paces : (x low high : Float) → T (finite x) → T (finite low) → T (finite high) → T (le low high)
     → T (not (lt low zero)) → T (lt high fastest) → T (within zero fastest (clamped x low high))
 unfolding trailingZeros odd ofFields ofBits

@@ -1,5 +1,5 @@
--- G8, M2. What holds of an engine throughout a run: it is sound, and has the sample rate and the seeds that were set
--- last. In a sound state only an argument is refused. Assumes nothing.
+-- G8, M2. What holds for an engine throughout a run: it is sound, and it has the sample rate and the seeds that were
+-- set last. In a sound state only an argument can be refused. Assumes nothing.
 use mathlib.Core.Path.{_≡_, refl, sym, _∙_}
 use mathlib.Core.Bool.{Bool, true, false, cond}
 use mathlib.Core.List.{List, [], _∷_}
@@ -38,7 +38,7 @@ pub record Running (sample-rate : Float) (s : ℕ) (e : ModulationEngine) : Type
   pub wow-seed : e .«wow_drift» .«initial_seed» ≡ seedOf s
   pub flutter-seed : e .«flutter_drift» .«initial_seed» ≡ flutterSeedOf s
 
--- the seed that a generator has after another was set; a flutter seed is no 0, so that nothing replaces it
+-- The seed that a generator has after a new one was set. A flutter seed is not 0, so that it is not replaced.
 pub flutter-twice : (s : ℕ) → seedOf (flutterSeedOf s) ≡ flutterSeedOf s
 flutter-twice s = seed-twice (xor s 0xD1B5_4A32_D192_ED03)
 

@@ -1,8 +1,6 @@
--- M1, M2, M5 over runs: from its opening on, whatever was called, an engine is sound; two that are opened alike and
--- called alike hand out the same offsets;
--- setting the held seed changes nothing; 0 set after A0761D6478BD642F starts the flutter generator alone anew;
--- and a reset gives the opening state.
--- Assumes nothing.
+-- M1, M2, M5 over runs. From its opening on an engine is sound, whatever is called. Two engines that are opened alike
+-- and called alike hand out the same offsets. Setting the seed that is held changes nothing. Setting 0 after
+-- A0761D6478BD642F restarts only the flutter generator. A reset gives the state of opening. Assumes nothing.
 use mathlib.Core.Path.{_≡_, sym, ap, _∙_, subst}
 use mathlib.Core.Bool.{true}
 use mathlib.Core.List.{List}
@@ -33,7 +31,7 @@ module _ {sample-rate : Float} {s : ℕ} {e : ModulationEngine} (h : Running sam
   opens : resetOf e ≡ Engine (fresh sample-rate s)
   opens = rw (sound-verdict (h .sound) true, h .rated-at, h .wow-seed, h .flutter-seed, flutter-twice s)
 
--- the same engine with another flutter generator
+-- The same engine with another flutter generator.
 abbrev pub fluttering : ModulationEngine → SmoothRandom → ModulationEngine
 fluttering e r = record {
   «sample_rate» = e .«sample_rate»;

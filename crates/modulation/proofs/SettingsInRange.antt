@@ -1,4 +1,4 @@
--- G7. What settings in range hold, one by one. Assumes nothing.
+-- G7. What settings in range satisfy, one by one. Assumes nothing.
 use mathlib.Core.Bool.{_&&_}
 use lib.Dec.{T}
 use lib.Ieee.Fits.{and-l, and-r}

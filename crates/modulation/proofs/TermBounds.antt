@@ -1,6 +1,5 @@
--- A term of sums, differences and products, each rounded once, whose variables lie between ends:
--- so does its value, between ends that are computed from theirs.
--- A product's first factor may not be negative. Assumes nothing.
+-- A term of sums, differences and products, each rounded once. If its variables lie between ends, so does its value,
+-- between ends that are computed from theirs. The first factor of a product must not be negative. Assumes nothing.
 use mathlib.Core.Path.{refl}
 use mathlib.Core.Bool.{Bool, true, false, _&&_, cond}
 use Prim.Native.Nat.{ℕ}
@@ -53,7 +52,7 @@ ends σ (plus x y) = summed (ends σ x) (ends σ y)
 ends σ (minus x y) = parted (ends σ x) (ends σ y)
 ends σ (times x y) = multiplied (ends σ x) (ends σ y)
 
--- every end is finite, and no first factor of a product negative
+-- Every end is finite, and no first factor of a product is negative.
 abbrev real : Ends → Bool
 real u = finite (u .low) && finite (u .high)
 
@@ -74,7 +73,7 @@ three true true false t = absurd t
 three true false c t = absurd t
 three false b c t = absurd t
 
--- between two numbers, by a test that computes
+-- The term lies between two numbers, by a test that is computed.
 unfoldable pub lies : (ℕ → Ends) → Term → Float → Float → Bool
 lies σ e l h = real (record { low = l; high = h }) && (sure σ e && (le l (ends σ e .low) && le (ends σ e .high) h))
 

@@ -1,6 +1,5 @@
 -- N1, N3. The engine learns from its generators' answers whether their states are in range, and so tests each range
--- once; what it finds is its verdict.
--- Assumes nothing.
+-- once. What it finds is the refusal of its definition. Assumes nothing.
 use mathlib.Core.Path.{_≡_}
 use mathlib.Core.Bool.{Bool, true, false, _&&_, cond}
 use denote.Floats.{passes}

@@ -1,4 +1,4 @@
--- A run of calls of one engine, state handed on as the last call left it. Definitions only.
+-- A run of calls of one engine. The state is handed on as the last call left it. Definitions only.
 use Prim.Native.Nat.{ℕ, _^_, _<_}
 use mathlib.Core.Bool.{cond}
 use mathlib.Core.List.{List, [], _∷_, _++_}
@@ -12,14 +12,14 @@ use Rattle.modulation_engine.specs.declared.Opened.{Opened}
 use Rattle.modulation_engine.specs.declared.Opened.the-variants.{Engine, Refused}
 use Rattle.modulation_sample.specs.declared.Offset.{Offset}
 
--- `next`, `set_sample_rate`, `set_seed` and `reset`.
+-- The calls are `next`, `set_sample_rate`, `set_seed` and `reset`.
 pub data Call : Type 0 where
   step : ModulationParams → Call
   rate : Float → Call
   seed : ℕ → Call
   again : Call
 
--- What an answer leaves of an engine: a refusal changes nothing.
+-- The engine that an answer leaves behind: a refusal changes nothing.
 abbrev pub leftBy : Opened → ModulationEngine → ModulationEngine
 leftBy (Engine after) e = after
 leftBy (Refused k) e = e
@@ -30,7 +30,7 @@ after e (rate sample-rate) = leftBy (setSampleRateOf e sample-rate) e
 after e (seed s) = leftBy (setSeedOf e s) e
 after e again = leftBy (resetOf e) e
 
--- What a call hands out.
+-- The offsets that a call hands out.
 abbrev pub handed : ModulationEngine → Call → List Offset
 handed e (step p) = nextOf e p .offset ∷ []
 handed e (rate sample-rate) = []
@@ -45,7 +45,7 @@ unfoldable pub offsets : ModulationEngine → List Call → List Offset
 offsets e [] = []
 offsets e (c ∷ cs) = handed e c ++ offsets (after e c) cs
 
--- The sample rate that was set last: one out of range is refused.
+-- The sample rate that was set last. One that is out of range is refused and changes nothing.
 abbrev pub rateAfter : Float → Call → Float
 rateAfter r (step p) = r
 rateAfter r (rate sample-rate) = cond (sampleRateOk sample-rate) sample-rate r
@@ -67,7 +67,7 @@ unfoldable pub lastSeed : ℕ → List Call → ℕ
 lastSeed s [] = s
 lastSeed s (c ∷ cs) = lastSeed (seedAfter s c) cs
 
--- Seeds are words of 64 digits, as a u64 is.
+-- A seed is a word of 64 digits, as a u64 is.
 abbrev pub Word : Call → Type 0
 Word (step p) = Unit {0}
 Word (rate sample-rate) = Unit {0}

@@ -13,21 +13,21 @@ use Rattle.modulation_sample.specs.declared.Offset.{Offset}
 use Rattle.modulation_sample.specs.declared.Offset.the-variants.{Delay, Refused}
 use Rattle.modulation_sample.specs.declared.Next.{Next}
 
--- FLUTTER_DRIFT_TARGETS_PER_CYCLE, 0.1.
+-- `FLUTTER_DRIFT_TARGETS_PER_CYCLE`, 0.1.
 abbrev pub tenth : Float
 tenth = ofBits binary64 0x3fb9_9999_9999_999a
 
--- `(params.wow_rate_hz * WOW_DRIFT_TARGETS_PER_CYCLE).clamp(0.025, 2.0)`
+-- In 001: `(params.wow_rate_hz * WOW_DRIFT_TARGETS_PER_CYCLE).clamp(0.025, 2.0)`.
 abbrev pub wowPace : ModulationParams → Float
 wowPace p =
     clamped (mul binary64 (p .«wow_rate_hz») half) (ofBits binary64 0x3f99_9999_9999_999a)
     (ofBits binary64 0x4000_0000_0000_0000)
 
--- `(params.flutter_rate_hz * FLUTTER_DRIFT_TARGETS_PER_CYCLE).clamp(0.5, 3.0)`
+-- In 001: `(params.flutter_rate_hz * FLUTTER_DRIFT_TARGETS_PER_CYCLE).clamp(0.5, 3.0)`.
 abbrev pub flutterPace : ModulationParams → Float
 flutterPace p = clamped (mul binary64 (p .«flutter_rate_hz») tenth) half (ofBits binary64 0x4008_0000_0000_0000)
 
--- The drifts' numbers, and their generators after the draw.
+-- The values of both drifts, each with its generator after the draw.
 abbrev pub wowDrift : ModulationEngine → ModulationParams → random.Next
 wowDrift e p = drift.nextOf (e .«wow_drift») (wowPace p) (e .«sample_rate»)
 
@@ -45,7 +45,7 @@ nextBy (suc k) e p = record { engine = e; offset = Refused (suc k) }
 abbrev pub nextOf : ModulationEngine → ModulationParams → Next
 nextOf e p = nextBy (verdict (paramsOk p) e) e p
 
--- C4. 01's number for each case, 0 for the offsets.
+-- C4. The number of document 01 for each case, 0 for the offsets.
 abbrev pub numberOf : Offset → ℕ
 numberOf (Delay d) = 0
 numberOf (Refused k) = k

@@ -11,7 +11,7 @@ use modulation_sample::Offset;
 use oscillator_ranges as ranges;
 use refusal_order::both;
 
-// The delay offsets in samples, left and right; then one sample on.
+// M5. Gives the delay offsets in samples, left and right, and moves the engine on by one sample.
 pub fn next(engine: ModulationEngine, params: ModulationParams) -> Next
     ensures { λ r. ⌜ r ≡ nextOf engine params ⌝ }
 {

@@ -1,5 +1,5 @@
--- Where the engine is not refused both of its generators are in range, so that neither of them refuses: what each hands
--- back is the new one. By the four tests of the engine. Assumes nothing.
+-- If the engine is not refused, both of its generators are in range, so that neither of them refuses, and each hands
+-- back the new one. By the four tests of the engine. Assumes nothing.
 use Prim.Native.Nat.{ℕ}
 use mathlib.Core.Path.{_≡_, refl}
 use mathlib.Core.Bool.{Bool, true, false, _&&_, cond}

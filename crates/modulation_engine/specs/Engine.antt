@@ -1,4 +1,4 @@
--- G8, M1, M2. 001's engine: opened, and its sample rate, its seed or its whole course set anew. Definitions only.
+-- G8, M1, M2. 001's engine: opening, setting the sample rate or the seed, and reset. Definitions only.
 use Prim.Native.Nat.{ℕ, zero, suc}
 use mathlib.Core.Bool.{Bool, true, _&&_, cond}
 use mathlib.Core.List.{[], _∷_}
@@ -13,29 +13,29 @@ use Rattle.modulation_engine.specs.declared.ModulationEngine.{Modulation
 use Rattle.modulation_engine.specs.declared.Opened.{Opened}
 use Rattle.modulation_engine.specs.declared.Opened.the-variants.{Engine, Refused}
 
--- G8. Phases at least 0 and below TAU, and both generators in their ranges.
+-- G8. Both phases are at least 0 and below TAU, and both generators are in their ranges.
 unfoldable pub phasesOk : ModulationEngine → Bool
 phasesOk e = cycleOk (e .«wow_phase») && cycleOk (e .«flutter_phase»)
 
 unfoldable pub validEngine : ModulationEngine → Bool
 validEngine e = phasesOk e && (ranges.validOf (e .«wow_drift») && ranges.validOf (e .«flutter_drift»))
 
--- N1, N3, N9. The refusal that is due for a state that is handed in, 0 for none: 1 for its sample rate or an argument
+-- N1, N3, N9. The number of the refusal of a state that is handed in, 0 for none: 1 for its sample rate or an argument
 -- beside it, 3 for any other field.
 unfoldable pub verdict : Bool → ModulationEngine → ℕ
 verdict arguments e = firstOf (1 unless (sampleRateOk (e .«sample_rate») && arguments) ∷ 3 unless validEngine e ∷ [])
 
--- The engine where no refusal is due.
+-- The engine if the refusal is 0, which stands for none.
 abbrev pub openedBy : ℕ → ModulationEngine → Opened
 openedBy zero e = Engine e
 openedBy (suc k) e = Refused (suc k)
 
--- C4. 01's number for each case, 0 for an engine.
+-- C4. The number of document 01 for each case, 0 for an engine.
 abbrev pub numberOf : Opened → ℕ
 numberOf (Engine e) = 0
 numberOf (Refused k) = k
 
--- M1. An engine that has not stepped yet: the flutter generator has a seed of its own.
+-- M1. An engine that has made no step yet. The flutter generator has a seed of its own.
 abbrev pub fresh : Float → ℕ → ModulationEngine
 fresh sample-rate seed = record {
   «sample_rate» = sample-rate;
@@ -48,7 +48,6 @@ fresh sample-rate seed = record {
 abbrev pub openedOf : Float → ℕ → Opened
 openedOf sample-rate seed = cond (sampleRateOk sample-rate) (Engine (fresh sample-rate seed)) (Refused 1)
 
--- At another sample rate.
 abbrev pub rated : ModulationEngine → Float → ModulationEngine
 rated e sample-rate = record {
   «sample_rate» = sample-rate;
@@ -61,7 +60,7 @@ rated e sample-rate = record {
 abbrev pub setSampleRateOf : ModulationEngine → Float → Opened
 setSampleRateOf e sample-rate = openedBy (verdict (sampleRateOk sample-rate) e) (rated e sample-rate)
 
--- M2. With another seed: each of the two generators compares its own.
+-- M2. The same engine with another seed. Each of the two generators compares the seed with its own.
 abbrev pub seeded : ModulationEngine → ℕ → ModulationEngine
 seeded e seed = record {
   «sample_rate» = e .«sample_rate»;
@@ -74,7 +73,7 @@ seeded e seed = record {
 abbrev pub setSeedOf : ModulationEngine → ℕ → Opened
 setSeedOf e seed = openedBy (verdict true e) (seeded e seed)
 
--- From the start again, with the same seeds.
+-- The same engine from the start again, with the same seeds.
 abbrev pub restarted : ModulationEngine → ModulationEngine
 restarted e = record {
   «sample_rate» = e .«sample_rate»;

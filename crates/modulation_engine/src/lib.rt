@@ -1,7 +1,7 @@
-// The original's ModulationEngine (001) except for its step: opening, and setting its sample rate, its seed or its
-// whole course anew (M1, M2).
+// The original's ModulationEngine (001) except for its step: opening, setting the sample rate or the seed, and reset
+// (M1, M2).
 // The state goes in by value and comes back. A state that is out of range is refused, and then nothing has changed.
-mod state; // which states are valid, and the refusal that is due
+mod state; // which states are valid, and the number of the refusal
 
 ghost use mathlib.Core.Path.{_≡_};
 ghost use Rattle.modulation_engine.specs.Engine.{openedBy, openedOf, setSampleRateOf, setSeedOf, resetOf};
@@ -22,7 +22,7 @@ pub enum Opened {
     Refused(u8),
 }
 
-// The engine where no refusal is due (0), else the refusal.
+// The engine if the refusal is 0, which stands for none; otherwise the refusal.
 fn handed_back(refusal: u8, engine: ModulationEngine) -> Opened
     ensures { λ r. ⌜ r ≡ openedBy refusal engine ⌝ }
 {
@@ -53,7 +53,7 @@ impl ModulationEngine {
         }
     }
 
-    // Outside its range 001 leaves the old rate; here that is refused.
+    // Outside its range 001 keeps the old rate without a word; here that is refused.
     pub fn set_sample_rate(mut self, sample_rate: f64) -> Opened
         ensures { λ r. ⌜ r ≡ setSampleRateOf self «sample_rate» ⌝ }
     {
@@ -62,7 +62,7 @@ impl ModulationEngine {
         handed_back(refusal, self)
     }
 
-    // M2. Each generator compares its own seed.
+    // M2. Each generator compares the seed with its own.
     pub fn set_seed(mut self, seed: u64) -> Opened
         ensures { λ r. ⌜ r ≡ setSeedOf self seed ⌝ }
     {

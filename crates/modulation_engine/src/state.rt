@@ -1,4 +1,4 @@
-// G8, N1, N3, N9. Which states are valid, and the refusal that is due.
+// G8, N1, N3, N9. Which states are valid, and the number of the refusal.
 ghost use mathlib.Core.Path.{_≡_};
 ghost use mathlib.Core.Bool.{_&&_};
 ghost use Rattle.modulation_engine.specs.Engine.{phasesOk, validEngine, verdict};
@@ -7,7 +7,7 @@ use oscillator_ranges as ranges;
 use refusal_order::both;
 
 impl ModulationEngine {
-    // G8. Both phases in their range.
+    // G8. Both phases are in their range.
     pub fn phases_ok(self) -> bool
         ensures { λ r. ⌜ r ≡ phasesOk self ⌝ }
     {
@@ -17,7 +17,7 @@ impl ModulationEngine {
         )
     }
 
-    // G8. Every field in its range but the sample rate, which is a setting.
+    // G8. Every field is in its range, except for the sample rate, which counts as a setting.
     pub fn valid(self) -> bool
         ensures { λ r. ⌜ r ≡ validEngine self ⌝ }
     {
@@ -26,8 +26,8 @@ impl ModulationEngine {
         both(self.phases_ok(), both(wow.valid(), flutter.valid()))
     }
 
-    // The lowest refusal that is due, or 0 (N1, N3, N9). `arguments` says whether what was handed in with the state is
-    // in range.
+    // N1, N3, N9. The number of the lowest refusal, 0 for none. `arguments` says whether what was handed in beside the
+    // state is in range.
     pub(crate) fn refusal(self, arguments: bool) -> u8
         ensures { λ r. ⌜ r ≡ verdict arguments self ⌝ }
     {

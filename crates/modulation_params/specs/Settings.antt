@@ -1,4 +1,4 @@
--- G7, F9. The eight settings: 001's default values, and what is in range. Definitions only.
+-- G7, F9. The eight settings: 001's default values, and their ranges. Definitions only.
 use mathlib.Core.Bool.{Bool, _&&_}
 use lib.Ieee.{binary64, ofBits}
 use lib.Ieee.Scale.{finite}
@@ -6,7 +6,7 @@ use Rattle.oscillator_ranges.specs.Ranges.{rateOk, depthOk}
 use Rattle.oscillator_ranges.specs.Constants.{zero}
 use Rattle.modulation_params.specs.declared.ModulationParams.{ModulationParams}
 
--- 0.55 Hz, 8.0 cents, 12.0 Hz; the rest is 0.0.
+-- F9. The defaults are 0.55 Hz, 8.0 cents and 12.0 Hz; the others are 0.0.
 abbrev pub defaultParams : ModulationParams
 defaultParams = record {
   «wow_rate_hz» = ofBits binary64 0x3fe1_9999_9999_999a;
@@ -19,7 +19,8 @@ defaultParams = record {
   «stereo_amount» = zero;
 }
 
--- All finite; rates -1000 to 1000, depths -1200 to 1200. Shape, drift and stereo are clamped as in 001, not refused.
+-- G7. All eight are finite, the rates from -1000 to 1000, the depths from -1200 to 1200. Shape, drift and stereo are
+-- clamped as in 001, not refused.
 unfoldable pub paramsOk : ModulationParams → Bool
 paramsOk p =
     ((rateOk (p .«wow_rate_hz») && depthOk (p .«wow_depth_cents»))

@@ -1,4 +1,4 @@
-// The original's ModulationParams (001): the eight settings as one record, its default, and what is in range (G7, F9).
+// The original's ModulationParams (001): the eight settings as one record, their defaults and their ranges (G7, F9).
 ghost use mathlib.Core.Path.{_≡_};
 ghost use mathlib.Core.Bool.{_&&_};
 ghost use Rattle.modulation_params.specs.Settings.{paramsOk, defaultParams};
@@ -8,15 +8,15 @@ use refusal_order::both;
 pub struct ModulationParams {
     pub wow_rate_hz: f64,
     pub wow_depth_cents: f64,
-    // -1 = rounded square, 0 = sine, +1 = triangle.
+    // -1 is the rounded square, 0 the sine, +1 the triangle.
     pub wow_shape: f64,
     pub flutter_rate_hz: f64,
     pub flutter_depth_cents: f64,
-    // -1 = rounded square, 0 = sine, +1 = triangle.
+    // -1 is the rounded square, 0 the sine, +1 the triangle.
     pub flutter_shape: f64,
-    // Independent, rate-derived random variation of both oscillators, 0 to 1.
+    // How much both oscillators' rates wander at random, from 0 to 1.
     pub drift_amount: f64,
-    // Symmetric left/right modulation phase displacement, 0 to 1 for 0 to 180 degrees.
+    // How far the phases of left and right stand apart: from 0 to 1 for 0 to 180 degrees.
     pub stereo_amount: f64,
 }
 
@@ -37,7 +37,7 @@ pub fn default_params() -> ModulationParams
 }
 
 impl ModulationParams {
-    // G7. All finite, the rates and the depths in their ranges.
+    // G7. All eight are finite, and the rates and depths are in their ranges.
     pub fn in_range(self) -> bool
         ensures { λ r. ⌜ r ≡ paramsOk self ⌝ }
     {

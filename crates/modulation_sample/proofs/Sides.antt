@@ -1,4 +1,4 @@
--- Where no side is displaced the phases of the two sides are one float, and so are the offsets. Assumes nothing.
+-- If the sides are not displaced, their phases are one float, and so are the offsets. Assumes nothing.
 use mathlib.Core.Path.{_≡_, sym, ap, _∙_, subst}
 use mathlib.Core.Bool.{Bool, _&&_}
 use lib.Dec.{T, eqb, eqb→eq}
@@ -18,7 +18,7 @@ one-float a b A B t =
     ∙ ap (ofBits binary64) (eqb→eq _ _ (and-r (eq a b) (eqb (toBits binary64 a) (toBits binary64 b)) t))
     ∙ float-back binary64 b B
 
--- the two sides of a phase are one float, where z is the displacement
+-- The phases of the two sides are one float, where z is the displacement.
 abbrev pub oneFloat : Float → Float → Bool
 oneFloat phase z =
     let a = add binary64 phase (neg z) in
@@ -28,7 +28,7 @@ oneFloat phase z =
 phases : (phase z : Float) → T (oneFloat phase z) → add binary64 phase (neg z) ≡ add binary64 phase z
 phases phase z t = one-float _ _ (add-fits binary64 phase (neg z)) (add-fits binary64 phase z) t
 
--- half of pi
+-- The f64 next to half of pi.
 abbrev quarter : Float
 quarter = ofBits binary64 0x3ff9_21fb_5444_2d18
 

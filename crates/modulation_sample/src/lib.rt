@@ -1,4 +1,4 @@
-// What one step of the engine is made of: the offsets that it renders and the phases that it advances (001, M5).
+// The parts of one step of the engine: the offsets that it renders and the phases that it advances (001, M5).
 // Settings and state have been tested before, in `modulation`.
 ghost use mathlib.Core.Path.{_≡_};
 ghost use mathlib.Core.Bool.{_&&_};
@@ -22,7 +22,7 @@ pub enum Offset {
     Refused(u8),
 }
 
-// The engine afterwards, and the offsets before it advanced.
+// The engine after the step, and the offsets before it.
 pub struct Next {
     pub engine: ModulationEngine,
     pub offset: Offset,
@@ -38,7 +38,7 @@ pub fn default_offset() -> StereoDelayOffset
     }
 }
 
-// Full drift permits an oscillator to wander by half an octave.
+// At full drift an oscillator's rate may wander by half an octave.
 fn multiplier(drift_amount: f64, value: f64) -> f64
     ensures { λ r. ⌜ r ≡ multiplierOf «drift_amount» value ⌝ }
 {
@@ -46,7 +46,7 @@ fn multiplier(drift_amount: f64, value: f64) -> f64
     oscillator_arithmetic::power_of_two(0.5 * drift * value)
 }
 
-// Whether two floats are one, by their patterns; most that are not differ as numbers.
+// Whether two floats are the same bit pattern. The comparison as numbers comes first because it settles most cases.
 fn same(a: f64, b: f64) -> bool
     ensures { λ r. ⌜ r ≡ (Ieee.eq a b && eqb (Ieee.toBits binary64 a) (Ieee.toBits binary64 b)) ⌝ }
 {
@@ -57,7 +57,7 @@ fn same(a: f64, b: f64) -> bool
     }
 }
 
-// Whether neither pair differs.
+// Whether both pairs have the same bit patterns.
 fn pairs(a: f64, b: f64, c: f64, d: f64) -> bool
     ensures { λ r. ⌜ r ≡ ((Ieee.eq a b && eqb (Ieee.toBits binary64 a) (Ieee.toBits binary64 b))
         && (Ieee.eq c d && eqb (Ieee.toBits binary64 c) (Ieee.toBits binary64 d))) ⌝ }
@@ -65,8 +65,8 @@ fn pairs(a: f64, b: f64, c: f64, d: f64) -> bool
     if same(a, b) { same(c, d) } else { false }
 }
 
-// The original calls oscillator_delay for each side (001). The factors of the shapes are the same on both sides, and
-// with no stereo amount so is everything else: that is rendered once.
+// The original (001) calls oscillator_delay for each side. The factors of the shapes are the same on both sides, and so
+// is everything else if the stereo amount is 0; then it is rendered once.
 pub fn render(engine: ModulationEngine, params: ModulationParams) -> StereoDelayOffset
     ensures { λ r. ⌜ r ≡ offsetOf engine params ⌝ }
 {
@@ -95,7 +95,7 @@ pub fn render(engine: ModulationEngine, params: ModulationParams) -> StereoDelay
     StereoDelayOffset { left, right }
 }
 
-// The phases, each advanced by its rate and its drift, and the generators as the draws left them.
+// Advances each phase by its rate and its drift, and keeps the generators as the draws left them.
 pub fn stepped(
     mut engine: ModulationEngine,
     params: ModulationParams,

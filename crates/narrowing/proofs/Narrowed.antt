@@ -1,4 +1,4 @@
--- An f64 that is v of the smallest f64, 2 ^ -1074, as an f32: units of 2 ^ -149, or an infinity. Assumes nothing.
+-- An f64 that is v of the smallest f64, 2 ^ -1074, as an f32: it is units of 2 ^ -149, or an infinity. Assumes nothing.
 use mathlib.Core.Path.{_≡_, sym, ap, _∙_}
 use mathlib.Core.Bool.{Bool}
 use Prim.Native.Nat.{ℕ, _+_, _*_, _^_, _≤_, _<_}

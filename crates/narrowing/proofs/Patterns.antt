@@ -1,4 +1,4 @@
--- An f64 of the pattern b, as units; and the pattern of the nearest f32, where that is normal or an infinity:
+-- The f64 with the pattern b, as units, and the pattern of the nearest f32 if that is normal or an infinity. These are
 -- two cases of `magnitude`. Assumes nothing.
 use mathlib.Core.Path.{_≡_, refl, sym, ap, _∙_, subst}
 use mathlib.Core.Logic.{_⊎_, inl, inr}
@@ -20,7 +20,7 @@ use Rattle.rounding.proofs.NearestWhole.{closest-by-add, closest-shift}
 use Rattle.rounding.proofs.Pack.{pack}
 use Rattle.rounding.proofs.Patterns.{unpacked}
 
--- b is `count` of the unit 2 ^ `exponent`, in smallest values of f64
+-- In smallest values of f64, b is `count` of the unit 2 ^ `exponent`.
 abbrev pub exponent : ℕ → ℕ
 exponent b = b / 2 ^ 52 - 1
 
@@ -74,7 +74,7 @@ over-code b lo hi = record { small = le-refl 0x7f80_0000; reads = λ s. of-inf s
         ∙ ap (λ (z : ℕ). round binary32 s (count b * 2 ^ z) (2 ^ 1074)) e
         ∙ normal-over s (count b) k (omega arith) (omega arith) (omega arith)
 
--- ---- normal
+-- ---- a normal f32
 pub normal-code : (b : ℕ) → 0x3810_0000_0000_0000 ≤ b → b < 0x47f0_0000_0000_0000
     → Rounds b ((b - 0x3800_0000_0000_0000 + (0x0fff_ffff + bitAnd (b / 2 ^ 29) 1)) / 2 ^ 29)
 normal-code b lo hi =

@@ -1,4 +1,4 @@
--- The sign's bit moves from the pattern of an f64 to that of the f32. Assumes nothing.
+-- The sign bit moves from the pattern of an f64 to that of the f32. Assumes nothing.
 use mathlib.Core.Path.{_≡_, sym, ap, _∙_, subst}
 use mathlib.Core.Bool.{Bool, true, false, not, cond}
 use Prim.Native.Nat.{ℕ, _+_, _-_, _*_, _/_, _%_, _^_, _≤_, _<_}

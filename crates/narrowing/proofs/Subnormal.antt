@@ -21,7 +21,7 @@ use Rattle.rounding.proofs.Pack.{pack}
 use Rattle.rounding.proofs.Units.{bits-units}
 use Rattle.rounding.proofs.Values.{value-no-nan}
 
--- 2 ^ -97, in smallest values of f64
+-- 2 ^ -97 in smallest values of f64.
 half : HasValue (ofBits binary64 0x39e0_0000_0000_0000) false (2 ^ 977) (2 ^ 1074)
 unfolding ofBits ofFields odd
 half = (refl, refl)
@@ -45,7 +45,7 @@ module _ (b : ℕ) (hi : b < 0x3810_0000_0000_0000) where
   own : HasValue (ofBits binary64 b) false v (2 ^ 1074)
   own = subst (λ (z : ℕ). HasValue (ofBits binary64 z) false v (2 ^ 1074)) (zero-add b) (value b fine false)
 
-  -- the sum, and its pattern
+  -- The sum with 2 ^ -97, and its pattern.
   abbrev sum : Float
   sum = add binary64 (ofBits binary64 b) (ofBits binary64 0x39e0_0000_0000_0000)
 

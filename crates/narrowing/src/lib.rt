@@ -4,18 +4,19 @@ ghost use Prim.Native.Nat.{_≤_};
 ghost use Rattle.rounding.specs.Operations.{narrowed};
 ghost use Rattle.narrowing.specs.Nearest.{Rounds};
 
-// The pattern of the nearest f32 from that of an f64, both without the sign's bit.
+// Both patterns are without the sign bit.
 fn magnitude(b: u64) -> u64
     requires { ⌜ b ≤ 0x7ff0_0000_0000_0000 ⌝ }
     ensures { λ r. ⌜ Rounds b r ⌝ }
 {
     if b >= 0x3810_0000_0000_0000 {
-        // From 2^128 on it is an infinity.
+        // From 2^128 on the result is an infinity.
         if b >= 0x47f0_0000_0000_0000 {
             return 0x7f80_0000;
         }
-        // A normal f32. The exponent's field falls by 896, and of the digits the lower 29 go: half a unit less one
-        // is added, and one more where the last digit that stays is odd. A carry moves up into the field.
+        // The result is a normal f32. The exponent field falls by 896, and the lower 29 digits are cut off: half a unit
+        // less one is added, and one more if the last digit that stays is odd, so that a tie goes to even. A carry
+        // moves up into the field.
         return (b - 0x3800_0000_0000_0000 + (0x0fff_ffff + ((b >> 29) & 1))) >> 29;
     }
     // Below 2^-126 an f32 counts units of 2^-149. These are the last digits of a sum with 2^-97, so the sum rounds to
@@ -23,7 +24,7 @@ fn magnitude(b: u64) -> u64
     f64::to_bits(f64::from_bits(b) + f64::from_bits(0x39e0_0000_0000_0000)) - 0x39e0_0000_0000_0000
 }
 
-// K4, K5. x as the nearest f32, a tie to the one whose last digit is even; a NaN gives the NaN.
+// K4, K5. The nearest f32, a tie to the one whose last digit is even; a NaN gives a NaN.
 pub fn narrow(x: f64) -> f32
     ensures { λ r. ⌜ r ≡ narrowed x ⌝ }
 {

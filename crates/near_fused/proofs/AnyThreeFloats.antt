@@ -1,4 +1,4 @@
--- The law of the step for any three floats that pass its tests. Assumes nothing.
+-- The law of the step, for any three floats that pass its tests. Assumes nothing.
 use mathlib.Core.Path.{_≡_, refl}
 use Prim.Native.Nat.{_*_, _^_}
 use lib.Dec.{T}

@@ -1,5 +1,5 @@
--- A finite f64 as a whole number of its smallest values, and numbers with no more digits than an f64:
--- rounding leaves them. Assumes nothing.
+-- A finite f64 as a whole number of the smallest values, and numbers with no more digits than an f64, which rounding
+-- does not change. Assumes nothing.
 use mathlib.Core.Path.{_≡_, refl, sym, ap, _∙_}
 use mathlib.Core.Bool.{Bool, true, false, not}
 use Prim.Native.Nat.{ℕ, _*_, _^_, _<_}
@@ -21,7 +21,7 @@ use Rattle.near_fused.proofs.RoundTo53.{Few}
 abbrev pub L : ℕ
 L = 2 ^ 1074
 
--- a finite f64: its sign, and how many of the smallest values it is
+-- A finite f64: its sign, and how many of the smallest values it is.
 pub record Units (x : Float) : Type 0 where
   pub sign : Bool
   pub amount : ℕ
@@ -29,7 +29,7 @@ pub record Units (x : Float) : Type 0 where
   pub under : amount < overflow binary64
   pub value : HasValue x sign amount (2 ^ 1074)
 
--- a number with no more digits than an f64
+-- A number with no more digits than an f64.
 pub record Short (q : Frac) : Type 0 where
   pub sign : Bool
   pub amount : ℕ
@@ -74,7 +74,7 @@ short-opp {q} h =
     go true e = e
     go false e = e
 
--- such a number is not rounded
+-- Such a number is not changed by rounding.
 size-same : (s t : Bool) (a c b d : ℕ) → Same (signed s a c) (signed t b d) → a * d ≡ b * c
 size-same false false a c b d e = omega (arith, e .cross)
 size-same true true a c b d e = omega (arith, e .cross)

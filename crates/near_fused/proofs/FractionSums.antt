@@ -19,7 +19,7 @@ module _ (x y : Frac) (X : 0 < x .d) (Y : 0 < y .d) where
   pub apart : Same (plus (plus x y) (opp x)) y
   apart = record { left = mul-pos (mul-pos X Y) X; right = Y; cross = simp ring (omega arith) }
 
-  -- x - (x - y)
+  -- x - (x - y) is y.
   pub twice-apart : Same (plus x (opp (plus x (opp y)))) y
   twice-apart = record { left = mul-pos X (mul-pos X Y); right = Y; cross = simp ring (omega arith) }
 
@@ -43,13 +43,13 @@ module _ (x y : Frac) (X : 0 < x .d) (Y : 0 < y .d) where
           cross = simp ring (omega arith);
         }
 
-    -- x - (y - z) is z - (y - x)
+    -- x - (y - z) is z - (y - x).
     pub crossed : Same (plus x (opp (plus y (opp z)))) (plus z (opp (plus y (opp x))))
     crossed =
         same-trans (same-sym (assoc x (opp y) z X Y Z))
         (same-trans (plus-comm (plus x (opp y)) z (mul-pos X Y) Z) (plus-same (same-refl Z) (plus-comm x (opp y) X Y)))
 
-    -- (x - (y - z)) + (w - z) is x + w - y
+    -- (x - (y - z)) + (w - z) is x + w - y.
     pub folded : (w : Frac) → 0 < w .d
         → Same (plus (plus x (opp (plus y (opp z)))) (plus w (opp z))) (plus (plus x w) (opp y))
     folded w W =
@@ -62,7 +62,7 @@ module _ (x y : Frac) (X : 0 < x .d) (Y : 0 < y .d) where
 pub none : (x : Frac) → 0 < x .d → Same (plus x (opp x)) nil
 none x X = record { left = mul-pos X X; right = omega arith; cross = simp ring (omega arith) }
 
--- v * m is h * k + (h * (m - k) + (v - h) * m)
+-- v * m is h * k + (h * (m - k) + (v - h) * m).
 pub split-product : (v h m k : Frac) → 0 < v .d → 0 < h .d → 0 < m .d → 0 < k .d
     → Same (plus (times h k) (plus (times h (plus m (opp k))) (times (plus v (opp h)) m))) (times v m)
 split-product v h m k W H M K =

@@ -1,4 +1,4 @@
--- The lower end is finite, and zero where the upper one is. Assumes nothing.
+-- The lower end is finite, and it is zero if the upper one is. Assumes nothing.
 use mathlib.Core.Path.{_≡_, refl, subst}
 use mathlib.Core.Bool.{Bool, true, false, not}
 use Prim.Native.Nat.{ℕ, zero, suc, _+_}
@@ -53,7 +53,7 @@ finite-low s r (inf true) fs fr t fy l X Y = never-least r fr (subst (λ (z : Fl
 finite-low s r (inf false) {y} fs fr t fy l X Y = top-inf y fy (mono-above {x = inf false} tt l X Y)
 finite-low s r (fin b m e) fs fr t fy l X Y = tt
 
--- ---- what does not descend to zero from a zero is zero
+-- ---- if the upper end is zero, so is the lower one
 zero-not-above : (r : Float) → val r .p + val r .n ≡ 0 → T (above r) → T (finite r) → ⊥
 zero-not-above nan z a f = f
 zero-not-above (inf s) z a f = f

@@ -1,4 +1,4 @@
--- What a float leaves beside its upper part. Assumes nothing.
+-- What is left of a float without its upper part. Assumes nothing.
 use mathlib.Core.Path.{_≡_, sym, ap, _∙_, subst}
 use Prim.Native.Nat.{ℕ, zero, suc, _+_, _*_, _/_, _%_, _^_, _≤_, _<_}
 use native.Mathlib.Nat.{mul-le-mul-right, add-mul, div-add-mod'}

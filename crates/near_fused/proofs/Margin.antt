@@ -1,5 +1,5 @@
--- The margin (|v| + |c|) * part + 2 ^ -960, in floats, for a part that is enough: not below 2 ^ -960,
--- and |v| and |c| are at most 2 ^ 72 of it. Units are 2 ^ -1074. Assumes nothing.
+-- The margin (|v| + |c|) * part + 2 ^ -960, computed in floats, is large enough: it is not below 2 ^ -960, and |v| and
+-- |c| are at most 2 ^ 72 of it. Units are 2 ^ -1074. Assumes nothing.
 use mathlib.Core.Path.{_≡_, refl, sym, ap}
 use mathlib.Core.Logic.{_⊎_, inl, inr}
 use mathlib.Core.Bool.{false}
@@ -27,7 +27,7 @@ least-value : HasValue least false (1 * 2 ^ 114) (2 ^ 1074)
 unfolding ofBits
 least-value = (refl, refl)
 
--- half of a number is no more than the number rounded
+-- Half of a number is at most the number rounded.
 half : (v : ℕ) → 0 < v → v ≤ rounded v * 2
 half v P = elim (eq-zero-or-pos (places binary64 v)) [
   | inl e ↦
@@ -42,7 +42,7 @@ sum-of x y A B h k f =
     let e = plus binary64 x y A B (2 ^ 1074) (pow-pos 1074) h k in
     rw e (rounded-value binary64 (A + B) false (unders false (A + B) (rw e at f)))
 
--- n / d rounded, times 2 d, and 2 d more, is no less than n
+-- n / d rounded, times 2 d, plus 2 d more, is at least n.
 scaled : (n t d : ℕ) → 0 < t → (w : ℕ) → Part (2 ^ 53) w (n * t) (t * d) ⊎ Near w (n * t) (t * d) 0
     → n ≤ (w + 1) * (d * 2)
 scaled n t d T w (inl h) =
@@ -52,7 +52,7 @@ scaled n t d T w (inl h) =
     twice n x h = omega arith
 scaled n t d T w (inr h) = le-of-mul-le-mul-right {k = t} (simp ring (omega (arith, simp ring at (h .below)))) T
 
--- so for a share n / d of M that is M / S or more, M is at most 2 S of it, and 2 S more
+-- So for a share n / d of M that is at least M / S, M is at most 2 S of it plus 2 S more.
 shared : (M n d S w : ℕ) → 0 < d → d ≤ n * S → M * n ≤ (w + 1) * (d * 2) → M ≤ (w + 1) * (S * 2)
 shared M zero d S w D h l = absurd (omega (arith, zero-mul S))
 shared M (suc n) d S w D h l =

@@ -1,4 +1,5 @@
--- The share of the terms that makes the margin, 2 ^ -70 or more: a number is tried by computing. Assumes nothing.
+-- The share of the terms that makes the margin is 2 ^ -70 or more; a given number is tested by computing. Assumes
+-- nothing.
 use mathlib.Core.Path.{refl}
 use mathlib.Core.Bool.{Bool, true, false, not, _&&_}
 use Prim.Native.Nat.{ℕ, _*_, _^_, _≤_, _<_}
@@ -12,7 +13,7 @@ enough nan = false
 enough (inf s) = false
 enough (fin s m e) = not s && leb (down e) (m * up e * 2 ^ 70)
 
--- n / d
+-- The share is n / d.
 pub record Share (x : Float) : Type 0 where
   pub n : ℕ
   pub d : ℕ

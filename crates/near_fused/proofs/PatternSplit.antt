@@ -1,4 +1,4 @@
--- A float without its lower digits, and without its sign, read off its pattern. Assumes nothing.
+-- A float without its lower digits, and without its sign, read from its pattern. Assumes nothing.
 use mathlib.Core.Path.{_≡_, sym, ap, _∙_, subst}
 use mathlib.Core.Bool.{Bool, true, false, cond}
 use Prim.Native.Nat.{ℕ, _+_, _-_, _*_, _/_, _%_, _^_, _≤_, _<_}
@@ -13,7 +13,7 @@ use lib.Ieee.Scale.{finite, overflow}
 use Rattle.rounding.proofs.Patterns.{sign-rest, finite-rest, unpacked}
 use Rattle.near_fused.specs.Parts.{lower, high, sized}
 
--- x, what is left of it, and its size, in units of 2 ^ -1074
+-- x, its upper part and its size, in units of 2 ^ -1074.
 pub record Split (x : Float) : Type 0 where
   pub sign : Bool
   pub q : ℕ
@@ -25,7 +25,7 @@ pub record Split (x : Float) : Type 0 where
   pub upper : HasValue (high x) sign (q / 2 ^ lower * 2 ^ lower * 2 ^ k) (2 ^ 1074)
   pub size : HasValue (sized x) false (q * 2 ^ k) (2 ^ 1074)
 
--- the digits and the place under a pattern's field
+-- The digits and the place below a pattern's field.
 pub split : (x : Float) → T (fits binary64 x) → T (finite x) → Split x
 split x held f =
     let n = toBits binary64 x in

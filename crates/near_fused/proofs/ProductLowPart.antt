@@ -1,4 +1,4 @@
--- The product's lower part: vh * ml + vl * mu, in floats, lies near v * mu - vh * mh. Assumes nothing.
+-- The lower part of the product: vh * ml + vl * mu, in floats, lies near v * mu - vh * mh. Assumes nothing.
 use Prim.Native.Nat.{_+_, _*_, _^_, _≤_, _<_}
 use native.Mathlib.Nat.{one-mul, mul-pos}
 use lib.Dec.{T, lit≤, lit<}
@@ -16,15 +16,15 @@ use Rattle.near_fused.proofs.UnitDistances.{Unit, Near, near-chain, nea
 use Rattle.near_fused.proofs.UnitDistances.{rounded-part}
 use Rattle.near_fused.proofs.FiniteParts.{add-finite, sub-finite, mul-finite}
 
--- what is left of x without h
+-- What is left of x without h.
 abbrev pub rest : Float → Float → Frac
 rest x h = plus (val x) (opp (val h))
 
--- v * mu less vh * mh
+-- The exact v * mu - vh * mh.
 abbrev pub wanted : Float → Float → Float → Float → Frac
 wanted v mu vh mh = plus (times (val vh) (rest mu mh)) (times (rest v vh) (val mu))
 
--- the factors and their upper parts
+-- The factors and their upper parts.
 pub record Factors (U : Unit) (v mu vh mh : Float) : Type 0 where
   pub vh-size : Near U (2 ^ 83) (val vh) nil
   pub v-rest : Near U (2 ^ 58 + 1) (rest v vh) nil
@@ -71,7 +71,7 @@ module _ (U : Unit) (v mu vh mh : Float) (K : Factors U v mu vh mh)
   vl-size : Near U (2 ^ 58 + 34) (val vl) nil
   vl-size = near-chain U 33 (2 ^ 58 + 1) vl-near (K .v-rest)
 
-  -- ---- vh * ml
+  -- ---- the product vh * ml
   first-mag : Near U (2 ^ 59 + 64) (times (val vh) (val ml)) nil
   first-mag =
       near-of U (2 ^ 83) (1 + 2 ^ 53) (2 ^ 59 + 64) (2 ^ 77) (lit< tt) (lit≤ tt) (mag-times (K .vh-size) ml-size)
@@ -89,7 +89,7 @@ module _ (U : Unit) (v mu vh mh : Float) (K : Factors U v mu vh mh)
   first-size : Near U (2 ^ 59 + 129) (val a1) nil
   first-size = near-chain U 65 (2 ^ 59 + 64) first-near first-mag
 
-  -- ---- vl * mu
+  -- ---- the product vl * mu
   second-mag : Near U (2 ^ 58 + 34) (times (val vl) (val mu)) nil
   second-mag = near-of U (2 ^ 58 + 34) 1 (2 ^ 58 + 34) 1 (lit< tt) (lit≤ tt) (mag-times vl-size (K .mu-size))
 

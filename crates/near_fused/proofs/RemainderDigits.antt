@@ -1,6 +1,6 @@
--- A sum of two values of 53 digits, rounded, less the larger of them has 53 digits too. Either nothing was rounded,
--- and the smaller is left; or the unit that was rounded to divides the larger, or is twice its last place.
--- Units are 2 ^ -1074. Assumes nothing.
+-- The rounded sum of two values of 53 digits, less the larger of them, has 53 digits too. Either nothing was rounded,
+-- and the smaller is left; or the unit that was rounded to divides the larger, or is twice its last place. Units are 2
+-- ^ -1074. Assumes nothing.
 use mathlib.Core.Path.{_≡_, sym, ap, _∙_}
 use mathlib.Core.Logic.{inl, inr}
 use Prim.Native.Nat.{ℕ, suc, _+_, _-_, _*_, _^_, _≤_, _<_}
@@ -21,7 +21,7 @@ module _ (m a n b : ℕ) (M : m < 2 ^ 53) (N : n < 2 ^ 53) (o : n * 2 ^ b ≤ m 
   abbrev Y : ℕ
   Y = n * 2 ^ b
 
-  -- what is left where it is d of the unit, and that lies above the smaller's last place
+  -- What is left if it is d of the unit, and that lies above the smaller's last place.
   rest : (d j : ℕ) → b < j → d * 2 ^ j * 2 ≤ Y * 2 + 2 ^ j → Few (d * 2 ^ j)
   rest d j l h =
       let c : Y < 2 ^ 53 * 2 ^ b = mul-lt-mul-of-pos-right N (pow-pos b) in

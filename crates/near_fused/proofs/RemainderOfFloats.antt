@@ -1,4 +1,4 @@
--- A sum of two floats, rounded, less the larger of them has few digits. Assumes nothing.
+-- The rounded sum of two floats, less the larger of them, has few digits. Assumes nothing.
 use mathlib.Core.Path.{_≡_, refl, ap, _∙_, subst}
 use mathlib.Core.Logic.{_⊎_, inl, inr}
 use mathlib.Core.Bool.{Bool, true, false, not, Bool·beq, cond, _&&_, true≢false, false≢true}

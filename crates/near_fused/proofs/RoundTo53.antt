@@ -1,5 +1,5 @@
--- Whole numbers rounded to 53 digits: how far, what stands still, and what is not rounded below a number of 53 digits.
--- Units are 2 ^ -1074. Assumes nothing.
+-- Whole numbers rounded to 53 digits: how far that moves them, which it does not change, and that nothing above a
+-- number of 53 digits is rounded below it. Units are 2 ^ -1074. Assumes nothing.
 use mathlib.Core.Path.{_≡_, sym, ap, _∙_}
 use mathlib.Core.Logic.{inl, inr}
 use Prim.Native.Nat.{ℕ, suc, _+_, _-_, _*_, _^_, _≤_, _<_}
@@ -14,15 +14,15 @@ use Rattle.rounding.proofs.NumberOrders.{lt-or-ge, sub-mul}
 use Rattle.rounding.proofs.WholeUnits.{exact-multiple, near, near-ge, near-le, places, v-ge}
 use Rattle.rounding.proofs.WithinHalfDivisor.{closest-near}
 
--- D has no more digits than an f64
+-- D has no more digits than an f64.
 abbrev pub Few : ℕ → Type 0
 Few D = (q : ℕ) × (i : ℕ) × (D ≡ q * 2 ^ i) × (q < 2 ^ 53)
 
--- v rounded to 53 digits
+-- The number v rounded to 53 digits.
 abbrev pub rounded : ℕ → ℕ
 rounded v = near binary64 v * 2 ^ places binary64 v
 
--- P * 2 ^ a in units of 2 ^ j
+-- P * 2 ^ a in units of 2 ^ j.
 pub whole : (P a j : ℕ) → j ≤ a → P * 2 ^ a ≡ P * 2 ^ (a - j) * 2 ^ j
 whole P a j h =
     ap (λ (z : ℕ). P * 2 ^ z) (sym (back a j h))
@@ -46,7 +46,7 @@ near-lo v = closest-near v (2 ^ places binary64 v) (pow-pos (places binary64 v))
 pub near-hi : (v : ℕ) → v * 2 ≤ rounded v * 2 + 2 ^ places binary64 v
 near-hi v = closest-near v (2 ^ places binary64 v) (pow-pos (places binary64 v)) .1
 
--- ---- a number of few digits stands still, and what lies above it is not rounded below it
+-- ---- a number of few digits is not changed, and nothing above it is rounded below it
 pub few-stays : (d i : ℕ) → d < 2 ^ 53 → rounded (d * 2 ^ i) ≡ d * 2 ^ i
 few-stays d i D =
     let v = d * 2 ^ i in
@@ -79,7 +79,7 @@ few-below m a v M h =
 pub few-rounded : (v : ℕ) → Few (rounded v)
 few-rounded v = few-of (near binary64 v) (places binary64 v) (near-le binary64 v)
 
--- Y - X, where it is less than both
+-- The difference Y - X, if it is less than both.
 pub few-difference : (m a n b : ℕ) → m < 2 ^ 53 → n < 2 ^ 53 → n * 2 ^ b - m * 2 ^ a < m * 2 ^ a → m * 2 ^ a ≤ n * 2 ^ b
     → Few (n * 2 ^ b - m * 2 ^ a)
 few-difference m a n b M N h o = elim (lt-or-ge a b) [

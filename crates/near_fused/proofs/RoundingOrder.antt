@@ -1,4 +1,4 @@
--- An order of fractions, and that what lies above a number above zero rounds no lower. Assumes nothing.
+-- The order of fractions, and that a number above another one, which is above zero, rounds no lower. Assumes nothing.
 use mathlib.Core.Path.{_≡_, refl, sym, ap, _∙_, subst}
 use mathlib.Core.Logic.{inl, inr}
 use mathlib.Core.Bool.{Bool, true, false, not, cond, true≢false}
@@ -17,7 +17,7 @@ use Rattle.rounding_error.specs.Value.{signed}
 use Rattle.rounding_error.proofs.Same.{ring, same-sym, opp-same}
 use Rattle.rounding_error.proofs.Operations.{Rounded, bottom}
 
--- x ≤ y
+-- The order x ≤ y of fractions.
 pub record AtMost (x y : Frac) : Type 0 where
   pub most : x .p * y .d + y .n * x .d ≤ y .p * x .d + x .n * y .d
 
@@ -61,7 +61,7 @@ above-sign false a c C t = (
   ],
 )
 
--- what lies above a number above zero rounds no lower
+-- A number above another one, which is above zero, rounds no lower.
 pub mono-above : {x y : Float} {a b : Frac} → T (above x) → AtMost a b → Rounded binary64 x a → Rounded binary64 y b
     → T (le x y)
 mono-above {x} {y} {a} {b} t h r w =

@@ -1,5 +1,5 @@
--- A number within k units of q + E, for an E of at least k units, lies above q; and one within k units of q - E below
--- it. Both at once is too much. Assumes nothing.
+-- A number within k units of q + E, for an E of at least k units, lies above q, and one within k units of q - E lies
+-- below it. Both cannot hold at once. Assumes nothing.
 use mathlib.Core.Path.{_≡_}
 use Prim.Native.Nat.{ℕ, _+_, _*_, _≤_, _<_}
 use native.Mathlib.Nat.{mul-pos, mul-le-mul-right, le-of-mul-le-mul-right}

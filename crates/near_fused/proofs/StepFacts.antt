@@ -1,4 +1,4 @@
--- What the step knows, from its tests: the unit is a part of the margin, and every bound is one on units of 2 ^ -1074.
+-- What the tests of the step show: the unit is a part of the margin, and every bound is one in units of 2 ^ -1074.
 -- Assumes nothing.
 use mathlib.Core.Path.{_≡_, sym, _∙_}
 use mathlib.Core.Bool.{Bool, true, false}

@@ -1,5 +1,5 @@
--- The law of the step: where the upper end does not round above the lower one, both are v * mu + c rounded once.
--- Assumes nothing.
+-- The law of the step: if the upper end does not round above the lower one, both are v * mu + c rounded once. Assumes
+-- nothing.
 use mathlib.Core.Path.{_≡_, sym}
 use Prim.Native.Nat.{_+_, _^_, _<_}
 use native.Mathlib.Nat.{mul-pos}
@@ -85,7 +85,7 @@ module _ (U : Unit) (v mu c vh mh e : Float) (K : Step U v mu c vh mh e) (fv : T
     below : AtMost (plus (val s) (val L)) Q
     below = under U Q (val e) Qd 2048 (K .margin) (plus (val s) (val L)) 490 (lit≤ tt) low
 
-    -- an end that rounds to zero is next to nothing
+    -- An end that rounds to zero is nearly zero itself.
     vanish : (w : Float) → T (finite w) → T (finite (add binary64 s w)) → Near U (2 ^ 85) (plus (val s) (val w)) nil
         → val (add binary64 s w) .p + val (add binary64 s w) .n ≡ 0 → Near U 1 (plus (val s) (val w)) nil
     vanish w f g n z =

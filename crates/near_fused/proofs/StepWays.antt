@@ -1,4 +1,4 @@
--- What each way of the step answers is the definition's. Assumes nothing.
+-- The answer on each path of the step is the definition's. Assumes nothing.
 use mathlib.Core.Path.{_≡_}
 use mathlib.Core.Bool.{true, false}
 use lib.Ieee.{Float, nan, le}

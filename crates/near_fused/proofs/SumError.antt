@@ -1,5 +1,5 @@
--- p + c is s and what is left: t, as (p - (s - (s - p))) + (c - (s - p)) gives it, lies within three units of p + c -
--- s. Assumes nothing.
+-- p + c is s plus a rest t. As (p - (s - (s - p))) + (c - (s - p)) gives it, t lies within three units of p + c - s.
+-- Assumes nothing.
 use Prim.Native.Nat.{_+_, _^_}
 use native.Mathlib.Nat.{mul-pos}
 use lib.Dec.{T, lit≤, lit<}

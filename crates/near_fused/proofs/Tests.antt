@@ -1,4 +1,4 @@
--- What the patterns and the tests of the step know. Assumes nothing.
+-- What the patterns and the tests of the step show. Assumes nothing.
 use mathlib.Core.Path.{_≡_, refl, sym, ap, _∙_, subst}
 use mathlib.Core.Bool.{Bool, true, false, not, cond, false≢true}
 use Prim.Native.Nat.{ℕ, _+_, _*_, _/_, _%_, _^_, _≤_, _<_}
@@ -16,12 +16,12 @@ use Rattle.rounding_error.proofs.Value.{val-pos}
 use Rattle.near_fused.specs.Parts.{lower, top}
 use Rattle.near_fused.specs.Step.{insideOf, orderedOf}
 
--- two numbers, or infinities
+-- Neither x nor y is a NaN.
 pub record Ordered (x y : Float) : Type 0 where
   pub first : T (not (isNan x))
   pub second : T (not (isNan y))
 
--- from 0 to 1
+-- The factor lies from 0 to 1.
 pub record Inside (mu : Float) : Type 0 where
   pub low : le (ofBits binary64 0) mu ≡ true
   pub high : le mu top ≡ true
@@ -94,7 +94,7 @@ inside-is x e = go (le x top) refl e
     go true h e = record { low = e; high = h }
     go false h e = absurd (false≢true e)
 
--- a number from 0 to 1 is finite, and at most 1
+-- A number from 0 to 1 is finite and at most 1.
 pub inside-no-nan : (x : Float) → Inside x → T (not (isNan x))
 inside-no-nan x h = le-ordered x top (h .high) .first
 

@@ -1,5 +1,5 @@
--- s - (s - p) is exact, for s = p + c rounded: either p is no larger than s; or c is no larger than p;
--- or s is smaller than both and was not rounded. Assumes nothing.
+-- s - (s - p) is exact, for s = p + c rounded. Either p is no larger than s; or c is no larger than p; or s is smaller
+-- than both and was not rounded. Assumes nothing.
 use mathlib.Core.Path.{_≡_, refl, subst}
 use mathlib.Core.Logic.{inl, inr}
 use mathlib.Core.Bool.{Bool, true, false, not, Bool·beq, cond, true≢false, false≢true}
@@ -42,7 +42,7 @@ sub-rounded x y h k =
     subst (λ (q : Frac). Rounded binary64 (add binary64 x (neg y)) (plus (val x) q)) (neg-val y)
     (add-rounded binary64 x (neg y) h (neg-finite y k))
 
--- y less x less y is the opposite of x, and so on
+-- -((x - y) - x) is y, and other such identities.
 back : (x y : Frac) → 0 < x .d → 0 < y .d → Same (opp (plus (plus x (opp y)) (opp x))) y
 back x y X Y = record { left = mul-pos (mul-pos X Y) X; right = Y; cross = simp ring (omega arith) }
 
@@ -52,7 +52,7 @@ turned x y X Y = record { left = mul-pos X Y; right = mul-pos Y X; cross = simp 
 other : (x y : Frac) → 0 < x .d → 0 < y .d → Same y (plus (plus x y) (opp x))
 other x y X Y = record { left = Y; right = mul-pos (mul-pos X Y) X; cross = simp ring (omega arith) }
 
--- two sizes whose sum, rounded, is smaller than both
+-- The rounded sum of two sizes is smaller than both.
 module _ (m a n b : ℕ) (M : m < 2 ^ 53) (N : n < 2 ^ 53) (o : m * 2 ^ a < n * 2 ^ b)
     (u : n * 2 ^ b < overflow binary64) where
   apart : (g h : Bool) (A B : ℕ) → Bool·beq g h ≡ false → A ≤ B
@@ -123,7 +123,7 @@ module _ (p c : Float) (P : Units p) (C : Units c) (real : T (finite (add binary
       go m a n b ea eb M N h o u =
           rw (ea, eb) (exact-small m a n b M N (rw (ea, eb) at o) (rw eb at u) (P .sign) (C .sign) (rw (ea, eb) at h))
 
-  -- s smaller than p: s - p is short
+  -- If s is smaller than p, then s - p has no more digits than an f64.
   small-rest : U .amount < P .amount → Short (plus (val s) (opp (val p)))
   small-rest h = elim (lt-or-ge (P .amount) (C .amount)) [
     | inl o ↦

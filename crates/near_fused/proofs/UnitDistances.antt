@@ -1,5 +1,5 @@
--- Distances counted in a unit N / g that is not below 2 ^ -1020: they add up, and one rounding of a number of k units
--- is off by at most k / 2 ^ 53 of them. Assumes nothing.
+-- Distances counted in a unit N / g that is not below 2 ^ -1020. They add up, and one rounding of a number of k units
+-- is off by at most k / 2 ^ 53 units. Assumes nothing.
 use mathlib.Core.Path.{_∙_, subst}
 use mathlib.Core.Logic.{inl, inr}
 use mathlib.Core.Bool.{Bool}
@@ -39,7 +39,7 @@ rounded-part {x} {K = K} {B} f k w m r =
     (grid-below (r .s) (r .a) (r .c) (subst (λ (z : Float). T (finite z)) (r .is) f)) in
     record { real = f; near = rw (r .is) (to (r .same) (n .near)) }
 
--- the unit N / g
+-- The unit is N / g.
 pub record Unit : Type 0 where
   pub g : ℕ
   pub N : ℕ
@@ -48,7 +48,7 @@ pub record Unit : Type 0 where
   pub deep : g ≤ N * 2 ^ 1020
 
 module _ (U : Unit) where
-  -- at most k units apart
+  -- x and y are at most k units apart.
   abbrev pub Near : ℕ → Frac → Frac → Type 0
   Near k x y = Within (U .g) (k * U .N) x y
 
@@ -68,7 +68,7 @@ module _ (U : Unit) where
   near-gap {x} {y} k h =
       to (none y (h .right)) (rw (add-zero k) at (near-plus k 0 h (near-same (same-refl {x = opp y} (h .right)))))
 
-  -- b * m / t units are no more than k
+  -- b * m / t units are at most k.
   pub near-of : {x y : Frac} (b m k t : ℕ) → 0 < t → b * m ≤ k * t → Within (t * U .g) (b * U .N * m) x y → Near k x y
   near-of b m k t T h w = rescale (mul-pos T (U .G)) (spread b m k t (U .g) (U .N) h) w
     where

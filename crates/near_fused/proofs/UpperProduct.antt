@@ -1,4 +1,4 @@
--- The product of two upper parts: 26 digits each, so that it is exact, or smaller than every unit. Assumes nothing.
+-- The product of two upper parts. Each has 26 digits, so that it is exact, or smaller than every unit. Assumes nothing.
 use mathlib.Core.Path.{_≡_, sym, ap, _∙_}
 use mathlib.Core.Logic.{inl, inr}
 use Prim.Native.Nat.{ℕ, _+_, _-_, _*_, _/_, _^_, _≤_, _<_}

@@ -1,4 +1,4 @@
--- The whole step: the two ends lie on both sides of v * mu + c, so that it rounds as they do where they round alike.
+-- The whole step: the two ends lie on both sides of v * mu + c, so that it rounds as they do if they round alike.
 -- Assumes nothing.
 use mathlib.Core.Bool.{false}
 use Prim.Native.Nat.{_+_, _*_, _^_, _<_}
@@ -23,7 +23,7 @@ use Rattle.near_fused.proofs.FiniteParts.{add-finite}
 use Rattle.near_fused.proofs.ProductLowPart.{Factors, wanted, lower-near, lower-size}
 use Rattle.near_fused.proofs.SumError.{left-near, left-size, total-size}
 
--- s + (((x - s) + w) + e) is (x + w) + e
+-- s + (((x - s) + w) + e) is (x + w) + e.
 gathered : (s x w e : Frac) → 0 < s .d → 0 < x .d → 0 < w .d → 0 < e .d
     → Same (plus s (plus (plus (plus x (opp s)) w) e)) (plus (plus x w) e)
 gathered s x w e S X W E =
@@ -32,13 +32,13 @@ gathered s x w e S X W E =
     (plus-same (same-trans (same-sym (plus-assoc s y S (mul-pos X S) w W)) (plus-same (restored s x S X) (same-refl W)))
     (same-refl E))
 
--- (x + c) + w is (x + w) + c
 swapped : (x c w : Frac) → 0 < x .d → 0 < c .d → 0 < w .d → Same (plus (plus x c) w) (plus (plus x w) c)
 swapped x c w X C W =
     same-trans (plus-assoc x c X C w W)
     (same-trans (plus-same (same-refl X) (plus-comm c w C W)) (same-sym (plus-assoc x w X W c C)))
 
--- what the step knows: the factors' parts, the addend, the product of the upper parts, and E, 2048 units
+-- What the step knows: the parts of the factors, the addend, the product of the upper parts, and E, which is 2048
+-- units.
 pub record Step (U : Unit) (v mu c vh mh e : Float) : Type 0 where
   pub factors : Factors U v mu vh mh
   pub held : T (fits binary64 c)
@@ -107,7 +107,7 @@ module _ (U : Unit) (v mu c vh mh e : Float) (K : Step U v mu c vh mh e) (real :
   pub margin-size : Near U 2048 (val e) nil
   margin-size = from (same-sym (K .margin)) (mag-signed false (2048 * U .N) (U .g) (U .G))
 
-  -- an end: M, with the margin added or taken away, rounded
+  -- An end: M with the margin added or subtracted, rounded.
   pub end-near : (E : Frac) (w : Float) → 0 < E .d → Near U 97 (val w) (plus (val M) E)
       → Near U 490 (plus S (val w)) (plus exact E)
   end-near E w D n =

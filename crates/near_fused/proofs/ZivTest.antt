@@ -1,6 +1,5 @@
--- Ziv's test: where the roundings of two numbers do not ascend from the lower to the upper, they are one float,
--- and what lies between the two rounds to it, unless it is zero.
--- Assumes nothing.
+-- Ziv's test: if the roundings of two numbers do not ascend from the lower to the upper, they are one float, and what
+-- lies between the two numbers rounds to it, unless it is zero. Assumes nothing.
 use mathlib.Core.Path.{_≡_, sym, ap, _∙_, subst}
 use mathlib.Core.Bool.{Bool, true, false, not}
 use Prim.Native.Nat.{ℕ, zero, suc, _+_, _*_, _<_}
@@ -42,7 +41,7 @@ enclosed {x} {l} {u} L X U h k p t =
     let px = between l x u pl p lx xu in
     equal-positive x u (rounded-fits X) (rounded-fits U) px p xu (le-trans-positive u l x p pl px t lx)
 
--- ---- and below it
+-- ---- the test, below zero
 pub no-nan : (s : Bool) (m : ℕ) (e : ℤ) → T (le (fin s m e) nan) → ⊥
 unfolding le lt eq
 no-nan s m e h = h

@@ -1,4 +1,4 @@
--- An answer's value is what `elementary` hands back as a number. Assumes nothing.
+-- The value of an answer is what `elementary` returns as a plain number. Assumes nothing.
 use mathlib.Core.Path.{_≡_, refl}
 use Rattle.elementary.specs.Answers.{orZero}
 use Rattle.elementary.specs.declared.Answer.{Answer}

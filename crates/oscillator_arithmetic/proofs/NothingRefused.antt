@@ -1,6 +1,6 @@
--- In 01's ranges no cosine and no power of two that 001 takes is refused, so that `cos` and `pow2` are the port's own
--- functions with their bounds:
--- five times a phase of at most 51 is at most 255, and a depth of at most 1200 over 1200 is at most 1. Assumes nothing.
+-- In 01's ranges no cosine and no power of two that 001 computes is refused, so that `cos` and `pow2` are the port's
+-- own functions with their bounds. Five times a phase of at most 51 is at most 255, and a depth of at most 1200 divided
+-- by 1200 is at most 1. Assumes nothing.
 use mathlib.Core.Path.{_≡_, refl, ap}
 use mathlib.Core.Bool.{true}
 use Prim.Native.Nat.{ℕ, _*_, zero-le}

@@ -1,6 +1,5 @@
--- G8. A phase stays at least 0 and below TAU as it advances, by any rate that is not huge: the sum is finite and not
--- below zero, and its remainder is exact.
--- Assumes nothing.
+-- G8. A phase stays at least 0 and below TAU when it advances by any rate that is not huge: the sum is finite and not
+-- below zero, and its remainder is exact. Assumes nothing.
 use mathlib.Core.Path.{refl}
 use lib.Count.{trailingZeros}
 use lib.Dec.{T}
@@ -17,11 +16,11 @@ use Rattle.oscillator_ranges.specs.Constants.{tau, zero}
 use Rattle.oscillator_ranges.specs.Ranges.{cycleOk, sampleRateOk}
 use Rattle.oscillator_arithmetic.specs.Arithmetic.{advancePhase}
 
--- 2 ^ 25
+-- The bound 2 ^ 25.
 abbrev pub huge : Float
 huge = ofBits binary64 0x4180_0000_0000_0000
 
--- 8000 and 768000
+-- The sample rates 8000 and 768000.
 abbrev low : Float
 low = ofBits binary64 0x40bf_4000_0000_0000
 
@@ -37,7 +36,7 @@ module _ (phase rate-hz sample-rate : Float) (kept : T (cycleOk phase)) (slow : 
   abbrev moved : Float
   moved = add binary64 phase (div binary64 (mul binary64 tau (larger rate-hz zero)) sample-rate)
 
-  -- 2 ^ 25 * TAU / 8000 and one turn more
+  -- The largest phase before the remainder: 2 ^ 25 * TAU / 8000 plus one turn.
   abbrev reach : Float
   reach = add binary64 tau (div binary64 (mul binary64 tau huge) low)
 

@@ -1,6 +1,6 @@
--- A power of two is not large, whatever is asked: Horner's rule in a y of at most 2 gives at most 1 + 2 * (1 + 2 * ..),
--- and a refusal counts as 0.
--- The crude bound serves to show that no phase runs away. Assumes nothing.
+-- A power of two is not large, whatever its argument. Horner's rule in a y of at most 2 gives at most 1 + 2 * (1 + 2 *
+-- ..), and a refusal counts as 0. This crude bound is enough to show that no phase grows without limit. Assumes
+-- nothing.
 use mathlib.Core.Path.{sym}
 use mathlib.Core.Bool.{Bool, true, false, cond}
 use Prim.Native.Nat.{ℕ, zero, suc, _+_, _*_, _^_, _≤_, _<_}

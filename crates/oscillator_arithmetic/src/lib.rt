@@ -5,14 +5,14 @@ ghost use Rattle.oscillator_arithmetic.specs.Arithmetic.{cos, pow2, spee
 ghost use Rattle.oscillator_arithmetic.specs.Arithmetic.{amplitudeOf};
 use oscillator_ranges::TAU;
 
-// f64::cos, and 0.0 where that is refused: no phase from -51 to 51 makes it so.
+// f64::cos, and 0.0 if that is refused, which no phase from -51 to 51 is.
 fn cosine(x: f64) -> f64
     ensures { λ r. ⌜ r ≡ cos x ⌝ }
 {
     elementary::cosine_or_zero(x)
 }
 
-// 2.0_f64.powf, and 0.0 where that is refused: nothing from -1 to 1 makes it so.
+// 2.0_f64.powf, and 0.0 if that is refused, which no exponent from -1 to 1 is.
 pub fn power_of_two(x: f64) -> f64
     ensures { λ r. ⌜ r ≡ pow2 x ⌝ }
 {
@@ -32,7 +32,7 @@ pub fn advance_phase(phase: f64, rate_hz: f64, sample_rate: f64) -> f64
     remainder::rem_euclid(phase + step, TAU)
 }
 
-// 001 takes the phase's cosine three times; here it is taken once.
+// The original (001) computes the cosine of the phase three times; here it is computed once.
 pub fn shape_primitive(phase: f64, shape: f64) -> f64
     ensures { λ r. ⌜ r ≡ shapePrimitive phase shape ⌝ }
 {
@@ -48,7 +48,8 @@ pub fn shape_primitive(phase: f64, shape: f64) -> f64
     sine + s * (triangle - sine)
 }
 
-// What oscillator_delay multiplies the shape by: it does not depend on the phase.
+// The factor of the shape in oscillator_delay. It does not depend on the phase, so an engine computes it once for both
+// sides.
 pub fn amplitude(rate_hz: f64, depth_cents: f64, sample_rate: f64) -> f64
     ensures { λ r. ⌜ r ≡ amplitudeOf «rate_hz» «depth_cents» «sample_rate» ⌝ }
 {

@@ -1,4 +1,4 @@
--- A list of depths gone through from the front: what is left of it gives, from the sum so far, what the whole gives.
+-- A list of depths that is read from the front: the rest of it, with the sum so far, gives what the whole list gives.
 -- Assumes nothing.
 use mathlib.Core.Path.{_≡_, ap, _∙_}
 use mathlib.Core.Bool.{true, false}

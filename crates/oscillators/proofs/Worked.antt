@@ -1,5 +1,5 @@
--- M4, G7. Worked numbers, computed: an empty list of depths gives -0.0, and each range ends where 01 says.
--- Assumes nothing.
+-- M4, G7. Worked numbers, by computing: an empty list of depths gives -0.0, and each range ends where 01 says. Assumes
+-- nothing.
 use mathlib.Core.Path.{_≡_, refl}
 use mathlib.Core.List.{[]}
 use lib.Count.{trailingZeros}

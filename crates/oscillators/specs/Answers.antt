@@ -1,5 +1,5 @@
--- G4, G6, G7, N1. 001's functions with 01's ranges: a value, or refusal 1 if an argument is out of range. Definitions
--- only.
+-- G4, G6, G7, N1. 001's functions with the ranges of document 01: a value, or refusal 1 if an argument is out of range.
+-- Definitions only.
 use mathlib.Core.Bool.{Bool, true, _&&_, cond}
 use mathlib.Core.List.{List, [], _∷_}
 use lib.Ieee.{Float}
@@ -10,7 +10,7 @@ use Rattle.oscillator_ranges.specs.Ranges.{rateOk, depthOk, phaseOk, cycleOk, s
 use Rattle.oscillator_arithmetic.specs.Arithmetic.{speedDelta, advancePhase, shapePrimitive, oscillatorDelay, excursion}
 use Rattle.oscillator_arithmetic.specs.Arithmetic.{rateDelta}
 
--- The value, or refusal 1 where what was asked is out of range.
+-- The value, or refusal 1 if an argument is out of range.
 unfoldable pub answeredBy : Bool → Float → Answer
 answeredBy ok value = cond ok (Value value) (Refused 1)
 
@@ -21,7 +21,7 @@ abbrev pub advancePhaseOf : Float → Float → Float → Answer
 advancePhaseOf phase rate-hz sample-rate =
     answeredBy (cycleOk phase && (rateOk rate-hz && sampleRateOk sample-rate)) (advancePhase phase rate-hz sample-rate)
 
--- Shape is clamped, so that only a NaN or an infinity is refused.
+-- The shape is clamped, so that only a NaN or an infinity is refused.
 abbrev pub shapePrimitiveOf : Float → Float → Answer
 shapePrimitiveOf phase shape = answeredBy (phaseOk phase && finite shape) (shapePrimitive phase shape)
 
@@ -36,7 +36,7 @@ excursionOf max-depth-cents min-rate-hz sample-rate =
     answeredBy (depthOk max-depth-cents && (minimumRateOk min-rate-hz && sampleRateOk sample-rate))
     (excursion max-depth-cents min-rate-hz sample-rate)
 
--- Every depth is in its range.
+-- Every depth of the list is in its range.
 unfoldable pub depthsOk : List Float → Bool
 depthsOk [] = true
 depthsOk (depth-cents ∷ rest) = depthOk depth-cents && depthsOk rest

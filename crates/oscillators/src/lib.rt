@@ -13,7 +13,7 @@ use refusal_order::both;
 // The greatest magnitude of a shape: the rounded square reaches it at phase zero.
 pub const MAX_SHAPE_PRIMITIVE: f64 = 7.0 / 6.0;
 
-// The value, or refusal 1 where what was asked is out of range.
+// The value, or refusal 1 if an argument is out of range.
 fn answered(ok: bool, value: f64) -> Answer
     ensures { λ r. ⌜ r ≡ answeredBy ok value ⌝ }
 {
@@ -24,7 +24,7 @@ fn answered(ok: bool, value: f64) -> Answer
     }
 }
 
-// How much faster, or slower below zero, a depth in cents makes the playback.
+// How much faster (or, below zero, slower) a depth in cents makes the playback.
 pub fn speed_delta(depth_cents: f64) -> Answer
     ensures { λ r. ⌜ r ≡ speedDeltaOf «depth_cents» ⌝ }
 {
@@ -47,7 +47,8 @@ pub fn advance_phase(phase: f64, rate_hz: f64, sample_rate: f64) -> Answer
     )
 }
 
-// Analytic antiderivatives of the speed waves: a rounded square at -1, a sine at 0, a triangle at 1, blended between.
+// The original's antiderivatives of the speed waves: a rounded square at -1, a sine at 0, a triangle at 1, and blends
+// between them.
 pub fn shape_primitive(phase: f64, shape: f64) -> Answer
     ensures { λ r. ⌜ r ≡ shapePrimitiveOf phase shape ⌝ }
 {
@@ -75,7 +76,7 @@ pub fn oscillator_delay(
     )
 }
 
-// Conservative delay excursion for one oscillator across every shape.
+// An upper bound, in samples, for how far one oscillator moves the delay, whatever its shape.
 pub fn maximum_delay_excursion_samples(
     max_depth_cents: f64,
     min_rate_hz: f64,
@@ -94,7 +95,8 @@ pub fn maximum_delay_excursion_samples(
     )
 }
 
-// M4. Conservative maximum positive playback-rate delta for the constant-power blend at the maximum drift.
+// M4. An upper bound for the speed-up that oscillators of these depths cause together at full drift, when they are
+// blended at constant power.
 pub fn maximum_rate_delta(depths_cents: &[f64]) -> Answer
     ensures { λ r. ⌜ r ≡ rateDeltaOf (now («depths_cents» .entry)) ⌝ }
 {

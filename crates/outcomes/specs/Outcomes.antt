@@ -1,11 +1,21 @@
 -- How a run over a file's frames ended. Definitions only.
-use Prim.Native.Nat.{ℕ}
-use mathlib.Core.Bool.{Bool, _&&_}
+use Prim.Native.Nat.{ℕ, _+_, _/_, _%_, min}
+use mathlib.Core.Bool.{Bool, cond, _&&_}
 use lib.Dec.{eqb}
+use Rattle.sizes.specs.Sizes.{most}
 use Rattle.outcomes.specs.declared.Outcome.{Outcome}
 
 abbrev pub outcomeOf : ℕ → ℕ → ℕ → ℕ → Outcome
 outcomeOf io number frame channel = record { io = io; number = number; frame = frame; channel = channel }
+
+-- The samples of two channels stand in turn: at an even place the first channel's, at an odd one the second's.
+unfoldable pub sideOf : ℕ → ℕ
+sideOf at = cond (eqb (at % 2) 0) 1 2
+
+unfoldable pub misfitAt : ℕ → ℕ → ℕ → Outcome
+misfitAt channels done at =
+    cond (eqb channels 2) (outcomeOf 0 15 (min (done + at / 2) most) (sideOf at))
+    (outcomeOf 0 15 (min (done + at) most) 1)
 
 -- Nothing failed and nothing was refused.
 abbrev pub isWell : Outcome → Bool

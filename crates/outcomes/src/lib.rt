@@ -1,7 +1,8 @@
 // How a run over a file's frames ended.
 ghost use mathlib.Core.Path.{_≡_};
-ghost use Rattle.outcomes.specs.Outcomes.{outcomeOf, isWell};
+ghost use Rattle.outcomes.specs.Outcomes.{outcomeOf, sideOf, misfitAt, isWell};
 use refusal_order::both;
+use sizes::plus;
 
 // `io` is 0, or 1 where the file could not be read, as errno tells, 2 where it became shorter, 3 where nothing more
 // could be written, as errno tells. `number` is 0, or the refusal of a sample: its frame, counted from 0, and its
@@ -39,6 +40,22 @@ pub fn refused_at(number: u8, frame: usize, channel: u8) -> Outcome
         frame: frame,
         channel: channel,
     }
+}
+
+fn side_of(at: usize) -> u8
+    ensures { λ r. ⌜ r ≡ sideOf at ⌝ }
+{
+    if at % 2 == 0 { 1 } else { 2 }
+}
+
+// 15: the sample at a place of all channels' samples, which stand in turn, behind `done` frames.
+pub fn misfit_at(channels: u8, done: usize, at: usize) -> Outcome
+    ensures { λ r. ⌜ r ≡ misfitAt channels done at ⌝ }
+{
+    if channels == 2 {
+        return refused_at(15, plus(done, at / 2), side_of(at));
+    }
+    refused_at(15, plus(done, at), 1)
 }
 
 pub fn is_well(outcome: Outcome) -> bool

@@ -1,5 +1,5 @@
 // The engine's state (001) as 15 words in the order of its fields, a float as its bit pattern.
-// So another language, or a line of text, can hold it. `engine_calls` has the engine's calls on such words.
+// In this form another language, or a line of text, can hold it. `engine_calls` has the engine's calls on such words.
 ghost use mathlib.Core.Path.{_≡_};
 ghost use Rattle.packed_engine.specs.Words.{randomOf, engineOf, wordsOf, wordsLeft, paramsOf};
 use bit_patterns::bits_of;
@@ -66,7 +66,7 @@ pub fn words_of(e: ModulationEngine) -> [u64; 15]
     ]
 }
 
-// D1c. The words that a call leaves, by the refusal's number, 0 for none.
+// D1c. The words that a call leaves, for each refusal number, 0 for none.
 pub fn words_left(number: u8, after: ModulationEngine, words: [u64; 15]) -> [u64; 15]
     ensures { λ r. ⌜ r ≡ wordsLeft number after words ⌝ }
 {

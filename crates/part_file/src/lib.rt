@@ -1,5 +1,12 @@
 // A file that is written whole or not at all: as NAME.part, which gets its name at the end. A file that exists is never
-// touched. `-` is standard output. What goes wrong is said on standard error, with the command's name in front.
+// touched. `-` is standard output. What goes wrong is said on standard error, with the command's name in front. Whether
+// a file is made, written and named is C's answer: of it the contracts say what holds whatever C answers.
+ghost use mathlib.Core.Path.{_≡_};
+ghost use lib.ListN.{length};
+ghost use Rattle.text.specs.Text.{putAt, placeAfter};
+ghost use Rattle.error_lines.specs.Lines.{startText};
+ghost use Rattle.part_file.specs.Parts.{isStandard, shownName, partText, MadeFor, WrittenOf, StandsAs};
+ghost use Rattle.part_file.specs.Parts.{FinishedAs};
 use error_lines::say_failed;
 use error_lines::say_of;
 use libc::EEXIST;
@@ -12,12 +19,33 @@ pub enum Made {
     Failed,
 }
 
-// Opens NAME.part, or says why not. The name itself is made and removed again: so one that is taken, or that cannot be
-// made, is said before the work begins.
-pub fn make(command: &[u8], name: &[u8]) -> Made {
-    if spelling::same(name, b"-") {
+fn is_standard(name: &[u8]) -> bool
+    ensures { λ r. ⌜ r ≡ isStandard (now (name .entry)) ⌝ }
+{
+    spelling::same(name, b"-")
+}
+
+fn put_part(part: &mut [u8], name: &[u8]) -> usize
+    ensures { λ r. ⌜ r ≡ placeAfter (length (now (part .entry))) 0 (partText (now (name .entry))) ⌝ }
+    ensures { λ r. ⌜ now (part .exit) ≡ putAt (now (part .entry)) 0 (partText (now (name .entry))) ⌝ }
+{
+    let at = text::put(part, 0, name);
+    text::put(part, at, b".part")
+}
+
+// Opens NAME.part, or says why not.
+pub fn make(command: &[u8], name: &[u8]) -> Made
+    ensures { λ r. ⌜ MadeFor (now (name .entry)) r ⌝ }
+{
+    if is_standard(name) {
         return Made::Open(STDOUT_FILENO);
     }
+    make_named(command, name)
+}
+
+// The name itself is made and removed again: so one that is taken, or that cannot be made, is said before the work
+// begins.
+fn make_named(command: &[u8], name: &[u8]) -> Made {
     if !claim(command, name) {
         return Made::Failed;
     }
@@ -63,45 +91,67 @@ fn say_taken(command: &[u8], name: &[u8], words: &[u8]) {
     say_failed(command, name);
 }
 
-fn put_part(part: &mut [u8], name: &[u8]) -> usize {
-    let at = text::put(part, 0, name);
-    text::put(part, at, b".part")
-}
-
 // Writes a block, or says why not.
-pub fn write(command: &[u8], name: &[u8], fd: i32, bytes: &[u8]) -> bool {
+pub fn write(command: &[u8], name: &[u8], fd: i32, bytes: &[u8]) -> bool
+    ensures { λ r. ⌜ WrittenOf (now (bytes .entry)) r ⌝ }
+{
+    if bytes.len() == 0 {
+        return true;
+    }
     if io::write_all(fd, bytes) {
         return true;
     }
-    say_unwritten(command, name, fd);
+    say_unwritten(command, name);
     false
 }
 
-// That a block was not written, right after the call that failed.
-pub fn say_unwritten(command: &[u8], name: &[u8], fd: i32) {
-    if fd == STDOUT_FILENO {
-        say_failed(command, b"standard output");
-        return;
+// That a block was not written, right after the call that failed; gives how many bytes stand before errno's text.
+pub fn say_unwritten(command: &[u8], name: &[u8]) -> usize
+    ensures { λ r. ⌜ r ≡ placeAfter 4608 0 (startText (now (command .entry)) (shownName (now (name .entry)))) ⌝ }
+{
+    if is_standard(name) {
+        return say_failed(command, b"standard output");
     }
-    say_failed(command, name);
+    say_failed(command, name)
 }
 
 // Ends a file: where all went well it gets its name, else it is removed. Whether it stands there whole.
-pub fn finish(command: &[u8], name: &[u8], fd: i32, well: bool) -> bool {
-    if fd == STDOUT_FILENO {
-        return well;
+pub fn finish(command: &[u8], name: &[u8], fd: i32, well: bool) -> bool
+    ensures { λ r. ⌜ FinishedAs (now (name .entry)) well r ⌝ }
+{
+    if well {
+        return stands(command, name, fd);
+    }
+    discard(name, fd);
+    false
+}
+
+fn stands(command: &[u8], name: &[u8], fd: i32) -> bool
+    ensures { λ r. ⌜ StandsAs (now (name .entry)) r ⌝ }
+{
+    if is_standard(name) {
+        return true;
+    }
+    keep(command, name, fd)
+}
+
+fn discard(name: &[u8], fd: i32) {
+    if is_standard(name) {
+        return;
     }
     let mut part = [0u8; 4110];
     let n = put_part(&mut part, name);
-    finish_part(command, name, begun(&part, n), fd, well)
+    libc::close(fd);
+    os::unlink(begun(&part, n));
 }
 
-fn finish_part(command: &[u8], name: &[u8], part: &[u8], fd: i32, well: bool) -> bool {
-    if !well {
-        libc::close(fd);
-        os::unlink(part);
-        return false;
-    }
+fn keep(command: &[u8], name: &[u8], fd: i32) -> bool {
+    let mut part = [0u8; 4110];
+    let n = put_part(&mut part, name);
+    keep_part(command, name, begun(&part, n), fd)
+}
+
+fn keep_part(command: &[u8], name: &[u8], part: &[u8], fd: i32) -> bool {
     if kept(command, name, fd) {
         return give_name(command, name, part);
     }

@@ -12,7 +12,7 @@ abbrev pub largestIn : Compared → ℕ
 largestIn (Carried r) = r .largest
 largestIn (Refused k) = 0
 
--- W13b, over this stretch alone.
+-- W13b, for this stretch alone.
 unfoldable pub largestOf : List ℤ → List ℤ → ℕ
 largestOf a b = largestIn (comparedOf emptyReport a b)
 

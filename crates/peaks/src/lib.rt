@@ -5,8 +5,8 @@ ghost use lib.ListN.{getD, set};
 ghost use Rattle.peaks.specs.Peaks.{largestOf, raised};
 use residual::Compared;
 
-// The largest absolute difference of two lists of whole numbers, as the residual has it; beside zeros it is the largest
-// sample. 0 where W13 refuses them.
+// The largest absolute difference of two lists of whole numbers, as the residual counts it; if one list is zeros it is
+// the largest sample. It is 0 if the residual refuses the lists.
 pub fn largest(a: &[i32], b: &[i32]) -> u32
     ensures { λ r. ⌜ r ≡ largestOf (now (a .entry)) (now (b .entry)) ⌝ }
 {
@@ -17,7 +17,7 @@ pub fn largest(a: &[i32], b: &[i32]) -> u32
     }
 }
 
-// Raises the number at a place to at least n. A place that is not there is left out.
+// Raises the number at a place to at least n. A place past the end is ignored.
 pub fn raise(peaks: &mut [u32], at: usize, n: u32)
     ensures { λ _. ⌜ now (peaks .exit) ≡ raised (now (peaks .entry)) at n ⌝ }
 {

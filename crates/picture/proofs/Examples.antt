@@ -1,10 +1,11 @@
 -- Parts of a picture, to the byte: computed over the definitions that the contracts cite. Assumes nothing.
 use mathlib.Core.Path.{_≡_, refl}
-use mathlib.Core.List.{_++_}
+use mathlib.Core.List.{[], _∷_, _++_}
 use lib.Ieee.{size}
 use Rattle.text.specs.Text.{ascii, decimalTo}
+use Rattle.utf8.specs.Utf8.{opens, continues, nextOf, after}
 use Rattle.report_lines.specs.Times.{twoText, threeText, clockText, lengthText}
-use Rattle.picture.specs.Names.{escapedByte, escaped}
+use Rattle.picture.specs.Names.{escapedByte, shownByte, escapedAs}
 use Rattle.picture.specs.Bars.{bitsOf, numberText, edge, barText, stretchText}
 use Rattle.picture.specs.Page.{titleText}
 use Rattle.picture.specs.Panel.{timesText}
@@ -47,8 +48,15 @@ third = refl
 -- a name with characters that XML keeps for itself, and with a line's end
 title : titleText (ascii "a&b.wav") (ascii "<c>\n.wav")
     ≡ ascii "<text x=\"90\" y=\"30\" font-size=\"18\">How far a&amp;b.wav and &lt;c&gt;?.wav differ</text>\n"
-unfolding ascii escapedByte escaped titleText
+unfolding ascii escapedByte shownByte escapedAs titleText opens continues nextOf after
 title = refl
+
+-- a name in UTF-8 (`é`) is kept; one in Latin-1 is not UTF-8
+accents : titleText (99 ∷ (195 ∷ (169 ∷ []))) (99 ∷ (233 ∷ []))
+    ≡ ascii "<text x=\"90\" y=\"30\" font-size=\"18\">How far c" ++
+    ((195 ∷ (169 ∷ [])) ++ ascii " and c? differ</text>\n")
+unfolding ascii escapedByte shownByte escapedAs titleText opens continues nextOf after
+accents = refl
 
 -- 25.720 seconds at 48000 Hz
 times : timesText 1234567 48000

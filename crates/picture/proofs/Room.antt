@@ -2,6 +2,7 @@
 -- and five for each byte of the names for the head, 1200 for a panel's beginning, 210 for a stretch, 250 for the ends.
 -- By the digits of a word, of which there are at most 20. Assumes nothing.
 use mathlib.Core.Path.{_≡_}
+use mathlib.Core.Bool.{Bool}
 use mathlib.Core.List.{List, [], _∷_, _++_}
 use Prim.Native.Nat.{ℕ, _+_, _-_, _*_, _/_, _≤_}
 use native.Mathlib.Omega.{arith}
@@ -9,11 +10,12 @@ use lib.Dec.{eqb, ltb}
 use lib.ListN.{length, length-append}
 use Rattle.text.specs.Text.{ascii, decimal}
 use Rattle.text.proofs.Digits.{few-digits}
+use Rattle.utf8.specs.Utf8.{isUtf8}
 use Rattle.report_lines.specs.Times.{lengthText}
 use Rattle.report_lines.proofs.Room.{either, short-length}
-use Rattle.picture.specs.Names.{escapedByte, escaped}
+use Rattle.picture.specs.Names.{escapedByte, shownByte, escapedAs, escaped}
 use Rattle.picture.specs.Bars.{bitsOf, numberText, edge, barText, stretchText}
-use Rattle.picture.specs.Page.{legendText, scalesText, titleText, headText, tailText}
+use Rattle.picture.specs.Page.{legendText, scalesText, titleText, sizeText, headText, tailText}
 use Rattle.picture.specs.Panel.{gridText, labelsText, decibelsText, timesText, panelText, panelEndText}
 
 short-number : (before : List ℕ) (n : ℕ) → length (numberText before n) ≤ length before + 20
@@ -28,10 +30,14 @@ short-byte b =
     (either (eqb b 62) (ascii "&gt;") _ 5 (omega arith)
     (either (ltb b 32) (ascii "?") (b ∷ []) 5 (omega arith) (omega arith))))
 
+short-bytes : (readable : Bool) (name : List ℕ) → length (escapedAs readable name) ≤ 5 * length name
+unfolding escapedAs
+short-bytes readable [] = omega arith
+short-bytes readable (b ∷ bs) =
+    simp length-append (omega (arith, short-byte (shownByte readable b), short-bytes readable bs))
+
 short-name : (name : List ℕ) → length (escaped name) ≤ 5 * length name
-unfolding escaped
-short-name [] = omega arith
-short-name (b ∷ bs) = simp length-append (omega (arith, short-byte b, short-name bs))
+short-name name = short-bytes (isUtf8 name) name
 
 short-bar : (opening : List ℕ) (k n bits : ℕ) → length (barText opening k n bits) ≤ length opening + 82
 unfolding ascii barText
@@ -66,13 +72,20 @@ short-scales : length scalesText ≤ 280
 unfolding ascii scalesText
 short-scales = omega arith
 
+short-size : (channels : ℕ) → length (sizeText channels) ≤ 125
+unfolding ascii sizeText
+short-size channels =
+    let svg = ascii "<svg xmlns=\"http://www.w3.org/2000/svg\" viewBox=\"0 0 1160 " in
+    let size = ascii "\" width=\"1160\" height=\"" in
+    simp length-append
+    (omega (arith, short-number svg (channels * 300 + 130), short-number size (channels * 300 + 130)))
+
 pub short-head : (channels : ℕ) (first second : List ℕ)
     → length (headText channels first second) ≤ 900 + 5 * (length first + length second)
 unfolding ascii headText
 short-head channels first second =
-    let svg = ascii "<svg xmlns=\"http://www.w3.org/2000/svg\" width=\"1160\" height=\"" in
     simp length-append
-    (omega (arith, short-number svg (channels * 300 + 130), short-title first second, short-legend, short-scales))
+    (omega (arith, short-size channels, short-title first second, short-legend, short-scales))
 
 short-times : (frames rate : ℕ) → length (timesText frames rate) ≤ 400
 unfolding ascii timesText

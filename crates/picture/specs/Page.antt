@@ -30,10 +30,16 @@ titleText first second =
     (escaped second ++
     ascii " differ</text>\n")))
 
+-- How large the picture is: a drawing of that size, which a page may show larger or smaller.
+unfoldable pub sizeText : ℕ → List ℕ
+sizeText channels =
+    numberText (ascii "<svg xmlns=\"http://www.w3.org/2000/svg\" viewBox=\"0 0 1160 ") (channels * 300 + 130) ++
+    numberText (ascii "\" width=\"1160\" height=\"") (channels * 300 + 130)
+
 -- The beginning of a picture of so many channels.
 unfoldable pub headText : ℕ → List ℕ → List ℕ → List ℕ
 headText channels first second =
-    numberText (ascii "<svg xmlns=\"http://www.w3.org/2000/svg\" width=\"1160\" height=\"") (channels * 300 + 130) ++
+    sizeText channels ++
     (ascii "\" font-family=\"sans-serif\" font-size=\"14\">\n" ++
     (ascii "<rect width=\"100%\" height=\"100%\" fill=\"#fff\"/>\n" ++
     (titleText first second ++

@@ -2,7 +2,7 @@
 ghost use mathlib.Core.Path.{_≡_};
 ghost use lib.ListN.{length};
 ghost use Rattle.text.specs.Text.{putAt, placeAfter};
-ghost use Rattle.picture.specs.Page.{titleText, headText, tailText};
+ghost use Rattle.picture.specs.Page.{titleText, sizeText, headText, tailText};
 use crate::bars::put_number;
 use crate::legend::put_legend;
 use crate::legend::put_scales;
@@ -26,6 +26,21 @@ fn put_title(out: &mut [u8], at: usize, first: &[u8], second: &[u8]) -> usize
     text::put(out, four, b" differ</text>\n")
 }
 
+// How large the picture is.
+fn put_size(out: &mut [u8], at: usize, channels: u8) -> usize
+    ensures { λ r. ⌜ r ≡ placeAfter (length (now (out .entry))) at (sizeText channels) ⌝ }
+    ensures { λ r. ⌜ now (out .exit) ≡ putAt (now (out .entry)) at (sizeText channels) ⌝ }
+{
+    let height = channels as u64 * 300 + 130;
+    let one = put_number(
+        out,
+        at,
+        b"<svg xmlns=\"http://www.w3.org/2000/svg\" viewBox=\"0 0 1160 ",
+        height,
+    );
+    put_number(out, one, b"\" width=\"1160\" height=\"", height)
+}
+
 // The beginning of a picture of so many channels.
 pub fn put_head(out: &mut [u8], at: usize, channels: u8, first: &[u8], second: &[u8]) -> usize
     ensures { λ r. ⌜ r ≡ placeAfter (length (now (out .entry))) at
@@ -33,12 +48,7 @@ pub fn put_head(out: &mut [u8], at: usize, channels: u8, first: &[u8], second: &
     ensures { λ r. ⌜ now (out .exit) ≡ putAt (now (out .entry)) at
         (headText channels (now (first .entry)) (now (second .entry))) ⌝ }
 {
-    let one = put_number(
-        out,
-        at,
-        b"<svg xmlns=\"http://www.w3.org/2000/svg\" width=\"1160\" height=\"",
-        channels as u64 * 300 + 130,
-    );
+    let one = put_size(out, at, channels);
     let two = text::put(
         out,
         one,

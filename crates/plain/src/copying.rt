@@ -1,8 +1,10 @@
-// The stored samples of a file, block after block. Of a float kind each is looked at: what is not finite is refused.
+// The stored samples of a file, block after block, their low byte first. Of a float kind each is looked at: what is not
+// finite is refused.
+use libc::STDERR_FILENO;
 use outcomes::Outcome;
 use outcomes::broken;
 use outcomes::is_well;
-use outcomes::refused_at;
+use outcomes::misfit_at;
 use outcomes::well;
 use sample_kind::SampleKind;
 use sizes::begun;
@@ -19,7 +21,7 @@ const FRAMES: usize = 4096;
 pub(crate) fn copy(file: WaveFile, fd: i32) -> Outcome {
     let frames = file.frames;
     let mut done: usize = 0;
-    let mut second: i64 = 0;
+    let mut said: i64 = 0;
     let mut turns = u64::MAX;
     while turns > 0 && done < frames {
         let n = fewer(less(frames, done), FRAMES);
@@ -28,21 +30,27 @@ pub(crate) fn copy(file: WaveFile, fd: i32) -> Outcome {
             return outcome;
         }
         done = plus(done, n);
-        second = progress::progress(b"plain", done, frames, second);
+        said = tell(done, frames, said);
         turns -= 1;
     }
     well()
 }
 
+// How far it is, where there is a terminal.
+fn tell(done: usize, frames: usize, said: i64) -> i64 {
+    let mut now: i64 = 0;
+    let terminal = libc::isatty(STDERR_FILENO) == 1;
+    let second = libc::time(&mut now);
+    progress::tell(b"plain", done, frames, terminal, said, second)
+}
+
 fn copy_block(file: WaveFile, fd: i32, done: usize, n: usize) -> Outcome {
     let mut bytes = [0u8; 32768];
-    let at = plus(file.start, times(done, file.frame));
-    let size = times(n, file.frame);
-    let io = wave_file::read_begun(file.fd, at, &mut bytes, size);
+    let io = wave_file::read_frames(file, done, &mut bytes, n);
     if io != 0 {
         return broken(io);
     }
-    copy_part(file, fd, done, &bytes, size)
+    copy_part(file, fd, done, &bytes, times(n, file.frame))
 }
 
 fn copy_part(file: WaveFile, fd: i32, done: usize, bytes: &[u8; 32768], size: usize) -> Outcome {
@@ -83,15 +91,7 @@ fn fill(part: &[u8], floats: &mut [f32], count: usize) {
 fn look_at_samples(channels: u8, done: usize, floats: &[f32; 8192], count: usize) -> Outcome {
     let at = rounded_samples::first_misfit(SampleKind::Float32, begun_f32(floats, count));
     if at < count {
-        return misfit(channels, done, at);
+        return misfit_at(channels, done, at);
     }
     well()
-}
-
-// The sample at a place of both channels' samples.
-fn misfit(channels: u8, done: usize, at: usize) -> Outcome {
-    if channels == 2 {
-        return refused_at(15, plus(done, at / 2), if at % 2 == 0 { 1 } else { 2 });
-    }
-    refused_at(15, plus(done, at), 1)
 }

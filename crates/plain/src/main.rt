@@ -1,12 +1,18 @@
-// The program `plain FROM TO`: the same stored samples written anew as plain RIFF WAVE.
+// The program `plain FROM TO`: the same stored samples written anew as plain WAVE, RIFF or past four gigabytes RF64.
+mod asking; // what the arguments ask for
 mod copying; // block after block
 
+use asking::help_asked;
+use asking::tell_usage;
+use asking::to_copy;
 use error_lines::misused;
 use error_lines::succeed;
 use file_words::say_place;
 use file_words::say_unopened;
 use file_words::say_unread;
 use file_words::say_wrapped;
+use libc::STDERR_FILENO;
+use libc::STDOUT_FILENO;
 use outcomes::Outcome;
 use outcomes::is_well;
 use part_file::Made;
@@ -18,7 +24,12 @@ use wave_output::write_header;
 use wave_output::write_pad;
 
 fn main() {
-    let names = words_asked::to_copy();
+    if help_asked() {
+        tell_usage(STDOUT_FILENO);
+        succeed();
+        return;
+    }
+    let names = to_copy();
     if !names.good {
         misused();
         return;
@@ -68,16 +79,16 @@ fn write_plain(from: &[u8], to: &[u8], file: WaveFile, fd: i32, count: usize) ->
     }
     let outcome = copying::copy(file, fd);
     if is_well(outcome) {
-        progress::clear();
+        progress::clear(libc::isatty(STDERR_FILENO) == 1);
         return write_pad(b"plain", to, fd, times(file.frames, file.frame));
     }
-    say_outcome(from, to, fd, outcome);
+    say_outcome(from, to, outcome);
     false
 }
 
-fn say_outcome(from: &[u8], to: &[u8], fd: i32, outcome: Outcome) {
+fn say_outcome(from: &[u8], to: &[u8], outcome: Outcome) {
     if outcome.io == 3 {
-        part_file::say_unwritten(b"plain", to, fd);
+        part_file::say_unwritten(b"plain", to);
         return;
     }
     if outcome.io != 0 {

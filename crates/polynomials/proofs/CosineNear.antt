@@ -1,5 +1,5 @@
--- E1. The cosine's polynomial is within 2 ^ -45 of Taylor's fraction through x ^ 20, for |x| ≤ 1:
--- nine steps of Horner's rule, 101 units of 2 ^ -54 where 512 are allowed. Assumes nothing.
+-- E1. The cosine's polynomial is within 2 ^ -45 of Taylor's fraction through x ^ 20, for |x| ≤ 1. Nine steps of
+-- Horner's rule have an error of 101 units of 2 ^ -54, where 512 are allowed. Assumes nothing.
 use Prim.Native.Nat.{_<_, _^_}
 use native.Mathlib.Omega.{arith}
 use lib.Dec.{T, lit≤, lit<}

@@ -1,7 +1,6 @@
--- Horner's rule in f64 lies near the exact nest. Errors are counted in units of 2 ^ -54. A step takes the error e of
--- what stands inside to e / K + 11, where
--- |Z| ≤ 1 / K; terms that are left out count as an error of the innermost constant. Every nest is at most 2 / n!.
--- Assumes nothing.
+-- Horner's rule in f64 lies near the exact nested sum. Errors are counted in units of 2 ^ -54. A step turns the error e
+-- of the inner sum into e / K + 11, where |Z| ≤ 1 / K. Terms that are left out count as an error of the innermost
+-- constant. Every nested sum is at most 2 / n!. Assumes nothing.
 use mathlib.Core.Bool.{false}
 use Prim.Native.Nat.{ℕ, zero, suc, _+_, _*_, _/_, _^_, _≤_, _<_}
 use native.Mathlib.Nat.{le-of-lt, mul-comm, mul-pos, mul-le-mul-left, lt-mul-div-succ, div-le-self, div-mul-le-self}
@@ -31,7 +30,7 @@ reciprocal-near n =
     round-absolute binary64 false 1 (factorial n) 0 0 (factorial-pos n) (lit≤ tt) (lit≤ tt)
     (omega (arith, factorial-pos n))
 
--- the error after k steps, from e
+-- The error after k steps, beginning with e.
 unfoldable pub cost : ℕ → ℕ → ℕ → ℕ
 cost K e zero = e
 cost K e (suc k) = cost K e k / K + 1 + 10
@@ -41,14 +40,14 @@ unfolding cost
 cost-le K e zero = omega arith
 cost-le K e (suc k) = omega (arith, cost-le K e k, div-le-self (cost K e k) K)
 
--- the index of the innermost constant
+-- The index of the innermost constant.
 unfoldable pub last : ℕ → ℕ → ℕ → ℕ
 last d n zero = n
 last d n (suc k) = last d (d + n) k
 
 module _ (d K : ℕ) (K-pos : 0 < K) (fall : (n : ℕ) → 2 * factorial n ≤ factorial (d + n) * K) (z : Float) (Z : Frac)
     (small : Within K 1 Z nil) (near : Rounds g 1 z Z) where
-  -- |Z * Q| ≤ 1 / n! for |Q| ≤ 2 / (d + n)!
+  -- |Z * Q| ≤ 1 / n! for |Q| ≤ 2 / (d + n)!.
   product-mag : (n : ℕ) {Q : Frac} → Within (factorial (d + n)) 2 Q nil → Within (factorial n) 1 (times Z Q) nil
   product-mag n w = rescale (mul-pos (factorial-pos (d + n)) K-pos) (omega (arith, fall n)) (mag-times small w)
 
@@ -61,7 +60,7 @@ module _ (d K : ℕ) (K-pos : 0 < K) (fall : (n : ℕ) → 2 * factorial n ≤ f
   nested-mag n zero = weaken (lit≤ tt) (mag-signed false 1 (factorial n) (factorial-pos n))
   nested-mag n (suc k) = sum-mag n (product-mag n (nested-mag (d + n) k))
 
-  -- at most b / n!, so at most b
+  -- What is at most b / n! is at most b.
   units : (n b : ℕ) {q : Frac} → Within (factorial n) b q nil → Within g (b * g) q nil
   units n b w = rescale (factorial-pos n) (omega (arith, mul-le-mul-left b (factorial-pos n))) w
 
@@ -84,7 +83,7 @@ module _ (d K : ℕ) (K-pos : 0 < K) (fall : (n : ℕ) → 2 * factorial n ≤ f
       (units n 2 (sum-mag n p)) (omega arith) in
       record { real = sum .real; near = weaken (omega arith) (sum .near) }
 
-  -- the innermost constant, for all that stands inside it in the exact nest
+  -- The innermost constant stands for all that the exact nested sum has inside it.
   base : (n m e : ℕ) → 2 * g ≤ e * (factorial (d + n) * K) → Rounds g (1 + e) (reciprocal n) (nested d Z n (suc m))
   unfolding nested
   base n m e l =
@@ -95,7 +94,7 @@ module _ (d K : ℕ) (K-pos : 0 < K) (fall : (n : ℕ) → 2 * factorial n ≤ f
         near = chain (reciprocal-near n .near) (flip (beside (frac 1 0 (factorial n)) (factorial-pos n) t));
       }
 
-  -- k steps, for the exact nest with more than k
+  -- k steps, for an exact nested sum with more than k.
   pub horner-near : (n k m e : ℕ) → k < m → K ≤ 2 → 2 * g ≤ e * (factorial (d + last d n k) * K) → e + 11 * k ≤ 2 ^ 48
       → Rounds g (cost K (1 + e) k) (horner d z n k) (nested d Z n m)
   unfolding horner nested cost last

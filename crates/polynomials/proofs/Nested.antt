@@ -1,5 +1,5 @@
--- Horner's exact nest 1 / n! + z * (1 / (d + n)! + ..) is Taylor's fraction: with z = -(x * x) and d = 2 the
--- alternating one, with z = x and d = 1 the rising one. A power is spread over the nest, and moved into it step by
+-- Horner's exact nested sum 1 / n! + z * (1 / (d + n)! + ..) is Taylor's fraction: with z = -(x * x) and d = 2 the
+-- alternating one, with z = x and d = 1 the rising one. A power is distributed over the sum, and moved into it step by
 -- step. Assumes nothing.
 use mathlib.Core.Path.{_≡_}
 use Prim.Native.Nat.{ℕ, zero, suc, _+_, _*_, _<_}
@@ -29,15 +29,15 @@ unfolding power
 power-pos x zero X = lit< tt
 power-pos x (suc n) X = mul-pos (power-pos x n X) X
 
--- ---- a power spread over a step of the nest
--- parts that are k times others name the same number
+-- ---- a power distributed over a step of the nested sum
+-- Parts that are k times those of another fraction are the same number.
 same-parts : (k p n d : ℕ) {p' n' d' : ℕ} → p' ≡ k * p → n' ≡ k * n → d' ≡ k * d → p * d' + n' * d ≡ p' * d + n * d'
 same-parts k p n d e f h = rw (e, f, h) (ring-of k p n d)
   where
     ring-of : (k p n d : ℕ) → p * (k * d) + k * n * d ≡ k * p * d + n * (k * d)
     ring-of k p n d = simp sums
 
--- part by part the spread one is a's denominator times the other
+-- Part by part the distributed sum is the denominator of a times the other.
 spread-core : (ap an ad cp cn cd zp zn zd np nn nd : ℕ) → let t =
     plus (times (frac ap an ad) (frac cp cn cd)) (times (times (frac ap an ad) (frac zp zn zd)) (frac np nn nd)) in
     let l = times (frac ap an ad) (plus (frac cp cn cd) (times (frac zp zn zd) (frac np nn nd))) in
@@ -55,7 +55,7 @@ spread a c z n A C Z N =
       cross = same-parts (a .d) (l .p) (l .n) (l .d) (s .0) (s .1) (s .2);
     }
 
--- x ^ n / n!
+-- The term x ^ n / n!.
 term-same : (x : Frac) (n : ℕ) → 0 < x .d → Same (times (power x n) (frac 1 0 (factorial n))) (term x n)
 unfolding term
 term-same x n X =

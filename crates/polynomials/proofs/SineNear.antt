@@ -1,6 +1,6 @@
--- E1. The sine's polynomial is within 2 ^ -45 * |x| of Taylor's fraction through x ^ 21, for |x| ≤ 1.
--- From 2 ^ -1000 on the last product's rounding is a part of |x|; below, x * x rounds to nothing,
--- the nest is 1 and the answer is x. Assumes nothing.
+-- E1. The sine's polynomial is within 2 ^ -45 * |x| of Taylor's fraction through x ^ 21, for |x| ≤ 1. From 2 ^ -1000 on
+-- the rounding of the last product is a part of |x|; below that x * x rounds to zero, the nested sum is 1 and the
+-- answer is x. Assumes nothing.
 use mathlib.Core.Path.{_≡_, refl, sym}
 use mathlib.Core.Bool.{Bool, true, false, not}
 use Prim.Native.Nat.{ℕ, suc, _+_, _-_, _*_, _^_, _≤_, _<_}
@@ -31,7 +31,7 @@ use Rattle.polynomials.proofs.Horner.{g, cost, last}
 use Rattle.polynomials.proofs.Squares.{square, squared, in-square, in-square-mag, at-most-finite, at-most-size}
 use Rattle.polynomials.proofs.Squares.{own-mag}
 
--- the fraction is x times the nest
+-- The fraction is x times the nested sum.
 fraction-is : (x : Float) → T (atMost 1 x) → Same (times (val x) (nested 2 (squared x) 1 10)) (sineFraction (val x))
 unfolding power
 fraction-is x h =
@@ -80,7 +80,7 @@ times-unit false a t h l i j =
 times-unit true a t h l i j =
     mul-is i j (times-one (frac 0 a (2 ^ t)) (pow-pos t)) (record { hi = omega arith; lo = omega arith; deep = l })
 
--- x * 1 is x, by the digits that x has
+-- x * 1 is x, by the digits that x has.
 kept : (x q : Float) → T (fits binary64 x) → (val x .p + val x .n) * 2 ^ 1000 ≤ val x .d → T (atMost 1 x)
     → Is q (frac 1 0 1) → Is (mul binary64 x q) (val x)
 kept nan q f t h j = absurd h
@@ -137,7 +137,7 @@ module _ (x : Float) (h : T (atMost 1 x)) (f : T (fits binary64 x))
             (flip (rw (mul-comm (val x .d) (2 ^ 45)) (rw (mul-one (val x .p + val x .n)) at v)));
       }
 
--- ---- both
+-- ---- both ranges together
 pub sine-close : (x : Float) → T (fits binary64 x) → T (atMost 1 x)
     → Rounds (val x .d * 2 ^ 45) (val x .p + val x .n) (sineNear x) (sineFraction (val x))
 sine-close x f h =

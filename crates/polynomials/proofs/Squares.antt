@@ -1,5 +1,5 @@
--- z = -(x * x) for |x| ≤ 1: at most 1, and one rounding off. The factorials two apart grow by 2 at least,
--- so Horner's law holds for z. Assumes nothing.
+-- z = -(x * x) for |x| ≤ 1 is at most 1 in size and off by one rounding. Factorials two apart grow at least by 2, so
+-- Horner's law holds for z. Assumes nothing.
 use mathlib.Core.Path.{_≡_}
 use mathlib.Core.Bool.{true, false}
 use Prim.Native.Nat.{ℕ, suc, _+_, _*_, _^_, _≤_, _<_}
@@ -26,7 +26,7 @@ at-most-finite b nan h = h
 at-most-finite b (inf s) h = h
 at-most-finite b (fin s m e) h = tt
 
--- |x| is (p + n) / d, since p or n is zero
+-- |x| is (p + n) / d, since p or n is zero.
 pub at-most-size : (b : ℕ) (x : Float) → T (atMost b x) → val x .p + val x .n ≤ b * val x .d
 at-most-size b nan h = absurd h
 at-most-size b (inf s) h = absurd h
@@ -61,7 +61,7 @@ module _ (x : Float) (h : T (atMost 1 x)) where
       let s : Within g g (times (val x) (val x)) nil = rescale (lit< tt) (lit≤ tt) (mag-times m m) in
       neg-near (mul-approx binary64 1 0 0 tt i m (is-near g i) (same-refl (s .left)) s (lit≤ tt))
 
-  -- Horner's law in z, and how large the exact nest is
+  -- Horner's law in z, and how large the exact nested sum is.
   pub in-square : (n k m e : ℕ) → k < m → 2 * g ≤ e * (factorial (2 + last 2 n k) * 1) → e + 11 * k ≤ 2 ^ 48
       → Rounds g (cost 1 (1 + e) k) (horner 2 (square x) n k) (nested 2 (squared x) n m)
   in-square n k m e l t b =

@@ -2,7 +2,7 @@
 ghost use mathlib.Core.Path.{_≡_};
 ghost use Rattle.polynomials.specs.Horner.{sineNear, cosineNear, powerNear};
 
-// x - x^3/3! + .. + x^17/17!
+// Taylor's x - x^3/3! + .. + x^17/17!.
 pub fn sine_near(x: f64) -> f64
     ensures { λ r. ⌜ r ≡ sineNear x ⌝ }
 {
@@ -17,7 +17,7 @@ pub fn sine_near(x: f64) -> f64
     x * (1.0 + z * g)
 }
 
-// 1 - x^2/2! + .. - x^18/18!
+// Taylor's 1 - x^2/2! + .. - x^18/18!.
 pub fn cosine_near(x: f64) -> f64
     ensures { λ r. ⌜ r ≡ cosineNear x ⌝ }
 {
@@ -33,7 +33,7 @@ pub fn cosine_near(x: f64) -> f64
     1.0 + z * h
 }
 
-// 1 + y + y^2/2! + .. + y^13/13!, y being ln 2 times x.
+// Taylor's 1 + y + y^2/2! + .. + y^13/13!, where y is ln 2 times x.
 pub fn power_near(x: f64) -> f64
     ensures { λ r. ⌜ r ≡ powerNear x ⌝ }
 {

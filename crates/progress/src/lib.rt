@@ -1,37 +1,75 @@
-// How far a command is, each second anew, where standard error is a terminal: a line that the next is written over.
+// How far a command is, each second anew, where standard error is a terminal: a line that the next is written over. The
+// program asks C whether there is a terminal and which second it is.
+ghost use mathlib.Core.Path.{_≡_};
+ghost use mathlib.Core.Bool.{cond};
+ghost use lib.ListN.{length};
+ghost use Rattle.text.specs.Text.{putAt, placeAfter};
+ghost use Rattle.progress.specs.Progress.{hundredthsOf, percentText, progressText, blankText};
 use error_lines::say;
-use libc::STDERR_FILENO;
 use sizes::begun;
-use sizes::plus;
 use sizes::quotient;
+use sizes::times;
 use text::put;
 
-// Says how many of all are done, in hundredths, where a second has begun since `last`; gives the second.
-pub fn progress(command: &[u8], done: usize, all: usize, last: i64) -> i64 {
-    if libc::isatty(STDERR_FILENO) != 1 {
-        return last;
-    }
-    let mut now: i64 = 0;
-    let second = libc::time(&mut now);
+// How many hundredths of all are done.
+pub fn hundredths(done: usize, all: usize) -> usize
+    ensures { λ r. ⌜ r ≡ hundredthsOf done all ⌝ }
+{
+    quotient(times(done, 100), all)
+}
+
+fn put_percent(out: &mut [u8], at: usize, command: &[u8], n: usize) -> usize
+    ensures { λ r. ⌜ r ≡ placeAfter (length (now (out .entry))) at (percentText (now (command .entry)) n) ⌝ }
+    ensures { λ r. ⌜ now (out .exit) ≡ putAt (now (out .entry)) at (percentText (now (command .entry)) n) ⌝ }
+{
+    let one = put(out, at, command);
+    let two = put(out, one, b": ");
+    let three = text::put_decimal(out, two, n as u64);
+    put(out, three, b" %   \r")
+}
+
+// Puts the line that says so.
+pub fn put_progress(out: &mut [u8], at: usize, command: &[u8], done: usize, all: usize) -> usize
+    ensures { λ r. ⌜ r ≡ placeAfter (length (now (out .entry))) at (progressText (now (command .entry)) done all) ⌝ }
+    ensures { λ r. ⌜ now (out .exit) ≡ putAt (now (out .entry)) at (progressText (now (command .entry)) done all) ⌝ }
+{
+    let n = hundredths(done, all);
+    put_percent(out, at, command, n)
+}
+
+fn say_progress(command: &[u8], done: usize, all: usize) {
+    let mut line = [0u8; 64];
+    let n = put_progress(&mut line, 0, command, done, all);
+    say(begun(&line, n));
+}
+
+// Says it where a second has begun since the last time.
+fn tell_anew(command: &[u8], done: usize, all: usize, last: i64, second: i64) -> i64
+    ensures { λ r. ⌜ r ≡ second ⌝ }
+{
     if second == last {
-        return last;
+        return second;
     }
-    say_hundredths(command, quotient(done, plus(quotient(all, 100), 1)));
+    say_progress(command, done, all);
     second
 }
 
-fn say_hundredths(command: &[u8], n: usize) {
-    let mut line = [0u8; 64];
-    let at = put(&mut line, 0, command);
-    let at = put(&mut line, at, b": ");
-    let at = text::put_decimal(&mut line, at, n as u64);
-    let at = put(&mut line, at, b" %   \r");
-    say(begun(&line, at));
+// The same where there is a terminal; gives the second for the next call.
+pub fn tell(command: &[u8], done: usize, all: usize, terminal: bool, last: i64, second: i64) -> i64
+    ensures { λ r. ⌜ r ≡ cond terminal second last ⌝ }
+{
+    if terminal {
+        return tell_anew(command, done, all, last, second);
+    }
+    last
 }
 
-// Takes the line away.
-pub fn clear() {
-    if libc::isatty(STDERR_FILENO) == 1 {
-        say(b"                              \r");
+// Takes the line away; gives how many bytes that took.
+pub fn clear(terminal: bool) -> usize
+    ensures { λ r. ⌜ r ≡ cond terminal (length blankText) 0 ⌝ }
+{
+    if terminal {
+        return say(b"                              \r");
     }
+    0
 }

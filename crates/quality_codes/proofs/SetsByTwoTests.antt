@@ -1,5 +1,5 @@
--- How many sets a bank has, by two tests: the number of which the quotient lies above the one before and not above
--- itself is its ceiling. Assumes nothing.
+-- How many sets a bank has, by two tests: if the quotient lies above n - 1 and is at most n, its ceiling is n. Assumes
+-- nothing.
 use mathlib.Core.Path.{_≡_, sym, _∙_, ap, subst}
 use mathlib.Core.Bool.{true, false, true≢false, false≢true}
 use Prim.Native.Nat.{ℕ, suc, _+_, _-_, _*_, _/_, _^_, _<_, _≤_, max}
@@ -17,7 +17,7 @@ use Rattle.magnitude.proofs.WholeFloats.{whole-value}
 use Rattle.bank_choice.specs.Rates.{num, ceilingOf}
 use Rattle.bank_choice.proofs.Ceilings.{less, not-less}
 
--- nothing below zero lies above a whole number
+-- A number below zero does not lie above a whole number.
 not-below : (y : Float) (q m : ℕ) (e : ℤ) → HasValue y false q 1 → lt y (fin true m e) ≡ true → ⊥
 unfolding lt
 not-below nan q m e v h = v

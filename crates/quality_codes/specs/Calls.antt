@@ -1,11 +1,14 @@
--- A quality reader's call, opening and reset on plain numbers: quality_variable_delay's if every number names a
--- quality, otherwise refused with nothing changed. Definitions only.
+-- A quality reader's call, opening and reset on plain numbers: quality_variable_delay's if every number names what it
+-- stands for, otherwise refused with nothing changed. Definitions only.
 use Prim.Native.Nat.{ℕ}
 use mathlib.Core.Bool.{Bool, true, false, _&&_}
 use mathlib.Core.List.{List}
 use lib.ListN.{length}
 use lib.Ieee.{Float}
 use Rattle.answer.specs.Answers.{numberF32Of, valueF32Of, zero-f}
+use Rattle.returning_fade.specs.declared.Rule.{Rule}
+use Rattle.returning_fade.specs.declared.Direction.the-variants.{Onwards}
+use Rattle.returning_fade.specs.Rules.{ruleCode, directionCode}
 use Rattle.quality_variable_delay.specs.declared.ProcessedQ.{ProcessedQ}
 use Rattle.quality_variable_delay.specs.declared.Opened.{Opened}
 use Rattle.quality_variable_delay.specs.declared.Opened.the-variants.{Reader, Refused}
@@ -29,7 +32,7 @@ refusedBy number s = record { state = s; number = number; sample = zero-f }
 abbrev pub takenApart : ProcessedQ → Called
 takenApart p = record { state = coded (p .state); number = numberF32Of (p .answer); sample = valueF32Of (p .answer) }
 
--- What process_sample_rate_aware gives.
+-- The call of process_sample_rate_aware.
 abbrev pub calledOf : List Float → Float → Coded → List Float → Float → Float → ℕ → Float → Called
 calledOf sets max-rate s xs x y q playback-rate =
     pickCalled (codeOk q && fieldsOk s)
@@ -40,8 +43,8 @@ abbrev pub ringCalled : List Float → Float → Coded → List Float → Float 
 ringCalled sets max-rate s xs x y q playback-rate =
     pickRing (codeOk q && fieldsOk s) (ringLeft sets max-rate (decoded s) xs x y playback-rate) xs
 
--- A reset asks for no quality. Opening resets a state that has accepted nothing and holds its one quality, whose number
--- is an argument.
+-- A reset has no quality as an argument. Opening resets a state that has accepted nothing and holds one quality, whose
+-- number is an argument.
 abbrev pub openedApart : Coded → Opened → Called
 openedApart s (Reader d) = record { state = coded d; number = 0; sample = zero-f }
 openedApart s (Refused k) = record { state = s; number = k; sample = zero-f }
@@ -54,9 +57,10 @@ renewedOf asked s len =
 abbrev pub ringRenewed : Bool → Coded → List Float → List Float
 ringRenewed asked s xs = pickRing (asked && fieldsOk s) (ringReset (decoded s) xs) xs
 
--- Opening: a state that has accepted nothing and holds its one quality.
-abbrev pub freshOf : ℕ → ℕ → ℕ → ℕ → Coded
-freshOf maximum margin quality crossfade-samples =
+-- Opening: a state that has accepted nothing and holds its one quality. It chooses the rule, whose number nobody hands
+-- in (W9h).
+abbrev pub freshOf : Rule → ℕ → ℕ → ℕ → ℕ → Coded
+freshOf rule maximum margin quality crossfade-samples =
     record {
       maximum = maximum;
       margin = margin;
@@ -65,4 +69,6 @@ freshOf maximum margin quality crossfade-samples =
       target = quality;
       «crossfade_position» = crossfade-samples;
       «crossfade_samples» = crossfade-samples;
+      rule = ruleCode rule;
+      direction = directionCode Onwards;
     }

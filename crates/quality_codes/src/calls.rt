@@ -38,12 +38,11 @@ pub fn call<'a>(
     ensures { λ r. ⌜ now (ring .exit) ≡
         ringCalled (now (sets .entry)) «max_rate» state (now (ring .entry)) input delay quality «playback_rate» ⌝ }
 {
-    let d = decode(state);
     let asked = quality <= 3;
     if both(asked, fields_ok(state)) {
         let q = mode(quality);
         let p = quality_variable_delay::process_sample_rate_aware(
-            d,
+            decode(state),
             &mut ring[..],
             sets,
             max_rate,
@@ -55,7 +54,7 @@ pub fn call<'a>(
         return apart(p);
     }
     let v = quality_variable_delay::due(
-        d,
+        decode(state),
         sets.len(),
         max_rate,
         ring.len(),

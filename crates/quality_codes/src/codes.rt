@@ -1,11 +1,14 @@
-// A quality as its number, a quality reader's state as plain numbers, and the refusal where a number names no quality.
+// A quality, a rule and a direction as their numbers, a quality reader's state as plain numbers, and the refusal where
+// a number names nothing.
 ghost use mathlib.Core.Path.{_≡_};
 ghost use mathlib.Core.Bool.{_&&_, cond};
-ghost use Rattle.quality_codes.specs.Codes.{modeOf, decoded, coded, fieldsOk, oddNumber};
+ghost use Rattle.quality_codes.specs.Codes.{modeOf, ruleOf, directionOf, decoded, coded, fieldsOk, oddNumber};
 use super::Coded;
 use quality_mode::QualityMode;
 use quality_variable_delay::QualityVariableDelayF32;
 use refusal_order::both;
+use returning_fade::Direction;
+use returning_fade::Rule;
 
 pub fn mode(code: u8) -> QualityMode
     ensures { λ r. ⌜ r ≡ modeOf code ⌝ }
@@ -15,6 +18,26 @@ pub fn mode(code: u8) -> QualityMode
         1 => QualityMode::Normal,
         2 => QualityMode::Hq,
         _ => QualityMode::Ultra,
+    }
+}
+
+fn rule(code: u8) -> Rule
+    ensures { λ r. ⌜ r ≡ ruleOf code ⌝ }
+{
+    if code == 0 {
+        Rule::Ported
+    } else {
+        Rule::Returning
+    }
+}
+
+fn direction(code: u8) -> Direction
+    ensures { λ r. ⌜ r ≡ directionOf code ⌝ }
+{
+    if code == 0 {
+        Direction::Onwards
+    } else {
+        Direction::Back
     }
 }
 
@@ -31,6 +54,8 @@ pub fn decode(s: Coded) -> QualityVariableDelayF32
         target_quality: target,
         crossfade_position: s.crossfade_position,
         crossfade_samples: s.crossfade_samples,
+        rule: rule(s.rule),
+        direction: direction(s.direction),
     }
 }
 
@@ -39,6 +64,8 @@ pub fn encode(d: QualityVariableDelayF32) -> Coded
 {
     let current = d.current_quality;
     let target = d.target_quality;
+    let rule = d.rule;
+    let direction = d.direction;
     Coded {
         maximum: d.maximum,
         margin: d.margin,
@@ -47,13 +74,18 @@ pub fn encode(d: QualityVariableDelayF32) -> Coded
         target: quality_mode::code(target),
         crossfade_position: d.crossfade_position,
         crossfade_samples: d.crossfade_samples,
+        rule: returning_fade::rule_code(rule),
+        direction: returning_fade::direction_code(direction),
     }
 }
 
 pub fn fields_ok(s: Coded) -> bool
     ensures { λ r. ⌜ r ≡ fieldsOk s ⌝ }
 {
-    both(s.current <= 3, s.target <= 3)
+    both(
+        both(s.current <= 3, s.target <= 3),
+        both(s.rule <= 1, s.direction <= 1),
+    )
 }
 
 fn number(test: bool, a: u8, b: u8) -> u8
@@ -62,7 +94,7 @@ fn number(test: bool, a: u8, b: u8) -> u8
     if test { a } else { b }
 }
 
-// The refusal when a quality number is above 3: 1 if it is the requested one; otherwise 3, unless `v`, the refusal due
+// The refusal when a number names nothing: 1 if it is the requested quality's; otherwise 3, unless `v`, the refusal due
 // without it, is already 1 or 2.
 pub(crate) fn odd(asked: bool, v: u8) -> u8
     ensures { λ r. ⌜ r ≡ oddNumber asked v ⌝ }

@@ -1,5 +1,5 @@
-// Fast path for a call in which all qualities are Draft and nothing is due (Q2): no state is made, and only the count
-// is written.
+// Fast path for a call in which all qualities are Draft and nothing is due (Q2), by either rule: no state is made, and
+// only the count is written.
 ghost use mathlib.Core.Path.{_≡_};
 ghost use mathlib.Core.Bool.{true};
 ghost use Prim.Native.Nat.{_+_, _-_, _%_, _^_, _<_};
@@ -15,7 +15,7 @@ use super::plainly;
 use super::through::call_through;
 use answer_parts::handing::put_f32;
 
-// Stores sample i at its place, which a mask of the ring's length gives, and reads behind it (K1).
+// K1. Stores sample i at its place, which a mask of the ring's length gives, and reads behind it.
 fn read(i: u64, ring: &mut [f32], input: f32, delay: f64) -> f32
     requires { ⌜ (i < 2 ^ 36) × (0 < length (now ring)) × (bitAnd i (length (now ring) - 1) ≡ i % length (now ring))
         × (positionOk (positionOf i delay) ≡ true) ⌝ }
@@ -35,6 +35,8 @@ pub fn call_at_once<'a>(
     target: &mut u8,
     crossfade_position: &mut u32,
     crossfade_samples: u32,
+    rule: u8,
+    direction: &mut u8,
     ring: &mut [f32],
     sets: &'a [f32],
     max_rate: f64,
@@ -45,11 +47,12 @@ pub fn call_at_once<'a>(
     sample: &mut f32,
 ) -> u8
     ensures { λ r. ⌜ leaves r (now (sample .exit))
-        (changed (now (accepted .exit)) (now (current .exit)) (now (target .exit)) (now («crossfade_position» .exit)))
+        (changed (now (accepted .exit)) (now (current .exit)) (now (target .exit)) (now («crossfade_position» .exit))
+        (now (direction .exit)))
         (now (ring .exit))
         ≡ leftBy (now (sets .entry)) «max_rate»
         (stateOf maximum margin (now (accepted .entry)) (now (current .entry)) (now (target .entry))
-        (now («crossfade_position» .entry)) «crossfade_samples»)
+        (now («crossfade_position» .entry)) «crossfade_samples» rule (now (direction .entry)))
         (now (ring .entry)) input delay quality «playback_rate» ⌝ }
 {
     let i = *accepted;
@@ -61,6 +64,8 @@ pub fn call_at_once<'a>(
         *target,
         *crossfade_position,
         crossfade_samples,
+        rule,
+        *direction,
         ring.len(),
         sets.len(),
         max_rate,
@@ -81,6 +86,8 @@ pub fn call_at_once<'a>(
         target,
         crossfade_position,
         crossfade_samples,
+        rule,
+        direction,
         &mut ring[..],
         &sets[..],
         max_rate,

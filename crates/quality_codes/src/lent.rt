@@ -9,7 +9,7 @@ ghost use Rattle.bank_choice.specs.Rates.{bankOk, ceilingOf, stepsOf};
 ghost use Rattle.sinc_bank_f32.specs.Sets.{setLength};
 use constants::SET_LENGTH;
 
-// Whether n is the ceiling of x, and at least 1: x lies above the number before it and not above n.
+// Whether n is the ceiling of x, and at least 1: x lies above n - 1 and is at most n.
 fn counted(x: f64, n: u64) -> bool
     requires { ⌜ AtMost 50 x × (n < 2 ^ 44) ⌝ }
     ensures { λ r. ⌜ (r ≡ true → n ≡ max 1 (ceilingOf x)) ⌝ }

@@ -1,10 +1,11 @@
 // The quality reader's call, opening and reset on plain numbers.
-// A quality is its place in the original's list, from 0; a number above 3 names none.
+// A quality is its place in the original's list, from 0; a number above 3 names none. Of a rule and of a direction 0 is
+// the ported one and onwards, 1 the returning one and back (W9h).
 mod calls; // a call
-mod codes; // a quality and a state as numbers
+mod codes; // a quality, a rule, a direction and a state as numbers
 mod draft; // a call that is plain in Draft
 mod lent; // whether a bank has its length
-mod plainly; // its tests
+mod plainly; // the tests of that fast path
 mod renewing; // opening and reset
 mod through; // a call whose numbers come and go through pointers
 
@@ -13,7 +14,8 @@ pub use draft::call_at_once;
 pub use renewing::renew;
 pub use through::call_through;
 
-// A quality reader's state in plain numbers; the names are the original's (000), the qualities are their numbers.
+// A quality reader's state in plain numbers; the names are the original's (000), and what is no number there is its
+// number.
 pub struct Coded {
     pub maximum: usize,
     pub margin: usize,
@@ -22,6 +24,8 @@ pub struct Coded {
     pub target: u8,
     pub crossfade_position: u32,
     pub crossfade_samples: u32,
+    pub rule: u8,
+    pub direction: u8,
 }
 
 // What a call gives: the refusal number is 0 for none, and the sample is 0.0 if refused.

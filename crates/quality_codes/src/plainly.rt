@@ -1,5 +1,5 @@
-// Fast path: true only if all qualities are Draft and no refusal is due. Returns at the first failing test; `due` works
-// out the number.
+// Fast path: true only if all qualities are Draft and nothing is refused. Returns at the first failing test; `due`
+// works out the number.
 ghost use mathlib.Core.Path.{_≡_};
 ghost use mathlib.Core.Bool.{true, false, not};
 ghost use Prim.Native.Nat.{_*_, _^_, _<_, _≤_};
@@ -16,23 +16,29 @@ use super::lent;
 use constants::LIMIT;
 use constants::LIMIT_F64;
 
-// Whether all three qualities are Draft and the fade's numbers in range.
+// Whether all three qualities are Draft and the fade's numbers in range: nothing goes back where no fade runs (W9g).
 fn draft(
     current: u8,
     target: u8,
     quality: u8,
     crossfade_position: u32,
     crossfade_samples: u32,
+    rule: u8,
+    direction: u8,
 ) -> bool
     ensures { λ r. ⌜ (r ≡ true
-        → (current ≡ 0) × (target ≡ 0) × (quality ≡ 0) × («crossfade_samples» ≤ 16777216)
-        × («crossfade_position» ≤ «crossfade_samples»)) ⌝ }
+        → (current ≡ 0) × (target ≡ 0) × (quality ≡ 0) × (direction ≡ 0) × (rule ≤ 1)
+        × («crossfade_samples» ≤ 16777216) × («crossfade_position» ≤ «crossfade_samples»)) ⌝ }
 {
     if current == 0 {
         if target == 0 {
             if quality == 0 {
-                if crossfade_samples <= 16777216 {
-                    return crossfade_position <= crossfade_samples;
+                if direction == 0 {
+                    if rule <= 1 {
+                        if crossfade_samples <= 16777216 {
+                            return crossfade_position <= crossfade_samples;
+                        }
+                    }
                 }
             }
         }
@@ -73,7 +79,7 @@ fn filled(maximum: usize, margin: usize, len: usize, max_rate: f64, lent: usize)
     false
 }
 
-// Whether the call is plain in Draft and no refusal is due.
+// Whether all qualities are Draft and nothing is refused.
 pub(crate) fn plain(
     maximum: usize,
     margin: usize,
@@ -82,6 +88,8 @@ pub(crate) fn plain(
     target: u8,
     crossfade_position: u32,
     crossfade_samples: u32,
+    rule: u8,
+    direction: u8,
     len: usize,
     lent: usize,
     max_rate: f64,
@@ -91,10 +99,11 @@ pub(crate) fn plain(
     playback_rate: f64,
 ) -> bool
     ensures { λ r. ⌜ (r ≡ true
-        → (current ≡ 0) × (target ≡ 0) × (quality ≡ 0)
+        → (current ≡ 0) × (target ≡ 0) × (quality ≡ 0) × (direction ≡ 0) × (rule ≤ 1)
         × (dueOf lent «max_rate»
-        (decoded (stateOf maximum margin accepted current target «crossfade_position» «crossfade_samples»)) len
-        input delay «playback_rate»
+        (decoded (stateOf maximum margin accepted current target «crossfade_position» «crossfade_samples» rule
+        direction))
+        len input delay «playback_rate»
         ≡ 0)) ⌝ }
 {
     if draft(
@@ -103,6 +112,8 @@ pub(crate) fn plain(
         quality,
         crossfade_position,
         crossfade_samples,
+        rule,
+        direction,
     ) {
         if in_range(accepted, input, delay, playback_rate) {
             return filled(maximum, margin, len, max_rate, lent);

@@ -15,6 +15,8 @@ pub fn call_through<'a>(
     target: &mut u8,
     crossfade_position: &mut u32,
     crossfade_samples: u32,
+    rule: u8,
+    direction: &mut u8,
     ring: &mut [f32],
     sets: &'a [f32],
     max_rate: f64,
@@ -25,11 +27,12 @@ pub fn call_through<'a>(
     sample: &mut f32,
 ) -> u8
     ensures { λ r. ⌜ leaves r (now (sample .exit))
-        (changed (now (accepted .exit)) (now (current .exit)) (now (target .exit)) (now («crossfade_position» .exit)))
+        (changed (now (accepted .exit)) (now (current .exit)) (now (target .exit)) (now («crossfade_position» .exit))
+        (now (direction .exit)))
         (now (ring .exit))
         ≡ leftBy (now (sets .entry)) «max_rate»
         (stateOf maximum margin (now (accepted .entry)) (now (current .entry)) (now (target .entry))
-        (now («crossfade_position» .entry)) «crossfade_samples»)
+        (now («crossfade_position» .entry)) «crossfade_samples» rule (now (direction .entry)))
         (now (ring .entry)) input delay quality «playback_rate» ⌝ }
 {
     let state = Coded {
@@ -40,6 +43,8 @@ pub fn call_through<'a>(
         target: *target,
         crossfade_position: *crossfade_position,
         crossfade_samples: crossfade_samples,
+        rule: rule,
+        direction: *direction,
     };
     let c = call(
         state,
@@ -56,6 +61,7 @@ pub fn call_through<'a>(
     *current = after.current;
     *target = after.target;
     *crossfade_position = after.crossfade_position;
+    *direction = after.direction;
     *sample = c.sample;
     c.number
 }

@@ -1,4 +1,4 @@
--- `sameQ` says whether two qualities are equal, and a quality is the one of its number: no two qualities share one.
+-- `sameQ` says whether two qualities are equal, and a quality is determined by its number, because no two share one.
 -- Assumes nothing.
 use mathlib.Core.Path.{_≡_, refl, sym}
 use mathlib.Core.Bool.{true, false}
@@ -10,7 +10,7 @@ use Rattle.quality_mode.specs.declared.Named.the-variants.{Quality}
 use Rattle.quality_mode.specs.Quality.{codeOf, sameQ}
 use Rattle.quality_mode.specs.Names.{namedOf}
 
--- the number of a quality names it
+-- The number of a quality names it.
 pub named : (q : QualityMode) → namedOf (codeOf q) ≡ Quality q
 named Draft = refl
 named Normal = refl
@@ -23,6 +23,6 @@ same-eq a b h = let e = eqb-true (codeOf a) (codeOf b) h in cc (named a, named b
 pub same-refl : (a : QualityMode) → sameQ a a ≡ true
 same-refl a = eq-eqb (codeOf a) (codeOf a) refl
 
--- asked the other way round
+-- The same for the two qualities exchanged.
 pub same-not : (a b : QualityMode) → sameQ a b ≡ false → sameQ b a ≡ false
 same-not a b h = ne-eqb (codeOf b) (codeOf a) (λ e. eqb-false (codeOf a) (codeOf b) h (sym e))

@@ -11,7 +11,7 @@ namedOf (suc (suc zero)) = Quality Hq
 namedOf (suc (suc (suc zero))) = Quality Ultra
 namedOf (suc (suc (suc (suc k)))) = Refused 1
 
--- 01's number for each case, 0 for a quality.
+-- C4. 01's number for each case, 0 for a quality.
 abbrev pub numberOf : Named → ℕ
 numberOf (Quality q) = 0
 numberOf (Refused k) = k

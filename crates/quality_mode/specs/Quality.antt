@@ -17,7 +17,6 @@ codeOf Normal = 1
 codeOf Hq = 2
 codeOf Ultra = 3
 
--- Whether two qualities are the same.
 abbrev pub sameQ : QualityMode → QualityMode → Bool
 sameQ a b = eqb (codeOf a) (codeOf b)
 

@@ -22,7 +22,7 @@ pub fn default_quality() -> QualityMode
     QualityMode::Hq
 }
 
-// The place in 000's list, from 0: what a quality is called where only numbers cross.
+// A quality as a number, its place in 000's list, for callers that can only pass numbers.
 pub fn code(quality: QualityMode) -> u8
     ensures { λ r. ⌜ r ≡ codeOf quality ⌝ }
 {
@@ -41,7 +41,7 @@ pub fn same(a: QualityMode, b: QualityMode) -> bool
     code(a) == code(b)
 }
 
-// The quality of a number; a number above 3 is an argument out of its range (N1).
+// N1. The quality with a number; a number above 3 is an argument out of its range and refused by 1.
 pub fn of_code(code: u8) -> Named
     ensures { λ r. ⌜ r ≡ namedOf code ⌝ }
 {
@@ -54,7 +54,7 @@ pub fn of_code(code: u8) -> Named
     }
 }
 
-// The taps of a quality's table; Draft has none.
+// The taps of a quality's table. Draft reads no table, so it has none.
 pub fn taps(quality: QualityMode) -> usize
     ensures { λ r. ⌜ r ≡ tapsOf quality ⌝ }
 {
@@ -66,7 +66,7 @@ pub fn taps(quality: QualityMode) -> usize
     }
 }
 
-// The phases of a quality's table; Draft has none.
+// The phases of a quality's table. Draft reads no table, so it has none.
 pub fn phases(quality: QualityMode) -> usize
     ensures { λ r. ⌜ r ≡ phasesOf quality ⌝ }
 {

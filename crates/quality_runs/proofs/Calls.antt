@@ -1,5 +1,5 @@
--- D1c, K8. What a quality reader's call leaves; and a refused call leaves no trace, wherever it stands in a run: the
--- quality that it asked for is forgotten too. So it is with a call whose bank is not as it must be. Assumes nothing.
+-- D1c, K8. What a call of a quality reader leaves. A refused call leaves no trace, wherever it stands in a run: the
+-- quality that it requested is forgotten too. This includes a call with a bad bank. Assumes nothing.
 use mathlib.Core.Path.{_≡_, refl, subst}
 use mathlib.Core.Bool.{false}
 use mathlib.Core.List.{List, _∷_, _++_}
@@ -20,11 +20,11 @@ pub leaves : (read : QualityMode → Reading) (r : Reader) (c : Call)
     × (ringAfter v (r .state) (r .ring) (c .input) ≡ after r c .ring)
 leaves read r c = (refl, refl)
 
--- a refused call changes nothing
+-- A refused call changes nothing.
 pub stays : (k : ℕ) (r : Reader) (c : Call) → afterBy (suc k) r c ≡ r
 stays k r c = refl
 
--- the accepted calls alone leave the same
+-- The accepted calls alone leave the same.
 pub refused-leave-nothing : (r : Reader) (cs : List Call) → run r (accepted r cs) ≡ run r cs
 refused-leave-nothing = calls.refused-leave-nothing due afterBy stays
 
@@ -39,7 +39,7 @@ module _ (r : Reader) (xs : List Call) (c : Call) (ys : List Call) where
       → (run r (xs ++ c ∷ ys) ≡ run r (xs ++ ys)) × (accepted r (xs ++ c ∷ ys) ≡ accepted r (xs ++ ys))
   refused-anywhere = calls.refused-anywhere due afterBy stays r xs c ys
 
-  -- a call whose bank is not as it must be is refused, whatever the reader
+  -- A call with a bad bank is refused, whatever the reader.
   pub unfit-anywhere : fit c ≡ false
       → (run r (xs ++ c ∷ ys) ≡ run r (xs ++ ys)) × (accepted r (xs ++ c ∷ ys) ≡ accepted r (xs ++ ys))
   unfit-anywhere h = refused-anywhere (unfit-due (run r xs) c h)

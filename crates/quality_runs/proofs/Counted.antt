@@ -1,6 +1,5 @@
--- K8. Without its qualities a quality reader is a plain delay reader of the calls that it accepts:
--- so its count is the number of accepted calls, and its ring what storing their samples in turn leaves.
--- Assumes nothing.
+-- K8. Without its qualities a quality reader is a plain delay reader of the calls that it accepts. So its count is the
+-- number of accepted calls, and its ring is what storing their samples in turn leaves. Assumes nothing.
 use mathlib.Core.Path.{_≡_, refl, sym, _∙_, ap}
 use mathlib.Core.List.{List, [], _∷_, map}
 use Prim.Native.Nat.{ℕ, _+_}
@@ -16,7 +15,7 @@ use Rattle.quality_variable_delay.proofs.AcceptedCall.{taken}
 use Rattle.quality_runs.specs.Runs.{Call, Reader, afterBy, due, run, accepted, delayed, plainCall}
 use Rattle.quality_runs.proofs.Calls.{stays}
 
--- a call that is accepted is one that a plain reader accepts
+-- A call that is accepted is one that a plain reader accepts.
 plain-none : (r : Reader) (c : Call) → due r c ≡ 0 → plain.due (delayed r) (plainCall c) ≡ 0
 plain-none r c e =
     taken (c .bank) (c .lent) (r .state) (length (r .ring)) (c .input) (c .delay) (c .playback-rate) e .plain-none
@@ -43,7 +42,7 @@ as-plain =
     (plain-none r c e)
     ∙ ih)
 
--- the settings stay, and the count goes up by one for each accepted call
+-- The settings stay, and the count goes up by one for each accepted call.
 pub counted : (r : Reader) (cs : List Call)
     → delayPart (run r cs .state) ≡ plain.withCount (delayPart (r .state)) (r .state .accepted + length (accepted r cs))
 counted r cs =
@@ -54,7 +53,7 @@ counted r cs =
     ∙ ap (λ (n : ℕ). plain.withCount (delayPart (r .state)) (r .state .accepted + n))
     (length-map (accepted r cs) plainCall)
 
--- the ring holds the samples of the accepted calls, stored in turn
+-- The ring holds the samples of the accepted calls, stored in turn.
 pub ring-of : (r : Reader) (cs : List Call)
     → run r cs .ring ≡ storedFrom (r .state .accepted) (r .ring) (plain.samples (map plainCall (accepted r cs)))
 ring-of r cs =

@@ -1,7 +1,7 @@
--- G2, N3, Q3. A call leaves a state in its ranges where it was in them, over whole runs too;
+-- G2, N3, Q3, W9g. A call leaves a state in its ranges where it was in them, over whole runs too;
 -- and so do opening and reset, which leave nothing to fade.
 -- Assumes nothing.
-use mathlib.Core.Path.{_≡_, refl, _∙_}
+use mathlib.Core.Path.{_≡_, refl}
 use mathlib.Core.Bool.{Bool, true, _&&_}
 use mathlib.Core.List.{List, [], _∷_}
 use Prim.Native.Nat.{ℕ, zero, suc, _+_, _%_, _^_, _<_}
@@ -16,11 +16,12 @@ use Rattle.answer.specs.Refusals.{lowestOf}
 use Rattle.answer.proofs.Passed.{passed}
 use Rattle.ring.specs.Length.{settingsOk, lengthFor}
 use Rattle.quality_mode.specs.declared.QualityMode.{QualityMode}
-use Rattle.quality_mode.proofs.Equal.{same-refl}
-use Rattle.quality_fade.specs.Fade.{lengthOk, placeOk, validOf}
-use Rattle.quality_fade.specs.Step.{stepOf}
-use Rattle.quality_fade.proofs.StaysInRange as fade
-use Rattle.quality_fade.proofs.OneCall.{open-valid}
+use Rattle.quality_fade.specs.Fade.{lengthOk}
+use Rattle.quality_fade.proofs.StaysInRange.{both}
+use Rattle.returning_fade.specs.declared.Rule.{Rule}
+use Rattle.returning_fade.specs.Rules.{placeOk, validOf}
+use Rattle.returning_fade.specs.Step.{stepOf, leftBy}
+use Rattle.returning_fade.proofs.StaysInRange as fade
 use Rattle.quality_variable_delay.specs.State.{fadePart}
 use Rattle.quality_variable_delay.specs.Reader.{stateAfter, ringAfter}
 use Rattle.quality_variable_delay.specs.Opening.{resetVerdict, renewed, fresh}
@@ -29,7 +30,7 @@ use Rattle.quality_variable_delay.specs.declared.QualityVariableDelayF32.{Quali
 use Rattle.runs.specs.Calls.{runOf}
 use Rattle.quality_runs.specs.Runs.{Call, Reader, afterBy, due, after, run}
 
--- the tests of 1 to 3
+-- The tests for 1 to 3.
 module _ (s n e a p : Bool) where
   record Valid : Type 0 where
     settings : s ≡ true
@@ -52,7 +53,7 @@ module _ (s n e a p : Bool) where
   sound : Valid → lowestOf (s && n) e (a && p) true true true true true ≡ 0
   sound v = rw (v .settings, v .fits, v .long, v .counts, v .placed)
 
--- what the five tests of a state and its ring's length say
+-- What the five tests of a state and its ring's length show.
 abbrev inRange : QualityVariableDelayF32 → ℕ → Type 0
 inRange d len =
     Valid (settingsOk (d .maximum) (d .margin)) (lengthOk (d .«crossfade_samples»))
@@ -75,15 +76,16 @@ taken-kept : (d : QualityVariableDelayF32) (xs : List Float) (x : Float) (q : Qu
     → inRange (stateAfter 0 d q) (length (ringAfter 0 d xs x))
 taken-kept d xs x q v l =
     let s = fadePart d in
-    let faded : validOf (stepOf s q .state) ≡ true = fade.step-valid s q ∙ rw (v .fits) (v .placed) in record {
+    let left = leftBy s (stepOf s q) in
+    let faded : validOf left ≡ true = fade.step-valid s q (rw (v .fits) (v .placed)) in record {
       settings = v .settings;
       fits = rw (fade.step-length s q) (v .fits);
       long = rw (length-set xs (d .accepted % length xs) x) (v .long);
       counts = le-leb (d .accepted + 1) (2 ^ 36) (omega arith);
-      placed = fade.both (lengthOk (stepOf s q .state .«crossfade_samples»)) (placeOk (stepOf s q .state)) faded .1;
+      placed = both (lengthOk (left .fade .«crossfade_samples»)) (placeOk left) faded .1;
     }
 
--- no refusal 1 to 3 is due of a state and a ring that a call leaves, where none was due before
+-- If there was no refusal 1 to 3 before a call, there is none for the state and the ring that it leaves.
 pub kept : (r : Reader) (c : Call) → resetVerdict (r .state) (length (r .ring)) ≡ 0
     → resetVerdict (after r c .state) (length (after r c .ring)) ≡ 0
 kept r c h = go (due r c) refl
@@ -104,7 +106,7 @@ run-kept r (c ∷ cs) h = run-kept (after r c) cs (kept r c h)
 
 -- ---- opening and reset
 
--- Q3. what a reset leaves is in its ranges
+-- Q3. What a reset leaves is in range.
 pub reset-kept : (d : QualityVariableDelayF32) (len : ℕ) → resetVerdict d len ≡ 0 → resetVerdict (renewed d) len ≡ 0
 reset-kept d len h =
     let v = in-range d len h in
@@ -114,23 +116,21 @@ reset-kept d len h =
       long = v .long;
       counts = refl;
       placed =
-          fade.both (lengthOk (d .«crossfade_samples»)) _
-          (open-valid (d .«target_quality») (d .«crossfade_samples») (v .fits)) .1;
+          fade.rest-placed (d .rule) (d .«target_quality») (d .«crossfade_samples») (d .«crossfade_samples»)
+          (omega arith);
     }
 
--- a reset of what a reset leaves changes nothing
+-- Resetting what a reset has left changes nothing.
 pub reset-again : (d : QualityVariableDelayF32) → renewed (renewed d) ≡ renewed d
 reset-again d = refl
 
 -- Q3. opening leaves its one quality, and only 1 and 2 can be due
-pub opens : (maximum margin crossfade : ℕ) (q : QualityMode)
-    → renewed (fresh maximum margin q crossfade) ≡ fresh maximum margin q crossfade
-opens maximum margin crossfade q = refl
+pub opens : (rule : Rule) (maximum margin crossfade : ℕ) (q : QualityMode)
+    → renewed (fresh rule maximum margin q crossfade) ≡ fresh rule maximum margin q crossfade
+opens rule maximum margin crossfade q = refl
 
-pub open-due : (maximum margin crossfade len : ℕ) (q : QualityMode)
-    → resetVerdict (fresh maximum margin q crossfade) len
+pub open-due : (rule : Rule) (maximum margin crossfade len : ℕ) (q : QualityMode)
+    → resetVerdict (fresh rule maximum margin q crossfade) len
     ≡ lowestOf (settingsOk maximum margin && lengthOk crossfade)
     (eqb len (lengthFor maximum margin)) true true true true true true
-open-due maximum margin crossfade len q =
-    rw (fade.in-place q q crossfade crossfade (omega arith)
-    (λ f. let z : _≡_ {A = ℕ} 0 1 = cc (same-refl q) in absurd (omega arith)))
+open-due rule maximum margin crossfade len q = rw (fade.rest-placed rule q crossfade crossfade (omega arith))

@@ -1,5 +1,5 @@
--- Q1 to Q3, K8. A run of a quality reader's calls: state and ring are handed on as the last call left them, whatever
--- each quality reads. Each call brings its own bank. Definitions only.
+-- Q1 to Q3, W9, K8. A run of a quality reader's calls, by either rule: state and ring are handed on as the last call
+-- left them, whatever each quality reads. Each call brings its own bank. Definitions only.
 use Prim.Native.Nat.{ℕ}
 use mathlib.Core.Bool.{Bool, _&&_}
 use mathlib.Core.List.{List, [], _∷_, map}
@@ -7,7 +7,7 @@ use lib.ListN.{length}
 use lib.Ieee.{Float}
 use Rattle.quality_mode.specs.declared.QualityMode.{QualityMode}
 use Rattle.quality_fade.specs.declared.Turn.{Turn}
-use Rattle.quality_fade.specs.Step.{stepOf}
+use Rattle.returning_fade.specs.Step.{stepOf}
 use Rattle.runs.specs.Calls.{keep, runOf, acceptedOf}
 use Rattle.runs.specs.Runs as plain
 use Rattle.quality_variable_delay.specs.State.{delayPart, fadePart}
@@ -23,7 +23,7 @@ pub record Call : Type 0 where
   pub quality : QualityMode
   pub playback-rate : Float
 
--- Whether the call's bank is as it must be.
+-- The rate of the call's bank is in range, and its sets have their length.
 abbrev pub fit : Call → Bool
 fit c = c .bank && c .lent
 
@@ -32,7 +32,7 @@ pub record Reader : Type 0 where
   pub state : QualityVariableDelayF32
   pub ring : List Float
 
--- What a call leaves, by the refusal that is due, 0 for none.
+-- What a call leaves, for each number by which it may be refused, 0 for none.
 abbrev pub afterBy : ℕ → Reader → Call → Reader
 afterBy v r c =
     record { state = stateAfter v (r .state) (c .quality); ring = ringAfter v (r .state) (r .ring) (c .input) }
@@ -43,7 +43,7 @@ due r c = verdict (c .bank) (c .lent) (r .state) (length (r .ring)) (c .input) (
 abbrev pub after : Reader → Call → Reader
 after r c = afterBy (due r c) r c
 
--- A run, its calls that are accepted, and the turns that these take.
+-- What a run leaves, the calls of it that are accepted, and the mixing steps that these take.
 abbrev pub run : Reader → List Call → Reader
 run = runOf due afterBy
 
@@ -52,13 +52,13 @@ accepted = acceptedOf due afterBy
 
 unfoldable pub turns : Reader → List Call → List Turn
 turns r [] = []
-turns r (c ∷ cs) = keep (due r c) (stepOf (fadePart (r .state)) (c .quality)) (turns (after r c) cs)
+turns r (c ∷ cs) = keep (due r c) (stepOf (fadePart (r .state)) (c .quality) .turn) (turns (after r c) cs)
 
--- The qualities that calls ask for.
+-- The qualities that the calls ask for.
 abbrev pub asked : List Call → List QualityMode
 asked cs = map (λ c. c .quality) cs
 
--- The same reader, and the same call, without their qualities.
+-- The same reader and the same call without their qualities, as the plain reader has them.
 abbrev pub delayed : Reader → plain.Reader
 delayed r = record { state = delayPart (r .state); ring = r .ring }
 

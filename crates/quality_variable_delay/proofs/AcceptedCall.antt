@@ -21,9 +21,10 @@ use Rattle.variable_delay.specs.Reader.{Reading, stored, positionOf}
 use Rattle.variable_delay.specs.Reader as plain
 use Rattle.variable_delay.proofs.AcceptedCall as plainly
 use Rattle.quality_mode.specs.declared.QualityMode.{QualityMode}
-use Rattle.quality_fade.specs.declared.Turn.{Turn}
-use Rattle.quality_fade.specs.Fade.{lengthOk, placeOk}
-use Rattle.quality_fade.specs.Step.{stepOf}
+use Rattle.quality_fade.specs.Fade.{lengthOk}
+use Rattle.returning_fade.specs.declared.RuledTurn.{RuledTurn}
+use Rattle.returning_fade.specs.Rules.{placeOk}
+use Rattle.returning_fade.specs.Step.{stepOf, leftBy}
 use Rattle.quality_variable_delay.specs.State.{delayPart, fadePart, joined}
 use Rattle.quality_variable_delay.specs.Reader.{verdict, outputOf, processedBy}
 use Rattle.quality_variable_delay.specs.declared.QualityVariableDelayF32.{QualityVariableDelayF32}
@@ -90,10 +91,11 @@ module _ {bank lent : Bool} {d : QualityVariableDelayF32} {len : ℕ} {x y : Flo
 
 -- the call's record, from the turn, the ring and the position that it read with
 pub taken-call : (read : QualityMode → Reading) (d : QualityVariableDelayF32) (xs : List Float) (x y : Float)
-    (q : QualityMode) {t : Turn} {ys : List Float} {p z : Float} {s : QualityVariableDelayF32} {a : AnswerF32}
-    → s ≡ joined (record { maximum = d .maximum; margin = d .margin; accepted = d .accepted + 1 }) (t .state)
+    (q : QualityMode) {t : RuledTurn} {ys : List Float} {p z : Float} {s : QualityVariableDelayF32} {a : AnswerF32}
+    → s ≡ joined (record { maximum = d .maximum; margin = d .margin; accepted = d .accepted + 1 })
+    (leftBy (fadePart d) t)
     → a ≡ answerF32Of 0 z
-    → z ≡ outputOf read t ys (d .accepted + 1) p
+    → z ≡ outputOf read (t .turn) ys (d .accepted + 1) p
     → t ≡ stepOf (fadePart d) q
     → ys ≡ stored (d .accepted) xs x
     → p ≡ positionOf (d .accepted) y

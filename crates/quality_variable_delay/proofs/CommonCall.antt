@@ -13,7 +13,8 @@ use Rattle.ring.specs.Length.{settingsOk, lengthFor}
 use Rattle.variable_delay.proofs.Settings.{delay-finite}
 use Rattle.bank_choice.specs.Rates.{bankOk, stepsOf}
 use Rattle.sinc_bank_f32.specs.Sets.{setLength}
-use Rattle.quality_fade.specs.Fade.{lengthOk, placeOk}
+use Rattle.quality_fade.specs.Fade.{lengthOk}
+use Rattle.returning_fade.specs.Rules.{placeOk}
 use Rattle.quality_variable_delay.specs.State.{fadePart}
 use Rattle.quality_variable_delay.specs.Bank.{dueOf}
 use Rattle.quality_variable_delay.specs.declared.QualityVariableDelayF32.{QualityVariableDelayF32}

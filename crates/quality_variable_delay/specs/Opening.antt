@@ -12,8 +12,10 @@ use Rattle.ring.specs.Length.{settingsOk, lengthFor}
 use Rattle.variable_delay.specs.Opening.{clearedBy}
 use Rattle.variable_delay.specs.Opening as plain
 use Rattle.quality_mode.specs.declared.QualityMode.{QualityMode}
-use Rattle.quality_fade.specs.Fade.{lengthOk, placeOk, openOf}
-use Rattle.quality_fade.specs.Fade as fade
+use Rattle.quality_fade.specs.Fade.{lengthOk}
+use Rattle.returning_fade.specs.declared.Rule.{Rule}
+use Rattle.returning_fade.specs.Rules.{placeOk, openOf}
+use Rattle.returning_fade.specs.Rules as fade
 use Rattle.quality_variable_delay.specs.declared.QualityVariableDelayF32.{QualityVariableDelayF32}
 use Rattle.quality_variable_delay.specs.declared.Opened.{Opened}
 use Rattle.quality_variable_delay.specs.declared.Opened.the-variants.{Reader, Refused}
@@ -28,7 +30,7 @@ resetVerdict d len =
     ∷ 3 unless (leb (d .accepted) limit && placeOk (fadePart d))
     ∷ [])
 
--- Q3. The count is zero, the target is current, and the place is the length.
+-- Q3. The count is zero, the target is current, and the place is the length; the rule stays.
 abbrev pub renewed : QualityVariableDelayF32 → QualityVariableDelayF32
 renewed d = joined (plain.fresh (d .maximum) (d .margin)) (fade.resetOf (fadePart d))
 
@@ -43,9 +45,11 @@ resetOf d len = openedBy (resetVerdict d len) d
 abbrev pub ringReset : QualityVariableDelayF32 → List Float → List Float
 ringReset d xs = clearedBy (resetVerdict d (length xs)) xs
 
--- Q3. Opening is the reset of a state that has accepted nothing and holds its one quality, so only 1 and 2 can be due.
-abbrev pub fresh : ℕ → ℕ → QualityMode → ℕ → QualityVariableDelayF32
-fresh maximum margin quality crossfade-samples = joined (plain.fresh maximum margin) (openOf quality crossfade-samples)
+-- Q3. Opening is the reset of a state that has accepted nothing and holds its one quality and the rule that the opening
+-- chooses (W9a), so only 1 and 2 can be due.
+abbrev pub fresh : Rule → ℕ → ℕ → QualityMode → ℕ → QualityVariableDelayF32
+fresh rule maximum margin quality crossfade-samples =
+    joined (plain.fresh maximum margin) (openOf rule quality crossfade-samples)
 
 -- C4. 01's number for each case, 0 for a reader.
 abbrev pub numberOf : Opened → ℕ

@@ -16,15 +16,16 @@ use Rattle.variable_delay.specs.Reader.{Reading, stored, positionOf}
 use Rattle.variable_delay.specs.Reader as plain
 use Rattle.quality_mode.specs.declared.QualityMode.{QualityMode}
 use Rattle.quality_fade.specs.declared.Turn.{Turn}
-use Rattle.quality_fade.specs.Fade.{lengthOk, placeOk}
-use Rattle.quality_fade.specs.Step.{stepOf}
+use Rattle.quality_fade.specs.Fade.{lengthOk}
+use Rattle.returning_fade.specs.Rules.{placeOk}
+use Rattle.returning_fade.specs.Step.{stepOf, leftBy}
 use Rattle.quality_variable_delay.specs.declared.QualityVariableDelayF32.{QualityVariableDelayF32}
 use Rattle.quality_variable_delay.specs.declared.ProcessedQ.{ProcessedQ}
 use Rattle.quality_variable_delay.specs.State.{delayPart, fadePart, joined}
 
 -- N1 to N9. The refusal that is due, 0 for none. `bank` says that the bank's rate is in range, `lent` that its lent
--- sets have their length. The crossfade's length is a setting; the qualities and its position are fields of a state. A
--- playback rate that is a NaN is refused whatever quality is asked for (N7).
+-- sets have their length. The crossfade's length is a setting; the qualities, its position, the rule and the direction
+-- are fields of a state (W9h). A playback rate that is a NaN is refused whatever quality is asked for (N7).
 abbrev pub verdict : Bool → Bool → QualityVariableDelayF32 → ℕ → Float → Float → Float → ℕ
 verdict bank lent d len x y playback-rate =
     firstOf
@@ -59,7 +60,7 @@ outputOf read t xs count p =
 abbrev pub stateAfter : ℕ → QualityVariableDelayF32 → QualityMode → QualityVariableDelayF32
 stateAfter zero d q =
     joined (record { maximum = d .maximum; margin = d .margin; accepted = d .accepted + 1 })
-    (stepOf (fadePart d) q .state)
+    (leftBy (fadePart d) (stepOf (fadePart d) q))
 stateAfter (suc k) d q = d
 
 -- K1, D1c. The ring afterwards, as every delay reader's.
@@ -72,6 +73,6 @@ abbrev pub processedBy : (QualityMode → Reading) → ℕ → QualityVariableDe
 processedBy read v d xs x y q = record {
   state = stateAfter v d q;
   answer =
-      answerF32Of v (outputOf read (stepOf (fadePart d) q) (stored (d .accepted) xs x) (d .accepted + 1)
+      answerF32Of v (outputOf read (stepOf (fadePart d) q .turn) (stored (d .accepted) xs x) (d .accepted + 1)
       (positionOf (d .accepted) y));
 }

@@ -32,7 +32,28 @@ pub fn due(
     )
 }
 
-// The same, faster: most calls are accepted, which fewer tests than the order of refusals has can tell.
+// The same state, made anew: `due` takes it in memory, and a call that is served need not put it there.
+fn again(state: QualityVariableDelayF32) -> QualityVariableDelayF32
+    ensures { λ r. ⌜ r ≡ state ⌝ }
+{
+    let current = state.current_quality;
+    let target = state.target_quality;
+    let rule = state.rule;
+    let direction = state.direction;
+    QualityVariableDelayF32 {
+        maximum: state.maximum,
+        margin: state.margin,
+        accepted: state.accepted,
+        current_quality: current,
+        target_quality: target,
+        crossfade_position: state.crossfade_position,
+        crossfade_samples: state.crossfade_samples,
+        rule: rule,
+        direction: direction,
+    }
+}
+
+// `due`, faster: most calls are accepted, which fewer tests than the order of refusals has can tell.
 fn tested(
     state: QualityVariableDelayF32,
     lent: usize,
@@ -47,7 +68,15 @@ fn tested(
     if served::served(state, lent, max_rate, len, input, delay, playback_rate) {
         return 0;
     }
-    due(state, lent, max_rate, len, input, delay, playback_rate)
+    due(
+        again(state),
+        lent,
+        max_rate,
+        len,
+        input,
+        delay,
+        playback_rate,
+    )
 }
 
 // The original's process_sample_rate_aware (000): refuses by number, or stores the sample and reads behind it. A

@@ -1,6 +1,7 @@
 // Opening a quality reader over a lent ring, and resetting it.
 ghost use mathlib.Core.Path.{_≡_};
 ghost use lib.ListN.{length};
+ghost use Rattle.returning_fade.specs.declared.Rule.the-variants.{Ported, Returning};
 ghost use Rattle.quality_variable_delay.specs.Opening.{resetVerdict, renewed, fresh, resetOf, ringReset};
 use super::Opened;
 use super::QualityVariableDelayF32;
@@ -8,18 +9,21 @@ use super::state::fading;
 use constants::LIMIT;
 use quality_mode::QualityMode;
 use refusal_order::both;
+use returning_fade::Direction;
+use returning_fade::Rule;
 
-// 000's QualityVariableDelayF32::new over a lent ring: refuses by 1 or 2, or zeroes the ring.
-pub fn open(
+fn open_by(
+    rule: Rule,
     maximum: usize,
     margin: usize,
     quality: QualityMode,
     crossfade_samples: u32,
     ring: &mut [f32],
 ) -> Opened
-    ensures { λ r. ⌜ r ≡ resetOf (fresh maximum margin quality «crossfade_samples») (length (now (ring .entry))) ⌝ }
+    ensures { λ r. ⌜ r ≡
+        resetOf (fresh rule maximum margin quality «crossfade_samples») (length (now (ring .entry))) ⌝ }
     ensures { λ r. ⌜ now (ring .exit) ≡
-        ringReset (fresh maximum margin quality «crossfade_samples») (now (ring .entry)) ⌝ }
+        ringReset (fresh rule maximum margin quality «crossfade_samples») (now (ring .entry)) ⌝ }
 {
     let state = QualityVariableDelayF32 {
         maximum: maximum,
@@ -29,8 +33,57 @@ pub fn open(
         target_quality: quality,
         crossfade_position: crossfade_samples,
         crossfade_samples: crossfade_samples,
+        rule: rule,
+        direction: Direction::Onwards,
     };
     reset(state, &mut ring[..])
+}
+
+// 000's QualityVariableDelayF32::new over a lent ring, by its own rule for a change of quality: refuses by 1 or 2, or
+// zeroes the ring.
+pub fn open(
+    maximum: usize,
+    margin: usize,
+    quality: QualityMode,
+    crossfade_samples: u32,
+    ring: &mut [f32],
+) -> Opened
+    ensures { λ r. ⌜ r ≡
+        resetOf (fresh Ported maximum margin quality «crossfade_samples») (length (now (ring .entry))) ⌝ }
+    ensures { λ r. ⌜ now (ring .exit) ≡
+        ringReset (fresh Ported maximum margin quality «crossfade_samples») (now (ring .entry)) ⌝ }
+{
+    open_by(
+        Rule::Ported,
+        maximum,
+        margin,
+        quality,
+        crossfade_samples,
+        &mut ring[..],
+    )
+}
+
+// W9a. The same by the second rule.
+pub fn open_returning(
+    maximum: usize,
+    margin: usize,
+    quality: QualityMode,
+    crossfade_samples: u32,
+    ring: &mut [f32],
+) -> Opened
+    ensures { λ r. ⌜ r ≡
+        resetOf (fresh Returning maximum margin quality «crossfade_samples») (length (now (ring .entry))) ⌝ }
+    ensures { λ r. ⌜ now (ring .exit) ≡
+        ringReset (fresh Returning maximum margin quality «crossfade_samples») (now (ring .entry)) ⌝ }
+{
+    open_by(
+        Rule::Returning,
+        maximum,
+        margin,
+        quality,
+        crossfade_samples,
+        &mut ring[..],
+    )
 }
 
 // The refusal that is due at a reset, 0 for none.
@@ -45,16 +98,18 @@ pub fn reset_refusal(state: QualityVariableDelayF32, len: usize) -> u8
     let t2 = len == needed;
     let t3 = both(
         state.accepted <= LIMIT,
-        quality_fade::place_ok(fading(state)),
+        returning_fade::place_ok(fading(state)),
     );
     answer::first(t1, t2, t3, true, true, true, true, true)
 }
 
-// Q3. Nothing accepted, and the target is current.
+// Q3. Nothing accepted, and the target is current; the rule stays.
 fn renew(state: QualityVariableDelayF32) -> QualityVariableDelayF32
     ensures { λ r. ⌜ r ≡ renewed state ⌝ }
 {
-    let fade = quality_fade::reset(fading(state));
+    let ruled = fading(state);
+    let rule = ruled.rule;
+    let fade = quality_fade::reset(ruled.fade);
     let current = fade.current;
     let target = fade.target;
     QualityVariableDelayF32 {
@@ -65,6 +120,8 @@ fn renew(state: QualityVariableDelayF32) -> QualityVariableDelayF32
         target_quality: target,
         crossfade_position: fade.crossfade_position,
         crossfade_samples: fade.crossfade_samples,
+        rule: rule,
+        direction: Direction::Onwards,
     }
 }
 

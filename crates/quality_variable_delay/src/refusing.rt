@@ -28,7 +28,7 @@ pub fn refusal(
         both(quality_fade::length_ok(state.crossfade_samples), bank),
     );
     let t2 = both(len == needed, lent);
-    let t3 = both(n <= LIMIT, quality_fade::place_ok(fading(state)));
+    let t3 = both(n <= LIMIT, returning_fade::place_ok(fading(state)));
     let t4 = magnitude::is_finite_f32(input);
     let t5 = both(magnitude::is_finite(delay), delay >= 0.0);
     let t6 = delay <= LIMIT_F64;

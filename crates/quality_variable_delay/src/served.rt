@@ -42,7 +42,7 @@ pub(crate) fn served(
 {
     if state.accepted < LIMIT {
         if quality_fade::length_ok(state.crossfade_samples) {
-            if quality_fade::place_ok(fading(state)) {
+            if returning_fade::place_ok(fading(state)) {
                 if delay >= 0.0 {
                     if delay <= LIMIT_F64 {
                         if magnitude::is_finite_f32(input) {

@@ -4,6 +4,7 @@ ghost use Prim.Native.Nat.{_+_, _<_, _^_};
 ghost use lib.ListN.{length};
 ghost use Rattle.variable_delay.specs.Reader.{stored, positionOf};
 ghost use Rattle.bank_read.specs.Bank.{bankAt};
+ghost use Rattle.returning_fade.specs.Rules.{ruled};
 ghost use Rattle.quality_variable_delay.specs.State.{joined};
 ghost use Rattle.quality_variable_delay.specs.Reader.{processedBy};
 ghost use Rattle.quality_variable_delay.specs.Bank.{dueOf};
@@ -13,15 +14,22 @@ use super::state::fading;
 use super::turns;
 use quality_fade::Fade;
 use quality_mode::QualityMode;
+use returning_fade::Direction;
 
 // F1. The state anew: one sample more, and the qualities as the turn leaves them.
-fn after(state: QualityVariableDelayF32, fade: Fade) -> QualityVariableDelayF32
+fn after(
+    state: QualityVariableDelayF32,
+    direction: Direction,
+    fade: Fade,
+) -> QualityVariableDelayF32
     requires { ⌜ state .accepted < 2 ^ 36 ⌝ }
     ensures { λ r. ⌜ r ≡
-        joined (record { maximum = state .maximum; margin = state .margin; accepted = state .accepted + 1 }) fade ⌝ }
+        joined (record { maximum = state .maximum; margin = state .margin; accepted = state .accepted + 1 })
+        (ruled (state .rule) direction fade) ⌝ }
 {
     let current = fade.current;
     let target = fade.target;
+    let rule = state.rule;
     QualityVariableDelayF32 {
         maximum: state.maximum,
         margin: state.margin,
@@ -30,6 +38,8 @@ fn after(state: QualityVariableDelayF32, fade: Fade) -> QualityVariableDelayF32
         target_quality: target,
         crossfade_position: fade.crossfade_position,
         crossfade_samples: fade.crossfade_samples,
+        rule: rule,
+        direction: direction,
     }
 }
 
@@ -62,7 +72,9 @@ pub(crate) fn accepted<'a>(
 {
     let i = state.accepted;
     let position = store(i, &mut ring[..], input, delay);
-    let turn = quality_fade::step(fading(state), quality);
+    let ruled = returning_fade::step(fading(state), quality);
+    let turn = ruled.turn;
+    let direction = ruled.direction;
     let left = turn.state;
     let y = turns::output(
         turn,
@@ -74,7 +86,7 @@ pub(crate) fn accepted<'a>(
         position,
     );
     ProcessedQ {
-        state: after(state, left),
+        state: after(state, direction, left),
         answer: answer::answered_f32(0, y),
     }
 }

@@ -1,4 +1,5 @@
--- G6, N1, N2. Banks of tables at the ends of their rates, each lent to the element: computed. Assumes nothing.
+-- G6, N1, N2. Banks of tables at the ends of their rates, with slices of exactly the right length, by computing.
+-- Assumes nothing.
 use mathlib.Core.Path.{_≡_, refl}
 use mathlib.Core.List.{[], _∷_, map}
 use lib.Ieee.{nan, le, sub, div}
@@ -6,13 +7,13 @@ use Rattle.bank_choice.specs.Rates.{ceilingOf, stepsOf}
 use Rattle.sinc_bank_f32.specs.Building.{setVerdict, bankVerdict}
 use Rattle.range_ends.specs.Floats.{f64, one, across}
 
--- G6. The rate is 1 to 2, of a set and of a bank.
+-- G6. The rate of a set and of a bank is from 1 to 2.
 pub set-rates : map (λ r. setVerdict r 1081648) (across 0x3ff0_0000_0000_0000 0x4000_0000_0000_0000)
     ≡ 1 ∷ 0 ∷ 0 ∷ 1 ∷ 1 ∷ 1 ∷ 1 ∷ []
 unfolding le f64
 set-rates = refl
 
--- one set at the rate 1, fifty at the rate 2
+-- There is one set at the rate 1, and there are fifty at the rate 2.
 pub bank-rates : bankVerdict (f64 0x3fef_ffff_ffff_ffff) 1081648 ∷ bankVerdict one 1081648
     ∷ bankVerdict (f64 0x4000_0000_0000_0000) 54082400 ∷ bankVerdict (f64 0x4000_0000_0000_0001) 54082400
     ∷ bankVerdict nan 0 ∷ []
@@ -20,7 +21,7 @@ pub bank-rates : bankVerdict (f64 0x3fef_ffff_ffff_ffff) 1081648 ∷ bankVerdict
 unfolding stepsOf ceilingOf le sub div f64
 bank-rates = refl
 
--- N2, N9. The length, and 1 before 2.
+-- N2, N9. The length; and 1 comes before 2.
 pub set-lengths : map (setVerdict one) (1081647 ∷ 1081648 ∷ 1081649 ∷ []) ≡ 2 ∷ 0 ∷ 2 ∷ []
 unfolding le f64
 set-lengths = refl

@@ -1,4 +1,4 @@
--- E3, N1. Sine and cosine up to 256 in magnitude, 2^x up to 1: computed. Assumes nothing.
+-- E3, N1. Sine and cosine up to 256 in magnitude, and 2^x up to 1, by computing. Assumes nothing.
 use mathlib.Core.Path.{_≡_, refl}
 use mathlib.Core.List.{[], _∷_, map}
 use Rattle.elementary.specs.Answers.{refusalOf, sineOf, cosineOf, exp2Of}

@@ -1,5 +1,5 @@
 -- G6, G8, N1, N3, N9. 001's engine and its generators: each of the 15 words of a state at the ends of its range, and 1
--- before 3. Computed. Assumes nothing.
+-- before 3. By computing. Assumes nothing.
 use mathlib.Core.Path.{_≡_, refl}
 use mathlib.Core.List.{[], _∷_, map}
 use Prim.Native.Nat.{_-_, _^_}
@@ -19,7 +19,7 @@ pub flutter-phases : map (stepped 2) (bitsFromZero 0x4019_21fb_5444_2d17) ≡ 3 
 unfolding steppedBy
 flutter-phases = refl
 
--- G8, N3. Initial seed and generator are not 0.
+-- G8, N3. The initial seed and the generator are not 0.
 pub seeds : map (stepped 3) (0 ∷ 1 ∷ (2 ^ 64 - 1) ∷ []) ≡ 3 ∷ 0 ∷ 0 ∷ []
 unfolding steppedBy
 seeds = refl
@@ -28,7 +28,7 @@ pub generators : map (stepped 4) (0 ∷ 1 ∷ (2 ^ 64 - 1) ∷ []) ≡ 3 ∷ 0 �
 unfolding steppedBy
 generators = refl
 
--- G8, N3. Both targets are -1 to 1.
+-- G8, N3. Both targets are from -1 to 1.
 pub targets : map (stepped 5) (bitsAbout 0x3ff0_0000_0000_0000) ≡ 0 ∷ 3 ∷ 0 ∷ 3 ∷ 3 ∷ 3 ∷ 3 ∷ []
 unfolding steppedBy
 targets = refl
@@ -42,19 +42,19 @@ pub positions : map (stepped 7) (bitsFromZero 0x3fef_ffff_ffff_ffff) ≡ 3 ∷ 0
 unfolding steppedBy
 positions = refl
 
--- G8, N3. The segment scale is 0.65 to 1.35, each to the nearest.
+-- G8, N3. The segment scale is from 0.65 to 1.35, each rounded to the nearest f64.
 pub scales : map (stepped 8) (bitsAcross 0x3fe4_cccc_cccc_cccd 0x3ff5_9999_9999_999a) ≡ 3 ∷ 0 ∷ 0 ∷ 3 ∷ 3 ∷ 3 ∷ 3 ∷ []
 unfolding steppedBy
 scales = refl
 
--- G8, N3. The flutter generator is held to the same.
+-- G8, N3. The flutter generator has the same ranges.
 pub flutter-generator : stepped 9 0 ∷ stepped 10 0 ∷ stepped 11 0x3ff0_0000_0000_0001 ∷ stepped 12 0xbff0_0000_0000_0001
     ∷ stepped 13 0x3ff0_0000_0000_0000 ∷ stepped 14 0x3ff5_9999_9999_999b ∷ []
     ≡ 3 ∷ 3 ∷ 3 ∷ 3 ∷ 3 ∷ 3 ∷ []
 unfolding steppedBy
 flutter-generator = refl
 
--- G6, N1. The sample rate that a state keeps is a setting; so is the one that is set.
+-- G6, N1. The sample rate that a state keeps counts as a setting, and so does the one that is set.
 pub kept-rates : map (stepped 0) (bitsAcross 0x40bf_4000_0000_0000 0x4127_7000_0000_0000)
     ≡ 1 ∷ 0 ∷ 0 ∷ 1 ∷ 1 ∷ 1 ∷ 1 ∷ []
 unfolding steppedBy
@@ -65,7 +65,8 @@ pub set-rates : map (rated (with 1 0)) (across 0x40bf_4000_0000_0000 0x4127_7000
 unfolding rated f64
 set-rates = refl
 
--- N9. 1 before 3: the sample rate that is kept, a setting of the step, a sample rate that is set; in each call.
+-- N9. 1 comes before 3: for the sample rate that is kept, a setting of the step, and a sample rate that is set, in each
+-- call.
 pub order : steppedBy off defaultParams ∷ steppedBy (with 3 0) (paramsOf nan one one one one one one one)
     ∷ steppedBy (with 3 0) defaultParams ∷ []
     ≡ 1 ∷ 1 ∷ 3 ∷ []
@@ -78,7 +79,7 @@ pub set-order : rated off rate-8000 ∷ rated (with 3 0) zero ∷ rated (with 3 
 unfolding rated seeded restarted f64
 set-order = refl
 
--- G6, N1, N9. SmoothRandom's step by itself: a rate of targets from 0 to 1000, the sample rate, and 1 before 3.
+-- G6, N1, N9. A step of SmoothRandom alone: a rate of targets from 0 to 1000, the sample rate, and 1 before 3.
 pub drift-rates : map (λ r. drifted 1 r rate-8000) (fromZero 0x408f_4000_0000_0000)
     ≡ 1 ∷ 0 ∷ 0 ∷ 0 ∷ 1 ∷ 1 ∷ 1 ∷ 1 ∷ []
 unfolding drifted f64

@@ -1,5 +1,5 @@
--- N1 to N6, N8, N9, G1, G3. The delay readers at the ends of their ranges, and the order of their refusals: computed.
--- Assumes nothing.
+-- N1 to N6, N8, N9, G1, G3. The delay readers at the ends of their ranges, and the order of their refusals, by
+-- computing. Assumes nothing.
 use mathlib.Core.Path.{_≡_, refl}
 use mathlib.Core.Bool.{false, true}
 use mathlib.Core.List.{[], _∷_, map}
@@ -9,8 +9,8 @@ use Rattle.ring.specs.Places.{positionOk}
 use Rattle.range_ends.specs.Floats.{f32, f64, one, limit, above-limit, about, fromZero, finiteEnds, finiteEndsF32}
 use Rattle.range_ends.specs.Readers.{calledBy, called, opened, restarted}
 
--- N9. Each call has a fault fewer than the one above it: the settings, the ring's length, a count above 2^36, a NaN, an
--- infinite delay, one above 2^36, and a full state.
+-- N9. Each call has one fault fewer than the one above it: the settings, the ring's length, a count above 2^36, a NaN,
+-- an infinite delay, one above 2^36, and a full state.
 pub order : called 16777209 0 7 (2 ^ 36 + 1) nan (inf false)
     ∷ called 0 0 7 (2 ^ 36 + 1) nan (inf false)
     ∷ called 0 0 8 (2 ^ 36 + 1) nan (inf false)
@@ -24,14 +24,14 @@ pub order : called 16777209 0 7 (2 ^ 36 + 1) nan (inf false)
 unfolding calledBy f64
 order = refl
 
--- N9. A kernel's own settings give 1 and its table 2, before all that follows.
+-- N9. A kernel's own settings give 1 and its table gives 2, before all that follows.
 pub kernel-order : calledBy false false 0 0 8 (2 ^ 36 + 1) nan nan ∷ calledBy true false 0 0 8 (2 ^ 36 + 1) nan nan
     ∷ calledBy true true 0 0 8 0 one one ∷ []
     ≡ 1 ∷ 2 ∷ 0 ∷ []
 unfolding calledBy f64
 kernel-order = refl
 
--- N9. A reset and an opening likewise; a full state may be reset.
+-- N9. The same for a reset and an opening; a full state may be reset.
 pub reset-order : restarted 16777209 0 7 (2 ^ 36 + 1) ∷ restarted 0 0 7 (2 ^ 36 + 1) ∷ restarted 0 0 8 (2 ^ 36 + 1)
     ∷ restarted 0 0 8 (2 ^ 36) ∷ []
     ≡ 1 ∷ 2 ∷ 3 ∷ 0 ∷ []
@@ -42,7 +42,7 @@ pub open-order : opened 16777209 0 7 ∷ opened 0 0 7 ∷ opened 0 0 8 ∷ [] �
 unfolding opened
 open-order = refl
 
--- G1, N1. The sum is at most 2^24, by the maximum delay and by the margin; no setting wraps it.
+-- G1, N1. The sum is at most 2^24, by the maximum delay and by the margin; no setting makes it overflow.
 pub delay-settings : map (λ (n : ℕ). called n 0 16777216 0 one one) (16777208 ∷ 16777209 ∷ (2 ^ 64 - 1) ∷ [])
     ≡ 0 ∷ 1 ∷ 1 ∷ []
 unfolding calledBy f64
@@ -57,7 +57,7 @@ pub open-settings : map (λ (n : ℕ). opened n 0 16777216) (16777208 ∷ 167772
 unfolding opened
 open-settings = refl
 
--- G1, N2. The lent length is exactly the next power of two.
+-- G1, N2. The length that is lent is exactly the next power of two.
 pub ring-lengths : map (λ (n : ℕ). called 1016 0 n 0 one one) (0 ∷ 1023 ∷ 1024 ∷ 1025 ∷ 2048 ∷ [])
     ≡ 2 ∷ 2 ∷ 0 ∷ 2 ∷ 2 ∷ []
 unfolding calledBy f64
@@ -81,7 +81,7 @@ pub reset-counts : map (restarted 0 0 8) (0 ∷ (2 ^ 36) ∷ (2 ^ 36 + 1) ∷ (2
 unfolding restarted
 reset-counts = refl
 
--- N4
+-- N4. The input is finite.
 pub inputs : map (λ x. called 0 0 8 0 x one) finiteEnds ≡ 0 ∷ 0 ∷ 4 ∷ 4 ∷ 4 ∷ []
 unfolding calledBy f64
 inputs = refl
@@ -90,12 +90,12 @@ pub inputs-f32 : map (λ x. called 0 0 8 0 x one) finiteEndsF32 ≡ 0 ∷ 0 ∷ 
 unfolding calledBy f64 f32
 inputs-f32 = refl
 
--- N5, N6. -0.0 is accepted, and 2^36.
+-- N5, N6. -0.0 is accepted, and so is 2^36.
 pub delays : map (λ y. called 0 0 8 0 one y) (fromZero 0x4230_0000_0000_0000) ≡ 5 ∷ 0 ∷ 0 ∷ 0 ∷ 6 ∷ 5 ∷ 5 ∷ 5 ∷ []
 unfolding calledBy f64
 delays = refl
 
--- G3. The positions at which a slice is read: -2^36 to 2^36.
+-- G3. The positions at which a slice is read are from -2^36 to 2^36.
 pub positions : map positionOk (about 0x4230_0000_0000_0000) ≡ true ∷ false ∷ true ∷ false ∷ false ∷ false ∷ false ∷ []
 unfolding le f64
 positions = refl

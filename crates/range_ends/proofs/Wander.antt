@@ -1,4 +1,4 @@
--- G4, G6, G7, N1. 001's functions and settings at the ends of their ranges: computed. Assumes nothing.
+-- G4, G6, G7, N1. 001's functions and settings at the ends of their ranges, by computing. Assumes nothing.
 use mathlib.Core.Path.{_≡_, refl}
 use mathlib.Core.Bool.{false, true}
 use mathlib.Core.List.{[], _∷_, map}
@@ -11,8 +11,8 @@ use Rattle.modulation_engine.specs.Engine.{numberOf, openedOf}
 use Rattle.packed_engine.specs.Words.{paramsOf}
 use Rattle.range_ends.specs.Floats.{f64, zero, one, rate-8000, about, across, fromZero, finiteEnds}
 
--- G4. The phase given to shape_primitive is -51 to 51; its shape is clamped, so that any finite one is taken. An
--- oscillator's delay takes the same.
+-- G4. The phase given to shape_primitive is from -51 to 51; its shape is clamped, so that any finite one is accepted.
+-- The same holds for an oscillator's delay.
 pub phases : map (λ p. refusalOf (shapePrimitiveOf p one)) (about 0x4049_8000_0000_0000)
     ≡ 0 ∷ 1 ∷ 0 ∷ 1 ∷ 1 ∷ 1 ∷ 1 ∷ []
 unfolding answeredBy le neg f64
@@ -27,7 +27,7 @@ pub oscillator-phases : map (λ p. refusalOf (oscillatorDelayOf p one one one ra
 unfolding answeredBy le neg f64
 oscillator-phases = refl
 
--- G7. Depths are -1200 to 1200, each of a list too.
+-- G7. Depths are from -1200 to 1200, also each of a list.
 pub depths : map (λ d. refusalOf (speedDeltaOf d)) (about 0x4092_c000_0000_0000) ≡ 0 ∷ 1 ∷ 0 ∷ 1 ∷ 1 ∷ 1 ∷ 1 ∷ []
 unfolding answeredBy le neg f64
 depths = refl
@@ -42,7 +42,7 @@ pub excursion-depths : map (λ d. refusalOf (excursionOf d one rate-8000)) (abou
 unfolding answeredBy le neg f64
 excursion-depths = refl
 
--- G7. Rates are -1000 to 1000, and the minimum rate of maximum_delay_excursion_samples 0.001 to 1000.
+-- G7. Rates are from -1000 to 1000, and the minimum rate of maximum_delay_excursion_samples from 0.001 to 1000.
 pub rates : map (λ r. refusalOf (advancePhaseOf zero r rate-8000)) (about 0x408f_4000_0000_0000)
     ≡ 0 ∷ 1 ∷ 0 ∷ 1 ∷ 1 ∷ 1 ∷ 1 ∷ []
 unfolding answeredBy le lt neg f64
@@ -59,7 +59,7 @@ pub minimum-rates : map (λ r. refusalOf (excursionOf one r rate-8000))
 unfolding answeredBy le neg f64
 minimum-rates = refl
 
--- G6. The sample rate is 8000 to 768000: of a function, and of an engine that is opened.
+-- G6. The sample rate is from 8000 to 768000, for a function and for an engine that is opened.
 pub sample-rates : map (λ r. refusalOf (advancePhaseOf zero one r)) (across 0x40bf_4000_0000_0000 0x4127_7000_0000_0000)
     ≡ 1 ∷ 0 ∷ 0 ∷ 1 ∷ 1 ∷ 1 ∷ 1 ∷ []
 unfolding answeredBy le lt neg f64
@@ -76,7 +76,7 @@ pub cycles : map (λ p. refusalOf (advancePhaseOf p one rate-8000)) (fromZero 0x
 unfolding answeredBy le lt neg f64
 cycles = refl
 
--- G7. Of the eight settings the two rates and the two depths have ends; shapes, drift and stereo are finite.
+-- G7. Of the eight settings the two rates and the two depths have ends; shapes, drift and stereo must be finite.
 pub wow-rates : map (λ r. paramsOk (paramsOf r one one one one one one one)) (about 0x408f_4000_0000_0000)
     ≡ true ∷ false ∷ true ∷ false ∷ false ∷ false ∷ false ∷ []
 unfolding paramsOk le neg f64

@@ -11,7 +11,7 @@ use Rattle.wav.specs.Wave.{isWave, foundIn, foundWrapped}
 use Rattle.sample_kind.specs.Kinds.{codeOf}
 use Rattle.fugnadri_wav.specs.Exports.{numberOf, waveOf}
 
--- `RIFF`, `WAVE`, `fmt `, `data`, and a chunk that nobody knows, `note`
+-- The letters `RIFF`, `WAVE`, `fmt `, `data`, and an unknown chunk, `note`.
 abbrev pub riffLetters : List ℕ
 riffLetters = 82 ∷ 73 ∷ 70 ∷ 70 ∷ []
 
@@ -27,7 +27,7 @@ dataLetters = 100 ∷ 97 ∷ 116 ∷ 97 ∷ []
 abbrev pub noteLetters : List ℕ
 noteLetters = 110 ∷ 111 ∷ 116 ∷ 101 ∷ []
 
--- A chunk that says a size, whatever its body has.
+-- A chunk with a stated size, which its body may not have.
 abbrev pub chunk : List ℕ → ℕ → List ℕ → List ℕ
 chunk id size body = id ++ (lowBytes 4 size ++ body)
 
@@ -37,30 +37,31 @@ format tag channels block bits =
     lowBytes 2 tag ++ (lowBytes 2 channels ++ (lowBytes 4 8000
     ++ (lowBytes 4 0 ++ (lowBytes 2 block ++ lowBytes 2 bits))))
 
--- One channel of 16 bits: a plain `fmt `.
+-- A plain `fmt ` for one channel of 16 bits.
 abbrev pub plain : List ℕ
 plain = chunk fmtLetters 16 (format 1 1 2 16)
 
--- A `data` of n bytes, all of them there.
+-- A `data` of n bytes, all of which are there.
 abbrev pub samples : ℕ → List ℕ
 samples n = chunk dataLetters n (replicate n 0)
 
--- A file that says a RIFF size, and one that says its own.
+-- A file with a stated RIFF size, and one whose RIFF size is right.
 abbrev pub file : ℕ → List ℕ → List ℕ
 file size chunks = riffLetters ++ (lowBytes 4 size ++ (waveLetters ++ chunks))
 
 abbrev pub whole : List ℕ → List ℕ
 whole chunks = file (4 + length chunks) chunks
 
--- One with a `fmt ` of so many bytes that begins so, and a `data` of n bytes.
+-- A file with a `fmt ` of a stated size and a `data` of n bytes.
 abbrev pub formatted : ℕ → List ℕ → ℕ → List ℕ
 formatted size body n = whole (chunk fmtLetters size body ++ samples n)
 
 abbrev pub ofKind : ℕ → ℕ → ℕ → ℕ → ℕ → List ℕ
 ofKind tag channels block bits n = formatted 16 (format tag channels block bits) n
 
--- One channel of samples of so many bytes, in a `fmt ` of WAVE_FORMAT_EXTENSIBLE that says a size: behind the first 16
--- bytes the extension's size, the valid bits, the speakers, the tag inside and its tail; then 12 bytes of `data`.
+-- One channel of samples of some bytes each, in a `fmt ` of WAVE_FORMAT_EXTENSIBLE with a stated size. Behind the first
+-- 16 bytes stand the extension's size, the valid bits, the speakers, the tag inside and its tail; then 12 bytes of
+-- `data`.
 abbrev pub wrapping : ℕ → ℕ → ℕ → ℕ → ℕ → List ℕ → List ℕ
 wrapping size bytes extension valid inner tail =
     formatted size
@@ -68,11 +69,11 @@ wrapping size bytes extension valid inner tail =
     ++ (lowBytes 4 4 ++ (lowBytes 2 inner ++ tail)))))
     12
 
--- 0000-0010-8000-00AA00389B71 as it is stored.
+-- The bytes of 0000-0010-8000-00AA00389B71 as they are stored.
 abbrev pub standard : List ℕ
 standard = 0 ∷ 0 ∷ 0 ∷ 0 ∷ 0x10 ∷ 0 ∷ 0x80 ∷ 0 ∷ 0 ∷ 0xaa ∷ 0 ∷ 0x38 ∷ 0x9b ∷ 0x71 ∷ []
 
--- What a file is refused by, 0 for nothing, and the code of its samples' kind.
+-- The number by which a file is refused, 0 for none, and the code of its samples' kind.
 unfoldable pub refused : List ℕ → ℕ
 unfolding isWave chunksFrom upTo overrun first formatOk bytesValue
 refused b = numberOf (foundIn b)
@@ -81,7 +82,7 @@ unfoldable pub coded : List ℕ → ℕ
 unfolding isWave chunksFrom upTo overrun first formatOk bytesValue
 coded b = codeOf (waveOf (foundIn b) .kind)
 
--- The same of the reading that unwraps.
+-- The same for the reading that accepts wrapped kinds.
 unfoldable pub refusedWrapped : List ℕ → ℕ
 unfolding isWave chunksFrom upTo overrun first formatOk wraps bytesValue
 refusedWrapped b = numberOf (foundWrapped b)

@@ -9,7 +9,7 @@ use Rattle.riff_chunks.specs.Walk.{upTo}
 use Rattle.aiff.specs.Aiff.{isAiff, foundIn}
 use Rattle.fugnadri_aiff.specs.Doors.{numberOf, soundOf}
 
--- `FORM`, `AIFF`, `AIFC`, `COMM`, `SSND`, and a chunk that nobody knows, `NAME`
+-- The letters `FORM`, `AIFF`, `AIFC`, `COMM`, `SSND`, and an unknown chunk, `NAME`.
 abbrev pub formLetters : List ℕ
 formLetters = 70 ∷ 79 ∷ 82 ∷ 77 ∷ []
 
@@ -31,11 +31,12 @@ nameLetters = 78 ∷ 65 ∷ 77 ∷ 69 ∷ []
 abbrev pub highBytes : ℕ → ℕ → List ℕ
 highBytes k n = reverse (lowBytes k n)
 
--- A chunk that says a size, whatever its body has.
+-- A chunk with a stated size, which its body may not have.
 abbrev pub part : List ℕ → ℕ → List ℕ → List ℕ
 part id size body = id ++ (highBytes 4 size ++ body)
 
--- The 18 bytes of a `COMM`, its rate as the sign and exponent and the digits; at 8000 Hz; and one channel of 16 bits.
+-- The 18 bytes of a `COMM` with the rate by its sign and exponent and its digits; one at 8000 Hz; and one for a channel
+-- of 16 bits.
 abbrev pub fieldsAt : ℕ → ℕ → ℕ → ℕ → ℕ → List ℕ
 fieldsAt channels frames bits field digits =
     highBytes 2 channels ++ (highBytes 4 frames ++ (highBytes 2 bits ++ (highBytes 2 field ++ highBytes 8 digits)))
@@ -46,18 +47,18 @@ fields channels frames bits = fieldsAt channels frames bits 0x400b 0xfa00_0000_0
 abbrev pub told : ℕ → List ℕ
 told frames = part commLetters 18 (fields 1 frames 16)
 
--- An `SSND` that says an offset, with n bytes behind its 8, all of them there.
+-- An `SSND` with an offset and n bytes behind its 8, all of which are there.
 abbrev pub held : ℕ → ℕ → List ℕ
 held offset n = part ssndLetters (8 + n) (highBytes 4 offset ++ (highBytes 4 0 ++ replicate n 0))
 
--- A file that says a FORM size, and one that says its own.
+-- A file with a stated FORM size, and one whose FORM size is right.
 abbrev pub sized : ℕ → List ℕ → List ℕ
 sized size parts = formLetters ++ (highBytes 4 size ++ (aiffLetters ++ parts))
 
 abbrev pub sound : List ℕ → List ℕ
 sound parts = sized (4 + length parts) parts
 
--- What a file is refused by, 0 for nothing, and its rate.
+-- The number by which a file is refused, 0 for none, and its rate.
 unfoldable pub soundRefused : List ℕ → ℕ
 unfolding isAiff chunksFrom upTo overrun first bytesValue rateBy
 soundRefused b = numberOf (foundIn b)

@@ -1,5 +1,4 @@
--- What is asked of 001's engine and of its generator: the number of the refusal that is due, 0 for none. Definitions
--- only.
+-- The refusal numbers, 0 for none, of 001's engine and of its generator. Definitions only.
 use Prim.Native.Nat.{ℕ}
 use mathlib.Core.List.{List, [], _∷_}
 use lib.ListN.{set}
@@ -13,21 +12,21 @@ use Rattle.modulation_engine.specs.Engine as engine
 use Rattle.modulation.specs.Step.{numberOf, nextOf}
 use Rattle.packed_engine.specs.Words.{engineOf, randomOf}
 
--- The engine's 15 words: 48000 Hz, both phases 0, and two generators with the seed and the state 1, targets and
--- position 0, and the scale 1.
+-- The engine's 15 words: 48000 Hz, both phases 0, and two generators, each with the seed and the state 1, the targets
+-- and the position 0, and the scale 1.
 abbrev pub words : List ℕ
 words =
     0x40e7_7000_0000_0000 ∷ 0 ∷ 0 ∷ 1 ∷ 1 ∷ 0 ∷ 0 ∷ 0 ∷ 0x3ff0_0000_0000_0000
     ∷ 1 ∷ 1 ∷ 0 ∷ 0 ∷ 0 ∷ 0x3ff0_0000_0000_0000 ∷ []
 
--- The same with one word of another value, and with two.
+-- The same with another value for one word, and for two.
 abbrev pub with : ℕ → ℕ → List ℕ
 with field word = set words field word
 
 abbrev pub off : List ℕ
 off = set (with 0 0) 1 0x4019_21fb_5444_2d18
 
--- A step, a new sample rate, a new seed and a reset, of the engine that words make.
+-- A step, a new sample rate, a new seed and a reset of the engine with these words.
 unfoldable pub steppedBy : List ℕ → ModulationParams → ℕ
 unfolding verdict validEngine phasesOk random.validOf paramsOk le lt neg ofBits
 steppedBy ws p = numberOf (nextOf (engineOf ws) p .offset)
@@ -47,7 +46,7 @@ unfoldable pub restarted : List ℕ → ℕ
 unfolding verdict validEngine phasesOk random.validOf le lt neg ofBits
 restarted ws = engine.numberOf (resetOf (engineOf ws))
 
--- A step of SmoothRandom alone, from an initial seed.
+-- A step of SmoothRandom alone, with an initial seed.
 unfoldable pub drifted : ℕ → Float → Float → ℕ
 unfolding random.verdict random.validOf le lt neg ofBits
 drifted seed rate-hz sample-rate =

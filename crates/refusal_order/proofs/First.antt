@@ -1,6 +1,6 @@
--- N9, D1b. The number that is given is that of the first line whose test fails, and none is given exactly where all
--- tests hold: for any table, one in which a number stands twice included. By the lines, one after the other.
--- Assumes nothing.
+-- N9, D1b. The number that is given is that of the first line whose test fails, and none is given exactly if all tests
+-- hold. This is shown for any table, also one in which a number stands twice, by going through its lines. Assumes
+-- nothing.
 use mathlib.Core.Path.{_≡_, refl, sym, _∙_}
 use mathlib.Core.Logic.{_↔_}
 use mathlib.Core.Bool.{Bool, true, false, true≢false, _&&_}
@@ -11,7 +11,7 @@ use borrow.Author.Tests.{eqb-true}
 use lib.Dec.{eqb}
 use Rattle.refusal_order.specs.Order.{Test, _unless_, firstOf, testOf, numberOf, lineOf, First, numbered, counted}
 
--- The first line of a longer table.
+-- A first failing line stays the first if a line that holds is put in front.
 later : (n : ℕ) {ts : List Test} {k : ℕ} → First ts k → First (n unless true ∷ ts) (suc k)
 later n {ts} {k} w = record { fails = w .fails; before = passed }
   where
@@ -53,7 +53,7 @@ hold-all [] h = refl
 hold-all ((n unless false) ∷ ts) h = absurd (true≢false (sym (h 0)))
 hold-all ((n unless true) ∷ ts) h = hold-all ts (λ k. h (suc k))
 
--- None is given exactly when every test holds, in a table whose numbers are above 0.
+-- None is given exactly if every test holds, in a table whose numbers are above 0.
 pub none : (ts : List Test) → numbered ts ≡ true → firstOf ts ≡ 0 ↔ ((k : ℕ) → testOf (lineOf ts k) ≡ true)
 none ts h = (all-hold ts h, hold-all ts)
 
@@ -61,7 +61,7 @@ both-hold : (a b : Bool) → a && b ≡ true → (a ≡ true) × (b ≡ true)
 both-hold true b h = (refl, h)
 both-hold false b h = absurd (true≢false (sym h))
 
--- Where the numbers are counted from n on, the line that fails first has n and its place.
+-- If the numbers are counted from n on, the line that fails first has the number n plus its place.
 counted-number : (n : ℕ) (ts : List Test) → counted n ts ≡ true → (k : ℕ) → First ts k → numberOf (lineOf ts k) ≡ n + k
 counted-number n [] c k w = absurd (true≢false (w .fails))
 counted-number n ((m unless t) ∷ ts) c zero w =
@@ -70,7 +70,7 @@ counted-number n ((m unless false) ∷ ts) c (suc k) w = absurd (true≢false (s
 counted-number n ((m unless true) ∷ ts) c (suc k) w =
     counted-number (suc n) ts (both-hold (eqb m n) (counted (suc n) ts) c .1) k (sooner m w) ∙ omega arith
 
--- N9. So number k + 1 is given exactly when test k is the first that fails.
+-- N9. So the number k + 1 is given exactly if test k is the first that fails.
 pub lowest : (ts : List Test) → counted 1 ts ≡ true → (k : ℕ) → firstOf ts ≡ suc k ↔ First ts k
 lowest ts c k = (given, λ w. first-given ts k w ∙ counted-number 1 ts c k w ∙ omega arith)
   where

@@ -1,5 +1,6 @@
-// The rule for which refusal is given where several are due: the lowest number (N9).
-// It is defined and proved once, for readers, tables, wander, files and the residual alike.
+// The rule for which refusal is given when several tests fail: the first in a table of tests, which in document 01 is
+// the lowest number (N9).
+// It is defined and proved once, for readers, tables, wander, files and the residual.
 ghost use mathlib.Core.Path.{_≡_};
 ghost use mathlib.Core.Bool.{_&&_};
 

@@ -1,4 +1,4 @@
--- A number that is not below zero and is below the second is its own remainder. Assumes nothing.
+-- A number that is not below zero, and is below the divisor, is its own remainder. Assumes nothing.
 use mathlib.Core.Path.{_≡_, refl, sym, ap, _∙_}
 use mathlib.Core.Bool.{Bool, true, false, not, true≢false}
 use Prim.Native.Nat.{ℕ, zero, suc, _+_, _-_, _*_, _%_, _<_}
@@ -31,7 +31,7 @@ apart (fin s m e) (inf false) h k = k
 apart (fin s m e) (fin t n d) h k =
     omega (arith, under (fin s m e) (fin t n d) tt tt h, strictly (fin t n d) (fin s m e) tt tt k)
 
--- ---- below the second
+-- ---- below the divisor
 smaller : (s t : Bool) (a b : ℕ) → (s ≡ true → a ≡ 0) → T (below s a t b) → a < b
 smaller false false a b z h = ltb→lt a b h
 smaller false true a b z h = absurd h
@@ -67,7 +67,7 @@ rem-below f (fin s m e) (fin t n d) p z h =
     go zero l = absurd (omega (arith, l, zero-mul (up d), zero-mul (down e)))
     go (suc n) l = rw (eqb·suc-zero n) (own (suc n * up d * down e) l)
 
--- ---- and rem_euclid leaves what is not below zero as it is
+-- ---- rem_euclid does not change what is not below zero
 pub kept : (x : Float) → T (le euclid.zero x) → lt x euclid.zero ≡ false
 kept x h = is-false (lt x euclid.zero) (not-T (lt x euclid.zero) (apart euclid.zero x h))
 

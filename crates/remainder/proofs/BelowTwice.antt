@@ -1,5 +1,5 @@
--- A number that is below twice the second, and not below it, leaves their difference: were the rounded difference below
--- the second and the exact one not, rounding would have turned the order round. Assumes nothing.
+-- The remainder of a number that is not below the divisor, but below twice it, is their difference. If the rounded
+-- difference were below the divisor and the exact one not, rounding would have reversed the order. Assumes nothing.
 use mathlib.Core.Path.{_≡_, refl, sym, ap, _∙_, subst}
 use mathlib.Core.Bool.{true, false, not}
 use mathlib.Core.Logic.{dite}
@@ -21,7 +21,7 @@ use Rattle.rounding.proofs.RoundsToItself.{round-own}
 use Rattle.remainder.proofs.Remainders.{rem-units}
 use Rattle.remainder.proofs.AlreadyBelow.{apart, kept}
 
--- ---- below twice the second
+-- ---- below twice the divisor
 record Once (f : Format) (x y : Float) : Type 0 where
   pub is : rem f x y ≡ sub f x y
   pub not-negative : T (le euclid.zero (sub f x y))
@@ -54,7 +54,7 @@ module _ (f : Format) (m : ℕ) (e : ℤ) (n : ℕ) (d : ℤ) where
   difference : b ≤ a → sub f x y ≡ round f false (a - b) c
   difference h = minus f x y a b c above h first second
 
-  -- were x - y not below y, its rounded value would not be either
+  -- If x - y were not below y, its rounded value would not be either.
   twice : T (fits f y) → b ≤ a → T (lt (sub f x y) y) → a - b < b
   twice p h l = dite (decLt (a - b) b) (λ t. t) (λ t. absurd (apart y (sub f x y) (not-below (omega arith)) l))
     where

@@ -1,4 +1,4 @@
--- The digits of a number above zero and their place, as its pattern has them. Assumes nothing.
+-- The digits of a number above zero and their place, from its pattern. Assumes nothing.
 use mathlib.Core.Path.{_≡_, sym, ap, _∙_, subst}
 use mathlib.Core.Bool.{Bool, true, false, cond}
 use mathlib.Core.Logic.{dite}
@@ -15,7 +15,7 @@ use lib.Ieee.Exact.{HasValue, units-val}
 use lib.Ieee.Positive.{positive, positive-finite}
 use Rattle.rounding.proofs.Patterns.{sign-rest, finite-rest, unpacked}
 
--- a pattern whose sign is clear: its digits, and how many places above the smallest value they stand
+-- The digits of a pattern without a sign, and how many places above the smallest value they stand.
 abbrev pub placeOf : ℕ → ℕ
 placeOf u = u / 2 ^ 52 - 1
 
@@ -55,7 +55,7 @@ taken x held p =
       value = rw (same, ← plus) value;
     }
 
--- a number that is not below another has its digits at no lower a place
+-- The digits of a number that is not below another do not stand at a lower place.
 pub place-order : (m i n j : ℕ) → m < 2 ^ 53 → (0 < j → 2 ^ 52 ≤ n) → n * 2 ^ j ≤ m * 2 ^ i → j ≤ i
 place-order m i n j M N h =
     dite (decLt i j)

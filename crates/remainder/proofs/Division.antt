@@ -21,7 +21,7 @@ step-mod a b n =
     ∙ ap (λ (z : ℕ). (z + a % n * b) % n) (mul-right-comm (a / n) b n)
     ∙ ap (λ (z : ℕ). z % n) (sym (add-mul (a / n * n) (a % n) b) ∙ ap (λ (z : ℕ). z * b) (div-add-mod' a n))
 
--- m and n at the places i and j
+-- The remainder of m and n at the places i and j.
 pub placed : (m n i j : ℕ) → 0 < n → j ≤ i → m * 2 ^ (i - j) % n * 2 ^ j ≡ m * 2 ^ i % (n * 2 ^ j)
 placed m n i j N h =
     sym (scale-mod (m * 2 ^ (i - j)) n (2 ^ j) N (pow-pos j))

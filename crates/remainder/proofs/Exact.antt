@@ -1,6 +1,6 @@
--- A remainder is exact: its digits stand at the lower of the two places, and there are no more of them than one of the
--- two numbers has. So of a number that is not below zero it is not below zero either, and it is below the second.
--- Assumes nothing.
+-- A remainder is exact: its digits stand at the lower of the two places, and it has no more of them than one of the two
+-- numbers. So for a number that is not below zero it is not below zero either, and it is below the divisor. Assumes
+-- nothing.
 use mathlib.Core.Path.{_≡_, refl, sym, ap, _∙_, subst}
 use mathlib.Core.Bool.{Bool, true, false, not}
 use mathlib.Core.Logic.{dite}
@@ -26,7 +26,7 @@ use Rattle.remainder.proofs.Division.{scale-mod, placed}
 use Rattle.remainder.proofs.Remainders.{rem-units}
 use Rattle.remainder.proofs.AlreadyBelow.{apart}
 
--- w is a whole number of few digits at some place
+-- w is a whole number of few digits times a power of two.
 record Few (p w : ℕ) : Type 0 where
   pub digits : ℕ
   pub place : ℕ
@@ -95,7 +95,7 @@ left f (fin t m e) (fin false n d) p q r s =
           (ap (λ (z : ℕ). z * 2 ^ low f) (k .is)));
     }
 
--- ---- from zero to below the second
+-- ---- from zero to below the divisor
 nothing : (t : Bool) (a b : ℕ) → T (not (below t a false 0)) → T (not (below t (a % b) false 0))
 nothing false a b h = le→nltb (a % b) 0 (omega arith)
 nothing true a b h = le→nltb 0 (a % b + 0) (le-trans (omega (arith, mod-le a b)) (nltb→le 0 (a + 0) h))

@@ -1,5 +1,5 @@
--- `lib.Ieee.rem`: its sign is the first's, whatever the second's, and its size is the remainder of any two fractions
--- over one denominator. Assumes nothing.
+-- `lib.Ieee.rem` has the sign of the dividend, whatever that of the divisor, and its size is the remainder of any two
+-- fractions over one denominator. Assumes nothing.
 use mathlib.Core.Path.{_≡_, refl, sym, ap, _∙_}
 use mathlib.Core.Bool.{Bool, true, false, not, cond}
 use Prim.Native.Nat.{ℕ, zero, suc, _*_, _%_, _<_}

@@ -1,4 +1,4 @@
--- What the tests of `absolute` and of `above` say of their floats. Assumes nothing.
+-- What the tests of `absolute` and of `above` show of their floats. Assumes nothing.
 use mathlib.Core.Path.{_≡_, refl, sym}
 use mathlib.Core.Bool.{Bool, true, false, not, _||_, Bool·beq, true≢false}
 use Prim.Native.Nat.{zero, suc, _+_, _*_, _<_}

@@ -11,6 +11,6 @@ absoluteOf nan = nan
 absoluteOf (inf s) = inf false
 absoluteOf (fin s m e) = fin false m e
 
--- `let r = self % rhs; if r < 0.0 { r + rhs.abs() } else { r }`
+-- In Rust: `let r = self % rhs; if r < 0.0 { r + rhs.abs() } else { r }`.
 unfoldable pub remEuclid : Float → Float → Float
 remEuclid x y = let r = rem binary64 x y in cond (lt r zero) (add binary64 r (absoluteOf y)) r

@@ -19,14 +19,14 @@ fn absolute(x: f64) -> f64
     if x == 0.0 { 0.0 } else { x }
 }
 
-// How many places above the smallest value the digits under the exponent's field stand: a field of 0 counts as 1.
+// How many places above the smallest value the digits stand. A field of 0 (a subnormal number) counts as 1.
 fn place(field: u64) -> u64
     ensures { λ r. ⌜ r ≡ field - 1 ⌝ }
 {
     if field == 0 { 0 } else { field - 1 }
 }
 
-// What m followed by k zeros leaves over when it is divided by n, digit by digit.
+// The remainder of m followed by k zeros, divided by n digit by digit.
 fn long_division(m: u64, k: u64, n: u64) -> u64
     requires { ⌜ 0 < n ⌝ ∗ ⌜ n < 2 ^ 53 ⌝ }
     ensures { λ r. ⌜ r ≡ m * 2 ^ k % n ⌝ }
@@ -40,7 +40,7 @@ fn long_division(m: u64, k: u64, n: u64) -> u64
     r
 }
 
-// r of the values 2^(j - 1074): the first product is exact, so that only the second rounds.
+// The value r * 2^(j - 1074) as a float. The first product is exact, so that only the second rounds.
 fn scaled(r: u64, j: u64) -> f64
     requires { ⌜ r < 2 ^ 53 ⌝ ∗ ⌜ j ≤ 2045 ⌝ }
     ensures { λ x. ⌜ x ≡ round binary64 false (r * 2 ^ j) (2 ^ 1074) ⌝ }
@@ -48,7 +48,7 @@ fn scaled(r: u64, j: u64) -> f64
     std::num::nearest_u64_to_f64(r) * 2.220446049250313e-16 * f64::from_bits((j + 1) << 52)
 }
 
-// The remainder of two numbers above zero, the second not above the first.
+// The remainder of two numbers above zero, the second at most as large as the first.
 fn divided(a: f64, b: f64) -> f64
     requires { ⌜ Divided a b ⌝ }
     ensures { λ r. ⌜ r ≡ rem binary64 a b ⌝ }
@@ -61,7 +61,7 @@ fn divided(a: f64, b: f64) -> f64
     scaled(r, j)
 }
 
-// The remainder where neither is below zero: a NaN where a is infinite or a NaN, or b is a zero or a NaN.
+// The remainder if neither is below zero. It is a NaN if a is infinite or a NaN, or b is a zero or a NaN.
 fn above(a: f64, b: f64) -> f64
     requires { ⌜ T (not (lt a zero)) ⌝ ∗ ⌜ T (not (lt b zero)) ⌝ }
     ensures { λ r. ⌜ r ≡ rem binary64 a b ⌝ }
@@ -78,7 +78,7 @@ fn above(a: f64, b: f64) -> f64
     0.0 / 0.0
 }
 
-// Rust's x % y. The remainder has x's sign, and y's does not matter.
+// Rust's x % y. The remainder has the sign of x; that of y does not matter.
 pub fn remainder(x: f64, y: f64) -> f64
     ensures { λ r. ⌜ r ≡ rem binary64 x y ⌝ }
 {
@@ -86,8 +86,8 @@ pub fn remainder(x: f64, y: f64) -> f64
     if x < 0.0 { -above(-x, b) } else { above(x, b) }
 }
 
-// Rust's f64::rem_euclid. Fast paths: a number from 0 to below y is its own remainder, and one below twice y leaves its
-// difference with y.
+// Rust's f64::rem_euclid. Fast paths: a number from 0 to below y is its own remainder, and from one below twice y, y is
+// subtracted, which is exact.
 pub fn rem_euclid(x: f64, y: f64) -> f64
     ensures { λ r. ⌜ r ≡ remEuclid x y ⌝ }
 {

@@ -18,7 +18,7 @@ struct Turn {
 // The descriptor that ./run opens so that the program can say that all went well; a program here has no exit status.
 const SIGN: i32 = 3;
 
-// Whether to go on after a block of n bytes. A read or a write that failed is said on standard error.
+// Whether to go on after a block of n bytes. A failed read or write is reported on standard error.
 fn goes_on(n: usize, written: bool, spare: &mut [u8]) -> bool {
     if !written {
         io::write_all(STDERR_FILENO, b"render: standard output takes no more\n");
@@ -35,7 +35,7 @@ fn goes_on(n: usize, written: bool, spare: &mut [u8]) -> bool {
     true
 }
 
-// One block, rendered in place.
+// Reads one block, renders it in place and writes it.
 fn block<'a>(state: Rendering, ring: &mut [f32], table: &'a [f32]) -> Turn {
     let mut samples = [0u8; BLOCK];
     let n = io::read_full(STDIN_FILENO, &mut samples);
@@ -49,7 +49,8 @@ fn block<'a>(state: Rendering, ring: &mut [f32], table: &'a [f32]) -> Turn {
     }
 }
 
-// Block after block: as many as a u64 counts, which no input outlasts.
+// Goes block after block. The loop counts down from the largest u64, because the language demands that it ends; no
+// input is that long.
 fn run<'a>(start: Rendering, ring: &mut [f32], table: &'a [f32]) {
     let mut state = start;
     let mut more = true;

@@ -12,7 +12,7 @@ use Rattle.render_samples.specs.Samples.{Held, sampleFor, afterSample, answersF
 use Rattle.render_blocks.specs.Blocks.{samplesOf, samplesIn, bytesOf, afterBlock, renderedOf}
 
 module _ (table : List Float) where
-  -- ---- nothing to come, and one sample more
+  -- ---- nothing to come, and one more sample
   module _ (h : Held) (bytes : List ℕ) where
     none : length bytes < 4 → length bytes / 4 ≡ 0
     none l = omega arith
@@ -62,7 +62,7 @@ module _ (table : List Float) where
   pub begun : (h : Held) (bytes : List ℕ) → Half h bytes h bytes 0
   begun h bytes = record { long = refl; inside = omega arith; whole = refl; rest = refl; written = refl; left = refl }
 
-  -- one turn: ys is what stands in the place of the sample z, of which k bytes were lent
+  -- One turn: ys stands in the place of the sample z, of which k bytes were lent.
   pub turn : {h₀ h g : Held} {bytes₀ bytes ys : List ℕ} {at : ℕ} (k : ℕ) {z : Float} → Half h₀ bytes₀ h bytes at → k ≡ 4
       → at + 4 ≤ length bytes
       → z ≡ ofBits binary32 (bytesValue (take k (drop at bytes))) → g ≡ afterSample table h z
@@ -99,7 +99,7 @@ module _ (table : List Float) where
         left = half .left ∙ after-first h come some ∙ rw (q, x, ← drop-drop 4 at bytes₀);
       }
 
-  -- at the end
+  -- The end of the block.
   module _ {h₀ h : Held} {bytes₀ bytes : List ℕ} {at : ℕ} (half : Half h₀ bytes₀ h bytes at)
       (l : length bytes - at < 4) where
     short : length (drop at bytes₀) < 4

@@ -1,5 +1,6 @@
 -- X2. Any length of input: bytes that come in two blocks, the first of whole samples, are rendered as they are in one.
--- So the program's blocks do not show in what it writes. By the samples of the first. Assumes nothing.
+-- So the size of the program's blocks does not show in what it writes. By induction over the samples of the first.
+-- Assumes nothing.
 use mathlib.Core.Path.{_≡_, refl, sym, _∙_, ap}
 use mathlib.Core.List.{List, [], _∷_, _++_, append-assoc}
 use Prim.Native.Nat.{ℕ, zero, suc, _*_, _≤_}
@@ -23,7 +24,7 @@ module _ (table : List Float) where
   unfolding samplesOf answersFor afterSamples bytesOf
   none-before h ys = (refl, refl)
 
-  -- one sample more in front
+  -- One more sample in front.
   one-before : (h : Held) (xs ys : List ℕ) → 4 ≤ length xs
       → Joins (afterSample table h (first table h xs)) (drop 4 xs) ys → Joins h xs ys
   one-before h xs ys some rest =

@@ -1,4 +1,4 @@
--- X2. Headerless binary32, low byte first, in and out. Definitions only.
+-- X2. Headerless binary32, low byte first, as input and output. Definitions only.
 use Prim.Native.Nat.{ℕ, zero, suc, _*_, _/_}
 use mathlib.Core.List.{List, [], _∷_, _++_}
 use lib.ListN.{length, take, drop}
@@ -11,16 +11,17 @@ unfoldable pub samplesOf : ℕ → List ℕ → List Float
 samplesOf zero bytes = []
 samplesOf (suc n) bytes = ofBits binary32 (bytesValue (take 4 bytes)) ∷ samplesOf n (drop 4 bytes)
 
--- A trailing part below 4 bytes is ignored.
+-- At the end a part of fewer than 4 bytes is ignored.
 abbrev pub samplesIn : List ℕ → List Float
 samplesIn bytes = samplesOf (length bytes / 4) bytes
 
--- A NaN is written as 7FC00000: it is the one pattern that toBits gives.
+-- A NaN is written as 7FC00000, the one pattern that toBits gives.
 unfoldable pub bytesOf : List Float → List ℕ
 bytesOf [] = []
 bytesOf (y ∷ ys) = lowBytes 4 (toBits binary32 y) ++ bytesOf ys
 
--- A block of bytes: the rendering that it leaves, and the bytes in its place, the trailing part as it was.
+-- The rendering that a block of bytes leaves, and the bytes in its place; a part of a sample at its end stays as it
+-- was.
 abbrev pub afterBlock : List Float → Held → List ℕ → Held
 afterBlock table h bytes = afterSamples table h (samplesIn bytes)
 

@@ -16,7 +16,7 @@ pub struct Written {
     pub length: usize,
 }
 
-// One sample in place, as its four bytes.
+// Renders one sample in place, as its four bytes.
 fn put_sample<'a>(
     state: Rendering,
     ring: &mut [f32],
@@ -37,7 +37,8 @@ fn put_sample<'a>(
     r.state
 }
 
-// The whole samples of a block in place, one after the other; a trailing part below 4 bytes is left as it was.
+// Renders the whole samples of a block in place, one after the other. At its end a part of fewer than 4 bytes stays as
+// it was.
 pub fn render_block<'a>(
     state: Rendering,
     ring: &mut [f32],

@@ -1,6 +1,5 @@
--- One sample, from what the engine and the reader handed back: state, ring and answer are the definition's.
--- Over variables, so that the function's proof cites it once.
--- Assumes nothing.
+-- One sample, from what the engine and the reader returned: state, ring and answer are the definition's. The law is
+-- over variables, so that the proof of the function cites it once. Assumes nothing.
 use mathlib.Core.Path.{_≡_, refl}
 use mathlib.Core.Bool.{_&&_}
 use mathlib.Core.List.{List}
@@ -23,7 +22,7 @@ use Rattle.sinc_read_f32.specs.Reading.{sincF32At}
 use Rattle.render_samples.specs.declared.Rendering.{Rendering}
 use Rattle.render_samples.specs.Samples.{Held, delayOf, afterSample, sampleFor}
 
--- the reader's verdict, with the tests of the settings 32 and 64 as it makes them
+-- The reader's refusal, with the tests of the settings 32 and 64 as it makes them.
 abbrev pub due : List Float → VariableDelay → List Float → Float → Float → ℕ
 due table d ring x y = verdict (tapsOk 32 && phasesOk 64) (eqb (length table) (tableLength 32 64)) d (length ring) x y
 

@@ -27,12 +27,12 @@ pub record Held : Type 0 where
 abbrev pub heldOf : Rendering → List Float → Held
 heldOf s ring = record { state = s; ring = ring }
 
--- Default modulation: the engine steps at every sample, refused ones too.
+-- The settings are 001's defaults. The engine steps at every sample, even if that is refused.
 abbrev pub turned : Held → Next
 turned h = nextOf (h .state .engine) defaultParams
 
--- 512 plus the left offset. A state that the engine refuses has no offset, and its NaN is refused by the reader. From
--- opening on the engine refuses none (crates/render_start/proofs/EngineNeverRefuses.antt).
+-- The delay is 512 plus the left offset. A state that the engine refuses has no offset; it gives a NaN, which the
+-- reader refuses. From opening on the engine refuses nothing (crates/render_start/proofs/EngineNeverRefuses.antt).
 abbrev pub delayOf : Offset → Float
 delayOf (Delay d) = add binary64 (fin false 1 (pos 9)) (d .left)
 delayOf (Refused k) = nan
@@ -40,7 +40,7 @@ delayOf (Refused k) = nan
 abbrev pub delayFor : Held → Float
 delayFor h = delayOf (turned h .offset)
 
--- The refusal that is due, 0 for none: 32 taps and 64 phases are in range.
+-- The number of the refusal, 0 for none. The 32 taps and 64 phases are in range.
 abbrev pub dueFor : List Float → Held → Float → ℕ
 dueFor table h x =
     verdict true (eqb (length table) (tableLength 32 64)) (h .state .reader) (length (h .ring)) x (delayFor h)
@@ -49,7 +49,7 @@ abbrev pub answerTo : List Float → Held → Float → AnswerF32
 answerTo table h x =
     processedF32By (sincF32At table 32 64) (dueFor table h x) (h .state .reader) (h .ring) x (delayFor h) .answer
 
--- What is written for it: a refused sample writes 0.0.
+-- What is written for a sample: 0.0 if it is refused.
 abbrev pub sampleFor : List Float → Held → Float → Float
 sampleFor table h x = valueF32Of (answerTo table h x)
 
@@ -59,7 +59,7 @@ afterSample table h x = record {
   ring = ringAfter (dueFor table h x) (h .state .reader) (h .ring) x;
 }
 
--- Samples one after the other: what is written for them, and the rendering after them.
+-- What is written for samples one after the other, and the rendering after them.
 unfoldable pub answersFor : List Float → Held → List Float → List Float
 answersFor table h [] = []
 answersFor table h (x ∷ xs) = sampleFor table h x ∷ answersFor table (afterSample table h x) xs

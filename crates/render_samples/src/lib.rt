@@ -14,7 +14,7 @@ pub struct Rendering {
     pub engine: ModulationEngine,
 }
 
-// The state after a sample, and the answer's pattern.
+// The state after a sample, and the bit pattern of the answer.
 pub struct Rendered {
     pub state: Rendering,
     pub bits: u32,
@@ -29,7 +29,7 @@ fn delay_of(offset: Offset) -> f64
     }
 }
 
-// One sample, by its pattern: the engine steps, then the reader is called. A refused sample writes 0.0.
+// X2. One sample by its bit pattern: the engine steps, then the reader is called. For a refused sample 0.0 is written.
 pub fn step<'a>(state: Rendering, ring: &mut [f32], table: &'a [f32], bits: u32) -> Rendered
     ensures { λ r. ⌜ r .state ≡
         afterSample (now (table .entry)) (heldOf state (now (ring .entry))) (Ieee.ofBits binary32 bits) .state ⌝ }

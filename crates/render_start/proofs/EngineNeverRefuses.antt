@@ -1,6 +1,6 @@
--- X2. The engine steps at every sample, refused ones too, and from opening on it refuses nothing:
--- so every sample is read at the delay 512 plus the left offset.
--- By what modulation shows of runs of an engine. Assumes nothing.
+-- X2. The engine steps at every sample, even if that is refused, and from opening on it refuses nothing; so every
+-- sample is read at the delay 512 plus the left offset. By the laws of `modulation` about runs of an engine. Assumes
+-- nothing.
 use mathlib.Core.Path.{_≡_, refl}
 use mathlib.Core.Bool.{true, false}
 use mathlib.Core.List.{List, [], _∷_, map}
@@ -16,7 +16,7 @@ use Rattle.modulation.proofs.RunInvariant.{Running, sound-verdict, fresh-runnin
 use Rattle.render_samples.specs.Samples.{Held, heldOf, delayFor, afterSample, afterSamples}
 use Rattle.render_start.specs.Start.{fresh}
 
--- whatever the samples are
+-- This holds whatever the samples are.
 pub engine-steps : (table : List Float) (h : Held) (xs : List Float)
     → afterSamples table h xs .state .engine ≡ run (h .state .engine) (map (λ x. step defaultParams) xs)
 unfolding afterSamples run

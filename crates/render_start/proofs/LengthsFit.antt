@@ -1,5 +1,5 @@
--- What follows the tests of the lengths refuses nothing: the ring of 1024 is what the maximum delay 1016 needs,
--- the table of 2080 what the settings need, and 48000 Hz is a sample rate. By computing. Assumes nothing.
+-- After the tests of the lengths nothing is refused: the ring of 1024 is what the maximum delay 1016 needs, the table
+-- of 2080 what the settings need, and 48000 Hz is a sample rate. By computing. Assumes nothing.
 use mathlib.Core.Path.{_≡_, refl, ap}
 use mathlib.Core.Bool.{true, false}
 use mathlib.Core.List.{List}
@@ -56,7 +56,7 @@ pub engine-opens : engine.openedOf (fresh .engine .«sample_rate») 1 ≡ Engine
 unfolding le ofBits
 engine-opens = refl
 
--- so each answer is what was opened, and no refusal
+-- So each answer is what was opened, and no refusal.
 pub no-reader : {a : readers-opened.Opened} {d : VariableDelay} {k : ℕ} → a ≡ Reader d → a ≡ readers.Refused k → ⊥
 no-reader e r = let z : _≡_ {A = ℕ} 0 1 = cc in omega arith
 
@@ -76,7 +76,7 @@ wrong-table {n} {m} e h = rw (e, ne-eqb m 2080 h)
 pub both-right : {n m : ℕ} → n ≡ 1024 → m ≡ 2080 → lengthsOk n m ≡ true
 both-right e f = rw (e, f)
 
--- the beginning, of the reader and the engine that were opened
+-- The beginning, made of the reader and the engine that were opened.
 pub started : {a : readers-opened.Opened} {d : VariableDelay} {b : engines-opened.Opened} {e : ModulationEngine}
     → a ≡ Reader d → a ≡ Reader (fresh .reader) → b ≡ Engine e → b ≡ Engine (fresh .engine)
     → Started (record { reader = d; engine = e }) ≡ Started fresh

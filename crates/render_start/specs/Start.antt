@@ -1,4 +1,4 @@
--- X2. A rendering's beginning. Definitions only.
+-- X2. The beginning of a rendering. Definitions only.
 use Prim.Native.Nat.{ℕ}
 use mathlib.Core.Bool.{Bool, true, false, _&&_, cond}
 use mathlib.Core.List.{List}
@@ -15,15 +15,16 @@ use Rattle.render_samples.specs.declared.Rendering.{Rendering}
 use Rattle.render_start.specs.declared.Opened.{Opened}
 use Rattle.render_start.specs.declared.Opened.the-variants.{Started, Refused}
 
--- 32 taps, 64 phases, cutoff 1, beta 12.
+-- The table has 32 taps, 64 phases, the cutoff 1 and beta 12.
 abbrev pub settings : Settings
 settings = record { taps = 32; phases = 64; cutoff = fin false 1 (pos 0); beta = fin false 3 (pos 2) }
 
--- Nothing accepted yet; seed 1 at 48000 Hz. G1: the maximum delay 1016 and the margin 0 need a ring of 1024.
+-- Nothing is accepted yet, and the engine has the seed 1 and 48000 Hz. G1: the maximum delay 1016 and the margin 0 need
+-- a ring of 1024.
 abbrev pub fresh : Rendering
 fresh = record { reader = delay.fresh 1016 0; engine = engine.fresh (fin false 375 (pos 7)) 1 }
 
--- N2. The ring's 1024 places, and the table's 65 rows of 32; a refusal leaves both as they were (D1c).
+-- N2. The ring has 1024 places, and the table 65 rows of 32. A refusal leaves both as they were (D1c).
 abbrev pub lengthsOk : ℕ → ℕ → Bool
 lengthsOk ring table = eqb ring 1024 && eqb table 2080
 

@@ -6,15 +6,15 @@ use modulation_engine::ModulationEngine;
 use render_samples::Rendering;
 use sinc_settings::Settings;
 
-// A rendering's beginning, or the number of a refusal.
+// The state at the beginning, or the number of a refusal.
 pub enum Opened {
     Started(Rendering),
     Refused(u8),
 }
 
 // Refuses by 2, or opens the reader over a ring of 1024, writes the table of 65 rows of 32, and makes the engine with
-// seed 1 at 48000 Hz. The maximum delay 1016 and the margin 0 are the largest delay for which the ring has 1024 places
-// (G1). Once the lengths are right nothing else is refused, as the proof shows.
+// seed 1 at 48000 Hz. With the margin 0 the maximum delay 1016 is the largest for which a ring of 1024 is enough (G1).
+// If the lengths are right nothing else is refused, as the proof shows.
 pub fn open(ring: &mut [f32], table: &mut [f32]) -> Opened
     ensures { λ r. ⌜ r ≡ openedOf (length (now (ring .entry))) (length (now (table .entry))) ⌝ }
     ensures { λ r. ⌜ now (ring .exit) ≡ ringOpened (now (ring .entry)) (length (now (table .entry))) ⌝ }

@@ -1,9 +1,10 @@
-// A file from standard input: the number of its bytes in four hex digits, a blank, two digits a byte, a line's end.
+// A file from standard input: the number of its bytes in four hex digits, a blank, two digits for each byte, and the
+// end of the line.
 use libc::STDIN_FILENO;
 use replay_lines::within;
 use word_bytes::word_at;
 
-// Whether there was a line, and the number of the file's bytes.
+// Whether there was a line, and how many bytes the file has.
 pub struct Heard {
     pub whole: bool,
     pub bytes: usize,
@@ -12,13 +13,13 @@ pub struct Heard {
 // No file of the list is longer.
 const LONGEST: usize = 512;
 
-// The next line's file, put into a lent slice.
+// Puts the file of the next line into a lent slice.
 pub fn hear(file: &mut [u8]) -> Heard {
     let mut count = [0u8; 4];
     let told = io::read_full(STDIN_FILENO, &mut count);
     let bytes = within(word_at(&count, 0) as usize, LONGEST);
     let rest = 2 * bytes + 2;
-    // Sixteen more, so that a word can be read at every place.
+    // There are sixteen more, so that a word can be read at every place.
     let mut text = [0u8; 1042];
     let got = io::read_full(STDIN_FILENO, &mut text[..rest]);
     put_bytes(&text, &mut file[..]);
@@ -28,7 +29,7 @@ pub fn hear(file: &mut [u8]) -> Heard {
     }
 }
 
-// A byte is the first two of the sixteen digits that a word has.
+// A byte is the first two of the sixteen digits of a word.
 fn put_bytes(text: &[u8; 1042], file: &mut [u8]) {
     let mut k: usize = 0;
     while k < LONGEST {

@@ -1,13 +1,13 @@
-// W12. Replays a stored list of small and damaged AIFF files. A line of standard input is a file: the number of its
-// bytes in four hex digits, a blank, and two digits for each byte. A line is written for each, of 20 numbers: what
-// `aiff::read` answers (the refusal's number, 0 for none; the kind's code, channels, rate, start and length, zeros
-// where it is refused), what the same file by turns answers (turns.rt), and what `aiff::chunks_told` tells. Where
-// nothing is refused a line follows for each channel, with its samples (samples.rt). oracle/lists/aiff.py makes the
-// list, from document 02's text. A trailing part of a line is ignored.
+// W12. The program that replays a stored list of small and damaged AIFF files. A line of standard input is a file: the
+// number of its bytes in four hex digits, a blank, and two digits for each byte. A line is written for each, of 20
+// numbers: what `aiff::read` answers (the refusal's number, 0 for none; the kind's code, channels, rate, start and
+// length, zeros where it is refused), what reading the same file step by step answers (turns.rt), and what
+// `aiff::chunks_told` gives. If nothing is refused a line follows for each channel, with its samples (samples.rt).
+// oracle/lists/aiff.py makes the list, from document 02's text. A trailing part of a line is ignored.
 mod heard; // a file from standard input
 mod said; // numbers on standard output
 mod samples; // a channel's samples
-mod turns; // a file by turns
+mod turns; // a file read step by step
 
 use aiff::Found;
 use aiff::Sound;
@@ -80,7 +80,8 @@ fn replay(file: &[u8]) {
     }
 }
 
-// Line after line: as many as a u64 counts, which no input outlasts.
+// Goes line after line. The loop counts down from the largest u64, because the language demands that it ends; no input
+// is that long.
 fn run(file: &mut [u8]) {
     let mut heard = hear(&mut file[..]);
     let mut more = heard.whole;

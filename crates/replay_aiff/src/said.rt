@@ -6,7 +6,7 @@ pub fn number(n: u64) {
     io::write_all(STDOUT_FILENO, b" ");
 }
 
-// In so many hex digits at least.
+// Writes at least so many hex digits.
 pub fn pattern(n: u64, digits: usize) {
     io::print_hex(STDOUT_FILENO, n, digits);
     io::write_all(STDOUT_FILENO, b" ");

@@ -1,5 +1,5 @@
-// One channel's samples as f64, as f32 and as whole numbers of 2^-23: the three refusals' numbers, 0 for none, then for
-// each frame the three as patterns.
+// The samples of one channel as f64, as f32 and as whole numbers of 2^-23: first the three refusal numbers, 0 for none,
+// then for each frame the three as bit patterns.
 use crate::said::end_of_line;
 use crate::said::number;
 use crate::said::pattern;

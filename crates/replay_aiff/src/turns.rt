@@ -1,11 +1,12 @@
-// A file by turns, as a program reads one that is too long to be held: never more than a few of its bytes are at hand.
+// A file read step by step, as a program reads one that is too long to be held: it never has more than a few of its
+// bytes.
 use aiff::Found;
 use riff_chunks::Walked;
 use riff_chunks::Walking;
 use riff_chunks::begin;
 use word_bytes::part;
 
-// No file of the list has more chunks: a turn behind the last changes nothing.
+// No file of the list has more chunks; a step after the last chunk changes nothing.
 const MOST: usize = 64;
 
 pub fn by_turns(file: &[u8]) -> Found {

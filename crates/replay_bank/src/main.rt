@@ -1,7 +1,8 @@
 // The program that replays a stored list of the original's answers about the bank and the change of quality (O5).
 // A line of standard input is a letter and three words of sixteen hex digits, the line that is written two words: `s`
-// and `c` a bank's sets and the choice among them (T3, T4), `o`, `q` and `r` a change of quality (Q1, Q2), `p` and `d`
-// a slice and Draft's reading of it. oracle/src/lists/bank.rs makes the list. A trailing part of a line is ignored.
+// and `c` a bank's sets and the choice among them (T3, T4), `o`, `q` and `r` a change of quality (Q1, Q2), which `b`
+// opens by the second rule (W9), `p` and `d` a slice and Draft's reading of it. oracle/src/lists/bank.rs makes the
+// list. A trailing part of a line is ignored.
 mod quality; // a change of quality, and its two words
 mod sets; // a bank's sets, and the choice's two words
 mod slice; // a slice of samples, and Draft's reading of it
@@ -9,10 +10,12 @@ mod slice; // a slice of samples, and Draft's reading of it
 use bit_patterns::float_of;
 use libc::STDIN_FILENO;
 use libc::STDOUT_FILENO;
-use quality_fade::Fade;
 use quality_mode::QualityMode;
 use replay_lines::Heard;
 use replay_lines::Line;
+use returning_fade::Direction;
+use returning_fade::Rule;
+use returning_fade::RuledFade;
 use word_bytes::hex16;
 
 // The two words that answer a line.
@@ -21,13 +24,13 @@ struct Words {
     second: u64,
 }
 
-// What a line leaves of the change of quality, and its answer.
+// The state of the change of quality after a line, and the answer.
 struct Turn {
-    fade: Fade,
+    fade: RuledFade,
     words: Words,
 }
 
-// No answer of the original looks like a refusal.
+// No answer of the original looks like this word for a refusal.
 fn refused(no: u8) -> Words {
     Words {
         first: replay_lines::refused(no),
@@ -35,7 +38,7 @@ fn refused(no: u8) -> Words {
     }
 }
 
-// Three small numbers in one word, two hex digits each.
+// Packs three small numbers into one word, two hex digits each.
 fn packed(a: u8, b: u8, c: u8) -> u64 {
     a as u64 * 65536 + b as u64 * 256 + c as u64
 }
@@ -50,9 +53,10 @@ fn answer(source: &mut [f32], letter: u8, a: u64, b: u64, c: u64) -> Words {
     }
 }
 
-fn call(before: Fade, source: &mut [f32], letter: u8, a: u64, b: u64, c: u64) -> Turn {
+fn call(before: RuledFade, source: &mut [f32], letter: u8, a: u64, b: u64, c: u64) -> Turn {
     match letter {
-        b'o' => quality::open(before, a, (b % 0x1_0000_0000) as u32),
+        b'o' => quality::open(before, Rule::Ported, a, (b % 0x1_0000_0000) as u32),
+        b'b' => quality::open(before, Rule::Returning, a, (b % 0x1_0000_0000) as u32),
         b'q' => quality::step(before, a),
         b'r' => quality::reset(before),
         _ => Turn {
@@ -62,7 +66,7 @@ fn call(before: Fade, source: &mut [f32], letter: u8, a: u64, b: u64, c: u64) ->
     }
 }
 
-// The next 53 bytes, where there are so many.
+// The next 53 bytes, a line, if there are so many.
 fn hear() -> Heard {
     let mut text = [0u8; 53];
     let n = io::read_full(STDIN_FILENO, &mut text);
@@ -76,9 +80,14 @@ fn say(first: u64, second: u64) {
     io::write_all(STDOUT_FILENO, b"\n");
 }
 
-// Line after line: as many as a u64 counts, which no input outlasts.
+// Goes line after line. The loop counts down from the largest u64, because the language demands that it ends; no input
+// is that long.
 fn run(source: &mut [f32]) {
-    let mut fade = quality_fade::open(QualityMode::Draft, 0);
+    let mut fade = RuledFade {
+        rule: Rule::Ported,
+        direction: Direction::Onwards,
+        fade: quality_fade::open(QualityMode::Draft, 0),
+    };
     let mut heard = hear();
     let mut more = heard.whole;
     let mut turns = u64::MAX;

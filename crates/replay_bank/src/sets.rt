@@ -1,4 +1,4 @@
-// T3, T4. A bank's sets and the choice among them, each in two words.
+// T3, T4. The sets of a bank and the choice among them, each in two words.
 use super::Words;
 use super::packed;
 use bit_patterns::bits_of;
@@ -16,7 +16,7 @@ pub fn rate(max_rate: f64, set: u64) -> Words {
     }
 }
 
-// Which sets a rate reads, and the blend where it reads both: the original has no other.
+// Which sets a rate reads, and the blend if it reads both; otherwise the original has no blend.
 pub fn choice(max_rate: f64, rate: f64) -> Words {
     let c = bank_choice::choice_or_zero(max_rate, rate);
     Words {

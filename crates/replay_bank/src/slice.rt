@@ -5,7 +5,6 @@ use bit_patterns::bits_of_f32;
 use bit_patterns::float_of_f32;
 use replay_lines::within;
 
-// Puts a sample at a place.
 pub fn put(source: &mut [f32], place: u64, bits: u32) -> Words {
     if place < source.len() as u64 {
         source[place as usize] = float_of_f32(bits);
@@ -18,7 +17,7 @@ pub fn put(source: &mut [f32], place: u64, bits: u32) -> Words {
     }
 }
 
-// 000's cubic_sample_f32 over the first places of the slice, as many as the line says.
+// 000's cubic_sample_f32 over the first places of the slice; the line says how many.
 pub fn draft(source: &[f32], count: u64, position: f64, places: u64) -> Words {
     let end = within(places as usize, source.len());
     Words {

@@ -1,4 +1,4 @@
-// A reader of one of the three kernels, and what a line asks of it.
+// A reader with one of the three kernels, and the call that a line makes.
 ghost use Prim.Native.Nat.{_≤_};
 use answer::Answer;
 use bit_patterns::bits_of;
@@ -9,7 +9,7 @@ use variable_delay::Opened;
 use variable_delay::Processed;
 use variable_delay::VariableDelay;
 
-// Kernel 0 is CubicFarrow, 1 is Farrow8, and any other number is Lagrange of as many taps.
+// Kernel 0 is CubicFarrow, 1 is Farrow8, and any other number is Lagrange with that many taps.
 pub struct Reader {
     pub kernel: u64,
     pub state: VariableDelay,
@@ -20,7 +20,7 @@ pub struct Turn {
     pub answer: u64,
 }
 
-// O4. Where the original answers 0.0 and does not advance (4, 5) so does this.
+// O4. At a refusal by 4 or 5 the original answers 0.0 and does not advance, and so does this.
 fn silent(no: u8) -> u64 {
     match no {
         4 | 5 => 0,
@@ -92,7 +92,7 @@ pub fn call(before: Reader, ring: &mut [f64], letter: u8, a: u64, b: u64, c: u64
     }
 }
 
-// How much of a ring the settings take that a line goes by: `o` brings its own.
+// How much of the ring the settings take. The line `o` brings its own settings, the others use those of the state.
 pub fn part(before: VariableDelay, line: Line, room: usize) -> usize
     ensures { λ r. ⌜ r ≤ room ⌝ }
 {

@@ -3,7 +3,7 @@
 // delay, margin), `p` hands it a sample (the sample, the delay, 0), `r` resets it (0, 0, 0). The line that is written
 // has the answer's pattern and the accepted number afterwards. oracle/src/lists/delays.rs makes the list. A trailing
 // part of a line is ignored.
-mod calls; // a reader, and what a line asks of it
+mod calls; // a reader, and the call that a line makes
 
 use calls::Reader;
 use calls::Turn;
@@ -16,7 +16,7 @@ use replay_lines::Line;
 use variable_delay::VariableDelay;
 use word_bytes::hex16;
 
-// The next 53 bytes, where there are so many.
+// The next 53 bytes, a line, if there are so many.
 fn hear() -> Heard {
     let mut text = [0u8; 53];
     let n = io::read_full(STDIN_FILENO, &mut text);
@@ -43,7 +43,8 @@ fn replay(before: Reader, ring: &mut [f64], line: Line) -> Turn {
     )
 }
 
-// Line after line: as many as a u64 counts, which no input outlasts.
+// Goes line after line. The loop counts down from the largest u64, because the language demands that it ends; no input
+// is that long.
 fn run(ring: &mut [f64]) {
     let mut reader = Reader {
         kernel: 0,

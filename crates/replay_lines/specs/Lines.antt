@@ -1,4 +1,4 @@
--- O5. The line of a stored list that some bytes are. Definitions only.
+-- O5. A line of a stored list, from its bytes. Definitions only.
 use Prim.Native.Nat.{ℕ, _+_, _*_, min}
 use mathlib.Core.Bool.{_&&_, cond}
 use mathlib.Core.List.{List}
@@ -21,11 +21,11 @@ lineOf bytes =
       c = wordAt bytes 36;
     }
 
--- n bytes were read into them.
+-- The line from a read of n bytes.
 abbrev pub heardOf : ℕ → List ℕ → Heard
 heardOf n bytes = record { whole = eqb n 53; line = lineOf bytes }
 
--- How much of a room a table takes: a row for each phase from 0 to phases (T1), if taps and phases are within G5's
--- ranges.
+-- T1. How much of a buffer a table takes: a row for each phase from 0 to phases, if taps and phases are in the ranges
+-- of G5.
 abbrev pub tablePart : ℕ → ℕ → ℕ → ℕ
 tablePart taps phases room = cond (leb taps 128 && leb phases 4096) (min ((phases + 1) * taps) room) room

@@ -1,6 +1,6 @@
 // What the programs that replay a stored list share (O5).
-// A line is a letter, a mark beside it and three words of sixteen hex digits with a blank before each. Here too are the
-// word for a refusal, and how much of a room is lent.
+// A line is a letter, a mark beside it and three words of sixteen hex digits with a blank before each. Here are also
+// the word for a refusal, and how much of a buffer is lent.
 ghost use mathlib.Core.Path.{_≡_};
 ghost use Prim.Native.Nat.{_+_, _≤_, min};
 ghost use Rattle.replay_lines.specs.Lines.{lineOf, heardOf, tablePart};
@@ -26,7 +26,7 @@ pub fn line_of(text: &[u8; 53]) -> Line
     }
 }
 
-// What a read of at most 53 bytes brought: a line, where there were so many.
+// What a read of at most 53 bytes gave: a line, if there were 53.
 pub struct Heard {
     pub whole: bool,
     pub line: Line,
@@ -41,14 +41,14 @@ pub fn line_heard(n: usize, text: &[u8; 53]) -> Heard
     }
 }
 
-// A refusal is no answer of the original's, nor looks like one.
+// The word for a refusal is not an answer of the original and cannot be mistaken for one.
 pub fn refused(no: u8) -> u64
     ensures { λ r. ⌜ r ≡ 18446744073709551360 + no ⌝ }
 {
     0xffff_ffff_ffff_ff00 + no as u64
 }
 
-// So much of a room as is needed, and no more than there is.
+// As much of a buffer as is needed, but no more than there is.
 pub fn within(need: usize, room: usize) -> usize
     ensures { λ r. ⌜ r ≡ min need room ⌝ }
     ensures { λ r. ⌜ r ≤ room ⌝ }
@@ -56,8 +56,8 @@ pub fn within(need: usize, room: usize) -> usize
     if need < room { need } else { room }
 }
 
-// How much of a room the table of these taps and phases takes; all of it if they are out of range, so that no product
-// wraps.
+// How much of a buffer the table with these taps and phases takes; all of it if they are out of range, so that no
+// product can overflow.
 pub fn table_part(taps: usize, phases: usize, room: usize) -> usize
     ensures { λ r. ⌜ r ≡ tablePart taps phases room ⌝ }
     ensures { λ r. ⌜ r ≤ room ⌝ }

@@ -62,7 +62,7 @@ fn truth(t: bool) -> u64 {
     if t { 1 } else { 0 }
 }
 
-// Two's complement.
+// The number in two's complement.
 fn signed(n: i64) -> u64 {
     if n < 0 {
         u64::MAX - (-1 - n) as u64

@@ -13,7 +13,7 @@ use replay_lines::Heard;
 use replay_lines::Line;
 use word_bytes::hex16;
 
-// The next 53 bytes, where there are so many.
+// The next 53 bytes, a line, if there are so many.
 fn hear() -> Heard {
     let mut text = [0u8; 53];
     let n = io::read_full(STDIN_FILENO, &mut text);
@@ -40,7 +40,8 @@ fn replay(line: Line) {
     io::write_all(STDOUT_FILENO, b"\n");
 }
 
-// Line after line: as many as a u64 counts, which no input outlasts.
+// Goes line after line. The loop counts down from the largest u64, because the language demands that it ends; no input
+// is that long.
 fn main() {
     let mut heard = hear();
     let mut more = heard.whole;

@@ -6,7 +6,7 @@ use bit_patterns::float_of;
 use bit_patterns::float_of_f32;
 use replay_lines::Line;
 
-// A word's pattern of single precision: its lower half.
+// The f32 whose pattern is the lower half of a word.
 pub fn single(n: u64) -> f32 {
     float_of_f32((n % 0x1_0000_0000) as u32)
 }
@@ -39,7 +39,7 @@ fn put_f32(table: &mut [f32], at: usize, x: f32) {
     }
 }
 
-// `e`: an element of both.
+// `e` sets an element of both tables.
 pub fn set(table: &mut [f64], table_f32: &mut [f32], line: Line) {
     put(table, line.a as usize, float_of(line.b));
     put_f32(table_f32, line.a as usize, single(line.c));

@@ -18,7 +18,7 @@ pub struct Shape {
     pub beta: f64,
 }
 
-// The next 53 bytes, where there are so many.
+// The next 53 bytes, a line, if there are so many.
 pub fn hear() -> Heard {
     let mut text = [0u8; 53];
     let n = io::read_full(STDIN_FILENO, &mut text);

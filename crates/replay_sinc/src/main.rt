@@ -2,12 +2,12 @@
 // (O5).
 // A line is answered by a line, and after a table is built its elements follow, a line for each (docs/ORACLE.md has the
 // letters). oracle/src/lists/sinc.rs makes the list. A trailing part of a line is ignored.
-mod elements; // the elements of the tables, set and written
+mod elements; // the elements of the tables, set one by one and written
 mod lines; // a line that is read, one that is written, and what is kept between
-mod readers; // a reader
-mod readers_f32; // a reader of single precision
-mod tables; // a table of either width, built
-mod turns; // what a reader answers, and what it leaves
+mod readers; // the reader over f64
+mod readers_f32; // the reader over f32
+mod tables; // tables of both widths, built
+mod turns; // what a reader answers and leaves
 
 use lines::Player;
 use lines::Shape;
@@ -15,7 +15,7 @@ use lines::hear;
 use replay_lines::Line;
 use variable_delay::VariableDelay;
 
-// Whom a letter concerns: the tables, a reader of f32, or one of f64.
+// What a letter is about: the tables, a reader of f32, or one of f64.
 fn concerned(letter: u8) -> u8 {
     match letter {
         b's' | b'e' | b'n' | b'm' => 0,
@@ -42,7 +42,8 @@ fn replay(
     readers::call(before, ring, &table[..], line)
 }
 
-// Line after line: as many as a u64 counts, which no input outlasts.
+// Goes line after line. The loop counts down from the largest u64, because the language demands that it ends; no input
+// is that long.
 fn run(ring: &mut [f64], ring_f32: &mut [f32], table: &mut [f64], table_f32: &mut [f32]) {
     let mut player = Player {
         shape: Shape {
@@ -68,7 +69,7 @@ fn run(ring: &mut [f64], ring_f32: &mut [f32], table: &mut [f64], table_f32: &mu
     }
 }
 
-// Rings of at most 128 places and tables of at most 512 elements.
+// The list has rings of at most 128 places and tables of at most 512 elements.
 fn main() {
     let mut ring = [0.0f64; 128];
     let mut ring_f32 = [0.0f32; 128];

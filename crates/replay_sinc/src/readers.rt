@@ -1,4 +1,4 @@
-// A reader, over the parts of its ring and its table that the settings take.
+// The reader over f64, with the parts of its ring and its table that the settings take.
 ghost use Prim.Native.Nat.{_≤_};
 use crate::lines::Player;
 use crate::lines::Shape;
@@ -11,7 +11,7 @@ use replay_lines::Line;
 use replay_lines::table_part;
 use variable_delay::VariableDelay;
 
-// How much of a room the ring of some settings takes: opening brings its own.
+// How much of the ring's buffer the settings take. Opening brings its own settings.
 pub fn ring_part(s: VariableDelay, opens: bool, line: Line, room: usize) -> usize
     ensures { λ r. ⌜ r ≤ room ⌝ }
 {

@@ -1,4 +1,4 @@
-// The reader of single precision: what `readers` has, over its own ring and table.
+// The reader over f32: what `readers` has, over its own ring and table.
 use crate::elements::single;
 use crate::lines::Player;
 use crate::lines::Shape;
@@ -30,7 +30,7 @@ fn process_f32<'a>(
     }
 }
 
-// `O`, `P` and `R`: the same of single precision.
+// `O`, `P` and `R` are the same for f32.
 fn called_f32<'a>(
     s: VariableDelay,
     shape: Shape,

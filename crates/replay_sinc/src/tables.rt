@@ -11,7 +11,7 @@ use replay_lines::refused;
 use replay_lines::table_part;
 use sinc_settings::Settings;
 
-// `s`: the taps, the phases and beta of what follows.
+// `s` sets the taps, the phases and beta for the lines that follow.
 fn shaped(before: Player, line: Line) -> Player {
     say(0, 0);
     let state = before.state;
@@ -39,7 +39,7 @@ fn built_f32(kernel: windowed_sinc_f32::Built) -> u64 {
     }
 }
 
-// `n` is `new`, of the cutoff.
+// `n` is `new` with a cutoff.
 fn settings(shape: Shape, line: Line) -> Settings {
     Settings {
         taps: shape.taps,
@@ -49,7 +49,7 @@ fn settings(shape: Shape, line: Line) -> Settings {
     }
 }
 
-// `m` is `for_max_rate`, of the rate and the passband.
+// `m` is `for_max_rate` with a rate and a passband.
 fn build(shape: Shape, table: &mut [f64], line: Line) -> u64 {
     if line.letter == b'n' {
         return built(windowed_sinc::new(settings(shape, line), table));
@@ -86,7 +86,7 @@ fn called(shape: Shape, table: &mut [f64], table_f32: &mut [f32], line: Line) {
     write(&table[..], &table_f32[..]);
 }
 
-// A call about the tables, over the parts of them that the settings take.
+// A call about the tables, with the parts of them that the settings take.
 pub fn call(before: Player, table: &mut [f64], table_f32: &mut [f32], line: Line) -> Player {
     if line.letter == b's' {
         return shaped(before, line);

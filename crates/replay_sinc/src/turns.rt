@@ -15,14 +15,14 @@ pub struct Turn {
     pub answer: u64,
 }
 
-// What a reader answers, and the accepted number afterwards.
+// Writes the answer of a reader and the number of samples it has accepted.
 pub fn answered(shape: Shape, turn: Turn) -> Player {
     let state = turn.state;
     say(turn.answer, state.accepted);
     Player { shape, state }
 }
 
-// O4. Where the original answers 0.0 and does not advance (4, 5) so does this.
+// O4. At a refusal by 4 or 5 the original answers 0.0 and does not advance, and so does this.
 fn silent(no: u8) -> u64 {
     match no {
         4 | 5 => 0,

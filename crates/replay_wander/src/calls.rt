@@ -13,7 +13,7 @@ pub struct Turn {
     pub right: u64,
 }
 
-// What is replayed before the first line.
+// The engine before the first line.
 pub fn opened_first() -> ModulationEngine {
     packed_engine::engine_of([0; 15])
 }
@@ -59,7 +59,7 @@ pub fn step(before: ModulationEngine, params: ModulationParams) -> Turn {
     stepped(after, offset)
 }
 
-// As many steps as `count` says, and what the last of them hands out. None is refused by 255.
+// Makes `count` steps and gives what the last of them hands out. If there are none the refusal is 255.
 pub fn steps(before: ModulationEngine, params: ModulationParams, count: u64) -> Turn {
     let mut turn = Turn {
         engine: before,

@@ -1,7 +1,7 @@
 // How many lines were read, and how many of them differ.
 use crate::lines::Verdict;
 
-// The lines that were read, those that had an answer, without and with a star, and those of them that differ.
+// The lines that were read, those with an answer (without and with a star), and how many of these differ.
 pub struct Seen {
     pub lines: u64,
     pub compared: u64,

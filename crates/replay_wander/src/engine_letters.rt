@@ -1,4 +1,4 @@
-// The engine's calls that a line's letter names, each with whether what it hands out is what the line says.
+// The calls of the engine that the letter of a line names, each with whether what it hands out is what the line says.
 use crate::calls::Turn;
 use crate::calls::step;
 use crate::calls::steps;
@@ -38,7 +38,7 @@ pub fn call(
     called(p, turn, turn.refusal == refusal)
 }
 
-// `n`: so many steps, and the offsets of the last. `x`: one step, which is refused by this number.
+// `n` makes some steps and compares the offsets of the last. `x` makes one step, which is refused by this number.
 pub fn stepped(
     e: ModulationEngine,
     p: ModulationParams,

@@ -1,4 +1,4 @@
-// The settings and the state that a line's letter names, each with whether the state is what the line says.
+// The settings and the state that the letter of a line names, each with whether the state is what the line says.
 use modulation_engine::ModulationEngine;
 use modulation_params::ModulationParams;
 
@@ -8,7 +8,7 @@ pub struct Player {
     pub params: ModulationParams,
 }
 
-// What a letter does, and whether that is as its words say.
+// What a letter does, and whether the result is what the line says.
 pub struct Found {
     pub player: Player,
     pub answers: bool,
@@ -23,7 +23,8 @@ fn set(engine: ModulationEngine, params: ModulationParams) -> Found {
     }
 }
 
-// Settings handed in: `w` and `f` the rate, depth and shape of wow and of flutter, `a` the amounts of drift and stereo.
+// Settings that are handed in: `w` and `f` are the rate, depth and shape of wow and of flutter, `a` the amounts of
+// drift and stereo.
 pub fn settings(
     e: ModulationEngine,
     mut p: ModulationParams,
@@ -51,7 +52,7 @@ pub fn settings(
     set(e, p)
 }
 
-// A digit from 0 to 4: three of the engine's 15 words.
+// A digit from 0 to 4 names three of the engine's 15 words.
 pub fn state(
     e: ModulationEngine,
     p: ModulationParams,

@@ -8,7 +8,7 @@ use crate::letters::state;
 use bit_patterns::float_of;
 use replay_lines::Line;
 
-// What a line leaves; whether it has an answer, and a star; whether what was found is another.
+// What a line leaves, whether it has an answer and a star, and whether another answer was found.
 pub struct Verdict {
     pub player: Player,
     pub answers: bool,
@@ -16,7 +16,7 @@ pub struct Verdict {
     pub differs: bool,
 }
 
-// A letter that is none of these is an answer that differs.
+// A letter that is none of these counts as an answer that differs.
 fn said(before: Player, letter: u8, a: u64, b: u64, c: u64) -> Found {
     let e = before.engine;
     let p = before.params;

@@ -46,14 +46,15 @@ fn replay(before: Course, line: Line) -> Course {
     }
 }
 
-// The next 53 bytes, where there are so many.
+// The next 53 bytes, a line, if there are so many.
 fn hear() -> Heard {
     let mut text = [0u8; 53];
     let n = io::read_full(STDIN_FILENO, &mut text);
     replay_lines::line_heard(n, &text)
 }
 
-// Line after line: as many as a u64 counts, which no input outlasts.
+// Goes line after line. The loop counts down from the largest u64, because the language demands that it ends; no input
+// is that long.
 fn run(start: Course) -> Seen {
     let mut r = start;
     let mut next = hear();

@@ -1,5 +1,6 @@
-// A call from standard input: six words of sixteen hex digits, then one for each sample, a blank behind each, and the
-// line's end.
+// A call from standard input: six words of sixteen hex digits, then one for each sample, none for a header, a blank
+// behind each, and the line's end.
+ghost use Prim.Native.Nat.{_≤_};
 use libc::STDIN_FILENO;
 use replay_lines::within;
 use word_bytes::word_at;
@@ -11,7 +12,7 @@ pub struct Heard {
     pub channels: u8,
     pub rate: u32,
     pub room: usize,
-    pub narrow: bool,
+    pub what: u8,
     pub count: usize,
 }
 
@@ -22,8 +23,9 @@ const MOST: usize = 64;
 pub fn hear(words: &mut [u64; 64]) -> Heard {
     let mut head = [0u8; 102];
     let told = io::read_full(STDIN_FILENO, &mut head);
-    let count = within(word_at(&head, 85) as usize, MOST);
-    let rest = 17 * count + 1;
+    let what = (word_at(&head, 68) % 0x100) as u8;
+    let count = word_at(&head, 85) as usize;
+    let rest = 17 * samples(what, count) + 1;
     let mut text = [0u8; 1089];
     let got = io::read_full(STDIN_FILENO, &mut text[..rest]);
     put_words(&text, words);
@@ -33,9 +35,16 @@ pub fn hear(words: &mut [u64; 64]) -> Heard {
         channels: (word_at(&head, 17) % 0x100) as u8,
         rate: (word_at(&head, 34) % 0x1_0000_0000) as u32,
         room: word_at(&head, 51) as usize,
-        narrow: word_at(&head, 68) == 1,
+        what,
         count,
     }
+}
+
+// How many follow the six words.
+fn samples(what: u8, count: usize) -> usize
+    ensures { λ r. ⌜ r ≤ 64 ⌝ }
+{
+    if what > 1 { 0 } else { within(count, MOST) }
 }
 
 fn put_words(text: &[u8; 1089], words: &mut [u64; 64]) {

@@ -1,9 +1,10 @@
-// The program that replays a stored list of WAV files to be written (W2).
-// A line of standard input is a call: the kind's code, channels, rate, the buffer's length, whether the samples are
-// f32s (0 or 1) and their number, then each sample's pattern, all in sixteen hex digits with a blank behind them. A
-// line is written for each: the refusal's number, 0 for none, the length that is answered, 0 where it is refused, what
-// `wav_header::file_length` says, and the buffer's bytes, which were A5 before, two hex digits each.
-// oracle/lists/written.py makes the list, from document 02 alone. A trailing part of a line is ignored.
+// The program that replays a stored list of WAV files and headers to be written (W2, W10).
+// A line of standard input is a call: the kind's code, channels, rate, the buffer's length, what is written (0 a file
+// of f64s, 1 one of f32s, 2 the header of an RF64 file, 3 of a BW64 file) and the number of samples, then of a file
+// each sample's pattern, all in sixteen hex digits with a blank behind them. A line is written for each: the refusal's
+// number, 0 for none, the length that is answered, 0 where it is refused, of a header what `header_length_for` says,
+// what `long_header::file_length_for` says, and the buffer's bytes, which were A5 before, two hex digits each.
+// oracle/lists/written.py makes the list, from document 02's text. A trailing part of a line is ignored.
 mod heard; // a call from standard input
 mod said; // what is written to standard output
 
@@ -11,6 +12,10 @@ use bit_patterns::float_of;
 use bit_patterns::float_of_f32;
 use heard::Heard;
 use heard::hear;
+use long_header::Form;
+use long_header::file_length_for;
+use long_header::header_length_for;
+use long_header::header_of;
 use replay_lines::within;
 use said::tell;
 use sample_kind::of_code;
@@ -70,13 +75,14 @@ fn replay(heard: Heard, words: &[u64; 64]) {
     let mut out = [0xA5u8; 512];
     let room = within(heard.room, 512);
     let answer = wav_write::write(
+        Form::Rf64,
         kind,
         heard.channels,
         heard.rate,
         &samples[..n],
         &mut out[..room],
     );
-    let told = wav_header::file_length(kind, heard.channels, n);
+    let told = file_length_for(kind, heard.channels, n);
     tell(refusal(answer), length(answer), told, &out, room);
 }
 
@@ -88,14 +94,49 @@ fn replay_f32(heard: Heard, words: &[u64; 64]) {
     let mut out = [0xA5u8; 512];
     let room = within(heard.room, 512);
     let answer = wav_write::write_f32(
+        Form::Rf64,
         kind,
         heard.channels,
         heard.rate,
         &samples[..n],
         &mut out[..room],
     );
-    let told = wav_header::file_length(kind, heard.channels, n);
+    let told = file_length_for(kind, heard.channels, n);
     tell(refusal(answer), length(answer), told, &out, room);
+}
+
+fn replay_header(heard: Heard) {
+    let kind = of_code(heard.kind);
+    let form = if heard.what == 2 {
+        Form::Rf64
+    } else {
+        Form::Bw64
+    };
+    let mut out = [0xA5u8; 512];
+    let room = within(heard.room, 512);
+    let refused = header_of(
+        form,
+        kind,
+        heard.channels,
+        heard.rate,
+        heard.count,
+        &mut out[..room],
+    );
+    let long = header_length_for(kind, heard.count);
+    let told = file_length_for(kind, heard.channels, heard.count);
+    tell(refused, long, told, &out, room);
+}
+
+fn replay_one(heard: Heard, words: &[u64; 64]) {
+    if heard.what == 0 {
+        replay(heard, words);
+        return;
+    }
+    if heard.what == 1 {
+        replay_f32(heard, words);
+        return;
+    }
+    replay_header(heard);
 }
 
 // Line after line: as many as a u64 counts, which no input outlasts.
@@ -105,11 +146,7 @@ fn main() {
     let mut more = heard.whole;
     let mut turns = u64::MAX;
     while turns > 0 && more {
-        if heard.narrow {
-            replay_f32(heard, &words);
-        } else {
-            replay(heard, &words);
-        }
+        replay_one(heard, &words);
         heard = hear(&mut words);
         more = heard.whole;
         turns -= 1;

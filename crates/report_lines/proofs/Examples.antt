@@ -1,4 +1,4 @@
--- Files and lengths in time, to the byte: computed over the definitions that the contracts cite. Assumes nothing.
+-- Files and lengths in time, to the byte, computed from the definitions that the contracts cite. Assumes nothing.
 use mathlib.Core.Path.{_≡_, refl}
 use mathlib.Core.Bool.{true, false}
 use mathlib.Core.List.{[]}
@@ -28,13 +28,13 @@ unfolding ascii decimalTo pluralText countText fileText twoText threeText clockT
     lookedText
 wrapped = refl
 
--- a rate of 0 tells no length
+-- A rate of 0 gives no length.
 no-rate : lookedText Pcm16 1 0 7 false ≡ ascii "PCM of 16 bits, 1 channel, 0 Hz, 7 frames\n"
 unfolding ascii decimalTo pluralText countText fileText twoText threeText clockText lengthText timeText wrappedText
     lookedText
 no-rate = refl
 
--- one frame short of an hour is cut down, not rounded
+-- One frame short of an hour is rounded down.
 before-the-hour : lengthText 172799999 48000 ≡ ascii "0:59:59.999"
 unfolding ascii decimalTo twoText threeText clockText lengthText
 before-the-hour = refl
@@ -43,12 +43,12 @@ hour : lengthText 172800000 48000 ≡ ascii "1:00:00.000"
 unfolding ascii decimalTo twoText threeText clockText lengthText
 hour = refl
 
--- zeros stand in front of thousandths, seconds and minutes
+-- Zeros stand in front of thousandths, seconds and minutes.
 zeros : lengthText 29280032 8000 ≡ ascii "1:01:00.004"
 unfolding ascii decimalTo twoText threeText clockText lengthText
 zeros = refl
 
--- the most frames that a word counts, at the lowest rate
+-- The most frames that a word counts, at the lowest rate.
 longest : lengthText 18446744073709551615 1 ≡ ascii "5124095576030431:00:15.000"
 unfolding ascii decimalTo twoText threeText clockText lengthText
 longest = refl

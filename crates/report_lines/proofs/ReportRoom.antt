@@ -1,4 +1,5 @@
--- How many bytes the lines of a report can have: a channel's line at most 320, the others at most 100. Assumes nothing.
+-- How many bytes the lines of a report can have: the line of a channel at most 320, the others at most 100. Assumes
+-- nothing.
 use mathlib.Core.Bool.{Bool, true, false}
 use mathlib.Core.List.{List, _++_}
 use Prim.Native.Nat.{ℕ, _+_, _*_, _-_, _/_, _%_, _≤_}

@@ -1,4 +1,4 @@
--- The lines of a residual's report, to the byte: computed over the definitions that the contracts cite. Assumes
+-- The lines of a residual's report, to the byte, computed from the definitions that the contracts cite. Assumes
 -- nothing.
 use mathlib.Core.Path.{_≡_, refl}
 use mathlib.Core.List.{_++_}
@@ -27,14 +27,14 @@ same : channelText 2 (reported 1 0 0 0 0) None
 unfolding ascii decimalTo largestText sumText figuresText channelText
 same = refl
 
--- a sum of more than 64 bits
+-- A sum of more than 64 bits.
 loud : channelText 1 (reported 68719476736 16777215 5 1048575 16140901133215334400) (Below 0)
     ≡ ascii "channel 1: number 68719476736, largest 16777215, place 5, sum 19342810807991126301081600, " ++
     ascii "high 1048575, low 16140901133215334400, level +6.1 dB\n"
 unfolding ascii decimalTo sizeText tenthsText largestText sumText figuresText channelText
 loud = refl
 
--- where nothing was compared
+-- Nothing was compared.
 nothing : channelText 1 emptyReport None ≡ ascii "channel 1: number 0\n"
 unfolding ascii decimalTo figuresText channelText
 nothing = refl

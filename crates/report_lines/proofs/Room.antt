@@ -1,5 +1,5 @@
--- How many bytes the texts can have, so that a program knows how large a slice cuts none of them off. By the digits of
--- a word, of which there are at most 20. Assumes nothing.
+-- How many bytes the texts can have, so that a program knows how large a slice must be to hold them whole. By the
+-- digits of a word, of which there are at most 20. Assumes nothing.
 use mathlib.Core.Path.{_≡_, refl, _∙_}
 use mathlib.Core.Bool.{Bool, true, false, cond}
 use mathlib.Core.List.{List, _++_}
@@ -18,7 +18,7 @@ use Rattle.report_lines.specs.Files.{kindText, pluralText, countText, fi
 use Rattle.report_lines.specs.Times.{twoText, threeText, clockText, lengthText}
 use Rattle.report_lines.specs.Looked.{timeText, wrappedText, lookedText}
 
--- where a text has room, what stands up to the place after it is that text
+-- If a text has room, what stands up to the place after it is that text.
 pub whole : (text out : List ℕ) {r : ℕ} {ys : List ℕ} → length text ≤ length out → Puts out 0 text r ys
     → take r ys ≡ text
 whole text out h p =

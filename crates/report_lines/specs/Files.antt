@@ -12,15 +12,15 @@ kindText Pcm16 = ascii "PCM of 16 bits"
 kindText Pcm24 = ascii "PCM of 24 bits"
 kindText Float32 = ascii "float of 32 bits"
 
--- An s stands behind the name of things unless there is exactly one.
+-- The plural ends in an s unless there is exactly one.
 unfoldable pub pluralText : ℕ → List ℕ
 pluralText n = cond (eqb n 1) [] (ascii "s")
 
--- So many of a thing.
+-- A number of things.
 unfoldable pub countText : ℕ → List ℕ → List ℕ
 countText n thing = decimal n ++ (ascii " " ++ (thing ++ pluralText n))
 
--- A file: what its samples are, its channels, its rate and its frames.
+-- A file: the kind of its samples, its channels, its rate and its frames.
 unfoldable pub fileText : SampleKind → ℕ → ℕ → ℕ → List ℕ
 fileText kind channels rate frames =
     kindText kind ++ (ascii ", " ++ (countText channels (ascii "channel") ++

@@ -27,26 +27,26 @@ unfoldable pub largestText : ℕ → Place → List ℕ
 largestText largest place =
     ascii ", largest " ++ (decimal largest ++ (ascii ", place " ++ placeText place))
 
--- What follows the number: nothing where nothing was compared.
+-- What follows the number of samples; nothing if nothing was compared.
 unfoldable pub figuresText : Report → Level → List ℕ
 figuresText r level =
     cond (eqb (r .number) 0) []
     (largestText (r .largest) (r .place) ++ (ascii ", sum " ++ (sumText (r .high) (r .low) ++
     (ascii ", level " ++ levelText level))))
 
--- A channel's line.
+-- The line of a channel.
 unfoldable pub channelText : ℕ → Report → Level → List ℕ
 channelText channel r level =
     ascii "channel " ++ (decimal channel ++ (ascii ": number " ++ (decimal (r .number) ++
     (figuresText r level ++ ascii "\n"))))
 
--- From which frames on two files were compared.
+-- The first frames of two files that are compared.
 unfoldable pub comparedText : ℕ → ℕ → List ℕ
 comparedText first second =
     ascii "compared: first from frame " ++ (decimal first ++
     (ascii ", second from frame " ++ (decimal second ++ ascii "\n")))
 
--- How many frames each has behind the last one compared.
+-- How many frames each file has behind the last one compared.
 unfoldable pub leftOverText : ℕ → ℕ → List ℕ
 leftOverText first second =
     ascii "left over: first " ++ (countText first (ascii "frame") ++

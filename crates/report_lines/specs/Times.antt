@@ -5,7 +5,7 @@ use mathlib.Core.List.{List, [], _++_}
 use lib.Dec.{eqb, ltb}
 use Rattle.text.specs.Text.{ascii, decimal}
 
--- At least two digits, and at least three: zeros stand in front.
+-- At least two digits, and at least three, with zeros in front.
 unfoldable pub twoText : ℕ → List ℕ
 twoText n = cond (ltb n 10) (ascii "0" ++ decimal n) (decimal n)
 
@@ -18,7 +18,8 @@ clockText seconds thousandths =
     decimal (seconds / 3600) ++ (ascii ":" ++ (twoText (seconds / 60 % 60) ++
     (ascii ":" ++ (twoText (seconds % 60) ++ (ascii "." ++ threeText thousandths)))))
 
--- How long so many frames last at a rate, cut down to whole thousandths. A rate of 0 tells no length: there is no text.
+-- How long some frames last at a rate, rounded down to thousandths of a second. A rate of 0 gives no length, so there
+-- is no text.
 unfoldable pub lengthText : ℕ → ℕ → List ℕ
 lengthText frames rate =
     cond (eqb rate 0) [] (clockText (frames / rate) (frames % rate * 1000 / rate))

@@ -5,7 +5,7 @@ ghost use Rattle.text.specs.Text.{putAt, placeAfter};
 ghost use Rattle.report_lines.specs.Files.{kindText, pluralText, countText, fileText};
 use sample_kind::SampleKind;
 
-// `PCM of 16 bits`, `PCM of 24 bits`, `float of 32 bits`.
+// The words are `PCM of 16 bits`, `PCM of 24 bits` and `float of 32 bits`.
 pub fn put_kind(out: &mut [u8], at: usize, kind: SampleKind) -> usize
     ensures { λ r. ⌜ r ≡ placeAfter (length (now (out .entry))) at (kindText kind) ⌝ }
     ensures { λ r. ⌜ now (out .exit) ≡ putAt (now (out .entry)) at (kindText kind) ⌝ }
@@ -17,7 +17,7 @@ pub fn put_kind(out: &mut [u8], at: usize, kind: SampleKind) -> usize
     }
 }
 
-// The s of several things.
+// The plural ends in an s unless there is exactly one.
 fn put_plural(out: &mut [u8], at: usize, n: u64) -> usize
     ensures { λ r. ⌜ r ≡ placeAfter (length (now (out .entry))) at (pluralText n) ⌝ }
     ensures { λ r. ⌜ now (out .exit) ≡ putAt (now (out .entry)) at (pluralText n) ⌝ }
@@ -28,8 +28,8 @@ fn put_plural(out: &mut [u8], at: usize, n: u64) -> usize
     text::put(out, at, b"s")
 }
 
-// So many of a thing: `1 frame`, `2 frames`.
-pub(crate) fn put_count(out: &mut [u8], at: usize, n: u64, thing: &[u8]) -> usize
+// A number of things: `1 frame`, `2 frames`.
+pub fn put_count(out: &mut [u8], at: usize, n: u64, thing: &[u8]) -> usize
     ensures { λ r. ⌜ r ≡ placeAfter (length (now (out .entry))) at (countText n (now (thing .entry))) ⌝ }
     ensures { λ r. ⌜ now (out .exit) ≡ putAt (now (out .entry)) at (countText n (now (thing .entry))) ⌝ }
 {
@@ -39,7 +39,7 @@ pub(crate) fn put_count(out: &mut [u8], at: usize, n: u64, thing: &[u8]) -> usiz
     put_plural(out, end, n)
 }
 
-// `PCM of 24 bits, 1 channel, 48000 Hz, 480000 frames`.
+// The form is `PCM of 24 bits, 1 channel, 48000 Hz, 480000 frames`.
 pub fn put_file(
     out: &mut [u8],
     at: usize,

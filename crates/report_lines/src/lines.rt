@@ -9,7 +9,6 @@ use decibels::Level;
 use residual::Place;
 use residual::Report;
 
-// Where the largest difference stands first.
 fn put_place(out: &mut [u8], at: usize, place: Place) -> usize
     ensures { λ r. ⌜ r ≡ placeAfter (length (now (out .entry))) at (placeText place) ⌝ }
     ensures { λ r. ⌜ now (out .exit) ≡ putAt (now (out .entry)) at (placeText place) ⌝ }
@@ -20,7 +19,7 @@ fn put_place(out: &mut [u8], at: usize, place: Place) -> usize
     }
 }
 
-// The sum, whole and in its halves.
+// The sum of squares as one number, and as the two halves that a report carries.
 fn put_sum(out: &mut [u8], at: usize, high: u64, low: u64) -> usize
     ensures { λ r. ⌜ r ≡ placeAfter (length (now (out .entry))) at (sumText high low) ⌝ }
     ensures { λ r. ⌜ now (out .exit) ≡ putAt (now (out .entry)) at (sumText high low) ⌝ }
@@ -32,7 +31,6 @@ fn put_sum(out: &mut [u8], at: usize, high: u64, low: u64) -> usize
     text::put_decimal(out, lower, low)
 }
 
-// The largest difference and its place.
 fn put_largest(out: &mut [u8], at: usize, largest: u32, place: Place) -> usize
     ensures { λ r. ⌜ r ≡ placeAfter (length (now (out .entry))) at (largestText largest place) ⌝ }
     ensures { λ r. ⌜ now (out .exit) ≡ putAt (now (out .entry)) at (largestText largest place) ⌝ }
@@ -43,7 +41,7 @@ fn put_largest(out: &mut [u8], at: usize, largest: u32, place: Place) -> usize
     put_place(out, second, place)
 }
 
-// What follows the number: nothing where nothing was compared.
+// What follows the number of samples; nothing if nothing was compared.
 fn put_figures(out: &mut [u8], at: usize, report: Report, level: Level) -> usize
     ensures { λ r. ⌜ r ≡ placeAfter (length (now (out .entry))) at (figuresText report level) ⌝ }
     ensures { λ r. ⌜ now (out .exit) ≡ putAt (now (out .entry)) at (figuresText report level) ⌝ }
@@ -59,7 +57,7 @@ fn put_figures(out: &mut [u8], at: usize, report: Report, level: Level) -> usize
     level_text::put_level(out, last, level)
 }
 
-// A channel's line. Where nothing was compared it ends with the number.
+// The line of a channel. If nothing was compared it ends with the number of samples.
 pub fn put_channel(out: &mut [u8], at: usize, channel: u8, report: Report, level: Level) -> usize
     ensures { λ r. ⌜ r ≡ placeAfter (length (now (out .entry))) at (channelText channel report level) ⌝ }
     ensures { λ r. ⌜ now (out .exit) ≡ putAt (now (out .entry)) at (channelText channel report level) ⌝ }
@@ -72,7 +70,7 @@ pub fn put_channel(out: &mut [u8], at: usize, channel: u8, report: Report, level
     text::put(out, end, b"\n")
 }
 
-// From which frame of each file the comparison runs.
+// The first frame of each file that is compared.
 pub fn put_compared(out: &mut [u8], at: usize, first: u64, second: u64) -> usize
     ensures { λ r. ⌜ r ≡ placeAfter (length (now (out .entry))) at (comparedText first second) ⌝ }
     ensures { λ r. ⌜ now (out .exit) ≡ putAt (now (out .entry)) at (comparedText first second) ⌝ }

@@ -1,4 +1,4 @@
-// What `look` writes behind a file's name.
+// What `look` writes behind the name of a file.
 ghost use mathlib.Core.Path.{_≡_};
 ghost use lib.ListN.{length};
 ghost use Rattle.text.specs.Text.{putAt, placeAfter};
@@ -7,7 +7,7 @@ use crate::files::put_file;
 use crate::times::put_length;
 use sample_kind::SampleKind;
 
-// The length in time with its comma; nothing at a rate of 0.
+// The length in time with a comma in front; nothing at a rate of 0.
 fn put_time(out: &mut [u8], at: usize, frames: u64, rate: u32) -> usize
     ensures { λ r. ⌜ r ≡ placeAfter (length (now (out .entry))) at (timeText frames rate) ⌝ }
     ensures { λ r. ⌜ now (out .exit) ≡ putAt (now (out .entry)) at (timeText frames rate) ⌝ }
@@ -19,7 +19,7 @@ fn put_time(out: &mut [u8], at: usize, frames: u64, rate: u32) -> usize
     put_length(out, to, frames, rate)
 }
 
-// That a header has the longer form, and the line's end.
+// Whether the header has the longer form, and the end of the line.
 fn put_wrapped(out: &mut [u8], at: usize, wrapped: bool) -> usize
     ensures { λ r. ⌜ r ≡ placeAfter (length (now (out .entry))) at (wrappedText wrapped) ⌝ }
     ensures { λ r. ⌜ now (out .exit) ≡ putAt (now (out .entry)) at (wrappedText wrapped) ⌝ }
@@ -30,7 +30,6 @@ fn put_wrapped(out: &mut [u8], at: usize, wrapped: bool) -> usize
     text::put(out, at, b"\n")
 }
 
-// What `look` writes behind a file's name.
 pub fn put_looked(
     out: &mut [u8],
     at: usize,

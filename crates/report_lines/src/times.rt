@@ -4,7 +4,7 @@ ghost use lib.ListN.{length};
 ghost use Rattle.text.specs.Text.{putAt, placeAfter};
 ghost use Rattle.report_lines.specs.Times.{twoText, threeText, clockText, lengthText};
 
-// At least two digits.
+// Puts at least two digits.
 fn put_two(out: &mut [u8], at: usize, n: u64) -> usize
     ensures { λ r. ⌜ r ≡ placeAfter (length (now (out .entry))) at (twoText n) ⌝ }
     ensures { λ r. ⌜ now (out .exit) ≡ putAt (now (out .entry)) at (twoText n) ⌝ }
@@ -16,7 +16,7 @@ fn put_two(out: &mut [u8], at: usize, n: u64) -> usize
     text::put_decimal(out, at, n)
 }
 
-// At least three digits.
+// Puts at least three digits.
 fn put_three(out: &mut [u8], at: usize, n: u64) -> usize
     ensures { λ r. ⌜ r ≡ placeAfter (length (now (out .entry))) at (threeText n) ⌝ }
     ensures { λ r. ⌜ now (out .exit) ≡ putAt (now (out .entry)) at (threeText n) ⌝ }
@@ -28,7 +28,7 @@ fn put_three(out: &mut [u8], at: usize, n: u64) -> usize
     put_two(out, at, n)
 }
 
-// `0:00:25.720` for 25 seconds and 720 thousandths.
+// The form is `0:00:25.720` for 25 seconds and 720 thousandths.
 fn put_clock(out: &mut [u8], at: usize, seconds: u64, thousandths: u64) -> usize
     ensures { λ r. ⌜ r ≡ placeAfter (length (now (out .entry))) at (clockText seconds thousandths) ⌝ }
     ensures { λ r. ⌜ now (out .exit) ≡ putAt (now (out .entry)) at (clockText seconds thousandths) ⌝ }
@@ -42,8 +42,8 @@ fn put_clock(out: &mut [u8], at: usize, seconds: u64, thousandths: u64) -> usize
     put_three(out, last, thousandths)
 }
 
-// How long so many frames last, cut down to a thousandth of a second. Nothing is put at a rate of 0. The rest of a
-// division by the rate is below 2^32, so a thousand times it fits a word.
+// How long some frames last, rounded down to a thousandth of a second. Nothing is put at a rate of 0. The remainder of
+// a division by the rate is below 2^32, so 1000 times it fits a word.
 pub fn put_length(out: &mut [u8], at: usize, frames: u64, rate: u32) -> usize
     ensures { λ r. ⌜ r ≡ placeAfter (length (now (out .entry))) at (lengthText frames rate) ⌝ }
     ensures { λ r. ⌜ now (out .exit) ≡ putAt (now (out .entry)) at (lengthText frames rate) ⌝ }

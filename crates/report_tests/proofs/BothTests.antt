@@ -1,4 +1,4 @@
--- Both of two tests, and each. Assumes nothing.
+-- A conjunction of two tests holds exactly if each of them does. Assumes nothing.
 use mathlib.Core.Path.{_≡_, refl}
 use mathlib.Core.Bool.{Bool, true, false, _&&_}
 

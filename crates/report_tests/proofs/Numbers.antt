@@ -1,4 +1,4 @@
--- W13. A carried report's numbers: what the test says, and the ways out of `numbers_ok`. Assumes nothing.
+-- W13. The numbers of a carried report: what the test shows, and the returns of `numbers_ok`. Assumes nothing.
 use mathlib.Core.Path.{_≡_, _∙_}
 use mathlib.Core.Bool.{Bool, true, false, _&&_}
 use Prim.Native.Nat.{ℕ, _-_, _*_, _^_, _≤_, _<_}
@@ -33,7 +33,7 @@ in-numbers n l s v =
     both-true (le-leb n (2 ^ 36) (v .few)) (both-true (le-leb l (2 ^ 24 - 1) (omega (arith, v .small)))
     (both-true (le-leb (l * l) s (v .least)) (le-leb s (n * (l * l)) (v .most))))
 
--- ---- the ways out of `numbers_ok`
+-- ---- the returns of `numbers_ok`
 pub too-many : (n l s : ℕ) → 2 ^ 36 < n → false ≡ numbersOk n l s
 unfolding numbersOk
 too-many n l s h = rw (lt-leb n (2 ^ 36) h)

@@ -1,4 +1,4 @@
--- Every value of a stretch is one of 24 bits: what a loop over an index asks. Assumes nothing.
+-- Every value of a stretch is one of 24 bits, as a loop over an index needs it. Assumes nothing.
 use mathlib.Core.Path.{_≡_, refl, ap, _∙_}
 use mathlib.Core.Bool.{Bool, true, _&&_}
 use mathlib.Core.List.{List, [], _∷_, _++_}

@@ -1,4 +1,4 @@
--- Products that exceed a word, in units of 2^24, and the sums that are held beside them. Assumes nothing.
+-- Products that exceed a word, in units of 2^24, and the sums that are compared with them. Assumes nothing.
 use mathlib.Core.Path.{_≡_, refl, sym, ap, _∙_}
 use mathlib.Core.Bool.{Bool, true, false}
 use Prim.Native.Nat.{ℕ, _+_, _*_, _^_, _/_, _%_, _≤_, _<_}

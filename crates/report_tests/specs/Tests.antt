@@ -1,4 +1,4 @@
--- W13g. What a residual's call asks of numbers alone. Definitions only.
+-- W13g. The tests of a residual's call that concern numbers alone. Definitions only.
 use Prim.Native.Nat.{ℕ, _+_, _-_, _*_, _^_}
 use mathlib.Core.Bool.{Bool, true, _&&_}
 use mathlib.Core.List.{List, [], _∷_}
@@ -7,7 +7,7 @@ use lib.IntN.{ℤ, pos, negsuc}
 use lib.Signed.{leZ}
 use Rattle.constants.specs.Numbers.{limit}
 
--- 1. A 24-bit value is one from -2^23 to 2^23 - 1; every value of a stretch is.
+-- Test 1: every value of a stretch has 24 bits, so it lies from -2^23 to 2^23 - 1.
 abbrev pub in24 : ℤ → Bool
 in24 x = leZ (negsuc (2 ^ 23 - 1)) x && leZ x (pos (2 ^ 23 - 1))
 
@@ -15,14 +15,14 @@ unfoldable pub all24 : List ℤ → Bool
 all24 [] = true
 all24 (x ∷ xs) = in24 x && all24 xs
 
--- 3. A sum from largest squared to number × largest squared.
+-- Test 3: the sum lies from largest squared to number × largest squared.
 abbrev pub sumOk : ℕ → ℕ → ℕ → Bool
 sumOk n l s = leb (l * l) s && leb s (n * (l * l))
 
--- 3. A number of at most 2^36, a largest difference of at most 2^24 - 1, and such a sum.
+-- Test 3: the number is at most 2^36, the largest difference at most 2^24 - 1, and the sum between these ends.
 unfoldable pub numbersOk : ℕ → ℕ → ℕ → Bool
 numbersOk n l s = leb n limit && (leb l (2 ^ 24 - 1) && sumOk n l s)
 
--- 8. At most 2^36 samples in all.
+-- Test 8: there are at most 2^36 samples in all.
 abbrev pub roomFor : ℕ → ℕ → Bool
 roomFor n more = leb (n + more) limit

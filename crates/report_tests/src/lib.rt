@@ -1,5 +1,6 @@
-// The tests of a residual's call that ask for numbers alone (W13g).
-// They are the values of a stretch (1), a carried report's numbers (3), and how many samples there are in all (8).
+// The tests of a residual's call that concern numbers alone (W13g).
+// They test the values of a stretch (1), the numbers of a carried report (3), and how many samples there are in all
+// (8).
 ghost use mathlib.Core.Path.{_≡_};
 ghost use Prim.Native.Nat.{_+_, _*_, _^_, _<_, _≤_};
 ghost use lib.Dec.{leb};
@@ -32,7 +33,7 @@ fn at_least(high: u64, low: u64, square: u64) -> bool
     if high > 0 { true } else { square <= low }
 }
 
-// Both sides in units of 2^24 and what is left over, so that each fits a word: number × square is below 2^85.
+// Both sides are divided by 2^24 with remainder, so that each part fits a word: number × square is below 2^85.
 fn at_most(high: u64, low: u64, number: u64, square: u64) -> bool
     requires { ⌜ (number ≤ 2 ^ 36) × (square < 2 ^ 48) ⌝ }
     ensures { λ r. ⌜ r ≡ leb (high * 2 ^ 64 + low) (number * square) ⌝ }
@@ -52,7 +53,7 @@ fn at_most(high: u64, low: u64, number: u64, square: u64) -> bool
     low % 0x100_0000 <= rest % 0x100_0000
 }
 
-// 3. Of a carried report the number, the largest difference and the sum of squares, high * 2^64 + low.
+// Test 3: the number, the largest difference and the sum of squares (high * 2^64 + low) of a carried report.
 pub fn numbers_ok(number: u64, largest: u32, high: u64, low: u64) -> bool
     ensures { λ r. ⌜ r ≡ numbersOk number largest (high * 2 ^ 64 + low) ⌝ }
 {
@@ -69,7 +70,7 @@ pub fn numbers_ok(number: u64, largest: u32, high: u64, low: u64) -> bool
     )
 }
 
-// 8. No more than 2^36 samples in all; the number may be any.
+// Test 8: no more than 2^36 samples in all. Any number may be handed in.
 pub fn fits(number: u64, more: usize) -> bool
     ensures { λ r. ⌜ r ≡ roomFor number more ⌝ }
 {

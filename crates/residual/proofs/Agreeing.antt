@@ -1,4 +1,4 @@
--- Counting on plain numbers agrees with carrying a report on, for every report that is in range. Assumes nothing.
+-- Counting on plain numbers agrees with extending a report, for every report that is in range. Assumes nothing.
 use mathlib.Core.Path.{_≡_, refl, sym, ap, _∙_}
 use mathlib.Core.Bool.{Bool, true, false, cond}
 use mathlib.Core.List.{List, [], _∷_, foldl}
@@ -15,7 +15,7 @@ use Rattle.residual.specs.Refusals.{placeOk}
 use Rattle.residual.specs.Tallies.{indexOf, tallyOf, toldOf, stepOf}
 use Rattle.residual.proofs.ValidReport.{Valid}
 
--- empty, with no place and nothing largest; or not empty, with a place
+-- A report is empty, with no place and no largest difference, or it is not empty and has a place.
 pub data Fit (r : Report) : Type 0 where
   nothing : r .number ≡ 0 → r .largest ≡ 0 → r .place ≡ Nowhere → Fit r
   something : (k : ℕ) → 0 < r .number → r .place ≡ At k → Fit r

@@ -1,5 +1,5 @@
--- A block of differences counted at once: the three sums of products of parts make the sum of the squares, and where no
--- difference is above the largest so far, only the number and the sum change. By the differences, one after the other.
+-- A block of differences counted at once: the three sums of products of parts make the sum of the squares, and if no
+-- difference is above the largest so far, only the number and the sum change. By induction over the differences.
 -- Assumes nothing.
 use mathlib.Core.Path.{_≡_, refl, sym, ap, _∙_, subst}
 use mathlib.Core.Bool.{Bool, true, _&&_}
@@ -48,7 +48,7 @@ space-fold top p [] n s = subst (Space p) (zero-add n) s
 space-fold top p (d ∷ ds) n s =
     space-fold top (partOf top p d) ds n (space-step top p d (length ds + n) (subst (Space p) (omega arith) s))
 
--- ---- what the fold holds
+-- ---- what the loop computes
 sum-step : (top : ℕ) (p : Parts) (d : ℕ) → d < 2 ^ 24 → sumOfParts (partOf top p d) ≡ sumOfParts p + d * d
 unfolding partOf
 sum-step top p d h = omega (arith, square-parts d h)
@@ -107,7 +107,7 @@ added-fold t (d ∷ ds) half h =
     ∙ right-true (leb d (t .largest)) (noneAbove (t .largest) ds) h)
     ∙ added-step t d (length ds) (squares ds) top
 
--- The block's sums, added at once, are its differences counted one by one.
+-- Adding the sums of a block at once is the same as counting its differences one by one.
 pub quietly : (t : Tally) (ds : List ℕ) {p : Parts} {n : ℕ} → t .low < 2 ^ 64 → Small ds → length ds ≡ n
     → p ≡ foldl (partOf (t .largest)) noParts ds → p .quiet ≡ true → addedTo t n (sumOfParts p) ≡ foldl stepOf t ds
 quietly t ds {p} {n} half small e f q =

@@ -1,5 +1,5 @@
--- W13. Cutting the stretch differently gives the same answers: after a call that is not refused, the next call answers,
--- report or refusal, as one call over both stretches does. Assumes nothing.
+-- W13. Cutting the stretch differently gives the same answers: after a call that is not refused, the next call gives
+-- the same report or refusal as one call over both stretches. Assumes nothing.
 use mathlib.Core.Path.{_≡_, refl, sym, ap, _∙_}
 use mathlib.Core.Bool.{Bool, true, false, _&&_}
 use mathlib.Core.List.{List, [], _∷_, _++_, foldl}

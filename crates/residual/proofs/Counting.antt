@@ -1,4 +1,4 @@
--- Counting difference by difference, or a block of them at once: there is room for each. Assumes nothing.
+-- Counting differences one by one, or a block of them at once: there is room for each. Assumes nothing.
 use mathlib.Core.Path.{_≡_, sym, subst}
 use mathlib.Core.Bool.{cond}
 use mathlib.Core.List.{List, [], _∷_, foldl}
@@ -50,7 +50,7 @@ step-is t d half small ew eg ex ek =
     let less : d * d < 2 ^ 64 = omega arith in
     rw (ek, eg, ex, ew, high-half (t .high) (t .low) (d * d) half less, low-half (t .high) (t .low) (d * d) half less)
 
--- a whole block of them, field by field
+-- A whole block of differences, field by field.
 pub added-is : (t : Tally) (n s : ℕ) {w k : ℕ} → t .low < 2 ^ 64 → s < 2 ^ 64 → w ≡ (t .low + s) % 2 ^ 64
     → k ≡ cond (ltb w s) 1 0
     → _≡_ {A = Tally}
@@ -72,7 +72,7 @@ room-for {t} {xs} {ys} i n ready inside e =
     (room-fold t (take i ds) n (small-take ds i (small-differences xs ys (a .left) (a .right)))
     (room-less (length (take i ds) + n) (omega arith) (ready .room)))
 
--- a part of k differences from index i on can be counted once those before it are
+-- A part of k differences from index i on can be counted when those before it have been.
 pub ready-part : {t v : Tally} (xs ys : List ℤ) (i k : ℕ) → Ready t xs ys → i + k ≤ length xs
     → v ≡ foldl stepOf t (take i (differences xs ys)) → Ready v (take k (drop i xs)) (take k (drop i ys))
 ready-part {t} {v} xs ys i k ready h e = record {

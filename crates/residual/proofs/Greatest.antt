@@ -1,5 +1,5 @@
--- The greatest number of a list, where a number stands first, and the sum of the squares, with one number more behind
--- the list. Assumes nothing.
+-- The greatest number of a list, where a number stands first, and the sum of the squares, for a list with one more
+-- number behind it. Assumes nothing.
 use mathlib.Core.Path.{_≡_, refl, ap, _∙_}
 use mathlib.Core.Bool.{Bool, true, false}
 use mathlib.Core.List.{List, [], _∷_, _++_}
@@ -46,7 +46,7 @@ pub alone : (d : ℕ) → d ≡ greatest (d ∷ [])
 unfolding greatest
 alone d = omega arith
 
--- the greatest of a list that is not empty stands in it
+-- The greatest number of a list that is not empty stands in it.
 pub greatest-found : (d : ℕ) (ds : List ℕ) → firstAt (greatest (d ∷ ds)) (d ∷ ds) ≤ length ds
 greatest-found d [] = rw (here (greatest (d ∷ [])) d [] (alone d)) (omega arith)
 greatest-found d (e ∷ ds) = go (eqb d (greatest (d ∷ e ∷ ds))) refl (greatest-found e ds)
@@ -58,7 +58,7 @@ greatest-found d (e ∷ ds) = go (eqb d (greatest (d ∷ e ∷ ds))) refl (great
         let n = eqb-false d (greatest (d ∷ e ∷ ds)) h in
         rw (later (greatest (d ∷ e ∷ ds)) d (e ∷ ds) n, tail-greatest d (e ∷ ds) n) (omega arith)
 
--- what stands in a list stands first where it did with more behind it
+-- The first place of a number in a list does not change if more is put behind the list.
 pub found : (g : ℕ) (ds us : List ℕ) → firstAt g ds < length ds → firstAt g (ds ++ us) ≡ firstAt g ds
 unfolding firstAt
 found g [] us h = absurd (omega arith)
@@ -69,7 +69,7 @@ found g (d ∷ ds) us h = go (eqb d g) refl (λ k. found g ds us k)
     go true e k = rw e
     go false e k = rw (e, k (le-of-suc-le-suc (rw e at h)))
 
--- a number above all stands first behind them
+-- A number above all others stands first behind them.
 pub above : (d : ℕ) (ds : List ℕ) → greatest ds < d → firstAt d (ds ++ (d ∷ [])) ≡ length ds
 unfolding greatest
 above d [] h = here d d [] refl

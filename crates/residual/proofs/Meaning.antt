@@ -1,6 +1,6 @@
--- W13. What a report says, with nothing run: carried on from the empty one, it is the number of all differences, the
--- greatest, the index at which that stands first, and the sum of the squares. By one step behind any list.
--- Assumes nothing.
+-- W13. What a report says, without any running. Extended from the empty one, it is the number of all differences, the
+-- greatest, the index at which that stands first, and the sum of the squares. By one step behind any list. Assumes
+-- nothing.
 use mathlib.Core.Path.{_≡_, refl, sym, ap, _∙_}
 use mathlib.Core.Bool.{Bool, true, false, cond}
 use mathlib.Core.List.{List, [], _∷_, _++_, foldl, append-assoc, append-nil}
@@ -24,7 +24,7 @@ first : (d : ℕ) → At 0 ≡ placeOf (d ∷ [])
 unfolding placeOf
 first d = ap At (sym (here (greatest (d ∷ [])) d [] (alone d)))
 
--- the place of the greatest, where the difference is above all so far and where it is not
+-- The place of the greatest, if the difference is above all so far and if it is not.
 placed-new : (e : ℕ) (ds : List ℕ) (d : ℕ) → greatest (e ∷ ds) < d
     → At (length (e ∷ ds)) ≡ placeOf ((e ∷ ds) ++ (d ∷ []))
 unfolding placeOf
@@ -77,7 +77,7 @@ one-more : (ds : List ℕ) (d : ℕ) → one (reportOf ds) d ≡ reportOf (ds ++
 unfolding one reportOf
 one-more ds d = report-is (ds ++ (d ∷ [])) (sym (length-more ds d)) (largest-one ds d) (place-one ds d) (sum-one ds d)
 
--- ---- any number of steps, from any beginning and from none
+-- ---- any number of steps, from any beginning and from the empty list
 carried-on : (ds us : List ℕ) → foldl one (reportOf ds) us ≡ reportOf (ds ++ us)
 carried-on ds [] = ap reportOf (sym (append-nil ds))
 carried-on ds (u ∷ us) =
@@ -93,7 +93,7 @@ unfolding carried
 from-nothing xs ys =
     ap (λ (r : Report). foldl one r (differences xs ys)) nothing-yet ∙ carried-on [] (differences xs ys)
 
--- the two halves are the sum
+-- The two halves make the sum.
 whole : (ds : List ℕ) → sumOf (reportOf ds) ≡ squares ds
 unfolding reportOf
 whole ds = omega arith

@@ -1,5 +1,4 @@
--- A part of a stretch: its differences are a part of the stretch's. By the elements, one after the other.
--- Assumes nothing.
+-- The differences of a part of a stretch are a part of the stretch's. By induction over the elements. Assumes nothing.
 use mathlib.Core.Path.{_≡_, refl, sym, ap, _∙_}
 use mathlib.Core.Bool.{true}
 use mathlib.Core.List.{List, [], _∷_, _++_}
@@ -58,7 +57,7 @@ all-take (suc k) (x ∷ xs) h =
 pub length-part : (i k : ℕ) (xs : List ℤ) → i + k ≤ length xs → length (take k (drop i xs)) ≡ k
 length-part i k xs h = simp (length-take, length-drop) (omega arith)
 
--- Parts of stretches that are alike are alike.
+-- Parts of two equally long stretches of 24-bit values are such stretches too.
 pub alike-part : (xs ys : List ℤ) (i k : ℕ) → Alike xs ys → i + k ≤ length xs
     → Alike (take k (drop i xs)) (take k (drop i ys))
 alike-part xs ys i k a h = record {

@@ -1,5 +1,5 @@
--- W13a, W13e, W13h. Any calls, refused ones among them, leave the report of one call over the accepted ones joined; so
--- cutting the stretch differently gives the same report. By the calls, one after the other. Assumes nothing.
+-- W13a, W13e, W13h. Any calls, of which some may be refused, leave the report of one call over the accepted ones
+-- joined; so cutting the stretch differently gives the same report. By induction over the calls. Assumes nothing.
 use mathlib.Core.Path.{_≡_, refl, sym, ap, _∙_}
 use mathlib.Core.Bool.{true, true≢false}
 use mathlib.Core.List.{List, [], _∷_}
@@ -18,7 +18,7 @@ use Rattle.residual.proofs.StaysInRange.{stays}
 use Rattle.residual.proofs.Meaning.{from-nothing, sum-is}
 use Rattle.residual.proofs.Calls.{number-carried, same-verdict}
 
--- ---- a call by its verdict
+-- ---- a call by its refusal
 was-taken : (r : Report) (c : Call) → verdict r (c .first) (c .second) ≡ 0
     → answer r c ≡ compared.Carried (carried r (c .first) (c .second))
 was-taken r c z = rw z
@@ -27,7 +27,7 @@ was-refused : (r : Report) (c : Call) (k : ℕ) → verdict r (c .first) (c .sec
     → answer r c ≡ compared.Refused (suc k)
 was-refused r c k z = rw z
 
--- W13h. A refused call answers its number, and the report behind it is the one before it.
+-- W13h. A refused call answers its number, and the report after it is the one before it.
 pub adds-nothing : (r : Report) (c : Call) (cs : List Call) (k : ℕ) → verdict r (c .first) (c .second) ≡ suc k
     → (answer r c ≡ compared.Refused (suc k)) × (ran r (c ∷ cs) ≡ ran r cs) × (kept r (c ∷ cs) ≡ kept r cs)
 unfolding ran kept
@@ -79,7 +79,7 @@ pub one-call : (r : Report) (cs : List Call) → reportOk r ≡ true
     → comparedOf r (firsts (kept r cs)) (seconds (kept r cs)) ≡ compared.Carried (ran r cs)
 one-call r cs h = rw (joined-taken r cs h, joined r cs)
 
--- From the empty report on, it says what Report.antt's `reportOf` says of all differences.
+-- From the empty report on, it is what `reportOf` in Report.antt says of all differences.
 pub from-empty : (cs : List Call)
     → ran emptyReport cs ≡ reportOf (differences (firsts (kept emptyReport cs)) (seconds (kept emptyReport cs)))
 from-empty cs = joined emptyReport cs ∙ from-nothing (firsts (kept emptyReport cs)) (seconds (kept emptyReport cs))
@@ -122,6 +122,6 @@ number-ran r cs h =
     rw (joined r cs) (number-carried r (firsts (kept r cs)) (seconds (kept r cs)) (a .long)) in
     (n, omega (arith, n, a .room))
 
--- A report of our own making is never refused by 3.
+-- A report that the calls have made is never refused by 3.
 pub stays-valid : (r : Report) (cs : List Call) → reportOk r ≡ true → reportOk (ran r cs) ≡ true
 stays-valid r cs h = rw (joined r cs) (stays r (firsts (kept r cs)) (seconds (kept r cs)) (joined-taken r cs h))

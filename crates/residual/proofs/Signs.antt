@@ -1,5 +1,5 @@
--- The difference of two 24-bit values: it fits an `i32`, also turned round where it is negative, and its size is below
--- 2^24. Assumes nothing.
+-- The difference of two 24-bit values fits an `i32`, also with its sign changed if it is negative, and its size is
+-- below 2^24. Assumes nothing.
 use mathlib.Core.Path.{_≡_, subst}
 use mathlib.Core.Bool.{Bool, true, false, cond}
 use Prim.Native.Nat.{ℕ, zero, suc, _-_, _^_, _≤_, _<_}
@@ -42,7 +42,7 @@ pub small-fits : (z : ℤ) → natAbs z < 2 ^ 24 → SFits w32 z
 small-fits (pos n) h = record { sfits = omega arith }
 small-fits (negsuc n) h = record { sfits = omega arith }
 
--- what the code holds as the word w, where it is z
+-- What the code holds as the word w if it stands for z.
 pub record Turned (w z : ℤ) : Type 0 where
   pub size-of : natAbs (pos 0 -ℤ w) ≡ natAbs z
   pub right-way : T (nonNeg (pos 0 -ℤ w))

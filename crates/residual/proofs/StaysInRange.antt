@@ -1,5 +1,5 @@
--- W13. A report of our own making is never refused by 3: the empty one is in range, and a call that is not refused
--- keeps a report in range. Assumes nothing.
+-- W13. A report that the calls have made is never refused by 3: the empty one is in range, and a call that is not
+-- refused keeps a report in range. Assumes nothing.
 use mathlib.Core.Path.{_≡_, refl}
 use mathlib.Core.Bool.{Bool, true, false}
 use mathlib.Core.List.{List, [], _∷_, foldl}
@@ -22,7 +22,7 @@ pub empty-in-range : reportOk emptyReport ≡ true
 unfolding reportOk numbersOk
 empty-in-range = refl
 
--- the two halves of a sum are the sum
+-- The two halves of a sum make the sum.
 pub sum-one : (r : Report) (d : ℕ) → sumOf (one r d) ≡ sumOf r + d * d
 unfolding one
 sum-one r d = omega arith
@@ -31,7 +31,7 @@ pub number-one : (r : Report) (d : ℕ) → one r d .number ≡ r .number + 1
 unfolding one
 number-one r d = refl
 
--- the bounds of the sum, at a new largest and at the old one
+-- The bounds of the sum, for a new largest difference and for the old one.
 new-most : (n l s d : ℕ) → s ≤ n * (l * l) → l ≤ d → s + d * d ≤ (n + 1) * (d * d)
 new-most n l s d h g =
     let k : n * (l * l) ≤ n * (d * d) = mul-le-mul-left n (mul-le-mul g g) in

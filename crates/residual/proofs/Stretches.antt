@@ -1,5 +1,5 @@
--- Stretches of 24-bit values and their differences, element by element: what a loop over an index asks.
--- Assumes nothing.
+-- Stretches of 24-bit values and their differences, element by element, as a loop over an index needs them. Assumes
+-- nothing.
 use mathlib.Core.Path.{_≡_, refl, ap, _∙_}
 use mathlib.Core.Bool.{true}
 use mathlib.Core.List.{List, [], _∷_}
@@ -24,7 +24,7 @@ at-24 [] i h t = absurd (omega arith)
 at-24 (x ∷ xs) zero h t = left-true (in24 x) (all24 xs) t
 at-24 (x ∷ xs) (suc i) h t = at-24 xs i (le-of-suc-le-suc h) (right-true (in24 x) (all24 xs) t)
 
--- a value as the code holds it
+-- A value as the code holds it.
 abbrev held : ℤ → ℤ
 held x = toZ w32 (ofZ w32 x)
 
@@ -46,7 +46,7 @@ at-difference (x ∷ xs) [] i e h = absurd (omega arith)
 at-difference (x ∷ xs) (y ∷ ys) zero e h = refl
 at-difference (x ∷ xs) (y ∷ ys) (suc i) e h = at-difference xs ys i (omega arith) (le-of-suc-le-suc h)
 
--- each below 2^24
+-- Each difference is below 2^24.
 pub data Small : List ℕ → Type 0 where
   none : Small []
   more : {d : ℕ} {ds : List ℕ} → d < 2 ^ 24 → Small ds → Small (d ∷ ds)
@@ -65,7 +65,7 @@ small-take [] (suc i) s = none
 small-take (d ∷ ds) zero s = none
 small-take (d ∷ ds) (suc i) (more h s) = more h (small-take ds i s)
 
--- ---- the two values at index i, as the code holds them: both of 24 bits, and their difference
+-- ---- the two values at index i, as the code holds them: both have 24 bits, and their difference
 module _ {xs ys : List ℤ} (alike : Alike xs ys) (i : ℕ) (inside : i < length xs) where
   abbrev x : ℤ
   x = getD xs i (pos 0)

@@ -1,5 +1,5 @@
 -- A loop over the differences of two stretches, by an index or by parts, whatever a turn does with a difference: before
--- each turn the differences passed are folded. Assumes nothing.
+-- each turn the differences so far have been folded. Assumes nothing.
 use mathlib.Core.Path.{_≡_, ap, _∙_}
 use mathlib.Core.List.{List, [], _∷_, foldl, foldl-append}
 use Prim.Native.Nat.{ℕ, _+_, _≤_, _<_}

@@ -1,4 +1,4 @@
--- W13. What a report that is not refused by 3 is, and what a call that is not refused knows. Assumes nothing.
+-- W13. What holds for a report that is not refused by 3, and for a call that is not refused. Assumes nothing.
 use mathlib.Core.Path.{_≡_, refl}
 use mathlib.Core.Bool.{Bool, true, false, _&&_}
 use mathlib.Core.List.{List}

@@ -1,5 +1,5 @@
--- W13g. 1, 2, 3 or 8 is given exactly when its test is the first of the table that fails, and none exactly when all
--- hold. Assumes nothing.
+-- W13g. Each of 1, 2, 3 and 8 is given exactly if its test is the first of the table that fails, and none exactly if
+-- all hold. Assumes nothing.
 use mathlib.Core.Path.{_≡_, refl}
 use mathlib.Core.Logic.{_↔_}
 use mathlib.Core.Bool.{true}

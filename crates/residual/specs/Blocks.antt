@@ -1,4 +1,4 @@
--- A block of at most 256 differences, counted at once. Definitions only.
+-- A block of at most 256 differences that is counted at once. Definitions only.
 use Prim.Native.Nat.{ℕ, _+_, _*_, _^_, _/_, _%_, _<_}
 use mathlib.Core.Bool.{Bool, true, _&&_}
 use mathlib.Core.List.{List, [], _∷_}
@@ -7,7 +7,7 @@ use Rattle.residual.specs.declared.tally.Tally.{Tally}
 use Rattle.residual.specs.declared.parts.Parts.{Parts}
 use Rattle.residual.specs.Tallies.{tallied}
 
--- A difference in two parts, d = high * 2^12 + low where it is below 2^24.
+-- A difference below 2^24 in two parts: d = high * 2^12 + low.
 abbrev pub highPart : ℕ → ℕ
 highPart d = d / 4096 % 4096
 
@@ -17,7 +17,7 @@ lowPart d = d % 4096
 abbrev pub noParts : Parts
 noParts = record { highs = 0; mixed = 0; lows = 0; quiet = true }
 
--- One difference more, and whether it is at most the bound.
+-- The sums with one more difference, and whether it is at most the bound.
 unfoldable pub partOf : ℕ → Parts → ℕ → Parts
 partOf top p d = record {
   highs = p .highs + highPart d * highPart d;
@@ -26,11 +26,11 @@ partOf top p d = record {
   quiet = p .quiet && leb d top;
 }
 
--- (high * 2^12 + low)^2, summed.
+-- The sum of all (high * 2^12 + low)^2.
 abbrev pub sumOfParts : Parts → ℕ
 sumOfParts p = p .highs * 2 ^ 24 + p .mixed * 2 ^ 13 + p .lows
 
--- Room for n differences more in each sum: a product of two parts is at most 4095^2.
+-- Each sum has room for n more differences: a product of two parts is at most 4095^2.
 pub record Space (p : Parts) (n : ℕ) : Type 0 where
   pub high : p .highs + n * 16769025 < 2 ^ 32
   pub mix : p .mixed + n * 16769025 < 2 ^ 32
@@ -41,7 +41,7 @@ unfoldable pub noneAbove : ℕ → List ℕ → Bool
 noneAbove top [] = true
 noneAbove top (d ∷ ds) = leb d top && noneAbove top ds
 
--- A tally with n differences more, of which none is above its largest, and whose squares have the sum s.
+-- A tally with n more differences, none of which is above its largest, and whose squares have the sum s.
 unfoldable pub addedTo : Tally → ℕ → ℕ → Tally
 addedTo t n s = record {
   number = t .number + n;

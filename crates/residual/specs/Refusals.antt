@@ -1,4 +1,4 @@
--- W13g, W13h. Which refusal is due, in the order of 01, and what a call answers. Definitions only.
+-- W13g, W13h. By which number a call is refused, in the order of 01, and what a call answers. Definitions only.
 use Prim.Native.Nat.{ℕ, zero, suc}
 use mathlib.Core.Bool.{Bool, _&&_}
 use mathlib.Core.List.{List, [], _∷_}
@@ -15,16 +15,17 @@ use Rattle.residual.specs.declared.Compared.{Compared}
 use Rattle.residual.specs.declared.Compared.the-variants as compared
 use Rattle.residual.specs.Report.{sumOf, carried}
 
--- 3. No place when empty, else one below the number.
+-- Test 3: an empty report has no place, any other one below its number.
 abbrev pub placeOk : Place → ℕ → Bool
 placeOk Nowhere n = eqb n 0
 placeOk (At k) n = ltb k n
 
--- 3. The carried report: its number, its largest difference and its sum in range, and its place.
+-- Test 3: the number, the largest difference, the sum and the place of the carried report are in range.
 unfoldable pub reportOk : Report → Bool
 reportOk r = placeOk (r .place) (r .number) && numbersOk (r .number) (r .largest) (sumOf r)
 
--- 1 a value outside 24 bits, 2 unequal lengths, 3 the carried report, 8 past 2^36 samples; 0 for none.
+-- 1 means a value outside 24 bits, 2 unequal lengths, 3 a carried report out of range, 8 more than 2^36 samples, and 0
+-- no refusal.
 abbrev pub tests : Report → List ℤ → List ℤ → List Test
 tests r xs ys =
     1 unless (all24 xs && all24 ys)
@@ -36,7 +37,7 @@ tests r xs ys =
 unfoldable pub verdict : Report → List ℤ → List ℤ → ℕ
 verdict r xs ys = firstOf (tests r xs ys)
 
--- A refused call adds nothing: the caller's report is still the report.
+-- W13h. A refused call adds nothing: the caller's report is still the report.
 abbrev pub answerOf : ℕ → Report → Compared
 answerOf zero r = compared.Carried r
 answerOf (suc k) r = compared.Refused (suc k)

@@ -1,5 +1,5 @@
--- W13a to W13d, W13f. The report of two equal-length stretches of whole samples: item by item, over many calls, and all
--- at once. Definitions only.
+-- W13a to W13d, W13f. The report of two equally long stretches of whole samples: sample by sample, over many calls, and
+-- all at once. Definitions only.
 use Prim.Native.Nat.{ℕ, zero, suc, _+_, _*_, _^_, _/_, _%_, max}
 use mathlib.Core.Bool.{Bool, cond, _||_}
 use mathlib.Core.List.{List, [], _∷_, foldl}
@@ -10,7 +10,7 @@ use Rattle.residual.specs.declared.Report.{Report}
 use Rattle.residual.specs.declared.Place.{Place}
 use Rattle.residual.specs.declared.Place.the-variants.{Nowhere, At}
 
--- The absolute difference of two samples, and of two stretches item by item.
+-- The absolute difference of two samples, and those of two stretches, sample by sample.
 abbrev pub difference : ℤ → ℤ → ℕ
 difference x y = natAbs (x -ℤ y)
 
@@ -23,15 +23,15 @@ differences (x ∷ xs) (y ∷ ys) = difference x y ∷ differences xs ys
 abbrev pub emptyReport : Report
 emptyReport = record { number = 0; largest = 0; place = Nowhere; high = 0; low = 0 }
 
--- The sum exceeds 64 bits and is handed out as two halves.
+-- W13d. The sum does not fit 64 bits and is handed out as two halves.
 abbrev pub sumOf : Report → ℕ
 sumOf r = r .high * 2 ^ 64 + r .low
 
--- The first difference of all, or one above the largest so far.
+-- The difference is the first of all, or above the largest so far.
 abbrev pub newer : Report → ℕ → Bool
 newer r d = eqb (r .number) 0 || ltb (r .largest) d
 
--- One difference more. A place counts from the first sample compared, over all calls.
+-- The report with one more difference. A place is counted over all calls from the first sample compared.
 unfoldable pub one : Report → ℕ → Report
 one r d = record {
   number = r .number + 1;
@@ -41,11 +41,11 @@ one r d = record {
   low = (sumOf r + d * d) % 2 ^ 64;
 }
 
--- A report carried on over two stretches.
+-- A report extended by two stretches.
 unfoldable pub carried : Report → List ℤ → List ℤ → Report
 carried r xs ys = foldl one r (differences xs ys)
 
--- ---- what a report says, with nothing run: of all differences the number (W13a), the greatest (W13b), the index at
+-- ---- what a report says, without any running: the number of all differences (W13a), the greatest (W13b), the index at
 -- which it stands first (W13c), and the sum of the squares (W13d).
 unfoldable pub greatest : List ℕ → ℕ
 greatest [] = 0
@@ -59,7 +59,7 @@ unfoldable pub squares : List ℕ → ℕ
 squares [] = 0
 squares (d ∷ ds) = d * d + squares ds
 
--- No place where nothing was compared.
+-- If nothing was compared there is no place.
 unfoldable pub placeOf : List ℕ → Place
 placeOf [] = Nowhere
 placeOf (d ∷ ds) = At (firstAt (greatest (d ∷ ds)) (d ∷ ds))

@@ -1,5 +1,5 @@
--- A report as plain numbers while a stretch is counted. A missing place is 0, which is right for the first difference
--- of all: one above 0 sets it to 0, and one of 0 leaves it. Definitions only.
+-- A report as plain numbers while a stretch is counted. A missing place is 0. That is right for the first difference of
+-- all: if it is above 0 it sets the place to 0, and if it is 0 it leaves it at 0. Definitions only.
 use Prim.Native.Nat.{ℕ, _+_, _*_, _^_, _/_, _%_, _<_, _≤_}
 use mathlib.Core.Path.{_≡_}
 use mathlib.Core.Bool.{true, cond}
@@ -47,13 +47,13 @@ stepOf t d = record {
   low = (tallied t + d * d) % 2 ^ 64;
 }
 
--- Room for n differences more, each below 2^24: the number stays at most 2^36, so the sum below 2^84.
+-- There is room for n more differences below 2^24: the number stays at most 2^36, so the sum stays below 2^84.
 pub record Room (t : Tally) (n : ℕ) : Type 0 where
   pub counts : t .number + n ≤ 2 ^ 36
   pub sum : tallied t ≤ t .number * 2 ^ 48
   pub half : t .low < 2 ^ 64
 
--- Two stretches of 24-bit values, equally long.
+-- Two equally long stretches of 24-bit values.
 pub record Alike (xs ys : List ℤ) : Type 0 where
   pub long : length xs ≡ length ys
   pub left : all24 xs ≡ true

@@ -1,4 +1,4 @@
-// W13g. The tests of a call, each for every input, and the number of the first that fails.
+// W13g. The tests of a call, for every input, and the number of the first that fails.
 ghost use mathlib.Core.Path.{_≡_};
 ghost use Rattle.residual.specs.Refusals.{placeOk, reportOk, verdict};
 use crate::Place;
@@ -17,7 +17,7 @@ fn place_ok(p: Place, number: u64) -> bool
     }
 }
 
-// 3. What a carried report must be.
+// Test 3: every field of a carried report is in its range.
 fn report_ok(r: Report) -> bool
     ensures { λ b. ⌜ b ≡ reportOk r ⌝ }
 {

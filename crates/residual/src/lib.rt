@@ -1,10 +1,10 @@
 // The residual of two stretches of samples in whole numbers, over many calls, all exact (W13).
 // It is how many samples were compared, the largest absolute difference, where that stands first, and the sum of the
 // squared differences.
-mod checks; // which refusal is due
+mod checks; // which refusal is given
 mod steps; // the counting
 mod parts; // a block's squares, in sums of 32 bits
-mod tally; // a report on plain numbers
+mod tally; // a report as plain numbers
 
 ghost use mathlib.Core.Path.{_≡_};
 ghost use Rattle.residual.specs.Report.{emptyReport};
@@ -12,8 +12,8 @@ ghost use Rattle.residual.specs.Refusals.{comparedOf};
 use checks::due;
 use steps::counted;
 
-// Where the largest difference stands first, counted from the first sample compared, over all calls; an empty report
-// has no such place.
+// Where the largest difference stands first, counted over all calls from the first sample compared. An empty report has
+// no such place.
 pub enum Place {
     Nowhere,
     At(u64),
@@ -45,7 +45,7 @@ pub fn empty() -> Report
     }
 }
 
-// Refuses by 1, 2, 3 or 8, or carries the report on over two stretches.
+// Refuses by 1, 2, 3 or 8, or extends the report by two stretches.
 pub fn compare(report: Report, a: &[i32], b: &[i32]) -> Compared
     ensures { λ r. ⌜ r ≡ comparedOf report (now (a .entry)) (now (b .entry)) ⌝ }
 {

@@ -12,7 +12,7 @@ use crate::steps::distance;
 use crate::tally::Tally;
 use refusal_order::both;
 
-// Sums of high * high, of high * low and of low * low; quiet where no difference is above the bound.
+// The sums of high * high, of high * low and of low * low; `quiet` if no difference is above the bound.
 pub struct Parts {
     pub highs: u32,
     pub mixed: u32,
@@ -20,12 +20,12 @@ pub struct Parts {
     pub quiet: bool,
 }
 
-// One difference more.
+// Adds one more difference.
 fn part(p: Parts, d: u32, top: u32) -> Parts
     requires { ⌜ Space p 1 ⌝ }
     ensures { λ r. ⌜ r ≡ partOf top p d ⌝ }
 {
-    // The remainder changes nothing below 2^24; it tells the compiler that the part fits 16 bits.
+    // For a difference below 2^24 the remainder changes nothing; it shows the compiler that the part fits 16 bits.
     let high = d / 4096 % 4096;
     let low = d % 4096;
     Parts {
@@ -54,7 +54,8 @@ pub(crate) fn squared(a: &[i32], b: &[i32], top: u32) -> Parts
     now
 }
 
-// The sum that the three sums make, added to a tally, of which nothing else changes but the number.
+// Adds the sum that the three sums make to a tally. No difference was above its largest, so that only the number
+// changes besides.
 pub(crate) fn added(t: Tally, n: usize, p: Parts) -> Tally
     requires { ⌜ Room t n ⌝ }
     ensures { λ r. ⌜ r ≡ addedTo t n (sumOfParts p) ⌝ }

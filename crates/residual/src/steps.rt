@@ -1,4 +1,4 @@
-// W13. The counting: a difference, what it adds, and a stretch of them.
+// W13. The counting: a difference, what it adds, and a stretch of differences.
 ghost use mathlib.Core.Path.{_≡_};
 ghost use mathlib.Core.Bool.{cond, true};
 ghost use mathlib.Core.List.{foldl};
@@ -35,14 +35,14 @@ fn chosen_u32(test: bool, a: u32, b: u32) -> u32
     if test { a } else { b }
 }
 
-// What is carried into the high half: the low half has wrapped where it comes out below what was added.
+// The carry into the high half. The low half has wrapped around if it comes out below what was added.
 pub(crate) fn carry(low: u64, added: u64) -> u64
     ensures { λ r. ⌜ r ≡ cond (ltb low added) 1 0 ⌝ }
 {
     if low < added { 1 } else { 0 }
 }
 
-// One difference more.
+// Counts one more difference.
 fn step(t: Tally, d: u32) -> Tally
     requires { ⌜ Room t 1 × (d < 2 ^ 24) ⌝ }
     ensures { λ r. ⌜ r ≡ stepOf t d ⌝ }
@@ -61,7 +61,7 @@ fn step(t: Tally, d: u32) -> Tally
     }
 }
 
-// A stretch difference by difference.
+// Counts a stretch difference by difference.
 fn stepped(t: Tally, a: &[i32], b: &[i32]) -> Tally
     requires { ⌜ Ready t (now a) (now b) ⌝ }
     ensures { λ r. ⌜ r ≡ foldl stepOf t (differences (now (a .entry)) (now (b .entry))) ⌝ }
@@ -75,7 +75,7 @@ fn stepped(t: Tally, a: &[i32], b: &[i32]) -> Tally
     now
 }
 
-// A stretch of at most 256 differences: added at once where none is above the largest so far.
+// Counts a stretch of at most 256 differences: all at once if none is above the largest so far.
 fn block(t: Tally, a: &[i32], b: &[i32]) -> Tally
     requires { ⌜ Ready t (now a) (now b) × (length (now a) ≤ 256) ⌝ }
     ensures { λ r. ⌜ r ≡ foldl stepOf t (differences (now (a .entry)) (now (b .entry))) ⌝ }
@@ -109,7 +109,7 @@ fn stretched(t: Tally, a: &[i32], b: &[i32]) -> Tally
     now
 }
 
-// What a call that is not refused adds.
+// The report after a call that is not refused.
 pub(crate) fn counted(report: Report, a: &[i32], b: &[i32]) -> Report
     requires { ⌜ verdict report (now a) (now b) ≡ 0 ⌝ }
     ensures { λ r. ⌜ r ≡ carried report (now (a .entry)) (now (b .entry)) ⌝ }

@@ -1,4 +1,4 @@
-// A report on plain numbers, while a stretch is counted: its place is an index, 0 where there is none.
+// A report as plain numbers, while a stretch is counted. Its place is an index, 0 if there is none.
 ghost use mathlib.Core.Path.{_≡_};
 ghost use Rattle.residual.specs.Tallies.{indexOf, tallyOf, toldOf};
 use crate::Place;

@@ -1,21 +1,31 @@
 // The program `residual FIRST SECOND [NAME=VALUE …]`: what is left when one file is taken from the other, as a report
 // and, where it is asked for, a picture.
+mod asking; // what the arguments ask for
+mod channels; // a block, channel by channel
+mod comparing; // block after block
+mod drawing; // the picture
+mod filling; // a channel as whole numbers
 mod reporting; // the report's lines
 mod sayings; // what is said of files that cannot be compared
 
 use arguments::Channel;
 use asked::Comparison;
+use asking::help_asked;
+use asking::tell_usage;
+use asking::to_compare;
 use compared_frames::span;
 use comparing::Job;
 use comparing::Reports;
+use drawing::Drawing;
 use error_lines::misused;
 use error_lines::say_of;
 use error_lines::succeed;
 use file_words::say_unopened;
 use file_words::say_wrapped;
+use libc::STDERR_FILENO;
+use libc::STDOUT_FILENO;
 use outcomes::is_well;
 use part_file::Made;
-use residual_picture::Drawing;
 use sayings::comparable;
 use sayings::say_outcome;
 use sizes::fewer;
@@ -23,7 +33,12 @@ use wave_file::Opened;
 use wave_file::WaveFile;
 
 fn main() {
-    let asked = words_asked::to_compare();
+    if help_asked() {
+        tell_usage(STDOUT_FILENO);
+        succeed();
+        return;
+    }
+    let asked = to_compare();
     let names = asked.names;
     let settings = asked.settings;
     if !names.good {
@@ -153,7 +168,7 @@ fn tell(job: Job, first: &[u8], second: &[u8]) -> bool {
 fn ended_well(reports: Reports, first: &[u8], second: &[u8]) -> bool {
     let outcome = reports.outcome;
     if is_well(outcome) {
-        progress::clear();
+        progress::clear(libc::isatty(STDERR_FILENO) == 1);
         return true;
     }
     if reports.second {
@@ -195,7 +210,7 @@ fn drawn(
     if !ended_well(reports, first, second) {
         return false;
     }
-    residual_picture::draw(picture, fd, drawing_of(job), first, second, peaks)
+    drawing::draw(picture, fd, drawing_of(job), first, second, peaks)
 }
 
 fn drawing_of(job: Job) -> Drawing {

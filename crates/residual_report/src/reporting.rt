@@ -1,6 +1,6 @@
 // The lines of a residual's report, on standard output.
-use comparing::Job;
-use comparing::Reports;
+use crate::comparing::Job;
+use crate::comparing::Reports;
 use libc::STDOUT_FILENO;
 use residual::Report;
 use sizes::begun;
@@ -8,7 +8,7 @@ use text::put;
 use wave_file::WaveFile;
 
 fn write(line: &[u8]) -> bool {
-    part_file::write(b"residual", b"", STDOUT_FILENO, line)
+    part_file::write(b"residual", b"-", STDOUT_FILENO, line)
 }
 
 pub(crate) fn tell(job: Job, reports: Reports, first: &[u8], second: &[u8]) -> bool {

@@ -1,11 +1,9 @@
 // What is said of files that cannot be compared.
 use error_lines::say_of;
+use file_words::say_differ;
 use file_words::say_place;
 use file_words::say_unread;
 use outcomes::Outcome;
-use sizes::begun;
-use text::put;
-use text::put_decimal;
 use wave_file::WaveFile;
 
 // Different rates or numbers of channels cannot be compared frame by frame, nor a channel that is not there.
@@ -18,6 +16,7 @@ pub(crate) fn comparable(
 ) -> bool {
     if a.rate != b.rate {
         say_differ(
+            b"residual",
             first,
             second,
             a.rate,
@@ -28,6 +27,7 @@ pub(crate) fn comparable(
     }
     if a.channels != b.channels {
         say_differ(
+            b"residual",
             first,
             second,
             a.channels as u32,
@@ -41,18 +41,6 @@ pub(crate) fn comparable(
         return false;
     }
     true
-}
-
-fn say_differ(first: &[u8], second: &[u8], a: u32, b: u32, words: &[u8]) {
-    let mut line = [0u8; 4400];
-    let at = put(&mut line, 0, b" has ");
-    let at = put_decimal(&mut line, at, a as u64);
-    let at = put(&mut line, at, b" and ");
-    let at = put(&mut line, at, second);
-    let at = put(&mut line, at, b" has ");
-    let at = put_decimal(&mut line, at, b as u64);
-    let at = put(&mut line, at, words);
-    say_of(b"residual", first, begun(&line, at));
 }
 
 pub(crate) fn say_outcome(name: &[u8], outcome: Outcome) {

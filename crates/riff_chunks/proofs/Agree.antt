@@ -1,5 +1,5 @@
 -- W1d, W1j. A walk looks at nothing behind its end, and at nothing behind the chunk that ends it: two layouts whose
--- chunks are the same at the places before it are walked alike. By the chunks, one after the other. Assumes nothing.
+-- chunks are the same at the places before that are walked alike. By induction over the chunks. Assumes nothing.
 use mathlib.Core.Path.{_≡_, refl, sym, ap, _∙_}
 use mathlib.Core.Bool.{Bool, true, false, true≢false, cond, _&&_}
 use mathlib.Core.List.{List, [], _∷_}
@@ -13,7 +13,7 @@ use Rattle.riff_chunks.specs.Chunks.{Placed, after, chunksFrom, chunks, 
 use Rattle.riff_chunks.specs.Walk.{isLast, upTo, walkedFrom, walkFrom}
 use Rattle.riff_chunks.proofs.Found.{behind}
 
--- The chunks are the same wherever a header ends by a place.
+-- The chunks are the same wherever a header ends before a limit.
 abbrev pub Alike : (ℕ → Chunk) → (ℕ → Chunk) → ℕ → Type 0
 Alike f g limit = (at : ℕ) → at + 8 ≤ limit → f at ≡ g at
 

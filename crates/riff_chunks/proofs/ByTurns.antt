@@ -1,5 +1,5 @@
--- A walk by its turns, for any layout: what was seen, with what is left of the walk, is what the whole walk sees. A
--- loop over `turn` that starts with `begin` and goes on while 8 bytes are left cites four laws: `on-begun`,
+-- A walk step by step, for any layout: what has been seen, together with the rest of the walk, is what the whole walk
+-- sees. A loop over `turn` that starts with `begin` and goes on while 8 bytes are left cites four laws: `on-begun`,
 -- `on-turned`, `fewer` and `on-ended`. Assumes nothing.
 use mathlib.Core.Path.{_≡_, refl, sym, ap, _∙_}
 use mathlib.Core.Bool.{Bool, true, false, cond}
@@ -21,7 +21,7 @@ pub record On (s : Sought) (chunkOf : ℕ → Chunk) (end : ℕ) (w : Walking) :
   pub plain-format : Plain (w .seen .format)
   pub plain-samples : Plain (w .seen .samples)
 
--- Fewer bytes are left after a turn, so that a loop ends.
+-- Fewer bytes are left after a step, so that a loop ends.
 pub fewer : (s : Sought) (w : Walking) (c : Chunk) → 8 ≤ w .left → turned s w c .left < w .left
 fewer s w c h = by (isLast s c) (ltb (w .left - 8) (c .size))
   where

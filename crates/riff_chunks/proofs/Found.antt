@@ -1,6 +1,5 @@
--- W1b, W1d. Where the chunks that a walk found stand: not before the place that it started from, inside the end where
--- none runs past it, and the format before the samples where these end it. By the chunks, one after the other. Assumes
--- nothing.
+-- W1b, W1d. Where the chunks that a walk found stand: not before the place where it started, inside the end if none
+-- runs past it, and the format before the samples if these end the walk. By induction over the chunks. Assumes nothing.
 use mathlib.Core.Path.{_≡_, refl, sym, _∙_}
 use mathlib.Core.Bool.{Bool, true, false, true≢false, cond, _&&_, _||_}
 use mathlib.Core.List.{List, [], _∷_}
@@ -18,7 +17,7 @@ neither : (a b : Bool) → a || b ≡ false → (a ≡ false) × (b ≡ false)
 neither true b h = absurd (true≢false h)
 neither false b h = (refl, h)
 
--- Where no chunk runs past the end, one that is found lies before it.
+-- If no chunk runs past the end, one that is found lies before it.
 pub fits : (end id : ℕ) (cs : List Chunk) → overrun end cs ≡ false → first id cs .found ≡ true
     → first id cs .body + first id cs .size ≤ end
 unfolding overrun first
@@ -60,7 +59,7 @@ module _ (s : Sought) (chunkOf : ℕ → Chunk) (placed : Placed chunkOf) (end :
       by false true f h = absurd (true≢false (sym f))
       by false false f h = let p = placed at in omega (arith, h f)
 
-  -- Where the samples end the walk the format stands before them.
+  -- If the samples end the walk, the format stands before them.
   pub in-order : s .ends ≡ true → eqb (s .format) (s .samples) ≡ false → (most : ℕ) (more : Bool) (at : ℕ)
       → first (s .format) (walk most more at) .found ≡ true → first (s .samples) (walk most more at) .found ≡ true
       → first (s .format) (walk most more at) .body + first (s .format) (walk most more at) .size

@@ -1,6 +1,6 @@
--- A walk whose chunks are lent one after the other, for any layout: where each turn is the chunk at its place, and none
--- once fewer than 8 bytes are left, it has seen at the end what the whole walk sees. By the laws of a walk's turns.
--- Assumes nothing.
+-- A walk whose chunks are lent one after the other, for any layout. If each step is the chunk at its place, and there
+-- is none when fewer than 8 bytes are left, it has seen at the end what the whole walk sees. By the laws of the steps
+-- of a walk. Assumes nothing.
 use mathlib.Core.Path.{_≡_, refl, ap, _∙_}
 use mathlib.Core.Bool.{Bool, true, false}
 use Prim.Native.Nat.{ℕ, zero, suc, _-_, _≤_, _<_}

@@ -1,4 +1,4 @@
--- W1. The identifiers are their letters: `fmt ` and `data`. Assumes nothing.
+-- W1. The identifiers are the letters `fmt ` and `data`. Assumes nothing.
 use mathlib.Core.Path.{_≡_, refl}
 use mathlib.Core.List.{[], _∷_}
 use Rattle.word_bytes.specs.Bytes.{bytesValue}

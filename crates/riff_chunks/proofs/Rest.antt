@@ -1,5 +1,5 @@
--- What is left of a walk where so many bytes are left before its end, for any layout: the chunk at that place, and what
--- is left behind it. Assumes nothing.
+-- The rest of a walk when some bytes are left before its end, for any layout: the chunk at that place, and the rest
+-- behind it. Assumes nothing.
 use mathlib.Core.Path.{_≡_, refl, sym, ap, _∙_}
 use mathlib.Core.Bool.{Bool, true, false, cond}
 use mathlib.Core.List.{List, [], _∷_}
@@ -13,7 +13,7 @@ use Rattle.riff_chunks.specs.Chunks.{Placed, after, chunks, overruns}
 use Rattle.riff_chunks.specs.Walk.{isLast, upTo, walkedFrom, leftAfter}
 use Rattle.riff_chunks.proofs.Steps.{left-over, one-chunk}
 
--- what is left of the walk where `left` bytes are left before the end
+-- The rest of the walk when `left` bytes are left before the end.
 abbrev pub rest : Sought → (ℕ → Chunk) → ℕ → ℕ → List Chunk
 rest s chunkOf end left = walkedFrom s chunkOf end (end - left)
 
@@ -22,7 +22,7 @@ module _ (s : Sought) (chunkOf : ℕ → Chunk) (placed : Placed chunkOf) (end :
   unfolding upTo
   none-left left h = ap (upTo s) (left-over chunkOf end (end - left) (omega arith))
 
-  -- the chunk at the place, and what `left_after` leaves
+  -- The chunk at the place, and what `left_after` leaves.
   pub next : (left : ℕ) → 8 ≤ left → left ≤ end
       → rest s chunkOf end left
       ≡ chunkOf (end - left) ∷ rest s chunkOf end (leftAfter s (chunkOf (end - left)) (left - 8))
@@ -40,7 +40,7 @@ module _ (s : Sought) (chunkOf : ℕ → Chunk) (placed : Placed chunkOf) (end :
       taken : ℕ
       taken = c .size + c .size % 2
 
-      -- behind a chunk that fits, its pad byte there or not
+      -- What follows a chunk that fits, whether its pad byte is there or not.
       behind : (u : Bool) → leb taken (left - 8) ≡ u → c .size ≤ left - 8
           → chunks chunkOf end (after c) ≡ chunks chunkOf end (end - (left - 8 - taken))
       behind true e f =
@@ -63,7 +63,7 @@ module _ (s : Sought) (chunkOf : ℕ → Chunk) (placed : Placed chunkOf) (end :
       by false false e =
           ap (upTo s) (behind (leb taken (left - 8)) refl (omega (arith, ltb-false (left - 8) (c .size) e)))
 
-  -- a body that passes the end is larger than the room before it
+  -- A body that runs past the end is larger than the room before it.
   pub past-room : (left : ℕ) → 8 ≤ left → left ≤ end
       → overruns end (chunkOf (end - left)) ≡ ltb (left - 8) (chunkOf (end - left) .size)
   past-room left h l = by (ltb (left - 8) (c .size)) refl
@@ -75,7 +75,7 @@ module _ (s : Sought) (chunkOf : ℕ → Chunk) (placed : Placed chunkOf) (end :
       by true e = let a = placed (end - left) in lt-ltb end _ (omega (arith, ltb-true (left - 8) (c .size) e))
       by false e = let a = placed (end - left) in le-ltb end _ (omega (arith, ltb-false (left - 8) (c .size) e))
 
-  -- before the first chunk 12 bytes are behind
+  -- Before the first chunk 12 bytes have been passed.
   pub at-start : walkedFrom s chunkOf end 12 ≡ rest s chunkOf end (end - 12)
   at-start = by (leb 12 end) refl
     where

@@ -1,4 +1,4 @@
--- What was seen so far, put together with what is left of the walk. Assumes nothing.
+-- What has been seen so far, combined with the rest of the walk. Assumes nothing.
 use mathlib.Core.Path.{_≡_, refl}
 use mathlib.Core.Bool.{Bool, true, false, cond, _||_}
 use mathlib.Core.List.{List, [], _∷_}
@@ -19,7 +19,7 @@ also s end w cs =
       samples = orElse (w .samples) (first (s .samples) cs);
     }
 
--- a spot not found is 0
+-- A spot that was not found has zeros.
 abbrev pub Plain : Spot → Type 0
 Plain s = orElse s nowhere ≡ s
 
@@ -45,7 +45,6 @@ plain-first s c false false e = simp e
 pub still-plain : (s : Spot) (id : ℕ) (c : Chunk) → Plain (orElse s (spotIf id c))
 still-plain s id c = plain-first s c (s .found) (eqb (c .id) id) refl
 
--- one chunk more
 pub seen-one : (s : Sought) (end : ℕ) (w : Walked) (c : Chunk) (cs : List Chunk)
     → also s end w (c ∷ cs) ≡ also s end (noted s w c (overruns end c)) cs
 unfolding overrun first
@@ -56,7 +55,6 @@ seen-one s end w c cs =
       either-first (w .samples) c (first (s .samples) cs) (w .samples .found) (eqb (c .id) (s .samples)) refl,
     )
 
--- none more
 pub seen-all : (s : Sought) (end : ℕ) (w : Walked) → Plain (w .format) → Plain (w .samples) → also s end w [] ≡ w
 unfolding overrun first
 seen-all s end w p q = rw (or-false (w .overruns), p, q)

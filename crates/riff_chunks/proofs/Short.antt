@@ -1,5 +1,5 @@
--- W1. A walk is never longer than the file, whatever end is asked for: each chunk takes 8 bytes or more behind the
--- first 12, and the end is cut to the file's. Assumes nothing.
+-- W1. A walk is never longer than the file, whatever end is requested: each chunk takes at least 8 bytes behind the
+-- first 12, and an end beyond the file is replaced by the file's. Assumes nothing.
 use mathlib.Core.Path.{_≡_, refl}
 use mathlib.Core.Bool.{Bool, true, false, cond}
 use mathlib.Core.List.{List, [], _∷_}
@@ -13,7 +13,7 @@ use Rattle.riff_chunks.specs.declared.Sought.{Sought}
 use Rattle.riff_chunks.specs.Chunks.{Placed, after, chunksFrom, chunks}
 use Rattle.riff_chunks.specs.Walk.{isLast, upTo, walkedFrom, endIn}
 
--- the chunks from a place on share the bytes between it and the end, 8 or more to each
+-- The chunks from a place on share the bytes between it and the end, with at least 8 for each.
 shared : (chunkOf : ℕ → Chunk) → Placed chunkOf → (end most : ℕ) (more : Bool) (at : ℕ) → (more ≡ true → at + 8 ≤ end)
     → 8 * length (chunksFrom chunkOf most more end at) ≤ end - at
 unfolding chunksFrom

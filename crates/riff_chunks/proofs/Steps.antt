@@ -1,5 +1,5 @@
--- The chunks from a place on: the chunk there and, behind it, those from there on; none where fewer than 8 bytes are
--- left. A bound on their number that is large enough counts as any other. Assumes nothing.
+-- The chunks from a place on are the chunk there and those behind it; there are none if fewer than 8 bytes are left. A
+-- bound on their number that is large enough changes nothing. Assumes nothing.
 use mathlib.Core.Path.{_≡_, refl, sym, ap, _∙_}
 use mathlib.Core.Bool.{Bool, true, false}
 use mathlib.Core.List.{List, [], _∷_}
@@ -19,7 +19,7 @@ module _ (chunkOf : ℕ → Chunk) (end : ℕ) where
   past-any zero at h = refl
   past-any (suc f) at h = rw (lt-leb (at + 8) end h)
 
-  -- W1i. Fewer than 8 bytes left over are no chunk.
+  -- W1i. Fewer than 8 bytes at the end are not a chunk.
   pub left-over : (at : ℕ) → end < at + 8 → chunks chunkOf end at ≡ []
   left-over at h = past-any end at h
 
@@ -37,7 +37,7 @@ module _ (chunkOf : ℕ → Chunk) (end : ℕ) where
         by false e = refl
         by true e = ap (λ (cs : List Chunk). chunkOf at ∷ cs) e
 
-    -- from a place with 8 bytes left, by any bound that is large enough
+    -- From a place with 8 bytes left, for any bound that is large enough.
     unroll : (f at : ℕ) → at + 8 ≤ end → end ≤ at + f → from f at ≡ chunkOf at ∷ from f (after (chunkOf at))
     unfolding chunksFrom
     unroll zero at h p = absurd (omega arith)

@@ -23,20 +23,20 @@ module _ (s : Sought) (chunkOf : ℕ → Chunk) (placed : Placed chunkOf) (end a
   unfolding upTo
   walked-one = ap (upTo s) (one-chunk chunkOf end placed at room)
 
-  -- W1g. A chunk that is neither of the two sought and does not run past the end is skipped with its pad byte.
+  -- W1g. A chunk that is neither of the two looked for, and does not run past the end, is skipped with its pad byte.
   pub skipped : eqb (chunkOf at .id) (s .format) ≡ false → eqb (chunkOf at .id) (s .samples) ≡ false
       → overruns end (chunkOf at) ≡ false → walkFrom s chunkOf end at ≡ walkFrom s chunkOf end (after (chunkOf at))
   unfolding overrun first
   skipped f n o = ap (seenOf s end) walked-one ∙ rw (o, f, n, and-false (s .ends))
 
-  -- W1h. The first of an identifier counts, whatever follows.
+  -- W1h. The first chunk with an identifier counts, whatever follows.
   pub first-counts : (id : ℕ) → eqb (chunkOf at .id) id ≡ true
       → first id (walkedFrom s chunkOf end at) ≡ spotOf (chunkOf at)
   unfolding first
   first-counts id f = ap (first id) walked-one ∙ rw f
 
-  -- W1h. So the walk by its first chunk: with `skipped`, what is seen of a file whose chunks are known is a chain of
-  -- equations, one for each chunk.
+  -- W1h. The walk by its first chunk. Together with `skipped` it makes what is seen of a file with known chunks a chain
+  -- of equations, one for each chunk.
   pub format-there : eqb (chunkOf at .id) (s .format) ≡ true → eqb (chunkOf at .id) (s .samples) ≡ false
       → overruns end (chunkOf at) ≡ false
       → walkFrom s chunkOf end at
@@ -58,7 +58,7 @@ module _ (s : Sought) (chunkOf : ℕ → Chunk) (placed : Placed chunkOf) (end a
   pub ends-there : isLast s (chunkOf at) ≡ true → walkedFrom s chunkOf end at ≡ chunkOf at ∷ []
   ends-there l = walked-one ∙ rw l
 
-  -- W1i. A body that ends where the end is: it fits, and the pad byte that it lacks is not missed.
+  -- W1i. A body that ends at the end fits, and its missing pad byte does not matter.
   pub pad-missing : chunkOf at .body + chunkOf at .size ≡ end
       → (walkedFrom s chunkOf end at ≡ chunkOf at ∷ []) × (overruns end (chunkOf at) ≡ false)
   unfolding upTo
@@ -82,7 +82,6 @@ keep : (t u : Bool) (cs : List Chunk) → t ≡ false → cond (t && u) [] cs �
 keep true u cs e = absurd (true≢false e)
 keep false u cs e = refl
 
--- Where nothing ends the walk all chunks are walked.
 pub all-walked : (s : Sought) → s .ends ≡ false → (cs : List Chunk) → upTo s cs ≡ cs
 unfolding upTo
 all-walked s e [] = refl

@@ -1,6 +1,6 @@
 -- W1. The chunks of a file: an identifier of four bytes, a size of four bytes, that many bytes of body, and a pad byte
--- behind a body of odd size. Definitions only. Which chunk stands at a place is a parameter: another layout may have
--- its sizes in another order of bytes, or their true values elsewhere.
+-- behind a body of odd size. Which chunk stands at a place is a parameter, because another layout may have its sizes in
+-- another order of bytes, or their true values elsewhere. Definitions only.
 use Prim.Native.Nat.{ℕ, zero, suc, _+_, _%_}
 use mathlib.Core.Path.{_≡_}
 use mathlib.Core.Bool.{Bool, true, false, cond, _||_}
@@ -11,24 +11,24 @@ use Rattle.word_bytes.specs.Bytes.{bytesValue}
 use Rattle.riff_chunks.specs.declared.Chunk.{Chunk}
 use Rattle.riff_chunks.specs.declared.Spot.{Spot}
 
--- The chunk whose identifier stands at a place, by what number a size's four bytes are. An identifier counts as its
--- four bytes, the low byte first. A body is named by its first byte's place.
+-- The chunk whose identifier stands at a place. `number` says which number the four bytes of a size are. An identifier
+-- is read as a number, low byte first; a body is given by the place of its first byte.
 abbrev pub chunkAt : (List ℕ → ℕ) → List ℕ → ℕ → Chunk
 chunkAt number b at =
     record { id = bytesValue (take 4 (drop at b)); body = at + 8; size = number (take 4 (drop (at + 4) b)) }
 
--- Every layout has a body 8 bytes behind its identifier.
+-- In every layout a body begins 8 bytes behind the place of its identifier.
 abbrev pub Placed : (ℕ → Chunk) → Type 0
 Placed chunkOf = (at : ℕ) → chunkOf at .body ≡ at + 8
 
 abbrev pub overruns : ℕ → Chunk → Bool
 overruns end c = ltb end (c .body + c .size)
 
--- The place behind the pad byte.
+-- The place behind a chunk and its pad byte.
 abbrev pub after : Chunk → ℕ
 after c = c .body + c .size + c .size % 2
 
--- The chunks from a place on, where 8 bytes are left there before the end; at most `most` of them. One that runs past
+-- The chunks from a place on, if 8 bytes are left there before the end; at most `most` of them. A chunk that runs past
 -- the end is the last.
 unfoldable pub chunksFrom : (ℕ → Chunk) → ℕ → Bool → ℕ → ℕ → List Chunk
 chunksFrom chunkOf zero more end at = []
@@ -36,16 +36,16 @@ chunksFrom chunkOf (suc most) false end at = []
 chunksFrom chunkOf (suc most) true end at =
     let c = chunkOf at in c ∷ chunksFrom chunkOf most (leb (after c + 8) end) end (after c)
 
--- All of them: no chunk is shorter than a byte.
+-- All chunks from a place on. There cannot be more of them than bytes.
 abbrev pub chunks : (ℕ → Chunk) → ℕ → ℕ → List Chunk
 chunks chunkOf end at = chunksFrom chunkOf end (leb (at + 8) end) end at
 
--- Whether one of them runs past the end.
+-- One of the chunks runs past the end.
 unfoldable pub overrun : ℕ → List Chunk → Bool
 overrun end [] = false
 overrun end (c ∷ cs) = overruns end c || overrun end cs
 
--- Where the body of the first of an identifier stands, and its size.
+-- Where the body of the first chunk with an identifier stands, and its size.
 abbrev pub nowhere : Spot
 nowhere = record { found = false; body = 0; size = 0 }
 

@@ -1,5 +1,5 @@
--- W1. The walk over a file's chunks, from the first behind the file's 12 bytes of beginning on: two identifiers are
--- sought, the first of each counts, and the second may end the walk. Definitions only.
+-- W1. The walk over the chunks of a file, from behind its first 12 bytes on. It looks for two identifiers; the first
+-- chunk of each counts, and one with the second identifier may end the walk. Definitions only.
 use Prim.Native.Nat.{ℕ, zero, suc, _+_, _-_, _%_, min}
 use mathlib.Core.Bool.{Bool, true, false, cond, _&&_, _||_}
 use mathlib.Core.List.{List, [], _∷_}
@@ -13,7 +13,7 @@ use Rattle.riff_chunks.specs.declared.Walked.{Walked}
 use Rattle.riff_chunks.specs.declared.Walking.{Walking}
 use Rattle.riff_chunks.specs.Chunks.{chunkAt, chunks, overrun, nowhere, spotOf, first}
 
--- `fmt ` and `data`; the first `data` ends the walk.
+-- The walk looks for `fmt ` and `data`, and the first `data` ends it.
 abbrev pub fmtId : ℕ
 fmtId = 0x2074_6d66
 
@@ -23,7 +23,7 @@ dataId = 0x6174_6164
 abbrev pub riffSought : Sought
 riffSought = record { format = fmtId; samples = dataId; ends = true }
 
--- Up to the first chunk that ends the walk, and with it; all of them where nothing ends it.
+-- The chunks up to the first one that ends the walk, which is included; all of them if none does.
 abbrev pub isLast : Sought → Chunk → Bool
 isLast s c = s .ends && eqb (c .id) (s .samples)
 
@@ -31,7 +31,7 @@ unfoldable pub upTo : Sought → List Chunk → List Chunk
 upTo s [] = []
 upTo s (c ∷ cs) = c ∷ cond (isLast s c) [] (upTo s cs)
 
--- The chunks walked from a place on, before an end, and what is seen of them.
+-- The chunks that are walked from a place on, up to an end, and what is seen of them.
 abbrev pub walkedFrom : Sought → (ℕ → Chunk) → ℕ → ℕ → List Chunk
 walkedFrom s chunkOf end at = upTo s (chunks chunkOf end at)
 
@@ -44,19 +44,19 @@ walkFrom s chunkOf end at = seenOf s end (walkedFrom s chunkOf end at)
 abbrev pub walkTo : Sought → (ℕ → Chunk) → ℕ → Walked
 walkTo s chunkOf end = walkFrom s chunkOf end 12
 
--- No walk goes on behind the file: an end that is asked for there is the file's.
+-- A walk does not go on behind the file: an end beyond it is replaced by the file's.
 abbrev pub endIn : List ℕ → ℕ → ℕ
 endIn b end = min end (length b)
 
--- RIFF's, whose sizes have their low byte first.
+-- The walk of RIFF, whose sizes have their low byte first.
 abbrev pub walkOf : List ℕ → ℕ → Walked
 walkOf b end = walkTo riffSought (chunkAt bytesValue b) (endIn b end)
 
--- ---- the walk by its turns: how many bytes are left before the end, and what was seen
+-- ---- the walk step by step: how many bytes are left before the end, and what has been seen
 abbrev pub begun : ℕ → Walking
 begun end = record { left = end - 12; seen = record { overruns = false; format = nowhere; samples = nowhere } }
 
--- What is left behind a chunk with `room` bytes between its header and the end.
+-- How many bytes are left behind a chunk that has `room` bytes between its header and the end.
 abbrev pub leftAfter : Sought → Chunk → ℕ → ℕ
 leftAfter s c room = cond (isLast s c) 0 (cond (ltb room (c .size)) 0 (room - (c .size + c .size % 2)))
 
@@ -74,12 +74,12 @@ noted s w c over =
       samples = orElse (w .samples) (spotIf (s .samples) c);
     }
 
--- One chunk more: its header takes 8 of the bytes that are left.
+-- One more chunk. Its header takes 8 of the bytes that are left.
 abbrev pub turned : Sought → Walking → Chunk → Walking
 turned s w c =
     record { left = leftAfter s c (w .left - 8); seen = noted s (w .seen) c (ltb (w .left - 8) (c .size)) }
 
--- So many turns, each by a step: for a walk whose chunks are lent one after the other.
+-- The walk after n steps, for a walk whose chunks are lent one after the other.
 unfoldable pub turnsBy : (Walking → Walking) → ℕ → Walking → Walking
 turnsBy step zero w = w
 turnsBy step (suc n) w = turnsBy step n (step w)

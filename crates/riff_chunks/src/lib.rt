@@ -1,6 +1,6 @@
 // W1. The walk over the chunks of a RIFF WAVE file: which of them run past the end, and where the first `fmt ` and the
-// first `data` stand. Any bytes and any end are taken. An end behind the file is cut to it, so that a walk is never
-// longer than the file. Its turns are handed out too: a layout with other identifiers or sizes walks by them.
+// first `data` stand. Any bytes and any end are accepted. An end behind the file is replaced by the file's, so that a
+// walk is never longer than the file. Its steps are public too, for layouts with other identifiers or sizes.
 ghost use mathlib.Core.Path.{_≡_};
 ghost use Prim.Native.Nat.{_+_, _<_, min};
 ghost use Rattle.word_bytes.specs.Bytes.{bytesValue};
@@ -20,14 +20,14 @@ pub struct Chunk {
     pub size: usize,
 }
 
-// The two identifiers that are sought, and whether the first chunk of the second ends the walk.
+// The two identifiers that the walk looks for, and whether the first chunk with the second one ends it.
 pub struct Sought {
     pub format: u32,
     pub samples: u32,
     pub ends: bool,
 }
 
-// The body of a chunk that was looked for: its place and its size, 0 where there is none.
+// The body of a chunk that was looked for: its place and its size, both 0 if it was not found.
 pub struct Spot {
     pub found: bool,
     pub body: usize,
@@ -40,13 +40,13 @@ pub struct Walked {
     pub samples: Spot,
 }
 
-// A walk on its way: how many bytes are left before the end, and what was seen.
+// A walk that is not over: how many bytes are left before the end, and what has been seen.
 pub struct Walking {
     pub left: usize,
     pub seen: Walked,
 }
 
-// The chunks between the 12 bytes of a RIFF's beginning and its end, or the file's where that comes first.
+// The chunks behind the 12 bytes of a RIFF's beginning, up to its end or the end of the file, whichever comes first.
 pub fn walk(file: &[u8], end: usize) -> Walked
     ensures { λ r. ⌜ r ≡ walkOf (now (file .entry)) end ⌝ }
 {
@@ -59,7 +59,7 @@ fn earlier(end: usize, len: usize) -> usize
     if end < len { end } else { len }
 }
 
-// The same up to an end. What is left before the end is counted, so that no sum can pass a word.
+// The walk up to an end that lies in the file. The bytes that are left are counted down, so that no sum can overflow.
 fn walk_to(file: &[u8], end: usize) -> Walked
     ensures { λ r. ⌜ r ≡ walkTo riffSought (chunkAt bytesValue (now (file .entry))) end ⌝ }
 {
@@ -73,7 +73,7 @@ fn walk_to(file: &[u8], end: usize) -> Walked
     walking.seen
 }
 
-// `fmt ` and `data`; the first `data` ends the walk.
+// The walk looks for `fmt ` and `data`, and the first `data` ends it.
 pub fn riff_sought() -> Sought
     ensures { λ r. ⌜ r ≡ riffSought ⌝ }
 {

@@ -1,4 +1,4 @@
-// W1. What was seen of the chunks: whether one ran past the end, and where the first of each identifier stands.
+// W1. What has been seen of the chunks: whether one runs past the end, and where the first of each identifier stands.
 ghost use mathlib.Core.Path.{_≡_};
 ghost use mathlib.Core.Bool.{false, _||_};
 ghost use Rattle.riff_chunks.specs.Chunks.{nowhere};
@@ -24,7 +24,7 @@ pub fn unseen() -> Walked
     }
 }
 
-// One chunk more.
+// What has been seen after one more chunk.
 pub fn noted(sought: Sought, seen: Walked, c: Chunk, over: bool) -> Walked
     ensures { λ r. ⌜ r ≡ Walk·noted sought seen c over ⌝ }
 {
@@ -43,7 +43,7 @@ fn either(a: bool, b: bool) -> bool
     if a { true } else { b }
 }
 
-// The spot that was found before, else the chunk's where it is the one looked for.
+// The spot that was found before; otherwise the chunk's, if it has the identifier.
 fn first_of(before: Spot, id: u32, c: Chunk) -> Spot
     ensures { λ r. ⌜ r ≡ orElse before (spotIf id c) ⌝ }
 {

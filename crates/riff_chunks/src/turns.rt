@@ -1,4 +1,4 @@
-// W1. A walk's turns: before the first chunk, and one chunk more. Any numbers are taken.
+// W1. The steps of a walk: its beginning, and one more chunk. Any numbers are accepted.
 ghost use mathlib.Core.Path.{_≡_};
 ghost use Prim.Native.Nat.{_-_, _%_};
 ghost use Rattle.riff_chunks.specs.Walk.{begun, turned, leftAfter, isLast};
@@ -8,7 +8,7 @@ use crate::Walking;
 use crate::spots::noted;
 use crate::spots::unseen;
 
-// The beginning of a file has 12 bytes: four letters, a size, four letters.
+// A file begins with 12 bytes: four letters, a size, four letters.
 pub fn begin(end: usize) -> Walking
     ensures { λ r. ⌜ r ≡ begun end ⌝ }
 {
@@ -19,7 +19,7 @@ pub fn begin(end: usize) -> Walking
     }
 }
 
-// One chunk more, whose header takes 8 of the bytes that are left.
+// One more chunk. Its header takes 8 of the bytes that are left.
 pub fn turn(walking: Walking, sought: Sought, c: Chunk) -> Walking
     ensures { λ r. ⌜ r ≡ turned sought walking c ⌝ }
 {
@@ -38,7 +38,8 @@ fn less(n: usize, by: usize) -> usize
     if n < by { 0 } else { n - by }
 }
 
-// Nothing where the walk ends with the chunk, nor where it runs past the end. A last pad byte may be missing.
+// Nothing is left if the walk ends with this chunk, or if the chunk runs past the end. The pad byte of the last chunk
+// may be missing.
 fn left_after(sought: Sought, c: Chunk, room: usize) -> usize
     ensures { λ r. ⌜ r ≡ leftAfter sought c room ⌝ }
 {
@@ -52,7 +53,6 @@ fn left_after(sought: Sought, c: Chunk, room: usize) -> usize
     if rest == 0 { 0 } else { rest - pad(c.size) }
 }
 
-// How many pad bytes stand behind a body.
 fn pad(size: usize) -> usize
     ensures { λ r. ⌜ r ≡ size % 2 ⌝ }
 {

@@ -1,4 +1,4 @@
--- Zeroing a ring place by place: what holds before each turn, and that a turn keeps it. Assumes nothing.
+-- Zeroing a ring place by place: what holds before each turn of the loop, and that a turn keeps it. Assumes nothing.
 use mathlib.Core.Path.{_≡_, refl, sym, _∙_, ap}
 use mathlib.Core.Bool.{false}
 use mathlib.Core.List.{List}
@@ -12,7 +12,7 @@ use lib.Seq.{take-suc-set, take-all}
 use lib.Ieee.{Float, fin}
 use Rattle.ring.specs.Length.{zeros}
 
--- the first i places of xs, once ys, are zeroed
+-- The first i places of xs, which was ys, are zero.
 pub record Cleared (ys xs : List Float) (i : ℕ) : Type 0 where
   pub long : length xs ≡ length ys
   pub within : i ≤ length ys

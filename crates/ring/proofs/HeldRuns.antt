@@ -1,5 +1,5 @@
--- Where `startOf` says that a run of taps is held, each of its taps is, at the place after the one before it,
--- round the ring's end: what a kernel's quick way rests on. Assumes nothing.
+-- If `startOf` says that a run of taps is held, each of its taps stands at the place after the one before it, going
+-- round at the ring's end. The fast paths of the kernels use this. Assumes nothing.
 use mathlib.Core.Path.{_≡_, refl, sym, _∙_, ap}
 use mathlib.Core.Bool.{Bool, true, false, _&&_}
 use mathlib.Core.List.{List}
@@ -16,7 +16,7 @@ use Rattle.ring.specs.Quick.{placeOf, pickStart, startOf}
 use Rattle.ring.proofs.RunStartWays.{place-inside}
 use Rattle.ring.specs.declared.Start.{Start}
 
--- the run of `taps` taps from number `first` on is held in a ring of length len
+-- The run of `taps` taps from the number `first` on is held in a ring of length len.
 pub record Run (len count taps : ℕ) (i : ℤ) (place : ℕ) : Type 0 where
   pub first : ℕ
   pub from : i ≡ pos first
@@ -39,7 +39,7 @@ run-of len count taps (pos k) h = go (leb (k + taps) count) (leb count (k + len)
     go true false p q h = let e : _≡_ {A = ℕ} 0 1 = cc in absurd (omega arith)
     go false b p q h = let e : _≡_ {A = ℕ} 0 1 = cc in absurd (omega arith)
 
--- the tap k behind the first
+-- Tap k, counted from the first.
 at-number : (xs : List Float) (count i k : ℕ) → i + k < count → count ≤ i + length xs
     → tapAt xs count (pos i +ℤ pos k) ≡ held (getD xs ((placeOf i (length xs) + k) % length xs) nan)
 at-number xs count i k a b =
@@ -50,7 +50,7 @@ at-number xs count i k a b =
       mod-add-mod i (length xs) k,
     )
 
--- a place and the places after it, once round
+-- A place and the places after it, going round once.
 pub on : {p n : ℕ} → p < n → p % n ≡ p
 on = mod-eq-of-lt
 
@@ -59,7 +59,7 @@ round p n h l =
     let e : p ≡ p - n + n = omega arith in
     ap (λ (k : ℕ). k % n) e ∙ add-mod-right (p - n) n ∙ mod-eq-of-lt (omega arith)
 
--- s is what `run_start` gave for the taps from index i on
+-- Let s be what `run_start` gave for the taps from index i on.
 module _ (xs : List Float) (count taps : ℕ) (i : ℤ) (s : Start) (start : s ≡ startOf (length xs) count i taps)
     (all : s .held ≡ true) where
   run : Run (length xs) count taps i (startOf (length xs) count i taps .place)
@@ -80,7 +80,7 @@ module _ (xs : List Float) (count taps : ℕ) (i : ℤ) (s : Start) (start : s �
       ∙ at-number xs count (run .first) k (omega (arith, run .written)) (run .not-gone)
       ∙ ap (λ (p : ℕ). held (getD xs ((p + k) % length xs) nan)) (sym at)
 
-  -- what tap k reads: before the ring's end, and round it
+  -- What tap k reads: before the ring's end, and after going round it.
   pub straight : (k : ℕ) → k < taps → s .place + k < length xs
       → tapOf xs count (i +ℤ pos k) ≡ getD xs (s .place + k) nan
   straight k h l = ap valueOf (each k h) ∙ ap (λ (p : ℕ). getD xs p nan) (on l)

@@ -1,6 +1,5 @@
--- G1. A ring's length is the least power of two that is at least the need, at most 2 ^ 24 exactly where the need is;
--- with 01's three examples.
--- Assumes nothing.
+-- G1. A ring's length is the least power of two that is at least the need, and it is at most 2 ^ 24 exactly if the need
+-- is. With 01's three examples. Assumes nothing.
 use mathlib.Core.Path.{_≡_, refl}
 use mathlib.Core.Logic.{_↔_}
 use Prim.Native.Nat.{ℕ, _-_, _%_, _^_, _≤_, _<_}
@@ -28,7 +27,7 @@ module _ (maximum margin : ℕ) where
   pub at-most : need maximum margin ≤ 2 ^ 24 ↔ lengthFor maximum margin ≤ 2 ^ 24
   at-most = (least 24, le-trans enough)
 
-  -- so a mask by its predecessor is the remainder
+  -- So a mask by the length less 1 is the remainder.
   pub masked : (k : ℕ) → bitAnd k (lengthFor maximum margin - 1) ≡ k % lengthFor maximum margin
   unfolding lengthFor
   masked k = and-mask k (size (need maximum margin - 1))

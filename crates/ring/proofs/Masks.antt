@@ -1,5 +1,5 @@
--- A length that shares no digit with its predecessor is a power of two, and a mask by the predecessor is then the
--- remainder; and the digits that leading zeros leave are those that `size` counts. Assumes nothing.
+-- A length that shares no digit with its predecessor is a power of two, and then a mask by the predecessor is the
+-- remainder. And the digits below the leading zeros are those that `size` counts. Assumes nothing.
 use mathlib.Core.Path.{_≡_, sym, _∙_}
 use mathlib.Core.Logic.{⊎-elim}
 use Prim.Native.Nat.{ℕ, suc, _+_, _-_, _*_, _%_, _^_, _≤_, _<_}
@@ -11,7 +11,7 @@ use lib.Count.{leadingZeros, leading-top, leading-length}
 use lib.Ieee.{size}
 use lib.Ieee.Digits.{size-lt, size-le}
 
--- above a power of two, below the next, the leading digit is the predecessor's too
+-- Between a power of two and the next the leading digit is also the predecessor's.
 shared : (j r : ℕ) → 0 < r → r < 2 ^ j → bitAnd (2 ^ j + r) (2 ^ j + r - 1) ≡ 0 → ⊥
 shared j r p h e =
     let a : 2 ^ j + r ≡ 1 * 2 ^ j + r = omega arith in

@@ -1,4 +1,4 @@
--- One tap is a run of one: at the place that `startOf` gives, or absent and zero. Assumes nothing.
+-- One tap is a run of one: it stands at the place that `startOf` gives, or is not held and reads zero. Assumes nothing.
 use mathlib.Core.Path.{_≡_, refl, sym, _∙_, ap}
 use mathlib.Core.Bool.{Bool, true, false}
 use mathlib.Core.List.{List}
@@ -34,7 +34,7 @@ module _ (xs : List Float) (count : ℕ) where
           let z : _≡_ {A = ℕ} 0 1 = cc in
           absurd (omega arith)
 
--- s is what `tap_place` gave for the tap at index i
+-- Let s be what `tap_place` gave for the tap at index i.
 pub record One (xs : List Float) (count : ℕ) (i : ℤ) (s : Start) : Type 0 where
   pub start : s ≡ startOf (length xs) count i 1
 

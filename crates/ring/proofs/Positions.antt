@@ -1,4 +1,4 @@
--- G3. A position in range is a number of magnitude at most 2 ^ 36, and only such a number is. Assumes nothing.
+-- G3. A position is in range exactly if it is a number of magnitude at most 2 ^ 36. Assumes nothing.
 use mathlib.Core.Path.{_≡_, refl}
 use mathlib.Core.Bool.{true, false}
 use Prim.Native.Nat.{_^_}

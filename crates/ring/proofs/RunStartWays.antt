@@ -1,4 +1,4 @@
--- A run of taps by where its index stands, for an index that the code holds as a word: one law for each way out of
+-- A run of taps by the place of its index, for an index that the code holds as a word: one law for each return of
 -- `run_start`. Assumes nothing.
 use mathlib.Core.Path.{_≡_, sym, subst}
 use mathlib.Core.Bool.{true, false}
@@ -15,7 +15,7 @@ use mir.ValLaws.{toZ-ofZ}
 use Rattle.ring.specs.Quick.{placeOf, startOf}
 use Rattle.ring.specs.declared.Start.{Start}
 
--- a negative number where the test for one failed
+-- The test for a negative number does not fail for one.
 not-negative : (k : ℕ) → ltZ (negsuc k) (pos 0) ≡ false → ⊥
 not-negative k h = let e : _≡_ {A = ℕ} 0 1 = cc in omega arith
 
@@ -34,7 +34,7 @@ place-mod k n some = rw (ne-eqb n 0 (λ z. omega arith))
 pub place-inside : (k n : ℕ) {p : ℕ} → 0 < n → p ≡ placeOf k n → p < n
 place-inside k n some e = rw (e, place-mod k n some) (mod-lt k some)
 
--- whether all of a run are held
+-- Whether all taps of a run are held.
 module _ (len count taps : ℕ) where
   abbrev none : Start
   none = record { held = false; place = 0 }

@@ -12,14 +12,15 @@ use Rattle.constants.specs.Numbers.{zero-f}
 abbrev pub need : ℕ → ℕ → ℕ
 need maximum margin = maximum + 2 * margin + 8
 
--- A ring's length: that sum raised to the next power of two; `size` counts binary digits.
+-- The length of a ring: that sum raised to the next power of two. `size` counts binary digits.
 unfoldable pub lengthFor : ℕ → ℕ → ℕ
 lengthFor maximum margin = 2 ^ size (need maximum margin - 1)
 
--- Settings are in range if the sum is at most 2^24, which the power of two is exactly when the sum is.
+-- The settings are in range if the sum is at most 2^24. As 2^24 is a power of two, the length is at most 2^24 in
+-- exactly these cases.
 abbrev pub settingsOk : ℕ → ℕ → Bool
 settingsOk maximum margin = leb (need maximum margin) (2 ^ 24)
 
--- K1. Opening zeroes the ring: +0.0 at every place.
+-- K1. Opening a reader writes +0.0 to every place of the ring.
 abbrev pub zeros : ℕ → List Float
 zeros n = replicate n zero-f

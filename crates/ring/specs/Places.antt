@@ -1,4 +1,4 @@
--- G3. A position's range. Definitions only.
+-- G3. The range of a position. Definitions only.
 use mathlib.Core.Bool.{Bool, _&&_}
 use lib.Ieee.{Float, le}
 use Rattle.constants.specs.Numbers.{limit-f, minus-limit-f}

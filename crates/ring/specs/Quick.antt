@@ -1,5 +1,5 @@
--- K1. Where a run of taps starts in a ring, for the kernels' quick way: taps that are all held are read side by side.
--- What a tap is, and so what a kernel reads, stands in Taps.antt without it. Definitions only.
+-- K1. Where a run of taps starts in a ring, for the fast paths of the kernels: taps that are all held are read side by
+-- side. It is no part of what a kernel promises, which stands in Taps.antt. Definitions only.
 use Prim.Native.Nat.{ℕ, _+_, _%_}
 use mathlib.Core.Bool.{Bool, true, false, _&&_, cond}
 use lib.Dec.{leb, eqb}

@@ -18,8 +18,8 @@ abbrev pub pick : Bool → Tap → Tap → Tap
 pick true a b = a
 pick false a b = b
 
--- Below 0 a tap is not yet written; from the count on it is ahead; more than the ring's length behind the count it is
--- overwritten; else it is held, at its number modulo the length.
+-- K2. Below 0 a tap is not yet written; from the count on it is ahead; if it lies more than the ring's length behind
+-- the count it is overwritten; otherwise it is held, at its number modulo the length.
 abbrev pub tapAt : List Float → ℕ → ℤ → Tap
 tapAt xs count (negsuc k) = unwritten
 tapAt xs count (pos k) =

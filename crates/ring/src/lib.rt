@@ -1,6 +1,6 @@
 // A lent ring of samples: how long it must be, where a sample stands in it, and what a tap reads.
 // It stands for the original's RingView, RingViewF32 and SliceSource (000).
-mod single; // the same for samples of single precision
+mod single; // the same for f32 samples
 mod taps; // where a tap stands, and what it reads
 
 use constants::LIMIT_F64;
@@ -14,8 +14,8 @@ ghost use Rattle.ring.specs.Length.{settingsOk, lengthFor, zeros};
 ghost use Rattle.ring.specs.Places.{positionOk};
 ghost use Rattle.ring.specs.Quick.{placeOf, startOf};
 
-// The ring length that the settings need (G1), or 0 if they are out of range. Each setting is tested before it is
-// added, so nothing wraps.
+// G1. The ring length that the settings need, or 0 if they are out of range. Each setting is tested before it is added,
+// so that the sum cannot overflow.
 pub fn length_for(maximum: usize, margin: usize) -> usize
     ensures { λ r. ⌜ r ≡ cond (settingsOk maximum margin) (lengthFor maximum margin) 0 ⌝ }
 {
@@ -44,8 +44,8 @@ pub fn clear(ring: &mut [f64])
     }
 }
 
-// An index modulo the length (K1). A reader's ring has a power of two as its length, so a mask is enough; in a slice
-// that holds all samples so far the index is below the length. Only otherwise is there a division.
+// K1. An index modulo the length. A reader's ring has a power of two as its length, so a mask is enough; in a slice
+// that holds all samples so far the index is below the length. Only in other cases is there a division.
 pub fn place(index: u64, len: usize) -> usize
     ensures { λ r. ⌜ r ≡ placeOf index len ⌝ }
 {
@@ -67,7 +67,7 @@ pub struct Start {
     pub place: usize,
 }
 
-// No run that is held.
+// The answer where not all taps of a run are held.
 fn absent() -> Start
     ensures { λ r. ⌜ r ≡ record { held = false; place = 0 } ⌝ }
 {
@@ -77,8 +77,8 @@ fn absent() -> Start
     }
 }
 
-// Whether all taps of a run are held, and where the first stands: a kernel's quick way then reads them without a test
-// each.
+// Whether all taps of a run are held, and where the first stands. If so, a kernel's fast path reads them without a test
+// for each.
 pub fn run_start(len: usize, count: u64, index: i64, taps: u64) -> Start
     ensures { λ r. ⌜ r ≡ startOf len count index taps ⌝ }
 {
@@ -102,7 +102,7 @@ pub fn run_start(len: usize, count: u64, index: i64, taps: u64) -> Start
     }
 }
 
-// G3. Whether a position is finite and from -2^36 to 2^36.
+// G3. A position is finite and lies from -2^36 to 2^36.
 pub fn position_ok(position: f64) -> bool
     ensures { λ r. ⌜ r ≡ positionOk position ⌝ }
 {

@@ -1,4 +1,4 @@
-// 000's RingViewF32: `clear` and `tap` for samples of single precision.
+// 000's RingViewF32: `clear` and `tap` for f32 samples.
 ghost use mathlib.Core.Path.{_≡_};
 ghost use lib.ListN.{length};
 ghost use Rattle.ring.specs.Length.{zeros};

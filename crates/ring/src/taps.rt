@@ -6,7 +6,7 @@ use crate::Start;
 use crate::absent;
 use crate::place;
 
-// Whether one tap is held, and where it stands: a run of one, with one test fewer.
+// Whether one tap is held, and where it stands. This is a run of one tap with one test fewer.
 pub fn tap_place(len: usize, count: u64, index: i64) -> Start
     ensures { λ r. ⌜ r ≡ startOf len count index 1 ⌝ }
 {
@@ -26,7 +26,7 @@ pub fn tap_place(len: usize, count: u64, index: i64) -> Start
     }
 }
 
-// A tap of a ring that has accepted `count` samples; absent ones read zero.
+// K2. A tap of a ring that has accepted `count` samples; one that is not held reads zero.
 pub fn tap(source: &[f64], count: u64, index: i64) -> f64
     ensures { λ r. ⌜ r ≡ tapOf (now (source .entry)) count index ⌝ }
 {

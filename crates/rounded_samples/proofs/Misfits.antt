@@ -1,5 +1,5 @@
--- The first sample that does not fit, one sample further: where the loop ends, goes on, and is through.
--- Assumes nothing.
+-- The first sample that does not fit, one sample further: the loop ends there, goes on, or has seen all. Assumes
+-- nothing.
 use mathlib.Core.Path.{_≡_, refl, sym, ap, _∙_}
 use mathlib.Core.Bool.{true, false}
 use mathlib.Core.List.{List, []}

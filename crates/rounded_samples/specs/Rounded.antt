@@ -11,7 +11,7 @@ use Rattle.sample_kind.specs.declared.SampleKind.the-variants.{Pcm24}
 use Rattle.stored_samples.specs.Stored.{fitsIn, wordOf}
 use Rattle.whole_samples.specs.Whole.{unitsOf}
 
--- W2e. The place of the first sample that does not fit its kind; how many there are where all fit.
+-- W2e. The place of the first sample that does not fit its kind; the number of samples if all fit.
 unfoldable pub misfitIn : SampleKind → List Float → ℕ
 misfitIn kind [] = 0
 misfitIn kind (x ∷ xs) = cond (fitsIn kind x) (suc (misfitIn kind xs)) 0

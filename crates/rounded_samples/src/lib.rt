@@ -13,7 +13,7 @@ use stored_samples::narrow_samples::stored24_f32;
 use whole_samples::whole24;
 use woven::sample_at;
 
-// The place of the first sample that does not fit, or how many there are.
+// The place of the first sample that does not fit, or the number of samples if all fit.
 pub fn first_misfit(kind: SampleKind, samples: &[f32]) -> usize
     ensures { λ r. ⌜ r ≡ misfitIn kind (now (samples .entry)) ⌝ }
 {
@@ -44,7 +44,7 @@ fn rounded(x: f32) -> i32
     whole24(stored24_f32(x))
 }
 
-// Fills a slice with samples as whole numbers of 24 bits: 0 for one that does not fit, or is not there.
+// Fills a slice with samples as whole numbers of 24 bits, 0 for one that does not fit or is not there.
 pub fn round_off(samples: &[f32], out: &mut [i32])
     ensures { λ _. ⌜ now (out .exit) ≡ listOf (roundedAt (now (samples .entry))) (length (now (out .entry))) ⌝ }
 {

@@ -1,4 +1,4 @@
--- `add` and `sub` of values that are given by fractions, and in units of 1 / L. Assumes nothing.
+-- `add` and `sub` of values that are given as fractions, or as multiples of 1 / L. Assumes nothing.
 use mathlib.Core.Path.{_≡_, refl, ap, _∙_}
 use mathlib.Core.Bool.{Bool, true, false, cond}
 use Prim.Native.Nat.{ℕ, _+_, _-_, _*_, _≤_, _<_}

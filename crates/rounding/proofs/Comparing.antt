@@ -1,5 +1,5 @@
--- Comparisons of values in units of 1 / L; and what a comparison says of any value: that it is finite, or no NaN.
--- Assumes nothing.
+-- Comparisons of values that are given as multiples of 1 / L, and what a comparison shows of any value: that it is
+-- finite, or not a NaN. Assumes nothing.
 use mathlib.Core.Path.{_≡_, refl, sym, ap, _∙_}
 use mathlib.Core.Bool.{Bool, true, false, not, _&&_, Bool·beq, _||_, true≢false, false≢true}
 use Prim.Native.Nat.{ℕ, _+_, _*_, _<_}

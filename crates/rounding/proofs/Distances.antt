@@ -28,7 +28,7 @@ no-nearer a den R Y c =
       ]
     ]
 
--- as near, and not the same: the middle
+-- If both are as near and not the same, the fraction is their middle.
 pub as-near : (a den R Y : ℕ) → 0 < den → (R ≡ Y → ⊥) → a - R * den + (R * den - a) ≡ a - Y * den + (Y * den - a)
     → a * 2 ≡ (R + Y) * den
 as-near a den R Y D ne e =

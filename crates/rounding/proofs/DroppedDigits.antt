@@ -21,7 +21,7 @@ prec-pos f = two-le-pos (prec f) (two f)
 pub size-in : (w j : ℕ) → 2 ^ j ≤ w → w < 2 ^ suc j → size w ≡ suc j
 size-in w j lo hi = le-antisymm (size-le w (suc j) hi) (pow-lt-back j (size w) (lt-of-le-of-lt lo (size-lt w)))
 
--- a number of exactly p + k digits
+-- A number of exactly p + k digits has k more than p.
 pub size-at : (w p k : ℕ) → 0 < p → 2 ^ (p - 1 + k) ≤ w → w < 2 ^ (p + k) → size w - p ≡ k
 size-at w p k P lo hi =
     let e : p + k ≡ suc (p - 1 + k) = omega arith in
@@ -53,7 +53,7 @@ round-low f s num den D hi =
     ∙ ap (λ (z : ℕ). units f s (closest (num * 2 ^ low f) (den * 2 ^ z)) z)
     (drop-low (prec f) (num * 2 ^ low f) den D hi)
 
--- either of them: k digits are dropped, none where k is 0
+-- In either case k digits are dropped; none if k is 0.
 pub move : (p k den : ℕ) → 2 ^ (p + k) * den ≡ 2 ^ p * (den * 2 ^ k)
 move p k den =
     ap (λ (z : ℕ). z * den) (pow-add 2 p k)
@@ -69,7 +69,7 @@ round-at f s num den (suc k) D lo hi =
     round-normal f s num den (suc k) D (le-trans (le-of-eq (move (prec f - 1) (suc k) den)) (lo (zero-lt-suc k)))
     (lt-of-lt-of-le hi (le-of-eq (sym (move (prec f) (suc k) den))))
 
--- v of a finer unit, 2 ^ -(low + e)
+-- The same for v of a finer unit, 2 ^ -(low + e).
 pub round-finer : (f : Format) (s : Bool) (v e k : ℕ) → (0 < k → hid f * 2 ^ (e + k) ≤ v) → v < 2 ^ prec f * 2 ^ (e + k)
     → round f s v (2 ^ (low f + e)) ≡ units f s (closest v (2 ^ (e + k))) k
 round-finer f s v e k lo hi =
@@ -85,7 +85,7 @@ round-finer f s v e k lo hi =
     (closest-same (v * l) (den * 2 ^ k) v u (mul-pos (pow-pos (low f + e)) (pow-pos k)) (pow-pos (e + k))
     (mul-assoc v l u ∙ ap (λ (z : ℕ). v * z) (mul-comm l u ∙ sym d)))
 
--- ---- the number that is kept has prec digits at most, or is 2 ^ prec; and that many at least where any were dropped
+-- ---- the number that is kept has at most prec digits, or is 2 ^ prec; and at least so many if any were dropped
 pub kept-le : (p n den : ℕ) → kept p n den ≤ 2 ^ p
 kept-le p n den =
     let k = drop p n den in

@@ -36,7 +36,7 @@ fused-once f (fin s m e) (fin t n d) (fin u k g) S num den D h =
     ∙ ap (λ (z : Bool). round f z (sum-size p a u b) c) (o .0)
     ∙ round-same f S (sum-size p a u b) c num den (mul-pos (mul-pos (down-pos e) (down-pos d)) (down-pos g)) D (o .1)
 
--- every x * y + z of finite numbers is such a fraction
+-- Every x * y + z of finite numbers is such a fraction.
 pub fused-exact : (x y z : Float) → T (finite x) → T (finite y) → T (finite z)
     → (s : Bool) × (num : ℕ) × (den : ℕ) × (0 < den) × ExactFused x y z s num den
 fused-exact nan y z h i j = absurd h

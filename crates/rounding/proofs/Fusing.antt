@@ -1,5 +1,5 @@
--- `fused` of three values given by fractions, and where nothing is multiplied or added: a product of zero is exact,
--- and a zero added to a product leaves it. What `fused` gives is a value of the format. Assumes nothing.
+-- `fused` of three values that are given as fractions, and where nothing has to be multiplied or added: a product of
+-- zero is exact, and adding a zero leaves the product. The result of `fused` is a value of the format. Assumes nothing.
 use mathlib.Core.Path.{_≡_, refl, sym, ap, _∙_, subst}
 use mathlib.Core.Bool.{Bool, true, false}
 use Prim.Native.Nat.{ℕ, _*_, _<_}
@@ -83,7 +83,7 @@ module _ (f : Format) (s : Bool) (m : ℕ) (e : ℤ) (t : Bool) (n : ℕ) (d : �
       added-nothing false true a k A =
           sum-less f false true a 0 k refl A ∙ ap (λ (x : ℕ). round f false x k) (sub-zero a)
 
--- ---- what it gives
+-- ---- the result is a value of the format
 sum-fits : (f : Format) (s : Bool) (a : ℕ) (t : Bool) (b c : ℕ) → T (fits f (sum f s a t b c))
 sum-fits f s a t b c = rw (sum-is f s a t b c) (round-fits f (sum-sign s a t b) (sum-size s a t b) c)
 

@@ -1,6 +1,5 @@
--- `round` for either sign, counted in the format's smallest values: `grid` of them, and an infinity from `overflow` on.
--- And a value's count: a number of few digits, at some place.
--- Assumes nothing.
+-- `round` for either sign, counted in the format's smallest values: the result is `grid` of them, and an infinity from
+-- `overflow` on. And the count of a value: it is a number of few digits times a power of two. Assumes nothing.
 use mathlib.Core.Path.{_≡_, sym, _∙_, subst}
 use mathlib.Core.Logic.{inl, inr}
 use mathlib.Core.Bool.{Bool}
@@ -37,7 +36,7 @@ value-one nan s t a b c p q = absurd p
 value-one (inf u) s t a b c p q = absurd p
 value-one (fin u m e) s t a b c p q = eq-of-mul-eq-mul-right (down e) (down-pos e) a b (sym (p .1) ∙ q .1)
 
--- a finite result
+-- If the result is finite, its count is `grid`.
 pub rounded-grid : (f : Format) (s : Bool) (num den R : ℕ) → HasValue (round f s num den) s R (2 ^ low f)
     → R ≡ grid f num den
 rounded-grid f s num den R r = elim (lt-or-ge (grid f num den) (overflow f)) [
@@ -45,7 +44,7 @@ rounded-grid f s num den R r = elim (lt-or-ge (grid f num den) (overflow f)) [
   | inr h ↦ absurd (subst (λ (x : Float). HasValue x s R (2 ^ low f)) (round-over f s num den h) r)
 ]
 
--- a value of the format counts a number of at most prec digits, at some place, and less than 2 ^ (emax + 1)
+-- A value of the format has a count of at most prec digits, times a power of two, below 2 ^ (emax + 1).
 pub few-digits : (f : Format) (y : Float) (t : Bool) (Y : ℕ) → T (fits f y) → HasValue y t Y (2 ^ low f)
     → (w : ℕ) × (j : ℕ) × (Y ≡ w * 2 ^ j) × (w < 2 ^ prec f) × (Y < overflow f)
 few-digits f nan t Y h v = absurd v

@@ -1,6 +1,6 @@
--- The sticky law, for an algorithm on whole numbers, at either width: W counts 1 / (h + h) of the unit 2 ^ k that is
--- rounded to, and is the fraction exactly, or is odd and less than one away from it. Then the fraction rounds as W
--- does. Assumes nothing.
+-- The sticky law, for an algorithm on whole numbers, at either width. W counts 1 / (h + h) of the unit 2 ^ k that is
+-- rounded to. Either W is the fraction exactly, or it is odd and less than one away from it. Then the fraction rounds
+-- as W does. Assumes nothing.
 use mathlib.Core.Path.{_≡_, sym, ap, _∙_}
 use mathlib.Core.Logic.{_⊎_, inl, inr}
 use mathlib.Core.Bool.{Bool}

@@ -1,5 +1,5 @@
--- The largest finite value of a format: it is one, none is larger, and the midpoint above it is half way to 2 ^ (emax +
--- 1), the first number past it. Assumes nothing.
+-- The largest finite value of a format. It is a value, none is larger, and the midpoint above it lies half way to 2 ^
+-- (emax + 1), the first number beyond it. Assumes nothing.
 use mathlib.Core.Path.{_≡_, refl, sym, ap, _∙_}
 use mathlib.Core.Logic.{dite}
 use mathlib.Core.Bool.{Bool, false}
@@ -53,7 +53,7 @@ top-fits binary64 = tt
 pub largest-held : (f : Format) → (x : Float) × T (fits f x) × HasValue x false (largest f) 1
 largest-held f = (top-value f, top-fits f, (refl, refl))
 
--- the largest unit is 2 ^ place of the smallest values
+-- The largest unit is 2 ^ place of the smallest values.
 abbrev pub place : Format → ℕ
 place f = suc (emax f) - prec f + low f
 

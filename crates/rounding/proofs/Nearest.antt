@@ -20,7 +20,7 @@ use Rattle.rounding.proofs.DroppedDigits.{prec-pos, kept-ge}
 use Rattle.rounding.proofs.Grid.{few-digits, rounded-grid}
 use Rattle.rounding.proofs.WithinHalfDivisor.{closest-near}
 
--- q of the unit u is as near to n as a whole number of them can be: v of them lie on the far side of the middle
+-- q of the unit u is as near to n as a whole number of units can be; v of them lie on the far side of the middle.
 beside : (n u q v : ℕ) → (q * u * 2 ≤ n * 2 + u) × (n * 2 ≤ q * u * 2 + u)
     → (q < v → n * 2 ≤ (q + v) * u) × (v < q → (q + v) * u ≤ n * 2)
 beside n u q v c =
@@ -54,7 +54,7 @@ module _ (f : Format) (num den : ℕ) (D : 0 < den) where
       ∙ mul-assoc (q + v) (2 ^ k) den
       ∙ ap (λ (x : ℕ). (q + v) * x) (mul-comm (2 ^ k) den)
 
-  -- below the least number of as many digits
+  -- The values below the least number of as many digits are no nearer.
   pub least : 0 < k → (q + hid f) * (den * 2 ^ k) ≤ n * 2
   least K = elim (eq-or-lt-of-le (kept-ge (prec f) n den (prec-pos f) K)) [
     | inl e ↦
@@ -107,8 +107,8 @@ module _ (f : Format) (num den : ℕ) (D : 0 < den) where
         )
   ]
 
--- In units of the smallest value the result is R and any other value Y, whatever the signs: the fraction lies on R's
--- side of their middle.
+-- Counted in the smallest value the result is R and any other value is Y, whatever their signs. The fraction lies on
+-- R's side of their middle.
 pub round-nearest : (f : Format) (s t : Bool) (num den R Y : ℕ) (y : Float) → 0 < den
     → HasValue (round f s num den) s R (2 ^ low f) → T (fits f y) → HasValue y t Y (2 ^ low f)
     → (R < Y → num * 2 ^ low f * 2 ≤ (R + Y) * den) × (Y < R → (R + Y) * den ≤ num * 2 ^ low f * 2)

@@ -18,7 +18,7 @@ div-is n w d r e h = ap (λ (x : ℕ). x / d) e ∙ digits-div w h
 mod-is : (n w d r : ℕ) → n ≡ w * d + r → r < d → n % d ≡ r
 mod-is n w d r e h = ap (λ (x : ℕ). x % d) e ∙ digits-mod w h
 
--- ---- half the divisor less one is added, and one more where the quotient is odd
+-- ---- half the divisor less one is added, and one more if the quotient is odd
 by-add : (a u q r : ℕ) (o : Ordering) → 0 < u → a ≡ q * (u + u) + r → r < u + u → Cmp o (r * 2) (u + u)
     → nearest q o ≡ (a + (u - 1 + q % 2)) / (u + u)
 by-add a u q r o U w R h = go o h (q % 2) refl (mod-lt q (zero-lt-suc 1))
@@ -55,7 +55,7 @@ closest-ge a d w D h = le-trans (le-div-iff-mul-le D .1 h) (nearest-ge (a / d) (
 pub closest-le : (a d w : ℕ) → 0 < d → a < w * d → closest a d ≤ w
 closest-le a d w D h = le-trans (nearest-le (a / d) (compare (a % d * 2) d)) (div-lt-iff-lt-mul D .1 h)
 
--- an even multiple of the divisor goes through
+-- An even multiple of the divisor can be added before or after.
 nearest-shift : (w q : ℕ) (o : Ordering) → nearest (w * 2 + q) o ≡ w * 2 + nearest q o
 nearest-shift w q Ordering·lt = refl
 nearest-shift w q Ordering·eq = omega arith

@@ -41,7 +41,6 @@ lt-or-ge a b = go (ltb a b) refl
     go true e = inl (ltb-true a b e)
     go false e = inr (ltb-false a b e)
 
--- the last digit is 0 or 1
 pub bit : (q : ℕ) → (q % 2 ≡ 0) ⊎ (q % 2 ≡ 1)
 bit q = go (q % 2) refl (mod-lt q (zero-lt-suc 1))
   where
@@ -80,7 +79,7 @@ ltb-iff a b c d f g =
 pub eqb-iff : (a b c d : ℕ) → (a ≡ b → c ≡ d) → (c ≡ d → a ≡ b) → eqb a b ≡ eqb c d
 eqb-iff a b c d f g = same-test (eqb a b) (eqb c d) (λ t. eq→eqb (f (eqb→eq a b t))) (λ t. eq→eqb (g (eqb→eq c d t)))
 
--- a / c and a' / c' are the same fraction, and b / c and b' / c'
+-- If a / c and a' / c' are the same fraction, and b / c and b' / c' too, then a and b have the order of a' and b'.
 cross-lt : (a b c a' b' c' : ℕ) → 0 < c' → a * c' ≡ a' * c → b * c' ≡ b' * c → a < b → a' < b'
 cross-lt a b c a' b' c' C p q h =
     lt-of-mul-lt-mul-right c (lt-of-le-of-lt (le-of-eq (sym p))

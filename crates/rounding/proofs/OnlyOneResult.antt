@@ -1,6 +1,6 @@
--- `RoundedOnce` says which float the result is: two values that are both nearest would be neighbours, one of them odd.
--- A value A beside the result, as near as it, is a whole number v of the result's unit, next to the even q, so odd;
--- and an even last digit of A would be at a finer place, where A has a digit too many. Assumes nothing.
+-- `RoundedOnce` determines the result. Two values that are both nearest would be neighbours, and one of them odd. A
+-- value A as near as the result is a whole number v of the result's unit, next to the even q, and so odd. An even last
+-- digit of A would stand at a finer place, where A has a digit too many. Assumes nothing.
 use mathlib.Core.Path.{_≡_, sym, ap, _∙_, subst}
 use mathlib.Core.Logic.{inl, inr, dite}
 use mathlib.Core.Bool.{Bool}
@@ -29,7 +29,7 @@ use Rattle.rounding.proofs.Ties.{tied, grid-even}
 use Rattle.rounding.proofs.Overflow.{round-infinite}
 use Rattle.rounding.proofs.NearestTiesToEven.{round-once}
 
--- q is within half a unit of the middle of q and v, so they are neighbours
+-- q is within half a unit of the middle of q and v, so they are neighbours.
 beside-even : (a u q v : ℕ) → 0 < u → (q * u * 2 ≤ a * 2 + u) × (a * 2 ≤ q * u * 2 + u) → a * 2 ≡ (q + v) * u
     → (q ≡ v → ⊥) → q % 2 ≡ 0 → v % 2 ≡ 1
 beside-even a u q v U c t ne even =

@@ -1,6 +1,6 @@
--- Where a rounding is infinite: exactly from the midpoint above the largest finite value on.
--- 2 ^ (emax + 1), the first number past that value, has few digits, so what is said of the nearest value and of a tie
--- holds of it too; and at the midpoint the largest value gives way, since its last digit is odd. Assumes nothing.
+-- A rounding is infinite exactly from the midpoint above the largest finite value on. The first number beyond that
+-- value, 2 ^ (emax + 1), has few digits, so what is said of the nearest value and of a tie holds for it too. At the
+-- midpoint the largest value loses the tie, because its last digit is odd. Assumes nothing.
 use mathlib.Core.Path.{_≡_, sym, ap, _∙_, subst}
 use mathlib.Core.Logic.{inl, inr}
 use mathlib.Core.Bool.{Bool, false}
@@ -24,7 +24,7 @@ use Rattle.rounding.proofs.Parity.{even-reaches}
 use Rattle.rounding.proofs.Ties.{grid-even}
 use Rattle.rounding.proofs.Largest.{above-largest, limit-middle, place, largest-units, largest-most}
 
--- all digits are 1, so the last of them is odd
+-- All digits are 1, so the last of them is odd.
 last-odd : (p q k j : ℕ) → 2 ≤ p → q ≤ 2 ^ p → q * 2 ^ k ≡ (2 ^ p - 1) * 2 ^ j → q % 2 ≡ 0 → ⊥
 last-odd p q k j P few e even =
     let P' : 0 < p = omega arith in

@@ -1,5 +1,5 @@
--- A pattern put together is read as it was meant: sign and k * hid + q as q * 2 ^ k units, carry and overflow included;
--- and sign, exponent's field and digits as those three fields. Assumes nothing.
+-- A pattern that is put together reads as it was meant. A sign and k * hid + q read as q * 2 ^ k units, carry and
+-- overflow included; a sign, an exponent field and digits read as those three fields. Assumes nothing.
 use mathlib.Core.Path.{_≡_, refl, sym, ap, _∙_, subst}
 use mathlib.Core.Logic.{inl, inr}
 use mathlib.Core.Bool.{Bool, true, false, cond}
@@ -27,7 +27,7 @@ units-fits f s q k Q h =
     subst (λ (v : Float). T (fits f v)) (sym (units-finite f s q k h))
     (odd-fits f (suc (prec f)) s q k (lt-of-le-of-lt Q (pow-lt (le-refl (suc (prec f))))) Q h)
 
--- where it overflows, k is the last and q is 2 ^ prec
+-- Where it overflows, k is the last place and q is 2 ^ prec.
 pack-over : (f : Format) (q k : ℕ) → q ≤ 2 ^ prec f → k < 2 * emax f → overflow f ≤ q * 2 ^ k
     → k * hid f + q ≡ ones f * hid f
 pack-over f q k Q K h =
@@ -57,7 +57,7 @@ pack f s q k Q N K = elim (lt-or-ge (q * 2 ^ k) (overflow f)) [
       ∙ sym (units-over f s q k g)
 ]
 
--- 2 ^ prec units at k are hid units at k + 1
+-- 2 ^ prec units at k are hid units at k + 1.
 pub units-carry : (f : Format) (s : Bool) (k : ℕ) → units f s (hid f) (suc k) ≡ units f s (2 ^ prec f) k
 units-carry f s k = elim (lt-or-ge (2 ^ prec f * 2 ^ k) (overflow f)) [
   | inl h ↦
@@ -71,7 +71,7 @@ units-carry f s k = elim (lt-or-ge (2 ^ prec f * 2 ^ k) (overflow f)) [
       ∙ sym (units-over f s (2 ^ prec f) k g)
 ]
 
--- ---- sign, exponent's field and digits
+-- ---- sign, exponent field and digits
 pub ofBits-is : (f : Format) (b : ℕ) → ofBits f b ≡ ofFields f (leb (top f) b) (b % top f / hid f) (b % hid f)
 unfolding ofBits
 ofBits-is f b = refl

@@ -1,5 +1,5 @@
--- One number that is even, counted at one place, and odd at another, has a digit more at the first.
--- Nothing here is about floats. Assumes nothing.
+-- If one number is even counted at one place and odd counted at another, it has more digits at the first. Nothing here
+-- is about floats. Assumes nothing.
 use mathlib.Core.Path.{_≡_, sym, ap, _∙_}
 use mathlib.Core.Logic.{dite}
 use Prim.Native.Nat.{ℕ, suc, _+_, _-_, _*_, _/_, _%_, _^_, _≤_}

@@ -1,5 +1,5 @@
--- A pattern is its sign's weight and the rest; the rest says whether it is a NaN's, an infinity's or a finite value's.
--- Assumes nothing.
+-- A pattern is the weight of its sign and a rest; the rest shows whether it is a NaN's, an infinity's or a finite
+-- value's. Assumes nothing.
 use mathlib.Core.Path.{_≡_, sym, ap, _∙_, subst}
 use mathlib.Core.Logic.{inl, inr}
 use mathlib.Core.Bool.{Bool, true, false, not, cond}
@@ -49,7 +49,7 @@ pub value-bits : (f : Format) (x : Float) → T (fits f x) → T (not (isNan x))
 value-bits f x held h =
     subst (λ (z : Bool). T (not z)) (sym (nanBits-is f (toBits f x) ∙ ap isNan (ofBits-toBits f x held))) h
 
--- sign and rest, put together, are no NaN
+-- A sign and a rest up to an infinity's are not a NaN's pattern.
 pub inf-lt : (f : Format) → ones f * hid f < top f
 inf-lt f =
     lt-of-lt-of-le (mul-lt-mul-of-pos-right (lt-suc-self (ones f)) (pow-pos (prec f - 1)))
@@ -90,8 +90,8 @@ bits-finite f (inf s) n h =
     (ap (λ (z : ℕ). z % top f) (toBits-inf f s) ∙ rest-is f s (ones f * hid f) (inf-lt f)) h)
 bits-finite f (fin s m e) n h = tt
 
--- a finite value's pattern without its sign, b, is b / hid - 1 in its unit's exponent, and the rest of b counts that
--- unit
+-- Let b be a finite value's pattern without its sign. The exponent of its unit is b / hid - 1, and the rest of b counts
+-- that unit.
 pub unpacked : (f : Format) (s : Bool) (b : ℕ) → b < ones f * hid f
     → ofBits f (cond s (top f) 0 + b) ≡ units f s (b - (b / hid f - 1) * hid f) (b / hid f - 1)
 unpacked f s b h =

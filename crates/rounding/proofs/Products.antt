@@ -1,4 +1,4 @@
--- A product by the exact fraction that is rounded; and where it is exact, its sum with a third value is `fused`.
+-- A product by the exact fraction that is rounded. If the product is exact, its sum with a third value is `fused`.
 -- Assumes nothing.
 use mathlib.Core.Path.{_≡_, refl, ap, _∙_}
 use mathlib.Core.Bool.{Bool}
@@ -17,7 +17,7 @@ mul-is : (f : Format) (s : Bool) (m : ℕ) (e : ℤ) (t : Bool) (n : ℕ) (d : �
 unfolding mul
 mul-is f s m e t n d = refl
 
--- by any fractions that the factors equal
+-- The factors may be given by any fractions that they equal.
 pub mul-value : (f : Format) (x y : Float) (s t : Bool) (A B C D : ℕ) → 0 < C → 0 < D → HasValue x s A C
     → HasValue y t B D → mul f x y ≡ round f (unlike s t) (A * B) (C * D)
 mul-value f nan y s t A B C D P R h k = absurd h

@@ -1,5 +1,5 @@
--- The sign and the size that `sum` rounds are those of the exact sum, by the cases of the signs;
--- and a sum has one sign and one size, at zero too. Assumes nothing.
+-- The sign and the size that `sum` rounds are those of the exact sum, by the cases of the signs. A sum has only one
+-- sign and one size, also at zero. Assumes nothing.
 use mathlib.Core.Path.{_≡_, refl, sym, _∙_}
 use mathlib.Core.Bool.{Bool, true, false, not, _&&_, Bool·beq, cond}
 use Prim.Native.Nat.{ℕ, _+_, _-_, _*_, _≤_, _<_}
@@ -10,7 +10,7 @@ use Rattle.rounding.specs.Nearest.{SumOf}
 use Rattle.rounding.proofs.Sums.{sum-sign, sum-size}
 use Rattle.rounding.proofs.NumberOrders.{less}
 
--- k times each of them
+-- The same holds for k times each of them.
 pub sum-adds : (s : Bool) (a : ℕ) (t : Bool) (b k : ℕ) → 0 < k
     → SumOf (sum-sign s a t b) (sum-size s a t b * k) s (a * k) t (b * k)
 sum-adds s a t b k K = go s t (ltb a b) (ltb→lt a b) (nltb→le a b) (ltb b a) (ltb→lt b a) (nltb→le b a)
@@ -34,7 +34,7 @@ sum-adds s a t b k K = go s t (ltb a b) (ltb→lt a b) (nltb→le a b) (ltb b a)
     go true false false h i false j l =
         record { adds = omega (arith, less b a k (i tt), less a b k (l tt)); sign = λ _. refl }
 
--- a sum has one sign and one size
+-- A sum has only one sign and one size.
 pub sum-one : (S Z : Bool) (v w : ℕ) (s t : Bool) (a b : ℕ) → SumOf S v s a t b → SumOf Z w s a t b → (S ≡ Z) × (v ≡ w)
 sum-one S Z v w s t a b h k =
     go S Z (cond s a 0 + cond t b 0) (cond s 0 a + cond t 0 b) (h .adds) (k .adds) (h .sign) (k .sign)

@@ -18,7 +18,7 @@ use Rattle.rounding.proofs.DroppedDigits.{round-finer}
 use Rattle.rounding.proofs.WithinHalfUnit.{round-near}
 use Rattle.rounding.proofs.WithinHalfDivisor.{closest-near}
 
--- what is nearest to Q is strictly within half a unit
+-- What is nearest to Q lies strictly within half a unit.
 strict-lo : (Q q h : ℕ) → q * (h + h) * 2 ≤ Q * 2 + (h + h) → (Q % (h + h) ≡ h → ⊥) → 0 < h → q * (h + h) < Q + h
 strict-lo Q zero h a n H = lt-of-le-of-lt (le-of-eq (zero-mul (h + h))) (omega arith)
 strict-lo Q (suc q) h a n H = elim (eq-or-lt-of-le l) [ inl e ↦ absurd (n (mid e)) | inr g ↦ g ]

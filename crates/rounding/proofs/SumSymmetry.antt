@@ -16,7 +16,7 @@ use Rattle.rounding.proofs.Adding.{add-units}
 use Rattle.rounding.proofs.NumberOrders.{Cmp, cmp}
 use Rattle.rounding.proofs.Sums.{sum-is, sum-less, sum-level, sum-like, sum-over, sum-sign, sum-size}
 
--- ---- the other way round
+-- ---- the parts exchanged
 beq-swap : (s t : Bool) → Bool·beq s t ≡ Bool·beq t s
 beq-swap true true = refl
 beq-swap true false = refl
@@ -48,7 +48,7 @@ pub add-swap : (f : Format) (x y : Float) (s t : Bool) (A B L : ℕ) → 0 < L �
 add-swap f x y s t A B L P h k =
     add-units f x y s t A B L P h k ∙ sum-swap f s A t B L P ∙ sym (add-units f y x t s B A L P k h)
 
--- ---- the negatives
+-- ---- the negated parts
 odd-neg : (d : ℕ) (s : Bool) (q k l : ℕ) → odd d (not s) q k l ≡ neg (odd d s q k l)
 unfolding odd neg
 odd-neg d s zero k l = refl

@@ -1,5 +1,5 @@
--- A sum by the exact fraction that is rounded: by its cases, by any fractions that its parts equal,
--- and in units of 1 / L. Assumes nothing.
+-- A sum by the exact fraction that is rounded: by its cases, by any fractions that its parts equal, and by multiples of
+-- 1 / L. Assumes nothing.
 use mathlib.Core.Path.{_≡_, refl, sym, ap, _∙_}
 use mathlib.Core.Bool.{Bool, true, false, _&&_, Bool·beq, cond, true≢false, false≢true}
 use Prim.Native.Nat.{ℕ, suc, _+_, _-_, _*_, _^_, _<_}
@@ -44,7 +44,7 @@ pub sum-over : (f : Format) (S W : Bool) (a b c : ℕ) → Bool·beq S W ≡ fal
     → sum f S a W b c ≡ round f W (b - a) c
 sum-over f S W a b c e l = sum-unlike f S W true false a b c e (lt-ltb a b l) (le-ltb b a (le-of-lt l))
 
--- an exact zero has the sign of plus
+-- Zero rounds to a zero of the given sign. A sum of opposites that is exactly zero has the sign plus (`sum-level`).
 pub round-zero : (f : Format) (s : Bool) (c : ℕ) → 0 < c → round f s 0 c ≡ fin s 0 (pos 0)
 unfolding odd
 round-zero f s c C =

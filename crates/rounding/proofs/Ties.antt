@@ -23,7 +23,7 @@ use Rattle.rounding.proofs.DroppedDigits.{prec-pos, kept-ge, kept-le}
 use Rattle.rounding.proofs.Grid.{few-digits, rounded-grid}
 use Rattle.rounding.proofs.Nearest.{on-grid, least, both}
 
--- v of the divisor are as near to a as the nearest whole number of them is
+-- v of the divisor are as near to a as the nearest whole number of them is.
 closest-tie : (a d v : ℕ) → 0 < d → (closest a d ≡ v → ⊥) → a * 2 ≡ (closest a d + v) * d → closest a d % 2 ≡ 0
 closest-tie a d v D =
     subst (λ (z : ℕ). (closest a d ≡ v → ⊥) → z * 2 ≡ (closest a d + v) * d → closest a d % 2 ≡ 0) (div-add-mod' a d)
@@ -64,7 +64,7 @@ module _ (f : Format) (num den : ℕ) (D : 0 < den) where
   abbrev q : ℕ
   q = kept (prec f) n den
 
-  -- the fraction is the middle of the result and of Y
+  -- The fraction is the middle of the result and of Y.
   pub tied : (Y y j : ℕ) → Y ≡ y * 2 ^ j → y < 2 ^ prec f → n * 2 ≡ (grid f num den + Y) * den
       → (v : ℕ) × (Y ≡ v * 2 ^ k)
   tied Y y j e h tie = elim (on-grid f num den D y j h) [
@@ -84,7 +84,7 @@ module _ (f : Format) (num den : ℕ) (D : 0 < den) where
       closest-tie n (den * 2 ^ k) v (mul-pos D (pow-pos k)) (λ c. ne (ap (λ (x : ℕ). x * 2 ^ k) c ∙ sym w))
       (tie ∙ ap (λ (x : ℕ). (grid f num den + x) * den) w ∙ both f num den D v)
 
--- In units of the smallest value the result is R, another value is Y, whatever the signs, and the fraction is their
+-- Counted in the smallest value the result is R and another value is Y, whatever their signs, and the fraction is their
 -- middle.
 pub round-even : (f : Format) (s t : Bool) (num den R Y : ℕ) (y : Float) → 0 < den
     → HasValue (round f s num den) s R (2 ^ low f) → T (fits f y) → HasValue y t Y (2 ^ low f)

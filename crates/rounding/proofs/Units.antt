@@ -1,5 +1,5 @@
--- `units f s q k`, q * 2 ^ k of the format's smallest values: finite or not, and its pattern, sign and k * hid + q,
--- also where q is 2 ^ prec. Assumes nothing.
+-- `units f s q k` is q * 2 ^ k of the format's smallest values: whether it is finite, and that its pattern is the sign
+-- and k * hid + q, also if q is 2 ^ prec. Assumes nothing.
 use mathlib.Core.Path.{_≡_, refl, sym, ap, _∙_, subst}
 use mathlib.Core.Logic.{_⊎_, inl, inr}
 use mathlib.Core.Bool.{Bool, cond}

@@ -1,5 +1,5 @@
--- A finite value by any fraction that it equals, and what it takes to fit a format: few digits,
--- in units of the smallest value. Assumes nothing.
+-- A finite value by any fraction that it equals, and when a value fits a format: it has few digits, counted in smallest
+-- values. Assumes nothing.
 use mathlib.Core.Path.{_≡_, refl, sym, ap, _∙_}
 use mathlib.Core.Bool.{Bool, not, _&&_}
 use Prim.Native.Nat.{ℕ, zero, suc, _+_, _-_, _*_, _%_, _^_, _≤_, _<_}
@@ -67,7 +67,7 @@ fits-parts f s (suc m) e h =
       ltb→lt (suc m * up e) (2 ^ suc (emax f) * down e) (and-r (A && B && C) D h),
     )
 
--- 2 ^ e is 2 ^ i of the units 2 ^ -l
+-- 2 ^ e is 2 ^ i of the units 2 ^ -l.
 pub place : (l : ℕ) (e : ℤ) → down e ≤ 2 ^ l → (i : ℕ) × (up e * 2 ^ l ≡ 2 ^ i * down e)
 place l (pos a) h = (a + l, sym (pow-add 2 a l) ∙ sym (mul-one (2 ^ (a + l))))
 place l (negsuc a) h = (
@@ -77,7 +77,7 @@ place l (negsuc a) h = (
       ∙ pow-add 2 (l - suc a) (suc a),
 )
 
--- m * 2 ^ e is m * 2 ^ i units, and below 2 ^ (l + emax + 1) of them
+-- m * 2 ^ e is m * 2 ^ i units, fewer than 2 ^ (l + emax + 1).
 pub in-units : (f : Format) (m : ℕ) (e : ℤ) (i : ℕ) → up e * 2 ^ low f ≡ 2 ^ i * down e
     → m * up e < 2 ^ suc (emax f) * down e → m * 2 ^ i < 2 ^ suc (emax f) * 2 ^ low f
 in-units f m e i p h =

@@ -1,4 +1,5 @@
--- v of the format's smallest values, a whole number, rounded: `near` of the unit 2 ^ `places`. Assumes nothing.
+-- A whole number v of the format's smallest values, rounded: the result is `near` of the unit 2 ^ `places`. Assumes
+-- nothing.
 use mathlib.Core.Path.{_≡_, sym, ap, _∙_, subst}
 use mathlib.Core.Bool.{Bool, cond}
 use Prim.Native.Nat.{ℕ, _+_, _-_, _*_, _^_, _≤_, _<_}
@@ -52,7 +53,7 @@ module _ (f : Format) (v : ℕ) where
       (closest-same (v * 2 ^ low f) (2 ^ low f * 2 ^ places f v) v (2 ^ places f v)
       (mul-pos (pow-pos (low f)) unit-pos) unit-pos (mul-assoc v (2 ^ low f) (2 ^ places f v)))
 
-  -- ---- exact, where v is a multiple of the unit, as it is where the unit is 1
+  -- ---- the result is exact if v is a multiple of the unit, which it is if the unit is 1
   pub exact-multiple : (w : ℕ) → v ≡ w * 2 ^ places f v → near f v * 2 ^ places f v ≡ v
   exact-multiple w e =
       ap (λ (z : ℕ). closest z (2 ^ places f v) * 2 ^ places f v) e
@@ -62,7 +63,7 @@ module _ (f : Format) (v : ℕ) where
   pub exact-short : places f v ≡ 0 → near f v * 2 ^ places f v ≡ v
   exact-short e = exact-multiple v (sym (mul-one v) ∙ ap (λ (z : ℕ). v * 2 ^ z) (sym e))
 
-  -- ---- where it is finite: its value and its pattern
+  -- ---- the value and the pattern of a finite result
   module _ (s : Bool) (fine : near f v * 2 ^ places f v < overflow f) where
     pub rounded-value : HasValue (round f s v (2 ^ low f)) s (near f v * 2 ^ places f v) (2 ^ low f)
     rounded-value =

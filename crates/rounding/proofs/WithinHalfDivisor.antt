@@ -1,5 +1,5 @@
--- The nearest whole number of a quotient is the one within half a divisor. Nothing here is about floats.
--- Assumes nothing.
+-- The whole number nearest to a quotient is the one within half a divisor. Nothing here is about floats. Assumes
+-- nothing.
 use mathlib.Core.Path.{_≡_, ap, _∙_, subst}
 use mathlib.Core.Logic.{_⊎_, inl, inr}
 use Prim.Native.Nat.{ℕ, suc, _+_, _*_, _/_, _%_, _≤_, _<_, compare, Ordering, Ordering·lt, Ordering·eq, Ordering·gt}
@@ -38,11 +38,9 @@ closest-unique a d q D lo hi =
     let g : q * d < suc c * d = omega arith in
     le-antisymm (le-of-suc-le-suc (lt-of-mul-lt-mul-right d f)) (le-of-suc-le-suc (lt-of-mul-lt-mul-right d g))
 
--- a multiple of the divisor is nearest to itself
 pub closest-multiple : (w d : ℕ) → 0 < d → closest (w * d) d ≡ w
 closest-multiple w d D = closest-unique (w * d) d w D (omega arith) (omega arith)
 
--- less than half rounds to 0
 pub closest-none : (a d : ℕ) → a * 2 < d → closest a d ≡ 0
 closest-none a d h = closest-unique a d 0 (omega arith) (omega arith) (omega arith)
 

@@ -1,5 +1,5 @@
--- `round` by what is near: q * 2 ^ k units within half a unit of the fraction, where at the least q with a leading
--- digit the unit below counts, half as large. Assumes nothing.
+-- `round` gives what is near: q * 2 ^ k units within half a unit of the fraction. If q is the least with a leading
+-- digit, the half below it is that of the unit below, half as large. Assumes nothing.
 use mathlib.Core.Path.{_≡_, sym, ap, _∙_, subst}
 use mathlib.Core.Logic.{inl, inr}
 use mathlib.Core.Bool.{Bool}
@@ -20,14 +20,14 @@ module _ (f : Format) (s : Bool) (num den : ℕ) (D : 0 < den) where
   double : (k : ℕ) → den * 2 ^ suc k ≡ den * 2 ^ k + den * 2 ^ k
   double k = ap (λ (z : ℕ). den * z) (two-pow-succ k) ∙ mul-add den (2 ^ k) (2 ^ k)
 
-  -- hid of the unit 2 ^ (k + 1) are 2 ^ prec of the unit 2 ^ k
+  -- hid of the unit 2 ^ (k + 1) are 2 ^ prec of the unit 2 ^ k.
   hid-top : (k : ℕ) → hid f * (den * 2 ^ suc k) ≡ 2 ^ prec f * (den * 2 ^ k)
   hid-top k =
       mul-left-comm (hid f) den (2 ^ suc k)
       ∙ ap (λ (z : ℕ). den * z) (up-hid f k)
       ∙ mul-left-comm den (2 ^ prec f) (2 ^ k)
 
-  -- from 2 ^ prec units on
+  -- The fraction is 2 ^ prec units or a little more.
   above : (k : ℕ) → 2 ^ prec f * (den * 2 ^ k) ≤ num * 2 ^ low f
       → num * 2 ^ low f * 2 < 2 ^ prec f * (den * 2 ^ k) * 2 + den * 2 ^ k
       → round f s num den ≡ units f s (2 ^ prec f) k
@@ -46,7 +46,7 @@ module _ (f : Format) (s : Bool) (num den : ℕ) (D : 0 < den) where
       (closest-unique n v (hid f) (mul-pos D (pow-pos (suc k))) (omega arith) (omega arith))
       ∙ units-carry f s k
 
-  -- below hid units, and nearer to that than to the next value below
+  -- The fraction is below hid units, and nearer to them than to the next value below.
   under : (k : ℕ) → num * 2 ^ low f < hid f * (den * 2 ^ suc k)
       → hid f * (den * 2 ^ suc k) * 4 < num * 2 ^ low f * 4 + den * 2 ^ suc k
       → round f s num den ≡ units f s (hid f) (suc k)
@@ -72,7 +72,7 @@ module _ (f : Format) (s : Bool) (num den : ℕ) (D : 0 < den) where
       round-at f s num den k D lo hi
       ∙ ap (λ (z : ℕ). units f s z k) (closest-unique (num * 2 ^ low f) (den * 2 ^ k) q (mul-pos D (pow-pos k)) a b)
 
-  -- a q that no number below it, or none above it, can be nearer than
+  -- If q units lie less than one unit above w units, q is at most w.
   at-most : (q w u : ℕ) → q * u < w * u + u → q ≤ w
   at-most q w u h = le-of-suc-le-suc (lt-of-mul-lt-mul-right u (subst (λ (z : ℕ). q * u < z) (sym (suc-mul w u)) h))
 

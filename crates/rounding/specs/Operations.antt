@@ -24,7 +24,7 @@ fused f (fin s m e) (fin t n d) (inf u) = inf u
 fused f (fin s m e) (fin t n d) (fin u k g) =
     sum f (unlike s t) (m * up e * (n * up d) * down g) u (k * up g * (down e * down d)) (down e * down d * down g)
 
--- The largest s with s * s ≤ n, for an n of at most k digits to the base 4: twice the root of n / 4, or one more.
+-- The largest s with s * s ≤ n, for an n of at most k digits to the base 4. It is twice the root of n / 4, or one more.
 unfoldable pub digitsRoot : ℕ → ℕ → ℕ
 digitsRoot zero n = 0
 digitsRoot (suc k) n = let r = 2 * digitsRoot k (n / 4) in cond (leb ((r + 1) * (r + 1)) n) (r + 1) r
@@ -33,20 +33,20 @@ unfoldable pub wholeRoot : ℕ → ℕ
 unfolding digitsRoot
 wholeRoot n = digitsRoot (size n) n
 
--- 0 where s is the root of n, 1 where the root lies above s.
+-- Says whether s is exactly the root of n (0) or the root lies above s (1).
 abbrev pub more : ℕ → ℕ → ℕ
 more s n = cond (eqb (s * s) n) 0 1
 
--- The value nearest to the square root of n / (4 * 4 ^ low). s counts halves of the format's smallest value: every
+-- The value nearest to the square root of n / (4 * 4 ^ low). Here s counts halves of the format's smallest value: every
 -- value of the format, and every midpoint of two, is a whole number of such halves, so a root between s and s + 1
 -- rounds as s + 1 / 2 does.
 unfoldable pub roundedRoot : Format → ℕ → Float
 unfolding round wholeRoot
 roundedRoot f n = let s = wholeRoot n in round f false (2 * s + more s n) (4 * 2 ^ low f)
 
--- squareRoot: a zero is its own root, sign and all, and below zero there is none. The quotient by down e leaves no
--- remainder in a format's value. The law `root-is-nearest` of `square_root` says in IEEE 754's words what this is: no
--- value of the format lies nearer to the root.
+-- squareRoot: a zero is its own root and keeps its sign; a number below zero has no root. The quotient by down e leaves
+-- no remainder in a format's value. The law `root-is-nearest` of `square_root` says in IEEE 754's words what this is:
+-- no value of the format lies nearer to the root.
 unfoldable pub root : Format → Float → Float
 unfolding roundedRoot
 root f nan = nan

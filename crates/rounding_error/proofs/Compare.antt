@@ -1,5 +1,5 @@
--- Two finite floats compare as their values do: x < y where x .p * y .d + y .n * x .d < y .p * x .d + x .n * y .d,
--- and so for ≤. By the cases of the signs; a zero's sign does not count. Assumes nothing.
+-- Two finite floats compare as their values do: x < y exactly if x .p * y .d + y .n * x .d < y .p * x .d + x .n * y .d,
+-- and likewise for ≤. By the cases of the signs; the sign of a zero does not count. Assumes nothing.
 use mathlib.Core.Path.{_≡_, sym, ap, _∙_}
 use mathlib.Core.Bool.{Bool, true, false, not, _&&_, _||_}
 use Prim.Native.Nat.{ℕ, _+_, _*_, _≤_, _<_}
@@ -15,7 +15,7 @@ use Rattle.rounding.proofs.NumberOrders.{same-test}
 use Rattle.rounding_error.specs.Fraction.{Frac}
 use Rattle.rounding_error.specs.Value.{signed, val, Is}
 
--- x - y, times both denominators, is side x y - side y x
+-- x - y, multiplied by both denominators, is side x y - side y x.
 abbrev pub side : Frac → Frac → ℕ
 side x y = x .p * y .d + y .n * x .d
 
@@ -34,7 +34,7 @@ lt-is (fin s m e) nan h k = absurd k
 lt-is (fin s m e) (inf t) h k = absurd k
 lt-is (fin s m e) (fin t n d) h k = below-is s t (m * up e) (down e) (n * up d) (down d)
 
--- ---- less, or level
+-- ---- below, or equal
 less-or : (a b : ℕ) (u : Bool) → (T u → a ≡ b) → (a ≡ b → T u) → ltb a b || (u && true) ≡ leb a b
 less-or a b u f g =
     same-test (ltb a b || (u && true)) (leb a b) (λ t. le→leb a b (out (ltb a b) u (ltb→lt a b) f t))
@@ -87,7 +87,7 @@ le-is (fin s m e) nan h k = absurd k
 le-is (fin s m e) (inf t) h k = absurd k
 le-is (fin s m e) (fin t n d) h k = at-most-is s t (m * up e) (down e) (n * up d) (down d)
 
--- ---- the same of a number that a float is
+-- ---- the same for a number that a float equals
 lt-core : (xp xn xd qp qn qd yp yn yd : ℕ) → 0 < qd → xp * qd + qn * xd ≡ qp * xd + xn * qd
     → xp * yd + yn * xd < yp * xd + xn * yd → qp * yd + yn * qd < yp * qd + qn * yd
 lt-core xp xn xd qp qn qd yp yn yd Q e h =

@@ -1,5 +1,5 @@
--- A result that is a whole number of 1 / 2 ^ t, and has no more digits than the format keeps, is exact.
--- By `lib.Ieee.Exact.round-exact`. Assumes nothing.
+-- A result that is a whole number of 1 / 2 ^ t, and has no more digits than the format, is exact. By
+-- `lib.Ieee.Exact.round-exact`. Assumes nothing.
 use mathlib.Core.Path.{_≡_, sym, ap, _∙_}
 use mathlib.Core.Bool.{Bool, true, false, cond}
 use Prim.Native.Nat.{ℕ, _+_, _-_, _*_, _^_, _≤_, _<_}
@@ -18,7 +18,7 @@ use Rattle.rounding_error.proofs.Same.{same-trans, plus-same, times-sam
 use Rattle.rounding_error.proofs.Value.{value-is, neg-is}
 use Rattle.rounding_error.proofs.Operations.{Rounded, bottom, seen, add-rounded, mul-rounded, div-rounded}
 
--- (P - N) / 2 ^ t has no more digits than the format keeps
+-- (P - N) / 2 ^ t has no more digits than the format.
 pub record Fits (f : Format) (P N t : ℕ) : Type 0 where
   pub hi : P < N + 2 ^ prec f
   pub lo : N < P + 2 ^ prec f

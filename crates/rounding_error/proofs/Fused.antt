@@ -1,4 +1,4 @@
--- The fused step is one rounding of the exact x * y + z, over the format: the law of the crate rounding, in fractions.
+-- The fused step is one rounding of the exact x * y + z, for any format: the law of the crate `rounding`, in fractions.
 -- Assumes nothing.
 use Prim.Native.Nat.{_*_}
 use native.Mathlib.Nat.{mul-pos}

@@ -1,5 +1,5 @@
--- A float above 2 ^ -j in magnitude is a whole number of 2 ^ -(prec - 1 + j): its digits reach no further down.
--- And a rounding of less than half the smallest unit is zero. Assumes nothing.
+-- A float above 2 ^ -j in magnitude is a whole number of 2 ^ -(prec - 1 + j), because its digits reach no further down.
+-- And less than half the smallest unit rounds to zero. Assumes nothing.
 use mathlib.Core.Path.{sym, ap, _∙_}
 use mathlib.Core.Bool.{Bool, true, false}
 use Prim.Native.Nat.{ℕ, suc, _+_, _*_, _^_, _≤_, _<_}
@@ -21,7 +21,7 @@ use Rattle.rounding_error.proofs.Same.{same-trans}
 use Rattle.rounding_error.proofs.Value.{signed-same, value-is}
 use Rattle.rounding_error.proofs.Operations.{Rounded, bottom, bounded}
 
--- x is N / 2 ^ t, or its opposite
+-- x is N / 2 ^ t, or its opposite.
 pub record Grid (x : Float) (s : Bool) (t : ℕ) : Type 0 where
   pub N : ℕ
   pub is : Is x (signed s N (2 ^ t))

@@ -1,6 +1,6 @@
--- z / c, for an integer z: sums, differences and products of such fractions are those of the integers,
--- and a float operation on them loses nothing where the integer that it gives has no more digits than the format keeps.
--- An integer is a difference of naturals (`WholeDifferences`). Assumes nothing.
+-- The fractions z / c of an integer z. Their sums, differences and products are those of the integers, and a float
+-- operation on them is exact if the resulting integer has no more digits than the format. An integer is a difference of
+-- natural numbers (`WholeDifferences`). Assumes nothing.
 use mathlib.Core.Path.{_≡_}
 use Prim.Native.Nat.{ℕ, _+_, _*_, _^_, _≤_, _<_}
 use native.Mathlib.Nat.{mul-pos}
@@ -50,7 +50,7 @@ whole-opp z c C = rep-same c C (rep-neg (rep-own z))
 pub whole-times : (y z : ℤ) (c d : ℕ) → 0 < c * d → Same (times (whole y c) (whole z d)) (whole (y *ℤ z) (c * d))
 whole-times y z c d C = rep-same (c * d) C (rep-mul (rep-own y) (rep-own z))
 
--- |z / c| ≤ t / g
+-- |z / c| ≤ t / g.
 pub whole-mag : (z : ℤ) (g t c : ℕ) → 0 < c → g * natAbs z ≤ t * c → Within g t (whole z c) nil
 whole-mag z g t c C h =
     mag-of g t c (zp z) (zn z) (natAbs z) C (omega (arith, size-parts z)) (omega (arith, size-parts z)) h

@@ -1,5 +1,5 @@
--- `nearestTo` is the same float for equal numbers, and a sum is that float of the exact sum where its second part is
--- not zero: then no zero with a minus is rounded. Assumes nothing.
+-- `nearestTo` is the same float for equal numbers. A sum is that float of the exact sum if its second part is not zero,
+-- because then no -0 is rounded. Assumes nothing.
 use mathlib.Core.Path.{_≡_, ap, _∙_}
 use mathlib.Core.Bool.{Bool, true, false, not, _&&_, Bool·beq, cond}
 use Prim.Native.Nat.{ℕ, _+_, _-_, _*_, _≤_, _<_}
@@ -48,7 +48,7 @@ nearest-same {q} {r} f e =
         absurd (clash (q .p) (q .n)
         (below (r .p) (r .n) (r .d) (q .p) (q .n) (q .d) (e .left) (omega (arith, e .cross)) (c tt)) (b tt))
 
--- ---- one rounding, where a minus stands before no zero
+-- ---- one rounding, if a minus does not stand before a zero
 nearest-signed : (f : Format) (s : Bool) (a c : ℕ) → (T s → 0 < a) → round f s a c ≡ nearestTo f (signed s a c)
 unfolding nearestTo
 nearest-signed f false a c h = rw (le-ltb a 0 (omega arith)) (ap (λ (z : ℕ). round f false z c) (omega arith))

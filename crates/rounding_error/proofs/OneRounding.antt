@@ -1,7 +1,6 @@
--- One rounding's error, over the format: |round - a / c| is at most 2 ^ k / 2 ^ (prec + 1 + h) where a / c is at most 2
--- ^ k / 2 ^ h, and at most (B / K) / 2 ^ prec where a / c is at most B / K and B / K is not below the normal range.
--- The result is a whole number of units, and `UnitErrors` says how near.
--- Assumes nothing.
+-- The error of one rounding, for any format. |round - a / c| is at most 2 ^ k / 2 ^ (prec + 1 + h) if a / c is at most
+-- 2 ^ k / 2 ^ h, and at most (B / K) / 2 ^ prec if a / c is at most B / K and B / K is not below the normal range. The
+-- result is a whole number of units, and `UnitErrors` says how near it is. Assumes nothing.
 use mathlib.Core.Path.{_≡_, sym, ap, _∙_, subst}
 use mathlib.Core.Logic.{inl, inr}
 use mathlib.Core.Bool.{Bool, true, false}
@@ -24,7 +23,7 @@ use Rattle.rounding_error.proofs.Within.{from, rescale}
 use Rattle.rounding_error.proofs.Value.{value-is}
 use Rattle.rounding_error.proofs.UnitErrors.{near, Part, near-part}
 
--- ---- so many units, where that does not overflow
+-- ---- how many units the result is, if it does not overflow
 grid-is : (f : Format) (s : Bool) (a c : ℕ) → grid f a c < overflow f
     → Is (round f s a c) (signed s (grid f a c) (2 ^ low f))
 grid-is f s a c h =
@@ -123,7 +122,7 @@ grid-under f a c C h =
     ∙ ap (λ (x : ℕ). c * x) (sym (pow-add 2 (emax f) l) ∙ ap (λ (x : ℕ). 2 ^ x) (add-comm (emax f) l ∙ sym e)))) in
     under p l (emax f) j c (a * 2 ^ l) (grid f a c) C N (near p (a * 2 ^ l) c j (prec-pos f) C N .above) (le-of-eq e)
 
--- where the result is finite
+-- The same if only the result is known to be finite.
 pub round-part : (f : Format) (s : Bool) (a c K B : ℕ) → 0 < c → 0 < K → a * K ≤ c * B
     → K * 2 ^ prec f ≤ B * (2 ^ low f * 2) → grid f a c < overflow f
     → Rounds (K * 2 ^ prec f) B (round f s a c) (signed s a c)

@@ -1,5 +1,5 @@
--- An operation on floats that lie near numbers lies near the exact result: the operands' errors, carried through,
--- and one rounding more. Assumes nothing.
+-- An operation on floats that lie near numbers lies near the exact result: its error is that of the operands, carried
+-- through, plus one rounding. Assumes nothing.
 use mathlib.Core.Bool.{Bool, false, _&&_}
 use Prim.Native.Nat.{ℕ, _+_, _*_, _^_, _≤_, _<_}
 use native.Mathlib.Nat.{zero-add, add-zero, mul-pos}
@@ -32,8 +32,8 @@ rounded-relative {f} {K = K} {B} k w m o r =
     let n = round-relative f (r .s) (r .a) (r .c) K B (bottom r) k (bounded r w) m o in
     rw (r .is) (record { real = n .real; near = to (r .same) (n .near) })
 
--- ---- What one rounding at |q| ≤ 2 ^ k / 2 ^ h asks of closed numbers: the format reaches there,
--- and half a unit there is at most r / g.
+-- ---- What one rounding at |q| ≤ 2 ^ k / 2 ^ h needs of the given numbers: the format reaches there, and half a unit
+-- there is at most r / g.
 abbrev pub step : Format → ℕ → ℕ → ℕ → ℕ → Bool
 step f g r h k =
     ltb 0 g && (leb (prec f + h) (low f + k) && (leb k (emax f + h) && leb (2 ^ k * g) (r * (2 ^ (prec f + h) * 2))))
@@ -58,7 +58,7 @@ steps f g r h k s =
       half = leb→le (2 ^ k * g) (r * (2 ^ (prec f + h) * 2)) (and-r b c u);
     }
 
--- x is a rounding of v, v is within u / g of q, and |q| ≤ t / g
+-- x is a rounding of v, v is within u / g of q, and |q| ≤ t / g.
 pub approx : {f : Format} {x : Float} {v q : Frac} {g u t : ℕ} (r h k : ℕ) → T (step f g r h k) → Rounded f x v
     → Within g u v q → Within g t q nil → (u + t) * 2 ^ h ≤ 2 ^ k * g → Rounds g (r + u) x q
 approx {f} {g = g} r h k s R w b l =
@@ -79,7 +79,7 @@ pub sub-approx : {x y : Float} {a b q : Frac} {g e e' t : ℕ} (f : Format) (r h
 unfolding sub
 sub-approx f r h k s X Y E b l = add-approx f r h k s X (neg-near Y) E b l
 
--- the first factor is exact, and |a| ≤ B
+-- The first factor is exact, and |a| ≤ B.
 pub mul-approx : {x y : Float} {a b q : Frac} {B g e t : ℕ} (f : Format) (r h k : ℕ) → T (step f g r h k) → Is x a
     → Mag B a → Rounds g e y b → Same (times a b) q → Within g t q nil → (B * e + t) * 2 ^ h ≤ 2 ^ k * g
     → Rounds g (r + B * e) (mul f x y) q
@@ -87,14 +87,14 @@ mul-approx {x} {y} f r h k s X M Y E b l =
     approx r h k s (mul-rounded f x y (X .real) (Y .real))
     (to E (from (same-sym (times-same (X .same) (same-refl (val-pos y)))) (within-times M (Y .near)))) b l
 
--- both factors are near: |a| ≤ B, and the second factor itself is at most C
+-- Both factors are near: |a| ≤ B, and the second factor itself is at most C.
 pub mul-approx-both : {x y : Float} {a b q : Frac} {B C g e e' t : ℕ} (f : Format) (r h k : ℕ) → T (step f g r h k)
     → Rounds g e x a → Rounds g e' y b → Mag B a → Mag C (val y) → Same (times a b) q → Within g t q nil
     → (C * e + B * e' + t) * 2 ^ h ≤ 2 ^ k * g → Rounds g (r + (C * e + B * e')) (mul f x y) q
 mul-approx-both {x} {y} f r h k s X Y M N E b l =
     approx r h k s (mul-rounded f x y (X .real) (Y .real)) (to E (within-product M N (X .near) (Y .near))) b l
 
--- an exact number divided by one above zero
+-- An exact number is divided by one above zero.
 pub div-approx : {x : Float} {a q : Frac} {g t : ℕ} (f : Format) (n : ℕ) (d : ℤ) (r h k : ℕ) → T (step f g r h k)
     → 0 < n → Is x a → Same (over a (n * up d) (down d)) q → Within g t q nil → t * 2 ^ h ≤ 2 ^ k * g
     → Rounds g r (div f x (fin false n d)) q

@@ -19,7 +19,7 @@ use Rattle.rounding_error.proofs.Same.{ring, same-sym, same-trans}
 use Rattle.rounding_error.proofs.Within.{from}
 use Rattle.rounding_error.proofs.Value.{signed-d, signed-pos}
 
--- x is a rounding, and what is rounded is the number q
+-- x is a rounding of the number q.
 pub record Rounded (f : Format) (x : Float) (q : Frac) : Type 0 where
   pub s : Bool
   pub a : ℕ
@@ -27,7 +27,7 @@ pub record Rounded (f : Format) (x : Float) (q : Frac) : Type 0 where
   pub is : x ≡ round f s a c
   pub same : Same (signed s a c) q
 
--- the same rounding, seen as one of an equal number
+-- The same rounding, seen as one of an equal number.
 pub seen : {f : Format} {x : Float} {q r : Frac} → Same q r → Rounded f x q → Rounded f x r
 seen e w = record { s = w .s; a = w .a; c = w .c; is = w .is; same = same-trans (w .same) e }
 
@@ -45,7 +45,7 @@ bounded {g = g} {e} r w = go (r .s) (r .a) (r .c) (from (same-sym (r .same)) w)
 abbrev pub joint : Bool → ℕ → Bool → ℕ → ℕ → Frac
 joint s a t b c = frac (signed s a c .p + signed t b c .p) (signed s a c .n + signed t b c .n) c
 
--- ±num / den is ±a / c + ±b / c
+-- ±num / den is ±a / c + ±b / c.
 pub sum-is-joint : (S s t : Bool) (num den a b c : ℕ) → 0 < den → 0 < c → SumOf S (num * c) s (a * den) t (b * den)
     → Same (signed S num den) (joint s a t b c)
 sum-is-joint true true true num den a b c D C h = omega (arith, h .adds, add-mul a b den)

@@ -1,5 +1,5 @@
--- Products: a factor of magnitude B / K multiplies an error by B / K, and where both factors are off the two errors add
--- up. A magnitude is a distance from nil. Assumes nothing.
+-- Products. A factor of magnitude B / K multiplies an error by B / K, and if both factors have errors these add up. A
+-- magnitude is a distance from zero. Assumes nothing.
 use mathlib.Core.Path.{_≡_}
 use Prim.Native.Nat.{ℕ, _+_, _-_, _*_, _≤_, _<_}
 use native.Mathlib.Nat.{mul-one, mul-comm, mul-le-mul-right, mul-le-mul-left, mul-pos}
@@ -10,7 +10,7 @@ use Rattle.rounding_error.specs.Value.{signed}
 use Rattle.rounding_error.proofs.Same.{ring, times-comm, times-nil}
 use Rattle.rounding_error.proofs.Within.{chain, from, to}
 
--- (Y - X) * (W - Z) is not negative
+-- (Y - X) * (W - Z) is not negative.
 pub cross-le : (X Y Z W : ℕ) → X ≤ Y → Z ≤ W → X * W + Y * Z ≤ Y * W + X * Z
 cross-le X Y Z W h k =
     let a = Y - X in
@@ -22,7 +22,7 @@ cross-le X Y Z W h k =
     go : (a b : ℕ) → X * (Z + b) + (X + a) * Z ≤ (X + a) * (Z + b) + X * Z
     go a b = omega arith
 
--- v * (y - z), for |v| ≤ B
+-- v * (y - z) for |v| ≤ B.
 core : (g e B vp vn vd yp yn yd zp zn zd : ℕ) → vp ≤ vn + B * vd → vn ≤ vp + B * vd
     → g * (yp * zd + zn * yd) ≤ g * (zp * yd + yn * zd) + e * (yd * zd)
     → g * (zp * yd + yn * zd) ≤ g * (yp * zd + zn * yd) + e * (yd * zd)
@@ -33,7 +33,7 @@ core g e B vp vn vd yp yn yd zp zn zd a b h k =
     let s = cross-le vn (vp + B * vd) (g * (yp * zd + zn * yd)) (g * (zp * yd + yn * zd) + e * (yd * zd)) b h in
     simp ring (omega (arith, simp ring at (mul-le-mul-right vd r), simp ring at (mul-le-mul-right vd s)))
 
--- the same for |v| ≤ B / K, in the unit g * K
+-- The same for |v| ≤ B / K, in the unit g * K.
 core-at : (g e B K vp vn vd yp yn yd zp zn zd : ℕ) → K * vp ≤ K * vn + B * vd → K * vn ≤ K * vp + B * vd
     → g * (yp * zd + zn * yd) ≤ g * (zp * yd + yn * zd) + e * (yd * zd)
     → g * (zp * yd + yn * zd) ≤ g * (yp * zd + zn * yd) + e * (yd * zd)
@@ -61,7 +61,7 @@ within-times-at {g} {e} {B} {K} {v} {y} {z} m w =
 pub within-times : {g e B : ℕ} {v y z : Frac} → Mag B v → Within g e y z → Within g (B * e) (times v y) (times v z)
 within-times {g} m w = rw (mul-one g) at (within-times-at m w)
 
--- both factors are off: |a| ≤ B and |y| ≤ C
+-- Both factors have errors: |a| ≤ B and |y| ≤ C.
 pub within-product : {g e e' B C : ℕ} {x y a b : Frac} → Mag B a → Mag C y → Within g e x a → Within g e' y b
     → Within g (C * e + B * e') (times x y) (times a b)
 within-product {x = x} {y = y} {a = a} mx my h k =
@@ -73,7 +73,7 @@ pub mag-times : {g e B K : ℕ} {v y : Frac} → Within K B v nil → Within g e
     → Within (g * K) (B * e) (times v y) nil
 mag-times {v = v} m w = to (times-nil v (m .left)) (within-times-at m w)
 
--- |p - n| ≤ B over the denominator c
+-- |p - n| ≤ B over the denominator c.
 pub mag-of : (g t c p n B : ℕ) → 0 < c → p ≤ n + B → n ≤ p + B → g * B ≤ t * c → Within g t (frac p n c) nil
 mag-of g t c p n B C h k l =
     record {

@@ -1,5 +1,5 @@
--- Fractions that are the same number: an equivalence that sums, products, quotients and opposites keep.
--- Cross products are multiplied out, and a denominator above zero is cancelled. Assumes nothing.
+-- Fractions that are the same number: an equivalence that sums, products, quotients and opposites keep. Cross products
+-- are multiplied out, and a denominator above zero is cancelled. Assumes nothing.
 use mathlib.Core.Path.{_≡_, refl, ap}
 use Prim.Native.Nat.{ℕ, _+_, _*_, _<_}
 use native.Mathlib.Nat.{mul-add, add-mul, mul-assoc, mul-comm, mul-left-comm, add-assoc, add-comm, add-left-comm}
@@ -7,11 +7,11 @@ use native.Mathlib.Nat.{mul-pos, eq-of-mul-eq-mul-right}
 use native.Mathlib.Omega.{arith}
 use Rattle.rounding_error.specs.Fraction.{Frac, frac, nil, plus, times, opp, over, Same}
 
--- Products multiplied out, their factors sorted: `simp ring (omega (arith, simp ring at h))` is linear arithmetic over
--- monomials.
+-- Multiplies products out and sorts their factors: `simp ring (omega (arith, simp ring at h))` is linear arithmetic
+-- over monomials.
 pub ruleset ring = (mul-add, add-mul, mul-assoc, mul-comm, mul-left-comm)
 
--- Sums sorted too: `simp sums` proves an equation between polynomials outright.
+-- Sorts sums too: `simp sums` proves an equation between polynomials outright.
 pub ruleset sums = (mul-add, add-mul, mul-assoc, mul-comm, mul-left-comm, add-assoc, add-comm, add-left-comm)
 
 pub same-refl : {x : Frac} → 0 < x .d → Same x x
@@ -103,6 +103,6 @@ times-nil x X = omega arith
 pub times-one : (x : Frac) → 0 < x .d → Same (times x (frac 1 0 1)) x
 times-one x X = omega arith
 
--- a sum over one denominator
+-- A sum over one denominator.
 pub plus-over : (p n p' n' c : ℕ) → 0 < c → Same (plus (frac p n c) (frac p' n' c)) (frac (p + p') (n + n') c)
 plus-over p n p' n' c C = record { left = mul-pos C C; right = C; cross = simp ring (omega arith) }

@@ -1,6 +1,6 @@
--- What `round` keeps of a fraction n / c of units: w * 2 ^ k units, off by at most half of 2 ^ j where the fraction is
--- at most 2 ^ (prec + j), and by at most a part in 2 ^ prec of it where it has prec digits. The nearest whole number is
--- off by a half at most. Assumes nothing.
+-- What `round` keeps of a fraction n / c of units: w * 2 ^ k units. The error is at most half of 2 ^ j if the fraction
+-- is at most 2 ^ (prec + j), and at most a part in 2 ^ prec of it if it has prec digits. The nearest whole number is
+-- off by at most a half. Assumes nothing.
 use mathlib.Core.Path.{_≡_, sym, ap, _∙_, subst}
 use mathlib.Core.Logic.{_⊎_, inl, inr}
 use mathlib.Core.Bool.{Bool, true, false, not}
@@ -17,7 +17,7 @@ use lib.Ieee.Nearest.{closest}
 use lib.Ieee.Order.{drop, kept}
 use Rattle.rounding.proofs.WithinHalfDivisor.{closest-near, closest-multiple}
 
--- w units are within 2 ^ j / 2 of n / c
+-- w units are within 2 ^ j / 2 of n / c.
 pub record Near (w n c j : ℕ) : Type 0 where
   pub above : w * c * 2 ≤ n * 2 + c * 2 ^ j
   pub below : n * 2 ≤ w * c * 2 + c * 2 ^ j
@@ -39,7 +39,7 @@ near-lt p n c j C h =
         → Near (w * t) n c j
     go w t a b m = omega arith
 
--- at 2 ^ (prec + j) itself nothing is lost
+-- At 2 ^ (prec + j) itself nothing is lost.
 near-eq : (p n c j : ℕ) → 0 < p → 0 < c → n ≡ c * 2 ^ (p + j) → Near (kept p n c * 2 ^ drop p n c) n c j
 near-eq p n c j P C h =
     let k = drop p n c in

@@ -1,4 +1,4 @@
--- A float's value as a fraction: what `HasValue` says of it, and that its denominator is above zero. Assumes nothing.
+-- A float's value as a fraction: it agrees with `HasValue`, and its denominator is above zero. Assumes nothing.
 use mathlib.Core.Path.{_≡_, refl, sym, subst}
 use mathlib.Core.Bool.{Bool, true, false}
 use Prim.Native.Nat.{ℕ, _*_, _<_}
@@ -63,6 +63,6 @@ neg-is {x} h = record { real = neg-finite x (h .real); same = rw (neg-val x) (op
 pub neg-near : {g e : ℕ} {x : Float} {a : Frac} → Rounds g e x a → Rounds g e (neg x) (opp a)
 neg-near {x = x} w = record { real = neg-finite x (w .real); near = rw (neg-val x) (within-opp (w .near)) }
 
--- ---- exactly a number: near it, and off by nothing
+-- ---- exactly a number: near it, with the error zero
 pub is-near : {x : Float} {a : Frac} (g : ℕ) → Is x a → Rounds g 0 x a
 is-near g h = record { real = h .real; near = same-within g (h .same) }

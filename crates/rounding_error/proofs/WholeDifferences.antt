@@ -1,5 +1,5 @@
--- A whole number as a difference of naturals, so that `omega` and `simp ring` can be used on what is said of ℤ:
--- z is p - n, through sums, differences and products. Assumes nothing.
+-- A whole number as a difference of natural numbers, so that `omega` and `simp ring` can be used for facts about ℤ: z
+-- is p - n, through sums, differences and products. Assumes nothing.
 use mathlib.Core.Path.{_≡_, refl, ap}
 use mathlib.Core.Bool.{Bool, true, false, not, cond}
 use Prim.Native.Nat.{ℕ, zero, suc, _+_, _-_, _*_, _≤_, _<_}
@@ -59,13 +59,13 @@ pub rep-mul : {x y : ℤ} {p n p' n' : ℕ} → Rep x p n → Rep y p' n' → Re
 rep-mul {x} {y} {p} {n} {p'} {n'} r s =
     rep-to (own-mul x y) (core (zp x) (zn x) (zp y) (zn y) p n p' n' (r .is) (s .is))
 
--- the difference of two naturals is one integer
+-- A difference of two natural numbers is only one integer.
 pub rep-unique : {z w : ℤ} {p n : ℕ} → Rep z p n → Rep w p n → z ≡ w
 rep-unique {z = pos a} {w = pos b} r s = ap pos (omega arith)
 rep-unique {z = pos a} {w = negsuc b} r s = absurd (omega arith)
 rep-unique {z = negsuc a} {w = pos b} r s = absurd (omega arith)
 rep-unique {z = negsuc a} {w = negsuc b} r s = ap negsuc (omega arith)
 
--- z / d as (p - n) / d
+-- z / d as (p - n) / d.
 pub rep-same : {z : ℤ} {p n : ℕ} (d : ℕ) → 0 < d → Rep z p n → Same (frac p n d) (whole z d)
 rep-same d D r = record { left = D; right = D; cross = omega (arith, ap (λ (x : ℕ). x * d) (r .is)) }

@@ -1,5 +1,5 @@
--- |x - y| ≤ e / g: such bounds add up along a chain and in a sum, move to equal numbers, and change their unit.
--- Each is two one-sided inequalities between cross products, multiplied out. Assumes nothing.
+-- |x - y| ≤ e / g. Such bounds add up along a chain and in a sum, hold for equal numbers, and can be given in another
+-- unit. Each is two one-sided inequalities between cross products, multiplied out. Assumes nothing.
 use mathlib.Core.Path.{sym}
 use Prim.Native.Nat.{ℕ, _+_, _*_, _≤_, _<_}
 use native.Mathlib.Nat.{add-comm, add-zero, zero-add, le-of-eq, mul-le-mul-right, mul-pos, le-of-mul-le-mul-right}
@@ -103,7 +103,7 @@ within-plus {g} {e} {e'} {x} {y} {a} {b} h k =
           (h .below) (k .below);
     }
 
--- c + t is as far from c as t is large
+-- c + t is as far from c as t is large.
 pub beside : {g e : ℕ} {t : Frac} (c : Frac) → 0 < c .d → Within g e t nil → Within g e (plus c t) c
 beside {g} {e} c C w = to (plus-nil c C) (rw (zero-add e) at (within-plus (same-within g (same-refl {x = c} C)) w))
 

@@ -23,11 +23,11 @@ times x y = frac (x .p * y .p + x .n * y .n) (x .p * y .n + x .n * y .p) (x .d *
 abbrev pub opp : Frac → Frac
 opp x = frac (x .n) (x .p) (x .d)
 
--- x divided by b / d
+-- The fraction x divided by b / d.
 abbrev pub over : Frac → ℕ → ℕ → Frac
 over x b d = frac (x .p * d) (x .n * d) (x .d * b)
 
--- z / d, for a whole number z
+-- The fraction z / d of a whole number z, by its positive and its negative part.
 abbrev pub zp : ℤ → ℕ
 zp (pos n) = n
 zp (negsuc n) = 0
@@ -39,23 +39,23 @@ zn (negsuc n) = suc n
 abbrev pub whole : ℤ → ℕ → Frac
 whole z d = frac (zp z) (zn z) d
 
--- The same number. What is said of two fractions includes that their denominators are above zero.
+-- Two fractions are the same number. The relations of this page include that both denominators are above zero.
 pub record Same (x y : Frac) : Type 0 where
   pub left : 0 < x .d
   pub right : 0 < y .d
   pub cross : x .p * y .d + y .n * x .d ≡ y .p * x .d + x .n * y .d
 
--- x - y ≤ e / g
+-- The inequality x - y ≤ e / g.
 abbrev pub Upto : ℕ → ℕ → Frac → Frac → Type 0
 Upto g e x y = g * (x .p * y .d + y .n * x .d) ≤ g * (y .p * x .d + x .n * y .d) + e * (x .d * y .d)
 
--- |x - y| ≤ e / g
+-- The inequality |x - y| ≤ e / g.
 pub record Within (g e : ℕ) (x y : Frac) : Type 0 where
   pub left : 0 < x .d
   pub right : 0 < y .d
   pub above : Upto g e x y
   pub below : Upto g e y x
 
--- |x| ≤ b
+-- The inequality |x| ≤ b.
 abbrev pub Mag : ℕ → Frac → Type 0
 Mag b x = Within 1 b x nil

@@ -6,23 +6,23 @@ use lib.Ieee.{Float, nan, inf, fin, Format, up, down, round}
 use lib.Ieee.Scale.{finite}
 use Rattle.rounding_error.specs.Fraction.{Frac, frac, nil, Same, Within}
 
--- a / c, or -a / c if the sign is set.
+-- The fraction a / c, or -a / c if the sign is set.
 abbrev pub signed : Bool → ℕ → ℕ → Frac
 signed false a c = frac a 0 c
 signed true a c = frac 0 a c
 
--- The value of a finite float; the others have none, and what follows asks that x is finite.
+-- The value of a finite float. An infinity and a NaN have none; the relations below say that x is finite.
 abbrev pub val : Float → Frac
 val nan = nil
 val (inf s) = nil
 val (fin s m e) = signed s (m * up e) (down e)
 
--- x is the number q.
+-- x is finite, and its value is the number q.
 pub record Is (x : Float) (q : Frac) : Type 0 where
   pub real : T (finite x)
   pub same : Same (val x) q
 
--- x is a finite float with |x - q| ≤ e / g
+-- x is finite, and |x - q| ≤ e / g.
 pub record Rounds (g e : ℕ) (x : Float) (q : Frac) : Type 0 where
   pub real : T (finite x)
   pub near : Within g e (val x) q

@@ -20,13 +20,13 @@ use Rattle.variable_delay.specs.declared.VariableDelay.{VariableDelay}
 use Rattle.quality_variable_delay.specs.Reader as quality
 use Rattle.quality_variable_delay.specs.declared.QualityVariableDelayF32.{QualityVariableDelayF32}
 
--- N5
+-- N5. A delay of -0.0 counts as 0.0.
 pub minus-zero : (own lent : Bool) (d : VariableDelay) (len : ℕ) (x : Float)
     → verdict own lent d len x (fin true 0 (pos 0)) ≡ verdict own lent d len x (fin false 0 (pos 0))
 unfolding le
 minus-zero own lent d len x = refl
 
--- N7. whatever the quality, and either infinity
+-- N7. This holds for every quality and for either infinity.
 pub infinite-accepted : (bank lent : Bool) (d : QualityVariableDelayF32) (len : ℕ) (x y : Float) (s : Bool)
     → quality.verdict bank lent d len x y (inf s) ≡ quality.verdict bank lent d len x y one-f
 unfolding isNan
@@ -43,7 +43,7 @@ pub rate-below : (top : Float) → clamped (inf true) one-f top ≡ one-f
 unfolding clamped lt
 rate-below top = refl
 
--- N8
+-- N8. A full state.
 abbrev full : ℕ → ℕ → VariableDelay
 full maximum margin = record { maximum = maximum; margin = margin; accepted = 2 ^ 36 }
 
@@ -51,7 +51,7 @@ pub full-valid : (maximum margin len : ℕ)
     → resetVerdict (full maximum margin) len ≡ resetVerdict (fresh maximum margin) len
 full-valid maximum margin len = refl
 
--- all tests passed, and then the last alone fails
+-- All tests passed, and then only the last one fails.
 eighth : (t1 t2 t3 t4 t5 t6 t7 t8 : Bool) → lowestOf t1 t2 t3 t4 t5 t6 t7 t8 ≡ 0
     → lowestOf t1 t2 t3 t4 t5 t6 t7 false ≡ 8
 eighth t1 t2 t3 t4 t5 t6 t7 t8 e =
@@ -66,7 +66,7 @@ eighth t1 t2 t3 t4 t5 t6 t7 t8 e =
       is-true t7 (p .p7),
     )
 
--- what is accepted before is refused by 8 once the state is full
+-- What was accepted before is refused by 8 when the state is full.
 pub full-refuses : (own lent : Bool) (maximum margin len : ℕ) (x y : Float)
     → verdict own lent (fresh maximum margin) len x y ≡ 0 → verdict own lent (full maximum margin) len x y ≡ 8
 full-refuses own lent maximum margin len x y e =

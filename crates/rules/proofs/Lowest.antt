@@ -1,6 +1,6 @@
--- N9, D1b. Of 01's eight numbers each is given exactly when its test fails and all tests before it pass;
--- and none exactly when all pass. The law over any table of tests stands in `refusal_order`;
--- here it is read at the eight. Assumes nothing.
+-- N9, D1b. Each of 01's eight numbers is given exactly if its test fails and all tests before it pass, and none exactly
+-- if all pass. The law for any table of tests stands in `refusal_order`; here it is applied to the eight. Assumes
+-- nothing.
 use mathlib.Core.Path.{_≡_, refl}
 use mathlib.Core.Logic.{_↔_}
 use mathlib.Core.Bool.{Bool, true}
@@ -14,7 +14,7 @@ module _ (t1 t2 t3 t4 t5 t6 t7 t8 : Bool) where
   abbrev tests : List Test
   tests = eight t1 t2 t3 t4 t5 t6 t7 t8
 
-  -- number k + 1, by test k
+  -- The number k + 1, by test k.
   pub lowest : (k : ℕ) → lowestOf t1 t2 t3 t4 t5 t6 t7 t8 ≡ suc k ↔ First tests k
   lowest = order.lowest tests refl
 

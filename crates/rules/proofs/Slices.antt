@@ -1,6 +1,6 @@
--- G3. A plain slice is a ring of its own length whose count is its length: every element is read at its place,
--- and zero before the start and past the end. K1. Up to 2^36 a sample's number is held exactly,
--- so that a position is rounded once. Assumes nothing.
+-- G3. A plain slice is a ring of its own length whose count is its length: every element is read at its place, and zero
+-- before the start and past the end. K1. Up to 2^36 the number of a sample is exact as a float, so that a position is
+-- rounded once. Assumes nothing.
 use mathlib.Core.Path.{_≡_, refl}
 use mathlib.Core.Bool.{false, true}
 use mathlib.Core.List.{List}
@@ -26,6 +26,6 @@ module _ (xs : List Float) (k : ℕ) where
   pub past-end : length xs ≤ k → tapOf xs (length xs) (pos k) ≡ fin false 0 (pos 0)
   past-end h = rw (le-ltb k (length xs) h)
 
--- K1
+-- K1. The number of a sample is exact.
 pub number-exact : (i : ℕ) → i ≤ 2 ^ 36 → HasValue (ofInt binary64 (pos i)) false i 1
 number-exact i h = whole-value binary64 (pos i) (le-trans h (lit≤ tt))

@@ -1,6 +1,5 @@
--- D1c. Whatever is refused, by the number that is handed out (C4): the state and every lent element are what they were.
--- One line for each kind of public function.
--- Assumes nothing.
+-- D1c. Whatever is refused, by the number that is handed out (C4), the state and every lent element are what they were.
+-- There is one law for each kind of public function. Assumes nothing.
 use mathlib.Core.Path.{_≡_, refl}
 use mathlib.Core.Bool.{Bool, true, false, cond}
 use mathlib.Core.List.{List}
@@ -32,7 +31,7 @@ use Rattle.modulation.specs.Runs.{leftBy}
 use Rattle.modulation_engine.specs.declared.ModulationEngine.{ModulationEngine}
 use Rattle.modulation_params.specs.declared.ModulationParams.{ModulationParams}
 
--- ---- the readers, over what their kernels read: `v` is the verdict
+-- ---- the readers, over what their kernels read: `v` is the refusal
 pub reader : (read : Reading) (v : ℕ) (d : VariableDelay) (xs : List Float) (x y : Float)
     → (numberOf (processedBy read v d xs x y .answer) ≡ 0 → ⊥)
     → (processedBy read v d xs x y .state ≡ d) × (ringAfter v d xs x ≡ xs)
@@ -45,7 +44,7 @@ pub reader-f32 : (read : Reading) (v : ℕ) (d : VariableDelay) (xs : List Float
 reader-f32 read zero d xs x y h = absurd (h refl)
 reader-f32 read (suc k) d xs x y h = (refl, refl)
 
--- the quality that was asked for is forgotten: q does not show in what is left
+-- The quality that was requested is forgotten: q does not show in what is left.
 pub quality-reader : (read : QualityMode → Reading) (v : ℕ) (d : QualityVariableDelayF32) (xs : List Float)
     (x y : Float) (q : QualityMode)
     → (numberF32Of (quality.processedBy read v d xs x y q .answer) ≡ 0 → ⊥)
@@ -86,7 +85,7 @@ pub drifted : (v : ℕ) (r : SmoothRandom) (rate-hz sample-rate : Float)
 drifted zero r rate-hz sample-rate h = absurd (h refl)
 drifted (suc k) r rate-hz sample-rate h = refl
 
--- set_seed, reset and the draws of a generator
+-- The calls set_seed and reset and the draws of a generator.
 pub renewed : (r after : SmoothRandom) → (drift.renewed r after .refusal ≡ 0 → ⊥) → drift.renewed r after .random ≡ r
 renewed r after = go (validOf r)
   where
@@ -110,7 +109,7 @@ pub stepped : (v : ℕ) (e : ModulationEngine) (p : ModulationParams)
 stepped zero e p h = absurd (h refl)
 stepped (suc k) e p h = refl
 
--- set_sample_rate, set_seed and reset: an answer that is a refusal holds no other engine
+-- For set_sample_rate, set_seed and reset: an answer that is a refusal holds no other engine.
 pub engine-set : (v : ℕ) (e new : ModulationEngine) → (engine.numberOf (engine.openedBy v new) ≡ 0 → ⊥)
     → leftBy (engine.openedBy v new) e ≡ e
 engine-set zero e new h = absurd (h refl)

@@ -1,6 +1,6 @@
--- K8, D1c. A run of calls of anything that a refused call leaves as it was (`stays`): a refused call may stand anywhere
--- in it, and what the run leaves, and the calls that it accepts, are the same without it. By the calls, one after the
--- other. Assumes nothing.
+-- K8, D1c. A run of calls of anything that a refused call leaves as it was (`stays`). A refused call may stand anywhere
+-- in it: what the run leaves, and the calls that it accepts, are the same without it. By induction over the calls.
+-- Assumes nothing.
 use mathlib.Core.Path.{_≡_, refl, sym, _∙_, ap}
 use mathlib.Core.List.{List, [], _∷_, _++_}
 use Prim.Native.Nat.{ℕ, zero, suc}
@@ -14,7 +14,7 @@ module _ {S C : Type 0} (due : S → C → ℕ) (afterBy : ℕ → S → C → S
   abbrev accepted : S → List C → List C
   accepted = acceptedOf due afterBy
 
-  -- one call at the head of a run, accepted or refused
+  -- One call at the head of a run, accepted or refused.
   module _ (s : S) (c : C) (cs : List C) where
     pub run-taken : due s c ≡ 0 → run s (c ∷ cs) ≡ run (afterBy 0 s c) cs
     unfolding runOf
@@ -44,7 +44,7 @@ module _ {S C : Type 0} (due : S → C → ℕ) (afterBy : ℕ → S → C → S
       go zero e ih = taken s c cs e (ih (afterBy 0 s c))
       go (suc k) e ih = refused s c cs k e (ih s)
 
-  -- What holds of the reader before and after a run of its accepted calls holds of any run.
+  -- What holds for the state before and after a run of accepted calls holds for any run.
   pub by-accepted : (P : S → S → List C → Type 0) → ((s : S) → P s s [])
       → ((s : S) (c : C) (t : S) (cs : List C) → due s c ≡ 0 → P (afterBy 0 s c) t cs → P s t (c ∷ cs))
       → (s : S) (cs : List C) → P s (run s cs) (accepted s cs)
@@ -55,7 +55,7 @@ module _ {S C : Type 0} (due : S → C → ℕ) (afterBy : ℕ → S → C → S
       (λ s c cs e ih. rw (run-taken s c cs e, accepted-taken s c cs e) (taken s c _ _ e ih))
       (λ s c cs k e ih. rw (run-refused s c cs k e, accepted-refused s c cs k e) ih)
 
-  -- the accepted calls alone leave the same, and all of them are accepted
+  -- The accepted calls alone leave the same, and all of them are accepted.
   pub refused-leave-nothing : (s : S) (cs : List C) → run s (accepted s cs) ≡ run s cs
   unfolding runOf
   refused-leave-nothing = by-accepted (λ s t cs. run s cs ≡ t) (λ s. refl) (λ s c t cs e ih. rw (run-taken s c cs e) ih)
@@ -67,7 +67,6 @@ module _ {S C : Type 0} (due : S → C → ℕ) (afterBy : ℕ → S → C → S
       (λ s. refl)
       (λ s c t cs e ih. rw (accepted-taken s c cs e) (ap (λ (l : List C). c ∷ l) ih))
 
-  -- a run in two parts
   pub run-parts : (s : S) (xs ys : List C) → run s (xs ++ ys) ≡ run (run s xs) ys
   unfolding runOf
   run-parts s [] ys = refl

@@ -1,6 +1,5 @@
 -- K8. Over a run of calls the count is the number of accepted ones, the ring is what storing their samples in turn
--- leaves, and a refused call leaves no trace.
--- By the calls, one after the other. Assumes nothing.
+-- leaves, and a refused call leaves no trace. By induction over the calls. Assumes nothing.
 use mathlib.Core.Path.{_≡_, refl, _∙_, ap}
 use mathlib.Core.List.{List}
 use Prim.Native.Nat.{ℕ, suc, _+_}
@@ -23,11 +22,11 @@ pub leaves : (read : Reading) (r : Reader) (c : Call)
     × (ringAfter v (r .state) (r .ring) (c .input) ≡ after r c .ring)
 leaves read r c = (refl, refl)
 
--- a refused call changes nothing
+-- A refused call changes nothing.
 pub stays : (k : ℕ) (r : Reader) (c : Call) → afterBy (suc k) r c ≡ r
 stays k r c = refl
 
--- the settings stay, and the count goes up by one for each accepted call
+-- The settings stay, and the count goes up by one for each accepted call.
 pub counted : (r : Reader) (cs : List Call)
     → run r cs .state ≡ withCount (r .state) (r .state .accepted + length (accepted r cs))
 counted =

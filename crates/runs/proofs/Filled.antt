@@ -1,5 +1,5 @@
--- What a ring holds after samples were stored in turn from opening: the last `len` of them, each at its number modulo
--- the length, and zeros where none was stored yet. By what holds after every store. Assumes nothing.
+-- What a ring holds after samples were stored in turn since opening: the last `len` of them, each at its number modulo
+-- the length, and zeros where none was stored yet. By an invariant of every store. Assumes nothing.
 use mathlib.Core.Path.{_≡_, refl, sym, _∙_, ap, subst}
 use mathlib.Core.Bool.{Bool, true, false}
 use mathlib.Core.List.{List, [], _∷_, _++_, append-assoc, append-nil}
@@ -18,13 +18,13 @@ use Rattle.ring.specs.Taps.{held, ahead, overwritten, pick, tapAt}
 use Rattle.variable_delay.specs.Reader.{stored}
 use Rattle.runs.specs.Filled.{storedFrom, filled, numbered}
 
--- xs holds the last of the samples ss
+-- xs holds the last of the samples ss.
 pub record Holds (len : ℕ) (ss xs : List Float) : Type 0 where
   pub long : length xs ≡ len
   pub last : (j : ℕ) → j < length ss → length ss ≤ j + len → getD xs (j % len) nan ≡ getD ss j nan
   pub rest : (k : ℕ) → k < len → length ss ≤ k → getD xs k nan ≡ fin false 0 (pos 0)
 
--- two numbers less than a length apart stand at two places
+-- Two numbers less than a length apart stand at different places.
 apart : (j n len : ℕ) → j < n → n < j + len → j % len ≢ n % len
 apart j n len h l e =
     let a = div-add-mod' j len in

@@ -1,5 +1,5 @@
--- K8 since opening or reset: the count is the number of accepted calls, and a tap of the ring is the accepted sample of
--- its number. Assumes nothing.
+-- K8 since opening or reset: the count is the number of accepted calls, and a tap of the ring is the accepted sample
+-- with its number. Assumes nothing.
 use mathlib.Core.Path.{_≡_, sym, _∙_, ap}
 use mathlib.Core.List.{List}
 use Prim.Native.Nat.{ℕ}
@@ -17,14 +17,14 @@ use Rattle.runs.specs.Filled.{filled, numbered}
 use Rattle.runs.proofs.Counted.{counted, ring-of}
 use Rattle.runs.proofs.Filled.{tap-numbered}
 
--- what a reset that is not refused leaves
+-- What a reset that is not refused leaves.
 pub reset-leaves : (d : VariableDelay) (xs : List Float) → resetVerdict d (length xs) ≡ 0
     → (resetOf d (length xs) ≡ Reader (fresh (d .maximum) (d .margin)))
     × (ringReset d xs ≡ opened (d .maximum) (d .margin) (length xs) .ring)
 reset-leaves d xs e = (rw e, rw e)
 
 module _ (maximum margin len : ℕ) (cs : List Call) where
-  -- the samples accepted since, number 0 first
+  -- The samples accepted since then, from number 0 on.
   abbrev pub since : List Float
   since = samples (accepted (opened maximum margin len) cs)
 

@@ -1,5 +1,5 @@
--- K8, D1c. A call whose settings are bad or whose table has not its length is refused by every reader: wherever it
--- stands in a run, the run leaves the same, and accepts the same calls, without it. Assumes nothing.
+-- K8, D1c. A call whose settings are bad, or whose table does not have its length, is refused by every reader. Wherever
+-- it stands in a run, the run leaves the same, and accepts the same calls, without it. Assumes nothing.
 use mathlib.Core.Path.{_≡_, subst}
 use mathlib.Core.Bool.{false}
 use mathlib.Core.List.{List, _∷_, _++_}

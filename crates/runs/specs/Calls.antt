@@ -1,9 +1,10 @@
--- K8. A run of calls, whatever is called: what it holds is handed on as the last call left it. Over the refusal that is
--- due of a call, 0 for none, and what a call leaves by it. Definitions only.
+-- K8. A run of calls of any function that has a state: each call finds the state as the last one left it. It is defined
+-- over the number by which a call is refused, 0 for none, and the state that the call leaves for that number.
+-- Definitions only.
 use Prim.Native.Nat.{ℕ, zero, suc}
 use mathlib.Core.List.{List, [], _∷_}
 
--- What belongs to an accepted call is kept, what belongs to a refused one is not.
+-- Keeps what belongs to an accepted call and drops what belongs to a refused one.
 abbrev pub keep : {A : Type 0} → ℕ → A → List A → List A
 keep zero a rest = a ∷ rest
 keep (suc k) a rest = rest

@@ -1,4 +1,5 @@
--- K1, K8. A ring into which samples are stored in turn, and a tap by its number among them. Definitions only.
+-- K1, K8. A ring into which samples are stored one after the other, and a tap by its number among them. Definitions
+-- only.
 use Prim.Native.Nat.{ℕ, _+_}
 use mathlib.Core.List.{List, [], _∷_}
 use lib.Dec.{leb, ltb}
@@ -9,16 +10,16 @@ use Rattle.ring.specs.Length.{zeros}
 use Rattle.ring.specs.Taps.{Tap, held, unwritten, ahead, overwritten, pick}
 use Rattle.variable_delay.specs.Reader.{stored}
 
--- The ring xs after storing samples, the first of them number i.
+-- The ring xs after samples have been stored, the first of which has the number i.
 unfoldable pub storedFrom : ℕ → List Float → List Float → List Float
 storedFrom i xs [] = xs
 storedFrom i xs (s ∷ ss) = storedFrom (i + 1) (stored i xs s) ss
 
--- A ring of length len in which the samples ss were stored since opening.
+-- A ring of length len into which the samples ss were stored since opening.
 abbrev pub filled : ℕ → List Float → List Float
 filled len ss = storedFrom 0 (zeros len) ss
 
--- K8. What a tap is, by its number among the samples ss since opening: the last `len` of them are held.
+-- K8. A tap by its number among the samples ss since opening: the last `len` of them are held.
 abbrev pub numbered : ℕ → List Float → ℤ → Tap
 numbered len ss (negsuc k) = unwritten
 numbered len ss (pos k) =

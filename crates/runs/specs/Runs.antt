@@ -1,6 +1,6 @@
--- K8. A run of a reader's calls: state and ring are handed on as the last call left them, whatever the kernel reads.
--- Each call brings its own settings and its own table, so that one with bad taps may stand between accepted ones.
--- Definitions only.
+-- K8. A run of a reader's calls: each call finds state and ring as the last one left them, whatever the kernel reads.
+-- Each call brings its own settings and its own table, so that a refused call with bad taps may stand between accepted
+-- ones. Definitions only.
 use Prim.Native.Nat.{ℕ}
 use mathlib.Core.Bool.{Bool, true, _&&_}
 use mathlib.Core.List.{List, map}
@@ -20,11 +20,11 @@ pub record Call : Type 0 where
   pub input : Float
   pub delay : Float
 
--- A call of a kernel that has no settings of its own and is lent no table.
+-- A call of a kernel that has no settings of its own and needs no table.
 abbrev pub bareCall : Float → Float → Call
 bareCall input delay = record { own = true; lent = true; input = input; delay = delay }
 
--- Whether the call's settings and its table are as they must be.
+-- The call's settings are in range, and its table has its length.
 abbrev pub fit : Call → Bool
 fit c = c .own && c .lent
 
@@ -37,7 +37,7 @@ pub record Reader : Type 0 where
 abbrev pub opened : ℕ → ℕ → ℕ → Reader
 opened maximum margin len = record { state = fresh maximum margin; ring = zeros len }
 
--- What a call leaves, by the refusal that is due, 0 for none.
+-- What a call leaves, for each number by which it may be refused, 0 for none.
 abbrev pub afterBy : ℕ → Reader → Call → Reader
 afterBy v r c = record { state = stateAfter v (r .state); ring = ringAfter v (r .state) (r .ring) (c .input) }
 
@@ -57,6 +57,5 @@ accepted = acceptedOf due afterBy
 abbrev pub samples : List Call → List Float
 samples cs = map (λ c. c .input) cs
 
--- The same state with another count.
 abbrev pub withCount : VariableDelay → ℕ → VariableDelay
 withCount d n = record { maximum = d .maximum; margin = d .margin; accepted = n }

@@ -1,4 +1,4 @@
--- How large a frame is: few bytes, and more with more channels. Assumes nothing.
+-- The size of a frame: it is small, and grows with the channels. Assumes nothing.
 use Prim.Native.Nat.{ℕ, _≤_, _<_}
 use native.Mathlib.Omega.{arith}
 use Rattle.sample_kind.specs.declared.SampleKind.{SampleKind}

@@ -14,7 +14,7 @@ widthOf Float32 = 4
 abbrev pub frameOf : SampleKind → ℕ → ℕ
 frameOf kind channels = channels * widthOf kind
 
--- 0, 1 and 2 for the three kinds.
+-- The codes are 0, 1 and 2.
 abbrev pub codeOf : SampleKind → ℕ
 codeOf Pcm16 = 0
 codeOf Pcm24 = 1

@@ -2,14 +2,14 @@
 ghost use mathlib.Core.Path.{_≡_};
 ghost use Rattle.sample_kind.specs.Kinds.{widthOf, frameOf, codeOf, kindOf};
 
-// PCM of 16 and 24 bits, IEEE float of 32.
+// PCM of 16 and of 24 bits, and IEEE float of 32.
 pub enum SampleKind {
     Pcm16,
     Pcm24,
     Float32,
 }
 
-// How many bytes a sample has.
+// How many bytes one sample has.
 pub fn width(kind: SampleKind) -> usize
     ensures { λ r. ⌜ r ≡ widthOf kind ⌝ }
 {
@@ -20,7 +20,7 @@ pub fn width(kind: SampleKind) -> usize
     }
 }
 
-// How many bytes a frame of so many channels has.
+// How many bytes a frame has, which is one sample of each channel.
 pub fn frame_width(kind: SampleKind, channels: u8) -> usize
     ensures { λ r. ⌜ r ≡ frameOf kind channels ⌝ }
 {
@@ -37,7 +37,7 @@ pub fn code(kind: SampleKind) -> u8
     }
 }
 
-// The kind of a code. One above 2 is no kind's: who takes codes from outside tests that before.
+// The kind with a code. A code above 2 is no kind's; whoever takes codes from outside tests that before.
 pub fn of_code(code: u8) -> SampleKind
     ensures { λ r. ⌜ r ≡ kindOf code ⌝ }
 {

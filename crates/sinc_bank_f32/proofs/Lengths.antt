@@ -1,5 +1,5 @@
--- How long a quality's table, a set and a bank are; and each quality's part of a set is its own table,
--- each set of a bank its own. Assumes nothing.
+-- The lengths of a quality's table, of a set and of a bank. Each quality's part of a set is its own table, and each set
+-- of a bank is its own. Assumes nothing.
 use mathlib.Core.Path.{_≡_, sym, _∙_, ap}
 use mathlib.Core.List.{List, _++_, append-assoc}
 use Prim.Native.Nat.{ℕ, _+_, _*_, _<_}
@@ -23,7 +23,7 @@ use Rattle.sinc_bank_f32.specs.Parts.{partOf}
 long : (m : Mode) (s : Settings) → length (tableF32In m s) ≡ tableLength (s .taps) (s .phases)
 long m s = length-map (tableIn m s) narrowed ∙ length-table m s
 
--- three lists, one behind the other
+-- Three lists, one behind the other.
 one-behind-another : (x y z : List Float) (a b c : ℕ) → length x ≡ a → length y ≡ b → length z ≡ c
     → (take a (x ++ (y ++ z)) ≡ x) × (take b (drop a (x ++ (y ++ z))) ≡ y) × (take c (drop (a + b) (x ++ (y ++ z))) ≡ z)
 one-behind-another x y z a b c p q r = (
@@ -48,7 +48,7 @@ module _ (m : Mode) (rate : Float) where
   unfolding setIn
   set-long = simp (length-append, normal-long, hq-long, ultra-long)
 
-  -- T5
+  -- T5. The parts of a set.
   parts : (take 163920 (setIn m rate) ≡ tableF32In m (normalAt rate))
       × (take 393312 (drop 163920 (setIn m rate)) ≡ tableF32In m (hqAt rate))
       × (take 524416 (drop (163920 + 393312) (setIn m rate)) ≡ tableF32In m (ultraAt rate))
@@ -66,7 +66,7 @@ module _ (m : Mode) (rate : Float) where
   pub ultra-part : partOf Ultra (setIn m rate) ≡ tableF32In m (ultraAt rate)
   ultra-part = parts .2
 
--- T3. set i of a bank, counted from 0
+-- T3. Set i of a bank, counted from 0.
 pub set-at : (m : Mode) (top : Float) (i : ℕ) → i < stepsOf top
     → take setLength (drop (i * setLength) (bankIn m top)) ≡ setIn m (rateOf top (stepsOf top) (i + 1))
 unfolding bankIn

@@ -1,5 +1,5 @@
--- A rate from 1 to 2 gives a cutoff 0.995 / rate from 0.4975 to 0.995, which is within a table's range:
--- so no table of a set is refused. Assumes nothing.
+-- A rate from 1 to 2 gives a cutoff 0.995 / rate from 0.4975 to 0.995, which is in the range of a table. So no table of
+-- a set is refused. Assumes nothing.
 use mathlib.Core.Path.{_≡_, refl}
 use mathlib.Core.Bool.{true, false}
 use Prim.Native.Nat.{ℕ}

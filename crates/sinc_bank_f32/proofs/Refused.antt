@@ -1,5 +1,5 @@
--- C4. The number of a builder's answer is the verdict. That a refused build writes nothing (D1c) is windowed_sinc's
--- `not-written`. Assumes nothing.
+-- C4. The number of a builder's answer is that of the refusal. That a refused build writes nothing (D1c) is
+-- windowed_sinc's `not-written`. Assumes nothing.
 use mathlib.Core.Path.{_≡_, refl}
 use Prim.Native.Nat.{ℕ, zero, suc}
 use lib.Ieee.{Float}

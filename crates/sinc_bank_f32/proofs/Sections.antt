@@ -1,4 +1,4 @@
--- A slice that is written section by section, each from where the last one ended: what stands before the end.
+-- A slice that is written section by section, each from where the last one ended, and what it holds before that end.
 -- Assumes nothing.
 use mathlib.Core.Path.{_≡_, refl, sym, _∙_, ap}
 use mathlib.Core.List.{List, [], _++_, append-assoc}
@@ -25,7 +25,7 @@ module _ (start end : ℕ) (ys xs : List Float) (order : start ≤ end) (fits : 
       ∙ take-at (take start xs ++ ys) _ end (simp (length-append, head, long) (omega arith))
       ∙ ap (λ (l : List Float). l ++ ys) e
 
--- three of them, from 0 to the length
+-- Three sections, from 0 to the length.
 pub three : (a b c : ℕ) (x y z xs u v w : List Float) → a ≤ b → b ≤ c → length xs ≡ c → length x ≡ a - 0
     → length y ≡ b - a → length z ≡ c - b
     → u ≡ withPart 0 a x xs → v ≡ withPart a b y u → w ≡ withPart b c z v → w ≡ x ++ (y ++ z)

@@ -1,4 +1,4 @@
--- What the number of sets says of the bank's rate: it is 0 exactly where the rate is out of range, and at most 50.
+-- What the number of sets shows of the bank's rate: it is 0 exactly if the rate is out of range, and at most 50.
 -- Assumes nothing.
 use mathlib.Core.Path.{_≡_, refl, ap, _∙_}
 use mathlib.Core.Bool.{Bool, true, false, cond}

@@ -1,5 +1,5 @@
--- N1, N2. Which refusal is due when a set or a bank is lent to be built, and what a builder answers. What it leaves in
--- the lent slice is windowed_sinc's `tableAfter`. Definitions only.
+-- N1, N2. Which refusal is given when a set or a bank is lent to be built, and what a builder answers. What it leaves
+-- in the lent slice is windowed_sinc's `tableAfter`. Definitions only.
 use Prim.Native.Nat.{ℕ, zero, suc, _*_}
 use mathlib.Core.List.{[], _∷_}
 use lib.Dec.{eqb}
@@ -10,7 +10,7 @@ use Rattle.sinc_bank_f32.specs.declared.Built.{Built}
 use Rattle.sinc_bank_f32.specs.declared.Built.the-variants.{Sets, Refused}
 use Rattle.sinc_bank_f32.specs.Sets.{setLength}
 
--- 1 if the rate is not from 1 to 2, 2 if the slice has another length.
+-- The refusal is 1 if the rate is not from 1 to 2, and 2 if the slice has another length.
 abbrev pub setVerdict : Float → ℕ → ℕ
 setVerdict rate len = firstOf (1 unless bankOk rate ∷ 2 unless eqb len setLength ∷ [])
 

@@ -1,4 +1,4 @@
--- T5. The part of a set that a quality reads: Draft reads none. Definitions only.
+-- T5. The part of a set that a quality reads. Draft reads none. Definitions only.
 use Prim.Native.Nat.{ℕ}
 use mathlib.Core.Bool.{Bool, true, false}
 use mathlib.Core.List.{List, []}

@@ -15,11 +15,11 @@ use Rattle.bessel.specs.declared.Mode.the-variants.{Ported}
 use Rattle.windowed_sinc_f32.specs.Table.{tableF32In}
 use Rattle.bank_choice.specs.Rates.{bankOk, stepsOf, rateOf}
 
--- the f64 nearest to 0.995
+-- The f64 nearest to 0.995.
 abbrev pub passband : Float
 passband = fin false 8962163258467287 (negsuc 52)
 
--- the settings of 000's three tables
+-- The settings of 000's three tables: Normal, Hq and Ultra.
 abbrev pub normalAt : Float → Settings
 normalAt rate = forRate 80 2048 rate passband (fin false 3 (pos 2))
 
@@ -29,26 +29,26 @@ hqAt rate = forRate 96 4096 rate passband (fin false 7 (pos 1))
 abbrev pub ultraAt : Float → Settings
 ultraAt rate = forRate 128 4096 rate passband (fin false 1 (pos 4))
 
--- W5. All three in one mode.
+-- W5. A set, with all three tables in one mode.
 unfoldable pub setIn : Mode → Float → List Float
 setIn mode rate =
     tableF32In mode (normalAt rate) ++ (tableF32In mode (hqAt rate) ++ tableF32In mode (ultraAt rate))
 
--- 000's
+-- 000's set, which is that of the ported mode.
 abbrev pub setOf : Float → List Float
 setOf = setIn Ported
 
--- a slice with ys written from `start` to `end`
+-- A slice into which ys has been written from `start` to `end`.
 unfoldable pub withPart : ℕ → ℕ → List Float → List Float → List Float
 withPart start end ys xs = take start xs ++ (ys ++ drop (end - start) (drop start xs))
 
--- the sets of a bank, in the order of their rates
+-- The sets of a bank, in the order of their rates.
 unfoldable pub bankIn : Mode → Float → List Float
 bankIn mode top = rows (λ (i : ℕ). setIn mode (rateOf top (stepsOf top) (i + 1))) (stepsOf top)
 
 abbrev pub bankOf : Float → List Float
 bankOf = bankIn Ported
 
--- how many f32 a bank needs, 0 out of its range
+-- How many f32 a bank needs, 0 if its rate is out of range.
 abbrev pub bankLength : Float → ℕ
 bankLength top = cond (bankOk top) (stepsOf top * setLength) 0

@@ -1,6 +1,6 @@
 // The original's SincBankF32 (000) over lent slices: builds the sets of a bank, and gives the part of a set that a
 // quality reads (T3, T5).
-mod parts; // the part of a set that is to be read
+mod parts; // the part of a set that a quality reads
 
 use bessel::Mode;
 use constants::SET_LENGTH;
@@ -22,8 +22,8 @@ pub enum Built {
     Refused(u8),
 }
 
-// One table of a set, in its part of the lent slice. Nothing is refused: a rate from 1 to 2 gives a cutoff from 0.4975
-// to 0.995.
+// Builds one table of a set in its part of the lent slice. Nothing is refused: a rate from 1 to 2 gives a cutoff from
+// 0.4975 to 0.995.
 fn write_part(
     taps: usize,
     phases: usize,
@@ -54,7 +54,7 @@ fn write_part(
     );
 }
 
-// The three tables of a set.
+// Builds the three tables of a set, one behind the other.
 fn write_set(rate: f64, set: &mut [f32], mode: Mode)
     requires { ⌜ (bankOk rate ≡ true) × (length (now set) ≡ setLength) ⌝ }
     ensures { λ _. ⌜ now (set .exit) ≡ setIn mode rate ⌝ }
@@ -73,7 +73,7 @@ fn write_set(rate: f64, set: &mut [f32], mode: Mode)
     );
 }
 
-// One set in its place: 0, or the refusal that is due, which leaves the slice.
+// N1, N2. Builds one set. It answers the number of the refusal, 0 for none; a refusal leaves the slice as it was.
 pub fn build_set(rate: f64, set: &mut [f32]) -> u8
     ensures { λ r. ⌜ r ≡ setVerdict rate (length (now (set .entry))) ⌝ }
     ensures { λ r. ⌜
@@ -84,7 +84,7 @@ pub fn build_set(rate: f64, set: &mut [f32]) -> u8
     build_set_in(rate, Mode::Ported, &mut set[..])
 }
 
-// W5. The same with all three windows in a mode.
+// W5. `build_set` with all three windows in a mode.
 pub fn build_set_in(rate: f64, mode: Mode, set: &mut [f32]) -> u8
     ensures { λ r. ⌜ r ≡ setVerdict rate (length (now (set .entry))) ⌝ }
     ensures { λ r. ⌜
@@ -102,14 +102,14 @@ pub fn build_set_in(rate: f64, mode: Mode, set: &mut [f32]) -> u8
     0
 }
 
-// How many f32 a bank needs; 0 where its rate is out of range.
+// How many f32 a bank needs; 0 if its rate is out of range.
 pub fn bank_length(max_rate: f64) -> usize
     ensures { λ r. ⌜ r ≡ bankLength «max_rate» ⌝ }
 {
     bank_choice::steps(max_rate) * SET_LENGTH
 }
 
-// Lends each set's part of the bank to `write_set`.
+// Lends the part of each set to `write_set`.
 fn write_sets(max_rate: f64, n: usize, width: usize, sets: &mut [f32], mode: Mode)
     requires { ⌜
         (bankOk «max_rate» ≡ true) × (n ≡ stepsOf «max_rate») × (width ≡ setLength) × (length (now sets) ≡ n * width)
@@ -137,7 +137,7 @@ pub fn build(max_rate: f64, sets: &mut [f32]) -> Built
     build_in(max_rate, Mode::Ported, &mut sets[..])
 }
 
-// W5. The same with every set in a mode.
+// W5. `build` with every set in a mode.
 pub fn build_in(max_rate: f64, mode: Mode, sets: &mut [f32]) -> Built
     ensures { λ r. ⌜ r ≡ builtBy (bankVerdict «max_rate» (length (now (sets .entry)))) «max_rate» ⌝ }
     ensures { λ r. ⌜

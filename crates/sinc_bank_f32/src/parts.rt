@@ -26,7 +26,7 @@ fn end(quality: QualityMode) -> usize
     }
 }
 
-// The table of a quality in a lent set; empty for Draft, and where that has not a set's length.
+// The table of a quality in a lent set; empty for Draft, and if the slice has not a set's length.
 fn part<'a>(set: &'a [f32], quality: QualityMode) -> &'a [f32]
     ensures { λ r. ⌜ now r ≡ lentOf quality (now (set .entry)) ⌝ }
 {
@@ -38,7 +38,7 @@ fn part<'a>(set: &'a [f32], quality: QualityMode) -> &'a [f32]
     &set[0..0]
 }
 
-// The same of the tighter set, or of the safe one.
+// The same from the tighter set, or from the safe one.
 pub fn chosen<'a>(
     safe: &'a [f32],
     tighter: &'a [f32],

@@ -29,7 +29,7 @@ pub fn process_sample<'a>(
         (eqb (length (now (table .entry))) (tableLength taps phases)) state
         (length (now (ring .entry))) input delay) state (now (ring .entry)) input ⌝ }
 {
-    // The refusals 1 and 2 of the table; variable_delay puts them into their order among its own.
+    // The refusals 1 and 2 of the table, as tests; variable_delay puts them into their order among its own.
     let due = sinc_settings::table_refusal(taps, phases, table.len());
     let a = variable_delay::accept(state, due != 1, due != 2, &mut ring[..], input, delay);
     let no = a.refusal;

@@ -1,5 +1,5 @@
--- K3. The blend lies from 0 to 1, the ends included: the position among the phases lies from the phase to the next,
--- and rounding keeps the order. Assumes nothing.
+-- K3. The blend lies from 0 to 1, both included: the position among the phases lies from the phase to the next, and
+-- rounding keeps the order. Assumes nothing.
 use mathlib.Core.Path.{_≡_, refl, sym, _∙_, ap}
 use mathlib.Core.Bool.{Bool, true, false, true≢false}
 use Prim.Native.Nat.{ℕ, _+_, _-_, _*_, _/_, _^_, _≤_, _<_, min}
@@ -30,7 +30,7 @@ use Rattle.sinc_phases.specs.Phases.{num, cutTo, phasePosition, phaseOf,
 abbrev one : Float
 one = fin false 1 (pos 0)
 
--- ---- a whole number against m * 2 ^ e
+-- ---- a whole number compared with m * 2 ^ e
 not-above : (m : ℕ) (e : ℤ) (y : Float) (n : ℕ) → HasValue y false n 1 → n * down e ≤ m * up e
     → T (le y (fin false m e))
 not-above m e nan n v h = absurd v
@@ -54,7 +54,7 @@ not-below m e (fin false k d) n v h =
 whole-finite : (n : ℕ) → n ≤ 2 ^ 53 → T (finite (num n))
 whole-finite n h = at-most-finite n (num n) (whole-at-most binary64 n (pos n) h (omega arith))
 
--- ---- a number from 0 to top + 1 lies from its cut to the next
+-- ---- a number from 0 to top + 1 lies between its whole part, limited to top, and the next
 next-up : (a d top : ℕ) → 0 < d → a ≤ (top + 1) * d → a ≤ (min (a / d) top + 1) * d
 next-up a d top D h = go (leb (a / d) top) refl
   where
@@ -83,7 +83,7 @@ cut-between top (fin false m e) t z h =
     (not-below m e (num (n + 1)) (n + 1) (whole-value binary64 (pos (n + 1)) k)
     (next-up (m * up e) (down e) top (down-pos e) h))
 
--- ---- the position among the phases, and what is left of it above the phase
+-- ---- the position among the phases, and its distance from the phase
 pub whole-apart : (n k : ℕ) → n + k ≤ 2 ^ 53 → sub binary64 (num (n + k)) (num n) ≡ num k
 whole-apart n k h =
     whole-difference binary64 (num (n + k)) (num n) (n + k) n (whole-value binary64 (pos (n + k)) h)

@@ -1,5 +1,5 @@
--- The whole part of a float, held to a top: above the top it is the top, between 0 and the top its floor,
--- below 0 nothing. Assumes nothing.
+-- The whole part of a float, limited to a top: above the top it is the top, between 0 and the top the floor, and below
+-- 0 it is 0. Assumes nothing.
 use mathlib.Core.Path.{_≡_, refl, sym, _∙_, ap, subst}
 use mathlib.Core.Bool.{Bool, true, false, true≢false}
 use Prim.Native.Nat.{ℕ, _*_, _/_, _^_, _<_, _≤_}
@@ -20,7 +20,7 @@ use Rattle.sinc_phases.specs.Phases.{cutTo}
 no : {A : Type 0} → _≡_ {A = Bool} true false → A
 no h = absurd (true≢false h)
 
--- x is not negative, and below top
+-- x is not negative, and below top.
 abbrev pub Under : ℕ → Float → Type 0
 Under top nan = ⊥
 Under top (inf s) = ⊥
@@ -44,7 +44,7 @@ under top (fin false m e) (fin false n d) v p h =
     (ap (λ (z : ℕ). z * down e) (sym (mul-one (n * up d)) ∙ v .1) ∙ mul-right-comm top (down d) (down e))
     (ltb-true (m * up e * down d) (n * up d * down e) h))
 
--- and its floor is the cut
+-- Its floor is the limited whole part.
 pub whole : (top : ℕ) (x : Float) → top ≤ 2 ^ 53 → Under top x → floorOf x ≡ pos (cutTo top x)
 unfolding floorOf cutTo
 whole top nan l u = absurd u
@@ -84,7 +84,7 @@ low top (fin false m e) h =
     let o : 0 ≤ top = omega arith in
     sym (rw (z, zero-div (down e)) (min-eq-left o))
 
--- never above the top
+-- The result is never above the top.
 pub held : (top : ℕ) (x : Float) → cutTo top x ≤ top
 unfolding cutTo
 held top nan = omega arith

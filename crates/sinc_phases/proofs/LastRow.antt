@@ -1,6 +1,6 @@
--- K3. Where a fraction is exactly 1 the phase is phases - 1 and the blend 1, for every number of phases:
--- the product, the phase and the difference are whole. Sample 0 at the delay 1e-300 reads such a place, just below 0.
--- Assumes nothing.
+-- K3. If a fraction is exactly 1 the phase is phases - 1 and the blend 1, for every number of phases: the product, the
+-- phase and the difference are whole. Sample 0 at the delay 1e-300 reads such a position, just below 0. Assumes
+-- nothing.
 use mathlib.Core.Path.{_≡_, refl, sym, _∙_, ap}
 use mathlib.Core.Bool.{true, false, true≢false}
 use Prim.Native.Nat.{ℕ, _+_, _-_, _*_, _≤_}
@@ -15,7 +15,7 @@ use Rattle.magnitude.proofs.WholeFloats.{whole-value, whole-product}
 use Rattle.sinc_phases.proofs.Blends.{whole-apart}
 use Rattle.sinc_phases.specs.Phases.{num, cutTo, phasePosition, phaseOf, blendOf}
 
--- a whole number at or above the top is cut to it
+-- A whole number that is not below the top is limited to it.
 whole-cut : (top n : ℕ) (x : Float) → HasValue x false n 1 → top ≤ n → cutTo top x ≡ top
 unfolding cutTo
 whole-cut top n nan v h = absurd v

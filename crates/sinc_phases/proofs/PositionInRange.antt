@@ -1,4 +1,4 @@
--- What is known where the taps and the position are in range. Assumes nothing.
+-- What follows if the taps and the position are in range. Assumes nothing.
 use mathlib.Core.Path.{_≡_}
 use mathlib.Core.Bool.{true, _&&_}
 use Prim.Native.Nat.{ℕ, _^_, _≤_}

@@ -1,5 +1,4 @@
--- What is known where the phases and the position are in range: the row that is read and the next lie in the table.
--- Assumes nothing.
+-- If the phases and the position are in range, the row that is read and the next one lie in the table. Assumes nothing.
 use mathlib.Core.Path.{_≡_}
 use mathlib.Core.Bool.{true, _&&_}
 use Prim.Native.Nat.{ℕ, _+_, _-_, _*_, _^_, _≤_}
@@ -33,7 +32,7 @@ fine p phases h =
       near = position-at-most p (is-true _ (and-r (phasesOk phases) (positionOk p) t));
     }
 
--- K3. A phase is followed by another: there is a row for each phase from 0 to phases.
+-- K3. After each phase that is read there is another: the table has a row for each phase from 0 to phases.
 pub next-phase : (p : Float) (phases : ℕ) → 2 ≤ phases → phaseOf p phases + 1 ≤ phases
 next-phase p phases h = omega (arith, held (phases - 1) (phasePosition p phases))
 

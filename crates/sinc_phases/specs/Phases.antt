@@ -15,35 +15,36 @@ use Rattle.sinc_phases.specs.declared.Phase.{Phase}
 abbrev pub num : ℕ → Float
 num n = ofInt binary64 (pos n)
 
--- `(position - integer as f64) * self.phases as f64`
+-- In 000: `(position - integer as f64) * self.phases as f64`.
 abbrev pub phasePosition : Float → ℕ → Float
 phasePosition p phases = mul binary64 (fractionOf p) (num phases)
 
--- `(x.floor() as usize).min(top)`: the whole part, at least 0 and at most top; 0 at a NaN.
+-- In 000: `(x.floor() as usize).min(top)`. It is the whole part, at least 0 and at most top, and 0 at a NaN.
 unfoldable pub cutTo : ℕ → Float → ℕ
 cutTo top nan = 0
 cutTo top (inf s) = cond s 0 top
 cutTo top (fin s m e) = cond s 0 (min (m * up e / down e) top)
 
--- `phase0`: held to phases - 1, so that a fraction of exactly 1 reads the last two rows.
+-- 000's `phase0`. It is at most phases - 1, so that a fraction of exactly 1 reads the last two rows.
 abbrev pub phaseOf : Float → ℕ → ℕ
 phaseOf p phases = cutTo (phases - 1) (phasePosition p phases)
 
--- `phase_position - phase0 as f64`: from row phase0 to the next; it may be exactly 1.
+-- In 000: `phase_position - phase0 as f64`. It says how far the position lies from row phase0 towards the next, and may
+-- be exactly 1.
 abbrev pub blendOf : Float → ℕ → Float
 blendOf p phases = sub binary64 (phasePosition p phases) (num (phaseOf p phases))
 
--- Both, and zeros where the phases or the position are out of range (G3, G5).
+-- G3, G5. Both are zero if the phases or the position are out of range.
 abbrev pub phaseAt : Float → ℕ → Phase
 phaseAt p phases =
     let ok = phasesOk phases && positionOk p in
     record { phase = cond ok (phaseOf p phases) 0; blend = cond ok (blendOf p phases) zero-f }
 
--- `integer - (self.taps as i64 / 2 - 1)`
+-- In 000: `integer - (self.taps as i64 / 2 - 1)`.
 abbrev pub firstTap : Float → ℕ → ℤ
 firstTap p taps = floorOf p -ℤ pos (taps / 2 - 1)
 
--- `row0[k] + blend * (row1[k] - row0[k])`, each step rounded to the table's width.
+-- In 000: `row0[k] + blend * (row1[k] - row0[k])`, each step rounded to the table's width.
 abbrev pub coefficientAt : Format → List Float → Float → ℕ → ℕ → ℕ → Float
 coefficientAt f table blend taps phase k =
     let a = getD table (phase * taps + k) nan in

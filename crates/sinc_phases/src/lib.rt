@@ -8,7 +8,7 @@ ghost use Rattle.ring.specs.Places.{positionOk};
 ghost use Rattle.sinc_settings.specs.Ranges.{tapsOk, phasesOk};
 ghost use Rattle.sinc_phases.specs.Phases.{cutTo, phaseAt, firstTap};
 
-// 000's `phase0` and `blend`.
+// 000's `phase0` and `blend`: the row, and how far the position lies from it towards the next.
 pub struct Phase {
     pub phase: usize,
     pub blend: f64,
@@ -30,7 +30,7 @@ fn cut_to(x: f64, top: u64) -> u64
     }
 }
 
-// G3, G5. Whether the phases and the position are in range.
+// G3, G5. Both the phases and the position are in range.
 fn phases_in_range(position: f64, phases: usize) -> bool
     ensures { λ r. ⌜ r ≡ (phasesOk phases && positionOk position) ⌝ }
 {
@@ -41,7 +41,7 @@ fn phases_in_range(position: f64, phases: usize) -> bool
     }
 }
 
-// The phase and the blend of a position; zeros where the phases or the position are out of range.
+// The phase and the blend of a position; both are zero if the phases or the position are out of range.
 pub fn phase_at(position: f64, phases: usize) -> Phase
     ensures { λ r. ⌜ r ≡ phaseAt position phases ⌝ }
 {
@@ -60,7 +60,7 @@ pub fn phase_at(position: f64, phases: usize) -> Phase
     }
 }
 
-// G3, G5. Whether the taps and the position are in range.
+// G3, G5. Both the taps and the position are in range.
 fn taps_in_range(position: f64, taps: usize) -> bool
     ensures { λ r. ⌜ r ≡ (tapsOk taps && positionOk position) ⌝ }
 {
@@ -71,7 +71,7 @@ fn taps_in_range(position: f64, taps: usize) -> bool
     }
 }
 
-// The number of the first tap, taps / 2 - 1 before the integer part (K3); 0 if the taps or the position are out of
+// K3. The number of the first tap, taps / 2 - 1 before the integer part; 0 if the taps or the position are out of
 // range.
 pub fn first_tap(position: f64, taps: usize) -> i64
     ensures { λ r. ⌜ r ≡ cond (tapsOk taps && positionOk position) (firstTap position taps) (pos 0) ⌝ }

@@ -1,4 +1,4 @@
--- What is known where no refusal is due: the counts, the table's length and the position. Assumes nothing.
+-- What follows for the counts, the table's length and the position if nothing is refused. Assumes nothing.
 use mathlib.Core.Path.{_≡_, refl, _∙_, ap}
 use mathlib.Core.Bool.{Bool, true, false, _&&_, and-true, and-false}
 use Prim.Native.Nat.{ℕ}
@@ -21,7 +21,7 @@ abbrev due : Bool → Bool → ℕ
 due a b = lowestOf a b true true true true true true
 
 module _ (taps phases len : ℕ) (p : Float) where
-  -- a position out of range is refused by 1, as a setting is; in range the rest is due
+  -- A position out of range is refused by 1, as a setting is; in range the other tests decide.
   pub beyond : positionOk p ≡ false → 1 ≡ sampleVerdict taps phases len p
   beyond h = rw (h, and-false (tapsOk taps && phasesOk phases))
 
@@ -38,7 +38,7 @@ module _ (taps phases len : ℕ) (p : Float) where
       go true false c A B C t = absurd (omega arith)
       go false b c A B C t = absurd (omega arith)
 
-  -- `readOf` asks for the table and the position one after the other
+  -- `readOf` tests the table and the position one after the other.
   pub same-test : eqb (tableVerdict taps phases len) 0 && positionOk p ≡ eqb (sampleVerdict taps phases len p) 0
   same-test = go (positionOk p) refl
     where

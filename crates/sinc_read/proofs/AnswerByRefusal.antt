@@ -1,5 +1,5 @@
--- What a reader of a lent table gives, at either width, from the refusal that is due: where none is, its reading r;
--- else zero, and an answer that has the refusal's number alone. Assumes nothing.
+-- The answer of a reader of a lent table, for either width, by the cases of the refusal: its reading r if there is
+-- none; otherwise zero, and an answer with the number alone. Assumes nothing.
 use mathlib.Core.Path.{_≡_, refl, sym, _∙_, ap}
 use mathlib.Core.Bool.{Bool, _&&_, cond}
 use Prim.Native.Nat.{ℕ, zero, suc}
@@ -16,7 +16,7 @@ module _ (r : Float) (taps phases len : ℕ) (p : Float) where
   abbrev v : ℕ
   v = sampleVerdict taps phases len p
 
-  -- `readOf` of either width
+  -- The value of `readOf` for either width.
   abbrev given : Float
   given = cond (eqb (tableVerdict taps phases len) 0 && positionOk p) r zero-f
 

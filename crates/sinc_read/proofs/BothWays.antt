@@ -1,5 +1,5 @@
--- Both ways of a reading that nothing refuses, every tap held and taps one by one, are the definition's,
--- at what the code holds: r from `phase_at`, z from `first_tap`, s from `run_start`. Assumes nothing.
+-- Both ways of a reading that is not refused, with every tap held and with taps one by one, give the definition's
+-- value, at what the code holds: r from `phase_at`, z from `first_tap`, s from `run_start`. Assumes nothing.
 use mathlib.Core.Path.{_≡_, _∙_, ap}
 use mathlib.Core.Bool.{true, _&&_, cond}
 use mathlib.Core.List.{List}
@@ -57,7 +57,6 @@ module _ {taps phases len : ℕ} {p : Float} (ok : Readable taps phases len p) w
   pub first-is : {z : ℤ} → z ≡ cond (tapsOk taps && positionOk p) (firstTap p taps) (pos 0) → z ≡ firstTap p taps
   first-is e = e ∙ rw (taps-fine, ok .here)
 
-  -- both rows lie in the table
   pub rows-fit : {r : Phase} → r ≡ phaseAt p phases → r .phase * taps + taps + taps ≤ len
   rows-fit e =
       rw (phase-is e, ok .long) (two-rows (phaseOf p phases) taps phases (next-phase p phases (counted .least-phases)))

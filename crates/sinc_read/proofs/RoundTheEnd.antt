@@ -1,5 +1,5 @@
--- Taps that are all held: one run of turns, or one up to the ring's end and one from its start on,
--- are the turns of the sum. Assumes nothing.
+-- Taps that are all held. One run of turns, or one up to the ring's end and one from its start, are the turns of the
+-- sum. Assumes nothing.
 use mathlib.Core.Path.{_≡_, _∙_, ap}
 use mathlib.Core.List.{List}
 use Prim.Native.Nat.{ℕ, _+_, _-_, _*_, _%_, _<_, _≤_}
@@ -25,11 +25,11 @@ module _ (table : List Float) (taps phase : ℕ) (blend : Float) (xs : List Floa
   abbrev turns : ℕ → Float → Float
   turns = tapTurn (λ (k : ℕ). getD xs ((place + k) % length xs) nan) table blend taps phase
 
-  -- before the ring's end a turn of the run is a turn of the sum
+  -- Before the ring's end a turn of the run is a turn of the sum.
   before : (k : ℕ) (v : Float) → place + k < length xs → runTurn table row next blend xs place k v ≡ turns k v
   before k v h = rw (on h, next-row phase taps)
 
-  -- and round it
+  -- The same after going round the ring's end.
   behind : (k : ℕ) (v : Float) → place + (length xs - place + k) < length xs + length xs
       → runTurn table (row + (length xs - place)) (next + (length xs - place)) blend xs 0 k v
       ≡ turns (length xs - place + k) v

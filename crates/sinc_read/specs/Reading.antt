@@ -1,5 +1,5 @@
--- K4. What a table of f64 reads at a position: 000's sum over the taps in 000's order, each step rounded; and which
--- refusal is due. Definitions only.
+-- K4. What a table of f64 reads at a position: 000's sum over the taps in 000's order, each step rounded. Then the
+-- refusals. Definitions only.
 use Prim.Native.Nat.{ℕ}
 use mathlib.Core.Bool.{_&&_, cond}
 use mathlib.Core.List.{List, [], _∷_}
@@ -17,14 +17,14 @@ use Rattle.sinc_settings.specs.Refusals.{tableLength, tableVerdict}
 use Rattle.sinc_phases.specs.Phases.{phaseOf, blendOf, firstTap}
 use Rattle.sinc_read.specs.Sums.{tapTurn}
 
--- `sum += source.at(start + k as i64) * coefficient` for every tap k, from 0.0 on.
+-- In 000: `sum += source.at(start + k as i64) * coefficient` for every tap k, from 0.0 on.
 unfoldable pub sincAt : List Float → ℕ → ℕ → List Float → ℕ → Float → Float
 sincAt table taps phases xs count p =
     fold
     (tapTurn (λ k. tapOf xs count (firstTap p taps +ℤ pos k)) table (blendOf p phases) taps (phaseOf p phases)) zero-f
     taps
 
--- G3, G5. Zero where a setting or the position is out of range, or the table has another length.
+-- G3, G5. The reading is zero if a setting or the position is out of range, or the table has another length.
 abbrev pub readOf : List Float → ℕ → ℕ → List Float → ℕ → Float → Float
 readOf table taps phases xs count p =
     cond (eqb (tableVerdict taps phases (length table)) 0 && positionOk p) (sincAt table taps phases xs count p) zero-f

@@ -1,4 +1,4 @@
-// K3, N1, N2. The reading at a position, and the refusal that is due.
+// K3, N1, N2. The reading at a position, and the number of the refusal.
 ghost use mathlib.Core.Path.{_≡_};
 ghost use lib.ListN.{length};
 ghost use Rattle.answer.specs.Answers.{answerOf};
@@ -9,8 +9,8 @@ use answer::Answer;
 use sinc_phases::first_tap;
 use sinc_phases::phase_at;
 
-// The refusal that is due, or 0 (N1, N2): first the taps, the phases and the position, then the table's length. Both
-// widths use it.
+// N1, N2. The number of the refusal, 0 for none: first the taps, the phases and the position, then the table's length.
+// Both widths use it.
 pub fn refusal(taps: usize, phases: usize, len: usize, position: f64) -> u8
     ensures { λ r. ⌜ r ≡ sampleVerdict taps phases len position ⌝ }
 {
@@ -46,7 +46,7 @@ fn at<'a>(
     }
 }
 
-// The reading at a position; zero where a setting or the position is out of range, or the table has another length.
+// If a setting or the position is out of range, or the table has another length, the reading is zero.
 pub fn read<'a>(
     table: &'a [f64],
     taps: usize,
@@ -64,8 +64,7 @@ pub fn read<'a>(
     }
 }
 
-// The reading of a lent slice by a lent table: refuses by 1 if a setting or the position is out of range, by 2 if the
-// table has another length.
+// N1, N2. A setting or a position out of range is refused by 1, a table of another length by 2.
 pub fn sample<'a>(
     table: &'a [f64],
     taps: usize,

@@ -10,7 +10,7 @@ ghost use Rattle.loop_laws.specs.Loops.{fold};
 ghost use Rattle.ring.specs.Taps.{tapOf};
 ghost use Rattle.sinc_read.specs.Sums.{runTurn, tapTurn};
 
-// n turns over samples side by side, from a sum on. Nothing is tested, divided or wrapped for each tap.
+// Adds n taps whose samples stand side by side. Nothing is tested, divided or wrapped for each tap.
 fn run<'a>(
     table: &'a [f64],
     row: usize,
@@ -35,7 +35,7 @@ fn run<'a>(
     sum
 }
 
-// Taps that are all held, the first at a place: one run, or one up to the ring's end and one from its start.
+// Adds taps that are all held, the first at a place: in one run, or in one up to the ring's end and one from its start.
 pub(crate) fn held<'a>(
     table: &'a [f64],
     taps: usize,
@@ -69,7 +69,7 @@ pub(crate) fn held<'a>(
     )
 }
 
-// The tap k behind the first.
+// Tap k, counted from the first.
 fn tap_after(source: &[f64], count: u64, first: i64, k: usize) -> f64
     requires { ⌜ (mag first ≤ 2 ^ 37) × (k ≤ 128) ⌝ }
     ensures { λ r. ⌜ r ≡ tapOf (now (source .entry)) count (first +ℤ pos k) ⌝ }
@@ -77,7 +77,7 @@ fn tap_after(source: &[f64], count: u64, first: i64, k: usize) -> f64
     ring::tap(source, count, first + (k as i64))
 }
 
-// Taps of which some are absent.
+// Adds taps of which some are not held, each with its test.
 pub(crate) fn one_by_one<'a>(
     table: &'a [f64],
     taps: usize,

@@ -1,4 +1,4 @@
--- Both ways of a reading that nothing refuses, every tap held and taps laid side by side, are the definition's,
+-- Both ways of a reading that nothing refuses, every tap held and some taps absent, are the definition's,
 -- at what the code holds: r from `phase_at`, b its blend narrowed, z from `first_tap`, s from `run_start`.
 -- Assumes nothing.
 use mathlib.Core.Path.{_≡_, _∙_, ap}

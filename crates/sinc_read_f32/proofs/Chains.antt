@@ -1,6 +1,6 @@
 -- Chains over samples side by side are turns of 000's sum: from any tap on, and one behind another. Assumes nothing.
 use mathlib.Core.Path.{_≡_, sym, ap, _∙_}
-use mathlib.Core.List.{List, _++_}
+use mathlib.Core.List.{List}
 use Prim.Native.Nat.{ℕ, _+_, _-_, _*_, _%_, _≤_, _<_}
 use native.Mathlib.Nat.{add-assoc}
 use native.Mathlib.Omega.{arith}
@@ -8,10 +8,8 @@ use lib.ListN.{length, getD, take, drop, length-take, length-drop}
 use lib.Seq.{getD-drop, getD-take, take-all, length-take-le}
 use lib.Ieee.{Float, nan, binary32, ofBits}
 use Rattle.answer.specs.Answers.{zero-f}
-use Rattle.loop_laws.specs.Loops.{fold, listOf}
+use Rattle.loop_laws.specs.Loops.{fold}
 use Rattle.loop_laws.proofs.Folds.{same, split}
-use Rattle.loop_laws.proofs.Lists.{length-list, element}
-use Rattle.loop_laws.proofs.Scratch.{front-again}
 use Rattle.rounding.proofs.Sums.{zero-bits}
 use Rattle.ring.proofs.HeldRuns.{on, round}
 use Rattle.fused_chain.specs.Chain.{turnOf, chainOf, runLength}
@@ -64,22 +62,9 @@ module _ (x : ℕ → Float) (table : List Float) (blend : Float) (taps phase : 
       (λ k l v. rw (each k l, next-row phase taps, add-assoc (phase * taps) m k, add-assoc (phase * taps + taps) m k))
       ∙ split (tapTurn x table blend taps phase) zero-f m (length samples)
 
-  -- the taps laid side by side at the front of a scratch
-  pub laid-out : (samples rest : List Float) → samples ≡ listOf x taps
-      → (let part = take (taps - 0) (samples ++ rest) in
-      fold (runTurn part table (phase * taps) (phase * taps + taps) blend) (ofBits binary32 0) (length part))
-      ≡ sum taps
-  laid-out samples rest e =
-      let l : length samples ≡ taps = ap length e ∙ length-list x taps in
-      ap
-      (λ (part : List Float). fold (runTurn part table (phase * taps) (phase * taps + taps) blend)
-      (ofBits binary32 0) (length part)) (front-again samples rest taps l)
-      ∙ from-first samples (λ k b. ap (λ (ys : List Float). getD ys k nan) e ∙ element x taps k nan (omega arith))
-      ∙ ap sum l
-
--- ---- samples that lie in a ring from a place on, up to its end and on from its start
-module _ (xs table : List Float) (blend : Float) (taps phase place : ℕ) (fits : taps ≤ length xs)
-    (inside : place < length xs) where
+-- ---- so many samples that lie in a ring from a place on, up to its end and on from its start
+module _ (xs table : List Float) (blend : Float) (taps phase place turns : ℕ)
+    (fits : turns ≤ length xs) (inside : place < length xs) where
   abbrev x : ℕ → Float
   x k = getD xs ((place + k) % length xs) nan
 
@@ -96,13 +81,13 @@ module _ (xs table : List Float) (blend : Float) (taps phase place : ℕ) (fits 
   long : (n : ℕ) → n ≤ left → length (take n (drop place xs)) ≡ n
   long n h = simp (length-take, length-drop) (omega arith)
 
-  pub one-run : taps ≤ left
-      → (let part = take (place + taps - place) (drop place xs) in
+  pub one-run : turns ≤ left
+      → (let part = take (place + turns - place) (drop place xs) in
       fold (runTurn part table (phase * taps) (phase * taps + taps) blend) (ofBits binary32 0) (length part))
-      ≡ sum x table blend taps phase taps
+      ≡ sum x table blend taps phase turns
   one-run h =
-      let n = place + taps - place in
-      let e : n ≡ taps = omega arith in
+      let n = place + turns - place in
+      let e : n ≡ turns = omega arith in
       let l : length (take n (drop place xs)) ≡ n = long n (omega arith) in
       from-first x table blend taps phase (take n (drop place xs)) (λ k b. before-end n k (omega arith) (omega arith))
       ∙ ap (sum x table blend taps phase) (l ∙ e)
@@ -116,14 +101,14 @@ module _ (xs table : List Float) (blend : Float) (taps phase place : ℕ) (fits 
       (λ k b. before-end left k (omega arith) (omega arith))
       ∙ ap (sum x table blend taps phase) l
 
-  pub second-run : (before : Float) → left < taps → before ≡ sum x table blend taps phase left
-      → (let part = take (taps - left - 0) xs in
+  pub second-run : (before : Float) → left < turns → before ≡ sum x table blend taps phase left
+      → (let part = take (turns - left - 0) xs in
       fold (runTurn part table (phase * taps + left) (phase * taps + taps + left) blend) before (length part))
-      ≡ sum x table blend taps phase taps
+      ≡ sum x table blend taps phase turns
   second-run before h e =
-      let n = taps - left - 0 in
+      let n = turns - left - 0 in
       let l : length (take n xs) ≡ n = length-take-le n xs (omega arith) in
-      let m : left + length (take n xs) ≡ taps = omega arith in
+      let m : left + length (take n xs) ≡ turns = omega arith in
       further x table blend taps phase (take n xs) left before e
       (λ k b. getD-take n xs k nan (omega arith)
       ∙ ap (λ (p : ℕ). getD xs p nan)

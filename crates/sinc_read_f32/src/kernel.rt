@@ -4,8 +4,8 @@ ghost use lib.ListN.{length};
 ghost use Rattle.answer.specs.Answers.{answerF32Of};
 ghost use Rattle.sinc_read.specs.Reading.{sampleVerdict};
 ghost use Rattle.sinc_read_f32.specs.Reading.{sincF32At, readOf};
+use crate::absent::scattered;
 use crate::sums::held;
-use crate::sums::scattered;
 use answer::AnswerF32;
 
 // The reading at a position in range. Fast path: if every tap is held none is tested.
@@ -27,7 +27,7 @@ fn at<'a>(
     let start = ring::run_start(source.len(), count, first, taps as u64);
     let place = start.place;
     if start.held {
-        held(table, taps, phase, blend, source, place)
+        held(table, taps, phase, blend, source, place, taps)
     } else {
         scattered(table, taps, phase, blend, source, count, first)
     }

@@ -1,42 +1,11 @@
 // What two lent tables of f32 read at one position, as a blend of two sets wants it (T4, T5).
 ghost use mathlib.Core.Path.{_≡_};
-ghost use lib.ListN.{length};
-ghost use Rattle.sinc_read.specs.Reading.{sampleVerdict};
-ghost use Rattle.sinc_read_f32.specs.Reading.{sincF32At, readOf};
+ghost use Rattle.sinc_read_f32.specs.Reading.{readOf};
 use crate::abreast::held;
 use crate::kernel::read;
-use crate::sums::scattered;
 use fused_chain::Pair;
 
-// The readings at a position in range.
-fn at<'a>(
-    one: &'a [f32],
-    two: &'a [f32],
-    taps: usize,
-    phases: usize,
-    source: &'a [f32],
-    count: u64,
-    position: f64,
-) -> Pair
-    requires { ⌜ (sampleVerdict taps phases (length (now one)) position ≡ 0) × (length (now one) ≡ length (now two)) ⌝ }
-    ensures { λ r. ⌜ r .a ≡ sincF32At (now (one .entry)) taps phases (now (source .entry)) count position ⌝ }
-    ensures { λ r. ⌜ r .b ≡ sincF32At (now (two .entry)) taps phases (now (source .entry)) count position ⌝ }
-{
-    let between = sinc_phases::phase_at(position, phases);
-    let phase = between.phase;
-    let blend = narrowing::narrow(between.blend);
-    let first = sinc_phases::first_tap(position, taps);
-    let start = ring::run_start(source.len(), count, first, taps as u64);
-    let place = start.place;
-    if start.held {
-        return held(one, two, taps, phase, blend, source, place);
-    }
-    let a = scattered(one, taps, phase, blend, source, count, first);
-    let b = scattered(two, taps, phase, blend, source, count, first);
-    Pair { a: a, b: b }
-}
-
-// Both readings, each as `read` gives it.
+// Both readings, each as `read` gives it: at once where every tap is held, else one behind the other.
 pub fn read_pair<'a>(
     one: &'a [f32],
     two: &'a [f32],
@@ -51,7 +20,15 @@ pub fn read_pair<'a>(
 {
     if one.len() == two.len() {
         if sinc_read::refusal(taps, phases, one.len(), position) == 0 {
-            return at(one, two, taps, phases, source, count, position);
+            let between = sinc_phases::phase_at(position, phases);
+            let phase = between.phase;
+            let blend = narrowing::narrow(between.blend);
+            let first = sinc_phases::first_tap(position, taps);
+            let start = ring::run_start(source.len(), count, first, taps as u64);
+            let place = start.place;
+            if start.held {
+                return held(one, two, taps, phase, blend, source, place);
+            }
         }
     }
     let a = read(one, taps, phases, source, count, position);

@@ -1,13 +1,10 @@
-// The sum over the taps, as chains over samples that lie side by side.
+// The sum over taps that are held, as chains over samples that lie side by side.
 ghost use mathlib.Core.Path.{_≡_};
-ghost use Prim.Native.Nat.{_+_, _*_, _%_, _^_, _≤_, _<_};
-ghost use lib.IntN.{pos, _+ℤ_};
+ghost use Prim.Native.Nat.{_+_, _*_, _%_, _≤_, _<_};
 ghost use lib.ListN.{length, getD};
-ghost use lib.Signed.{mag};
 ghost use lib.Ieee.{nan};
 ghost use Rattle.answer.specs.Answers.{zero-f};
-ghost use Rattle.loop_laws.specs.Loops.{fold, listOf};
-ghost use Rattle.ring.specs.Taps.{tapOf};
+ghost use Rattle.loop_laws.specs.Loops.{fold};
 ghost use Rattle.sinc_read_f32.specs.Sums.{tapTurn, runTurn};
 use fused_chain::chain;
 
@@ -29,7 +26,8 @@ fn over<'a>(
     chain(samples, &table[row..], &table[next..], blend, sum)
 }
 
-// Taps that are all held, the first at a place: one chain, or one up to the ring's end and one from its start on.
+// The first n taps, which are all held, the first at a place: one chain, or one up to the ring's end and one from its
+// start on.
 pub(crate) fn held<'a>(
     table: &'a [f32],
     taps: usize,
@@ -37,22 +35,23 @@ pub(crate) fn held<'a>(
     blend: f32,
     source: &'a [f32],
     place: usize,
+    n: usize,
 ) -> f32
-    requires { ⌜ (phase * taps + taps + taps ≤ length (now table)) × (taps ≤ length (now source))
+    requires { ⌜ (phase * taps + taps + taps ≤ length (now table)) × (n ≤ taps) × (n ≤ length (now source))
         × (place < length (now source)) ⌝ }
     ensures { λ r. ⌜ r ≡ fold
         (tapTurn (λ k. getD (now (source .entry)) ((place + k) % length (now (source .entry))) nan)
-        (now (table .entry)) blend taps phase) zero-f taps ⌝ }
+        (now (table .entry)) blend taps phase) zero-f n ⌝ }
 {
     let row = phase * taps;
     let next = row + taps;
     let left = source.len() - place;
-    if taps <= left {
-        let last = place + taps;
+    if n <= left {
+        let last = place + n;
         return over(&source[place..last], table, row, next, blend, 0.0);
     }
     let before = over(&source[place..], table, row, next, blend, 0.0);
-    let wrapped = taps - left;
+    let wrapped = n - left;
     over(
         &source[0..wrapped],
         table,
@@ -61,46 +60,4 @@ pub(crate) fn held<'a>(
         blend,
         before,
     )
-}
-
-// The tap k behind the first.
-fn tap_after(source: &[f32], count: u64, first: i64, k: usize) -> f32
-    requires { ⌜ (mag first ≤ 2 ^ 37) × (k ≤ 128) ⌝ }
-    ensures { λ r. ⌜ r ≡ tapOf (now (source .entry)) count (first +ℤ pos k) ⌝ }
-{
-    ring::tap_f32(source, count, first + (k as i64))
-}
-
-// The taps from the first on, zeros for the absent ones.
-fn gather<'a>(samples: &mut [f32], source: &'a [f32], count: u64, first: i64)
-    requires { ⌜ (mag first ≤ 2 ^ 37) × (length (now samples) ≤ 128) ⌝ }
-    ensures { λ _. ⌜ now (samples .exit) ≡
-        listOf (λ k. tapOf (now (source .entry)) count (first +ℤ pos k)) (length (now (samples .entry))) ⌝ }
-{
-    let mut k: usize = 0;
-    while k < samples.len() {
-        samples[k] = tap_after(source, count, first, k);
-        k += 1;
-    }
-}
-
-// Taps of which some are absent: they are laid side by side, and one chain reads them.
-pub(crate) fn scattered<'a>(
-    table: &'a [f32],
-    taps: usize,
-    phase: usize,
-    blend: f32,
-    source: &'a [f32],
-    count: u64,
-    first: i64,
-) -> f32
-    requires { ⌜ (phase * taps + taps + taps ≤ length (now table)) × (taps ≤ 128) × (mag first ≤ 2 ^ 37) ⌝ }
-    ensures { λ r. ⌜ r ≡ fold
-        (tapTurn (λ k. tapOf (now (source .entry)) count (first +ℤ pos k)) (now (table .entry)) blend taps phase)
-        zero-f taps ⌝ }
-{
-    let mut samples: [f32; 128] = [0.0; 128];
-    gather(&mut samples[0..taps], source, count, first);
-    let row = phase * taps;
-    over(&samples[0..taps], table, row, row + taps, blend, 0.0)
 }

@@ -1,6 +1,6 @@
--- W5d. What a window asks of the sum called I0 lies from 0 to 20, where the tolerance ends the full mode: the square of
--- `normalized` is not negative, so that the root's argument lies from 0 to 1, its root too, and beta up to 20. Assumes
--- nothing.
+-- W5d. A window computes I0 only at arguments from 0 to 20, where the tolerance ends the full mode. The square of
+-- `normalized` is not negative, so that the argument of the root lies from 0 to 1, the root too, and beta is at most
+-- 20. Assumes nothing.
 use mathlib.Core.Path.{_≡_, refl, _∙_, ap, subst}
 use mathlib.Core.Bool.{Bool, true, false, cond, _&&_}
 use mathlib.Core.Logic.{dite}
@@ -85,7 +85,8 @@ square (inf s) h = absurd h
 square (fin true m e) h = positive (fin false m e) (size-between m e h)
 square (fin false m e) h = positive (fin false m e) (size-between m e h)
 
--- ---- a root from 0 to 1: in halves of the smallest value, of which 1 has 2 * l, its digits are at most as many
+-- ---- a root from 0 to 1: counted in halves of the smallest value, of which 1 has 2 * l, its digits are at most as
+-- many
 at-most-one : (b : Bool) → cond b 0 1 ≤ 1
 at-most-one true = lit≤ tt
 at-most-one false = lit≤ tt
@@ -149,7 +150,7 @@ root-unit (fin false (suc m) e) b =
     let h : suc m * up e ≤ down e = omega (arith, under (fin false (suc m) e) one-f tt tt (b .below .order)) in
     unit _ (quotient (suc m * up e) (4 * 2 ^ 1074 * 2 ^ 1074) (down e) (down-pos e) h)
 
--- ---- what is asked for
+-- ---- the arguments
 module _ (s : Settings) (ok : settingsOk s ≡ true) (k : ℕ) (l : k < s .taps) where
   inside : Counts (s .taps) (s .phases)
   inside = counts (s .taps) (s .phases) (accepted s ok .counted)
@@ -165,7 +166,6 @@ module _ (s : Settings) (ok : settingsOk s ≡ true) (k : ℕ) (l : k < s .taps)
       (omega arith) (lit< tt) top (whole-value binary64 (pos (s .taps - 1)) (omega arith)) (omega arith))
       (lit≤ tt)
 
-  -- beta's range
   beta : Between zero-f twenty (s .beta)
   beta =
       let t = passes (settingsOk s) ok in
@@ -190,7 +190,7 @@ module _ (s : Settings) (ok : settingsOk s ≡ true) (k : ℕ) (l : k < s .taps)
   unfolding trailingZeros size span climb odd units round mul lt eq le
   argument = product-between binary64 tt beta (root-unit _ under-root) refl refl tt tt
 
-  -- W5d. Both sums of a window are ended by the tolerance, and so the full mode is the sum without a limit.
+  -- W5d. The tolerance ends both sums of a window, and so the full mode is the sum without a limit.
   pub window-argument : (T (le zero-f (argumentOf s k))) × (T (le (argumentOf s k) twenty))
   window-argument = (argument .above .order, argument .below .order)
 

@@ -1,5 +1,5 @@
--- How far a tap lies from its place: taps / 2 - 1 and k - center are whole and exact, so the distance is at most 65,
--- and the sine of pi times that is asked inside its range, 256. Assumes nothing.
+-- How far a tap lies from its place. As taps / 2 - 1 and k - center are whole and exact, the distance is at most 65,
+-- and pi times that is in the range of the sine, 256. Assumes nothing.
 use mathlib.Core.Path.{_≡_, refl, _∙_, ap, subst}
 use mathlib.Core.Bool.{Bool, true, false, cond}
 use Prim.Native.Nat.{ℕ, suc, _+_, _-_, _*_, _/_, _^_, _≤_, _<_}
@@ -71,14 +71,14 @@ module _ (s : Settings) (ok : settingsOk s ≡ true) where
       (whole-at-most binary64 phase (pos phase) (omega arith) (le-refl phase)) (value (s .phases) (c .most-phases))
       (omega arith))
 
-  -- what the sinc is asked
+  -- The argument of the sinc.
   pub asked : (phase k : ℕ) → phase ≤ s .phases → k < s .taps
       → AtMost 65 (mul binary64 (s .cutoff) (distanceOf s phase k))
   asked phase k f l =
       mul-at-most binary64 1 65 (s .cutoff) (distanceOf s phase k) (lit≤ tt) (accepted s ok .unit)
       (distance-at-most phase k f l)
 
--- ---- what the sine is asked
+-- ---- the argument of the sine
 passed : (b : ℕ) (x : Float) → AtMost b x → atMost b x ≡ true
 passed b nan h = absurd h
 passed b (inf s) h = absurd h

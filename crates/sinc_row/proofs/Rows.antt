@@ -1,4 +1,5 @@
--- A row by its elements, and under a window that is lent: a row reads the window below the taps alone. Assumes nothing.
+-- A row by its elements, and under a lent window: a row reads the window only below the number of taps. Assumes
+-- nothing.
 use mathlib.Core.Path.{_≡_, ap, _∙_}
 use mathlib.Core.List.{List}
 use Prim.Native.Nat.{ℕ, _<_}
@@ -15,12 +16,12 @@ use Rattle.sinc_row.specs.Row.{at, rawOf, gainOf, rowOf}
 pub length-row : (s : Settings) (window : ℕ → Float) (phase : ℕ) → length (rowOf s window phase) ≡ s .taps
 length-row s window phase = length-list _ (s .taps)
 
--- T1. A coefficient is 000's, divided by its row's sum.
+-- T1. A coefficient is 000's, divided by the sum of its row.
 pub coefficient-at : (s : Settings) (window : ℕ → Float) (phase k : ℕ) → k < s .taps
     → getD (rowOf s window phase) k nan ≡ div binary64 (rawOf s window phase k) (gainOf s window phase (s .taps))
 coefficient-at s window phase k h = element _ (s .taps) k nan h
 
--- two windows that agree below the taps
+-- Two windows that agree below the number of taps.
 module _ (s : Settings) (v w : ℕ → Float) (agree : (k : ℕ) → k < s .taps → v k ≡ w k) (phase : ℕ) where
   raw-same : (k : ℕ) → k < s .taps → rawOf s v phase k ≡ rawOf s w phase k
   raw-same k h = ap (coefficientOf (s .cutoff) (distanceOf s phase k)) (agree k h)

@@ -1,4 +1,4 @@
--- What the tests of `write_window` and `write_row` say where they pass. Assumes nothing.
+-- What follows if the tests of `write_window` and `write_row` pass. Assumes nothing.
 use mathlib.Core.Path.{_≡_}
 use mathlib.Core.Bool.{true, _&&_}
 use Prim.Native.Nat.{ℕ, _≤_}

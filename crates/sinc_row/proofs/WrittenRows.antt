@@ -1,5 +1,5 @@
--- What `write_window` and `write_row` leave where settings in range and slices of the taps' length are lent.
--- Assumes nothing.
+-- What `write_window` and `write_row` leave if the settings are in range and the lent slices have the length of the
+-- taps. Assumes nothing.
 use borrow.Author.Tests.{eq-eqb, le-leb}
 use mathlib.Core.Path.{_≡_, refl, ap, _∙_}
 use mathlib.Core.Bool.{true}
@@ -18,7 +18,7 @@ use Rattle.sinc_row.specs.Coefficient.{windowIn}
 use Rattle.sinc_row.specs.Row.{at, rowOf, windowAfterIn, rowAfter}
 use Rattle.sinc_row.proofs.Rows.{written}
 
--- `[0.0; 128]`, whose front is lent
+-- The buffer `[0.0; 128]`, of which the front is lent.
 abbrev pub scratch : List Float
 scratch = replicate 128 (ofBits binary64 0)
 
@@ -32,7 +32,7 @@ pub window-lent : (m : Mode) (s : Settings) (xs : List Float) → settingsOk s �
     → windowAfterIn m s xs ≡ listOf (windowIn m s) (s .taps)
 window-lent m s xs ok l = rw (ok, eq-eqb _ _ l)
 
--- the front of the scratch, once `write_window_in` was lent it
+-- The front of the buffer, after it was lent to `write_window_in`.
 pub window-made : (m : Mode) (s : Settings) (xs : List Float) → settingsOk s ≡ true
     → xs ≡ windowAfterIn m s (take (s .taps - 0) scratch)
     → (xs ≡ listOf (windowIn m s) (s .taps)) × (length xs ≡ s .taps)
@@ -40,12 +40,12 @@ window-made m s xs ok e =
     let made = e ∙ window-lent m s (take (s .taps - 0) scratch) ok (scratch-long s ok) in
     (made, ap length made ∙ length-list (windowIn m s) (s .taps))
 
--- a row under a lent window
+-- A row under a lent window.
 pub row-lent : (s : Settings) (window xs : List Float) (phase : ℕ) → settingsOk s ≡ true → length window ≡ s .taps
     → phase ≤ s .phases → length xs ≡ s .taps → rowAfter s window phase xs ≡ rowOf s (at window) phase
 row-lent s window xs phase ok w p l = rw (ok, eq-eqb _ _ l, le-leb _ _ p, eq-eqb _ _ w)
 
--- all rows under the window that `write_window_in` wrote
+-- All rows under the window that `write_window_in` wrote.
 pub rows-lent : (m : Mode) (s : Settings) (window : List Float) → window ≡ listOf (windowIn m s) (s .taps) → (n : ℕ)
     → rows (rowOf s (at window)) n ≡ rows (rowOf s (windowIn m s)) n
 unfolding rows

@@ -1,5 +1,5 @@
--- K4, T1. 000's sinc, Kaiser's window, and a coefficient before its row is divided: each step rounded, in 000's order.
--- Definitions only.
+-- K4, T1. 000's sinc, Kaiser's window, and a coefficient before it is divided by the sum of its row: each step rounded,
+-- in 000's order. Definitions only.
 use Prim.Native.Nat.{ℕ, _-_, _^_}
 use mathlib.Core.Bool.{Bool, false, cond}
 use lib.IntN.{pos, negsuc}
@@ -16,29 +16,29 @@ use Rattle.sinc_settings.specs.Ranges.{zero-f, one-f, two-f}
 abbrev pub num : ℕ → Float
 num n = ofInt binary64 (pos n)
 
--- Rust's f64::abs
+-- Rust's f64::abs.
 abbrev pub absOf : Float → Float
 absOf nan = nan
 absOf (inf s) = inf false
 absOf (fin s m e) = fin false m e
 
--- `x.abs() < 1.0e-12`
+-- In 000: `x.abs() < 1.0e-12`.
 unfoldable pub smallOf : Float → Bool
 smallOf x = lt (absOf x) (round binary64 false 1 (10 ^ 12))
 
--- PI, 400921FB54442D18
+-- The f64 next to pi, with the pattern 400921FB54442D18.
 abbrev pub pi : Float
 pi = fin false 884279719003555 (negsuc 47)
 
 unfoldable pub sincOf : Float → Float
 sincOf x = cond (smallOf x) one-f (div binary64 (sineAt (mul binary64 pi x)) (mul binary64 pi x))
 
--- `2.0 * k / (taps - 1) - 1.0`
+-- In 000: `2.0 * k / (taps - 1) - 1.0`.
 abbrev pub normalizedOf : ℕ → ℕ → Float
 normalizedOf taps k = sub binary64 (div binary64 (mul binary64 two-f (num k)) (num (taps - 1))) one-f
 
--- Kaiser's window: I0 of beta times the root of 1 - normalized^2, at least 0, over I0 of beta. I0 is the sum in a mode
--- (W5).
+-- Kaiser's window is the quotient of I0 at beta times the root of 1 - normalized^2 (at least 0) and I0 at beta. I0 is
+-- the sum in a mode (W5).
 abbrev pub argumentOf : Settings → ℕ → Float
 argumentOf s k =
     let n = normalizedOf (s .taps) k in
@@ -47,11 +47,11 @@ argumentOf s k =
 unfoldable pub windowIn : Mode → Settings → ℕ → Float
 windowIn mode s k = div binary64 (sumIn mode (argumentOf s k)) (sumIn mode (s .beta))
 
--- 000's
+-- 000's window, which is that of the ported mode.
 abbrev pub windowOf : Settings → ℕ → Float
 windowOf = windowIn Ported
 
--- `k - center - frac`, center being taps / 2 - 1 and frac phase / phases
+-- In 000: `k - center - frac`, where center is taps / 2 - 1 and frac is phase / phases.
 abbrev pub centerOf : ℕ → Float
 centerOf taps = sub binary64 (div binary64 (num taps) two-f) one-f
 
@@ -61,6 +61,6 @@ fracOf phases phase = div binary64 (num phase) (num phases)
 abbrev pub distanceOf : Settings → ℕ → ℕ → Float
 distanceOf s phase k = sub binary64 (sub binary64 (num k) (centerOf (s .taps))) (fracOf (s .phases) phase)
 
--- `cutoff * sinc(cutoff * distance) * window`
+-- In 000: `cutoff * sinc(cutoff * distance) * window`.
 abbrev pub coefficientOf : Float → Float → Float → Float
 coefficientOf cutoff distance window = mul binary64 (mul binary64 cutoff (sincOf (mul binary64 cutoff distance))) window

@@ -1,4 +1,4 @@
--- T1. A phase's row: a coefficient for each tap, divided by the sum of all. The window of a tap is an argument.
+-- T1. The row of a phase: a coefficient for each tap, divided by the sum of them all. The window is an argument.
 -- Definitions only.
 use Prim.Native.Nat.{ℕ}
 use mathlib.Core.Bool.{Bool, cond, _&&_}
@@ -16,7 +16,7 @@ use Rattle.sinc_row.specs.Coefficient.{windowIn, distanceOf, coefficient
 abbrev pub rawOf : Settings → (ℕ → Float) → ℕ → ℕ → Float
 rawOf s window phase k = coefficientOf (s .cutoff) (distanceOf s phase k) (window k)
 
--- `gain += coefficient`, over the first n taps.
+-- In 000: `gain += coefficient`, here over the first n taps.
 abbrev pub gainOf : Settings → (ℕ → Float) → ℕ → ℕ → Float
 gainOf s window phase n = fold (λ (k : ℕ) (gain : Float). add binary64 gain (rawOf s window phase k)) zero-f n
 
@@ -24,7 +24,7 @@ abbrev pub rowOf : Settings → (ℕ → Float) → ℕ → List Float
 rowOf s window phase =
     listOf (λ (k : ℕ). div binary64 (rawOf s window phase k) (gainOf s window phase (s .taps))) (s .taps)
 
--- ---- what is written into a lent slice, where the settings are in range and the lengths are the taps
+-- ---- what is written into a lent slice if the settings are in range and the lengths are the number of taps
 
 abbrev pub windowReady : Settings → ℕ → Bool
 windowReady s len = settingsOk s && eqb len (s .taps)
@@ -35,7 +35,7 @@ windowAfterIn mode s xs = cond (windowReady s (length xs)) (listOf (windowIn mod
 abbrev pub windowAfter : Settings → List Float → List Float
 windowAfter = windowAfterIn Ported
 
--- The window as it is lent.
+-- A lent window as a function of the tap.
 abbrev pub at : List Float → ℕ → Float
 at xs k = getD xs k nan
 

@@ -1,6 +1,6 @@
 // One row of a windowed sinc table: the coefficients of one phase (000, T1).
 // The window depends on the tap alone, so it is computed once and lent to every row.
-mod window; // what a window has at each tap
+mod window; // the window at each tap
 
 pub use window::write_window;
 pub use window::write_window_in;
@@ -25,7 +25,7 @@ fn small(x: f64) -> bool
     if x < 1.0e-12 { x > -1.0e-12 } else { false }
 }
 
-// 000's sinc. Up to 65 the sine is asked inside its range, and answers.
+// 000's sinc. For an x of at most 65 the sine's argument is in range, so that it is not refused.
 fn sinc(x: f64) -> f64
     requires { ⌜ AtMost 65 x ⌝ }
     ensures { λ r. ⌜ r ≡ sincOf x ⌝ }
@@ -40,7 +40,7 @@ fn sinc(x: f64) -> f64
     }
 }
 
-// A coefficient before its row is divided.
+// A coefficient before it is divided by the sum of its row.
 fn coefficient(cutoff: f64, distance: f64, window: f64) -> f64
     requires { ⌜ AtMost 65 (mul binary64 cutoff distance) ⌝ }
     ensures { λ r. ⌜ r ≡ coefficientOf cutoff distance window ⌝ }
@@ -68,7 +68,8 @@ fn fill<'a>(row: &mut [f64], settings: Settings, window: &'a [f64], phase: usize
     gain
 }
 
-// Whether no quotient by the sum is a NaN: it is a number other than zero, and then every coefficient is one.
+// Whether no quotient by the sum can be a NaN. The sum is a number other than zero; then every coefficient is a number
+// too.
 fn plain(gain: f64) -> bool {
     if magnitude::is_finite(gain) {
         gain != 0.0
@@ -77,7 +78,7 @@ fn plain(gain: f64) -> bool {
     }
 }
 
-// O3. A table's element leaves as a float, so a NaN is the one that is handed out.
+// O3. A table leaves the port as floats, so a NaN in it must have the one pattern that is handed out.
 fn quotient(x: f64, gain: f64, plain: bool) -> f64
     ensures { λ r. ⌜ r ≡ div binary64 x gain ⌝ }
 {
@@ -110,7 +111,7 @@ fn row_ready(settings: Settings, phase: usize, len: usize, lent: usize) -> bool
     }
 }
 
-// Writes a phase's row under a lent window, divided by its sum (T1). If a setting, the phase or a length is out of
+// T1. Writes the row of a phase under a lent window, divided by its sum. If a setting, the phase or a length is out of
 // range, nothing is written.
 pub fn write_row<'a>(row: &mut [f64], settings: Settings, window: &'a [f64], phase: usize)
     ensures { λ _. ⌜ now (row .exit) ≡ rowAfter settings (now (window .entry)) phase (now (row .entry)) ⌝ }

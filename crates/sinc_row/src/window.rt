@@ -1,4 +1,4 @@
-// Kaiser's window, tap by tap. No phase changes it.
+// Kaiser's window, tap by tap. It does not depend on the phase.
 ghost use mathlib.Core.Path.{_≡_};
 ghost use mathlib.Core.Bool.{true};
 ghost use Prim.Native.Nat.{_<_};
@@ -11,7 +11,7 @@ ghost use Rattle.sinc_row.specs.Row.{windowReady, windowAfter, windowAft
 use bessel::Mode;
 use sinc_settings::Settings;
 
-// The window at a tap; denom is I0 of beta.
+// The window at a tap. `denom` is I0 of beta, which is the same for all taps.
 fn kaiser(settings: Settings, mode: Mode, denom: f64, k: usize) -> f64
     requires { ⌜ (settingsOk settings ≡ true) × (k < settings .taps) × (denom ≡ sumIn mode (settings .beta)) ⌝ }
     ensures { λ r. ⌜ r ≡ windowIn mode settings k ⌝ }
@@ -43,8 +43,8 @@ pub(crate) fn window_ready(settings: Settings, len: usize) -> bool
     }
 }
 
-// W5. The window of each tap, in a mode. Where a setting is out of range or the length is not the taps, nothing is
-// written.
+// W5. Writes the window of each tap, in a mode. If a setting is out of range, or the length is not the number of taps,
+// nothing is written.
 pub fn write_window_in(window: &mut [f64], settings: Settings, mode: Mode)
     ensures { λ _. ⌜ now (window .exit) ≡ windowAfterIn mode settings (now (window .entry)) ⌝ }
 {
@@ -54,7 +54,7 @@ pub fn write_window_in(window: &mut [f64], settings: Settings, mode: Mode)
     fill_window(&mut window[..], settings, mode);
 }
 
-// 000's.
+// 000's window, which is that of the ported mode.
 pub fn write_window(window: &mut [f64], settings: Settings)
     ensures { λ _. ⌜ now (window .exit) ≡ windowAfter settings (now (window .entry)) ⌝ }
 {

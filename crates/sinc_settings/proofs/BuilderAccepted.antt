@@ -1,5 +1,5 @@
--- Where no refusal is due to a builder its settings are in range and the lent table has their length;
--- and none is due to one by rate only where none is due by the cutoff. Assumes nothing.
+-- If a builder does not refuse, its settings are in range and the lent table has their length; and a builder by rate
+-- accepts only what one by cutoff accepts. Assumes nothing.
 use mathlib.Core.Path.{_≡_}
 use mathlib.Core.Bool.{true, _&&_}
 use Prim.Native.Nat.{ℕ}

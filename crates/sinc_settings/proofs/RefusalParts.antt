@@ -1,5 +1,5 @@
--- What `table_refusal` gives, told apart again into its two tests, for a reader that has refusals of its own between
--- them: where the settings fail, what the other test says counts for nothing. Assumes nothing.
+-- The answer of `table_refusal`, split into its two tests again, for a reader that has refusals of its own between
+-- them. If the settings fail, the other test does not count. Assumes nothing.
 use mathlib.Core.Path.{_≡_, refl}
 use mathlib.Core.Bool.{Bool, true, false, not}
 use Prim.Native.Nat.{ℕ}
@@ -13,6 +13,6 @@ told-apart true true f still e = rw e
 told-apart true false f still e = rw e
 told-apart false lent f still e = rw e (still true lent)
 
--- where both pass, nothing is due
+-- If both pass, there is no refusal.
 pub both-pass : {own lent : Bool} → own ≡ true → lent ≡ true → lowestOf own lent true true true true true true ≡ 0
 both-pass p q = rw (p, q)

@@ -1,4 +1,4 @@
--- What is known of settings in range. Assumes nothing.
+-- What follows for settings in range. Assumes nothing.
 use mathlib.Core.Path.{_≡_}
 use mathlib.Core.Bool.{true, false, _&&_}
 use Prim.Native.Nat.{ℕ, _+_, _*_, _/_, _%_, _^_, _≤_}
@@ -16,7 +16,7 @@ use Rattle.sinc_settings.specs.declared.Settings.{Settings}
 use Rattle.sinc_settings.specs.Ranges.{tapsOk, phasesOk, cutoffOk, betaOk, settingsOk, one-f}
 use Rattle.sinc_settings.specs.Refusals.{tableLength}
 
--- of taps and phases
+-- What follows for the taps and the phases.
 pub record Counts (taps phases : ℕ) : Type 0 where
   pub least-taps : 4 ≤ taps
   pub most-taps : taps ≤ 128
@@ -39,12 +39,12 @@ counts taps phases h =
       most-phases = leb→le phases 4096 (and-r (leb 2 phases) (leb phases 4096) fine);
     }
 
--- a whole table is short enough for every index
+-- A whole table is short enough for every index.
 pub length-fits : {taps phases : ℕ} → Counts taps phases → tableLength taps phases ≤ 2 ^ 20
 length-fits {taps} {phases} c =
     let l : phases + 1 ≤ 4097 = omega (arith, c .most-phases) in omega (arith, mul-le-mul l (c .most-taps))
 
--- of all four: the counts pass their tests, and the cutoff is at most 1
+-- What follows for all four: the counts pass their tests, and the cutoff is at most 1.
 abbrev least : Float
 least = fin false 1 (negsuc 9)
 

@@ -1,4 +1,4 @@
--- N1, N2. Which refusal is due when a table is lent: 1 for a setting out of range, 2 for another length, 0 for none.
+-- N1, N2. Which refusal is given when a table is lent: 1 for a setting out of range, 2 for another length, 0 for none.
 -- Definitions only.
 use Prim.Native.Nat.{ℕ, _+_, _*_}
 use mathlib.Core.Bool.{_&&_}
@@ -9,7 +9,7 @@ use Rattle.refusal_order.specs.Order.{_unless_, firstOf}
 use Rattle.sinc_settings.specs.declared.Settings.{Settings}
 use Rattle.sinc_settings.specs.Ranges.{tapsOk, phasesOk, settingsOk, rateOk, passbandOk}
 
--- A table has a row for each phase from 0 to phases.
+-- A table has a row for each phase from 0 to phases, both included.
 abbrev pub tableLength : ℕ → ℕ → ℕ
 tableLength taps phases = (phases + 1) * taps
 
@@ -22,7 +22,7 @@ tableVerdict taps phases len =
 abbrev pub verdict : Settings → ℕ → ℕ
 verdict s len = firstOf (1 unless settingsOk s ∷ 2 unless eqb len (tableLength (s .taps) (s .phases)) ∷ [])
 
--- 000's for_max_rate: the cutoff is passband / rate, and the rate and the passband are settings too.
+-- In 000's for_max_rate the cutoff is passband / rate. The rate and the passband are settings too.
 abbrev pub forRate : ℕ → ℕ → Float → Float → Float → Settings
 forRate taps phases rate passband beta =
     record { taps = taps; phases = phases; cutoff = div binary64 passband rate; beta = beta }

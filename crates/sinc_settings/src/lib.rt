@@ -1,11 +1,12 @@
-// The settings of a windowed sinc table: their ranges, the length of the table, and which refusal is due (G5, N1, N2).
+// The settings of a windowed sinc table: their ranges, the length of the table, and which refusal is given (G5, N1,
+// N2).
 ghost use mathlib.Core.Path.{_≡_};
 ghost use mathlib.Core.Bool.{_&&_};
 ghost use Rattle.sinc_settings.specs.Ranges.{tapsOk, phasesOk, settingsOk, rateOk, passbandOk};
 ghost use Rattle.sinc_settings.specs.Refusals.{tableVerdict, verdict, forRate, rateVerdict};
 use refusal_order::both;
 
-// 000's four arguments.
+// The four arguments of 000's WindowedSinc::new.
 pub struct Settings {
     pub taps: usize,
     pub phases: usize,
@@ -13,21 +14,21 @@ pub struct Settings {
     pub beta: f64,
 }
 
-// Even, 4 to 128.
+// G5. The taps are even and from 4 to 128.
 pub fn taps_ok(taps: usize) -> bool
     ensures { λ r. ⌜ r ≡ tapsOk taps ⌝ }
 {
     both(both(4 <= taps, taps <= 128), taps % 2 == 0)
 }
 
-// 2 to 4096.
+// G5. The phases are from 2 to 4096.
 pub fn phases_ok(phases: usize) -> bool
     ensures { λ r. ⌜ r ≡ phasesOk phases ⌝ }
 {
     both(2 <= phases, phases <= 4096)
 }
 
-// The cutoff 1/1024 to 1, beta 0 to 20.
+// G5. The cutoff is from 1/1024 to 1 and beta from 0 to 20; taps and phases are in their ranges too.
 pub fn settings_ok(settings: Settings) -> bool
     ensures { λ r. ⌜ r ≡ settingsOk settings ⌝ }
 {
@@ -40,7 +41,7 @@ pub fn settings_ok(settings: Settings) -> bool
     )
 }
 
-// The refusal that is due where a table of this length is lent to a reader, or 0.
+// The refusal when a table of this length is lent to a reader, 0 for none.
 pub fn table_refusal(taps: usize, phases: usize, len: usize) -> u8
     ensures { λ r. ⌜ r ≡ tableVerdict taps phases len ⌝ }
 {
@@ -51,7 +52,7 @@ pub fn table_refusal(taps: usize, phases: usize, len: usize) -> u8
     }
 }
 
-// The refusal that is due where a table of this length is lent to a builder, or 0.
+// The refusal when a table of this length is lent to a builder, 0 for none.
 pub fn refusal(settings: Settings, len: usize) -> u8
     ensures { λ r. ⌜ r ≡ verdict settings len ⌝ }
 {
@@ -62,7 +63,7 @@ pub fn refusal(settings: Settings, len: usize) -> u8
     }
 }
 
-// 000's for_max_rate: whether the rate and the passband are in range.
+// G5. The rate and the passband of 000's for_max_rate are in range.
 pub fn rate_ok(rate: f64, passband: f64) -> bool
     ensures { λ r. ⌜ r ≡ (rateOk rate && passbandOk passband) ⌝ }
 {
@@ -72,7 +73,7 @@ pub fn rate_ok(rate: f64, passband: f64) -> bool
     )
 }
 
-// The settings that 000's for_max_rate hands on.
+// The settings that 000's for_max_rate hands on to `new`.
 pub fn for_rate(taps: usize, phases: usize, rate: f64, passband: f64, beta: f64) -> Settings
     ensures { λ r. ⌜ r ≡ forRate taps phases rate passband beta ⌝ }
 {
@@ -84,8 +85,8 @@ pub fn for_rate(taps: usize, phases: usize, rate: f64, passband: f64, beta: f64)
     }
 }
 
-// The refusal that is due, or 0, when a table of this length is lent to the original's for_max_rate (000): the rate and
-// the passband are settings too.
+// The refusal when a table of this length is lent to the original's for_max_rate (000), 0 for none. The rate and the
+// passband are settings too.
 pub fn rate_refusal(settings: Settings, rate: f64, passband: f64, len: usize) -> u8
     ensures { λ r. ⌜ r ≡ rateVerdict settings rate passband len ⌝ }
 {

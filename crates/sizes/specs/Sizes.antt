@@ -1,6 +1,6 @@
 -- The largest size. Definitions only.
 use Prim.Native.Nat.{ℕ}
 
--- 2^64 - 1
+-- The largest word, 2^64 - 1.
 abbrev pub most : ℕ
 most = 0xffffffffffffffff

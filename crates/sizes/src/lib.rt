@@ -1,5 +1,6 @@
 // Sums, differences, products and quotients of sizes for every size, since a file's header may say anything, and the
-// beginning of a slice. A sum or a product that does not fit a word is the largest word: no file is as long.
+// beginning of a slice. A sum or a product that does not fit a word becomes the largest word, which is longer than any
+// file.
 ghost use mathlib.Core.Path.{_≡_};
 ghost use mathlib.Core.Bool.{cond};
 ghost use Prim.Native.Nat.{_+_, _-_, _*_, _/_, min};
@@ -15,7 +16,7 @@ pub fn fewer(a: usize, b: usize) -> usize
     if a < b { a } else { b }
 }
 
-// a - b, 0 where b is more.
+// The difference a - b, or 0 if b is larger.
 pub fn less(a: usize, b: usize) -> usize
     ensures { λ r. ⌜ r ≡ a - b ⌝ }
 {
@@ -37,14 +38,14 @@ pub fn times(a: usize, b: usize) -> usize
     if a <= MOST / b { a * b } else { MOST }
 }
 
-// a / b, 0 where there is nothing to divide by.
+// The quotient a / b, or 0 if b is 0.
 pub fn quotient(a: usize, b: usize) -> usize
     ensures { λ r. ⌜ r ≡ cond (eqb b 0) 0 (a / b) ⌝ }
 {
     if b == 0 { 0 } else { a / b }
 }
 
-// The first n bytes, or all where there are fewer.
+// The first n bytes, or all if there are fewer.
 pub fn begun(bytes: &[u8], n: usize) -> &[u8]
     ensures { λ r. ⌜ now r ≡ take n (now (bytes .entry)) ⌝ }
 {
@@ -54,7 +55,7 @@ pub fn begun(bytes: &[u8], n: usize) -> &[u8]
     bytes
 }
 
-// The same of samples, and of whole numbers.
+// The same for samples, and below it for whole numbers.
 pub fn begun_f32(samples: &[f32], n: usize) -> &[f32]
     ensures { λ r. ⌜ now r ≡ take n (now (samples .entry)) ⌝ }
 {

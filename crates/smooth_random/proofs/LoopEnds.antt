@@ -1,6 +1,6 @@
--- G8, M5. Inside the ranges a step of the drift takes the position to at most 1 + 1000 * 1.35 / 8000,
--- so that one turn of 001's loop brings it below 1:
--- the loop ends after it, more turns would change nothing, and the state stays valid. Assumes nothing.
+-- G8, M5. In range a step of the drift takes the position to at most 1 + 1000 * 1.35 / 8000, so that one round of 001's
+-- loop brings it below 1. The loop ends after it, more rounds would change nothing, and the state stays valid. Assumes
+-- nothing.
 use mathlib.Core.Path.{_≡_, refl}
 use mathlib.Core.Bool.{Bool, true, false, not, cond}
 use Prim.Native.Nat.{ℕ, zero, suc, _^_, _<_}
@@ -25,7 +25,7 @@ use Rattle.xorshift.proofs.Generator.{step-word, step-zero}
 use Rattle.smooth_random.proofs.TargetBounds.{bipolar-between, scale-between}
 use Rattle.smooth_random.proofs.ValidFields.{Held, held, valid, in-range}
 
--- 1 + 1000 * 1.35 / 8000
+-- The largest position, 1 + 1000 * 1.35 / 8000.
 abbrev reach : Float
 reach = add binary64 one (div binary64 (mul binary64 mostTargets fastest) leastSamples)
 
@@ -44,7 +44,7 @@ unfolding settled
 stays zero r h = refl
 stays (suc n) r h = rw (ended r h)
 
--- ---- which state comes of a step
+-- ---- which state a step leaves
 settled-has : (P : SmoothRandom → Type 0) (r : SmoothRandom) → (T (le one (r .position)) → P (turned r))
     → (T (not (le one (r .position))) → P r) → P (settled 1 r)
 unfolding settled

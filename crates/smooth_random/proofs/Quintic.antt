@@ -1,5 +1,5 @@
--- The quintic of a position from 0 to 1 lies from 0 to 1.25, piece by piece: on a piece each operation keeps the order,
--- so its ends bound it. Assumes nothing.
+-- The quintic of a position from 0 to 1 lies from 0 to 1.25. It is shown piece by piece: on a piece each operation
+-- keeps the order, so its ends bound it. Assumes nothing.
 use mathlib.Core.Path.{refl}
 use mathlib.Core.Bool.{Bool}
 use mathlib.Core.List.{List, [], _∷_}
@@ -16,7 +16,7 @@ use Rattle.interval.proofs.Pieces.{all, all-of, passed, pieces}
 use Rattle.xorshift.specs.Draws.{zero, one}
 use Rattle.smooth_random.specs.Drift.{quinticOf}
 
--- 1.25, and the numbers of the quintic.
+-- The bound 1.25, and the numbers of the quintic.
 abbrev pub bound : Float
 bound = ofBits binary64 0x3ff4_0000_0000_0000
 
@@ -29,8 +29,8 @@ fifteen = ofBits binary64 0x402e_0000_0000_0000
 abbrev ten : Float
 ten = ofBits binary64 0x4024_0000_0000_0000
 
--- What is asked of a piece from a to b: that the ends of every operation are finite, that no first factor is negative,
--- and that the last ends lie from 0 to 1.25.
+-- The tests of a piece from a to b: the ends of every operation are finite, no first factor is negative, and the last
+-- ends lie from 0 to 1.25.
 tests : Float → Float → List Bool
 unfolding sub add mul le
 tests a b =
@@ -69,7 +69,7 @@ piece a b t h u =
     widen (product-between binary64 (k .1 .1 .0) cube inner refl refl (w .0) (w .1 .0)) tt tt (w .1 .1 .0)
     (w .1 .1 .1 .0)
 
--- The pieces' ends, in 64ths: narrower towards 1, where the cube grows while the other factor shrinks.
+-- The ends of the pieces, in 64ths. They are narrower towards 1, where the cube grows while the other factor shrinks.
 abbrev part : ℕ → Float
 part n = div binary64 (ofInt binary64 (pos n)) (ofInt binary64 (pos 64))
 

@@ -1,5 +1,5 @@
--- G8. Every target lies from -1 to 1 and every scale from 0.65 to 1.35, by the ends: each operation keeps the order.
--- Assumes nothing.
+-- G8. Every target lies from -1 to 1 and every scale from 0.65 to 1.35. Each operation keeps the order, so it is enough
+-- to compute the ends. Assumes nothing.
 use mathlib.Core.Path.{refl}
 use Prim.Native.Nat.{ℕ, _/_, _^_, _≤_, zero-le}
 use native.Mathlib.Omega.{arith}

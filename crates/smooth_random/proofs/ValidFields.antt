@@ -1,4 +1,4 @@
--- G8. What a valid state holds, field by field, and that this is all. Assumes nothing.
+-- G8. A state is valid exactly if each of its fields is in its range. Assumes nothing.
 use mathlib.Core.Path.{_≡_}
 use mathlib.Core.Bool.{not, _&&_}
 use Prim.Native.Nat.{ℕ}

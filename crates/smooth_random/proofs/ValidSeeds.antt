@@ -1,5 +1,5 @@
--- G8, M1, M2. Whatever seed it starts from, a generator is valid; a draw and another seed keep it so.
--- Setting the seed already held does nothing, and to reset a new state does nothing. Assumes nothing.
+-- G8, M1, M2. A generator is valid, whatever seed it starts from, and stays valid through a draw and a new seed.
+-- Setting the seed that is already held does nothing, and neither does resetting a new state. Assumes nothing.
 use mathlib.Core.Path.{_≡_, refl, sym}
 use mathlib.Core.Bool.{Bool, true, false, cond}
 use Prim.Native.Nat.{ℕ, _^_, _<_}
@@ -76,11 +76,11 @@ drawn-valid r w h =
       seed-some = k .seed-some;
     })
 
--- ---- what changes nothing
+-- ---- calls that change nothing
 pub set-held : (r : SmoothRandom) (seed : ℕ) → seedOf seed ≡ r .«initial_seed» → setSeedOf r seed ≡ r
 set-held r seed e = rw (eq-eqb (seedOf seed) (r .«initial_seed») e)
 
--- 0 set where A0761D6478BD642F is held changes nothing here, though the flutter seeds of the two differ.
+-- If A0761D6478BD642F is held, setting 0 changes nothing here, although the flutter seeds of the two differ.
 pub set-zero : (r : SmoothRandom) → r .«initial_seed» ≡ 0xA076_1D64_78BD_642F → setSeedOf r 0 ≡ r
 set-zero r e = set-held r 0 (sym e)
 

@@ -1,6 +1,6 @@
--- M5. The value of a valid state lies from -2 to 2, so that half of it, times a drift from 0 to 1,
--- is an exponent that 2^x takes. Piece by piece of the current target, since the way to the next one shrinks as that
--- one grows. Assumes nothing.
+-- M5. The value of a valid state lies from -2 to 2, so that half of it, times a drift from 0 to 1, is an exponent that
+-- exp2 accepts. It is shown for pieces of the current target, since the way to the next one shrinks as that one grows.
+-- Assumes nothing.
 use mathlib.Core.Path.{refl}
 use mathlib.Core.Bool.{Bool}
 use mathlib.Core.List.{List, [], _∷_}
@@ -23,7 +23,7 @@ use Rattle.smooth_random.proofs.ValidFields.{held}
 use Rattle.smooth_random.proofs.LoopEnds.{position-in}
 use Rattle.smooth_random.proofs.Quintic.{bound, quintic-between}
 
--- The same of a piece of the current target: of the way to the next one, its part, and the value.
+-- The tests of a piece of the current target: for the way to the next one, the part of it, and the value.
 tests : Float → Float → List Bool
 unfolding sub add mul le
 tests a b =

@@ -7,7 +7,7 @@ use Rattle.smooth_random.specs.Ranges.{validOf}
 use Rattle.smooth_random.specs.declared.SmoothRandom.{SmoothRandom}
 use Rattle.smooth_random.specs.declared.Drawn.{Drawn}
 
--- The state with the generator at x.
+-- The same state with the generator at x.
 abbrev pub at : SmoothRandom → ℕ → SmoothRandom
 at r x = record {
   «initial_seed» = r .«initial_seed»;
@@ -24,6 +24,6 @@ bipolarDrawn r = let x = stepOf (r .state) in record { random = at r x; value = 
 abbrev pub scaleDrawn : SmoothRandom → Drawn
 scaleDrawn r = let x = stepOf (r .state) in record { random = at r x; value = scaleOf x; refusal = 0 }
 
--- N3. A state out of range is refused by 3, and handed back as it was.
+-- N3. A state out of range is refused by 3 and handed back as it was.
 abbrev pub drawn : SmoothRandom → Drawn → Drawn
 drawn r d = cond (validOf r) d (record { random = r; value = zero; refusal = 3 })

@@ -1,4 +1,4 @@
--- M2, M3, M5. 001's SmoothRandom: started from a seed, given another seed, started again, and one step of the drift.
+-- M2, M3, M5. 001's SmoothRandom: a new state from a seed, a new seed, the start again, and one step of the drift.
 -- Definitions only.
 use Prim.Native.Nat.{ℕ, zero, suc}
 use mathlib.Core.Bool.{cond}
@@ -14,7 +14,7 @@ use Rattle.smooth_random.specs.declared.SmoothRandom.{SmoothRandom}
 use Rattle.smooth_random.specs.declared.Renewed.{Renewed}
 use Rattle.smooth_random.specs.declared.Next.{Next}
 
--- From the initial seed three draws: the two targets, then the scale of the segment between them.
+-- Three draws from the initial seed: the two targets, then the scale of the segment between them.
 unfoldable pub started : ℕ → SmoothRandom
 started seed =
     let first = stepOf seed in
@@ -35,15 +35,16 @@ resetOf r = started (r .«initial_seed»)
 abbrev pub newOf : ℕ → SmoothRandom
 newOf seed = started (seedOf seed)
 
--- Setting the seed already held does nothing, even mid-sequence; the seeds are compared after the replacement of 0.
+-- M2. Setting the seed that is already held does nothing, even in the middle of a sequence. The seeds are compared
+-- after a 0 has been replaced.
 abbrev pub setSeedOf : SmoothRandom → ℕ → SmoothRandom
 setSeedOf r seed = cond (eqb (seedOf seed) (r .«initial_seed»)) r (newOf seed)
 
--- N3. A state out of range is refused by 3, and handed back as it was; else the new one is.
+-- N3. A state out of range is refused by 3 and handed back as it was; otherwise the new one is handed back.
 abbrev pub renewed : SmoothRandom → SmoothRandom → Renewed
 renewed r after = cond (validOf r) (record { random = after; refusal = 0 }) (record { random = r; refusal = 3 })
 
--- 001's quintic: 0 at 0, 1 at 1, and level at both.
+-- 001's quintic: 0 at 0, 1 at 1, and with slope zero at both ends, so that the segments join smoothly.
 unfoldable pub quinticOf : Float → Float
 quinticOf t =
     let six = ofBits binary64 0x4018_0000_0000_0000 in
@@ -52,7 +53,7 @@ quinticOf t =
     mul binary64 (mul binary64 (mul binary64 t t) t)
     (add binary64 (mul binary64 t (sub binary64 (mul binary64 t six) fifteen)) ten)
 
--- The value at the position, between the two targets.
+-- The value at the position, on the quintic from one target to the next.
 unfoldable pub valueAt : SmoothRandom → Float
 unfolding quinticOf
 valueAt r =
@@ -70,7 +71,7 @@ advanced r rate-hz sample-rate = record {
   «segment_rate_scale» = r .«segment_rate_scale»;
 }
 
--- One turn of 001's loop: the next target becomes the current one, and a target and a scale are drawn.
+-- One round of 001's loop: the next target becomes the current one, and a new target and scale are drawn.
 unfoldable pub turned : SmoothRandom → SmoothRandom
 turned r =
     let first = stepOf (r .state) in
@@ -84,7 +85,7 @@ turned r =
       «segment_rate_scale» = scaleOf second;
     }
 
--- 001's `while self.position >= 1.0`, at most n turns of it. In range the position is below 1 after one turn (the law
+-- 001's `while self.position >= 1.0`, at most n rounds of it. In range the position is below 1 after one round (the law
 -- `settles`), so the loop has ended, and any larger n gives the same (`more-turns`).
 unfoldable pub settled : ℕ → SmoothRandom → SmoothRandom
 unfolding turned

@@ -5,21 +5,21 @@ ghost use mathlib.Core.Path.{_≡_};
 ghost use Rattle.smooth_random.specs.Drawing.{bipolarDrawn, scaleDrawn, drawn};
 
 impl SmoothRandom {
-    // A number from -1 to 1.
+    // Draws a number from -1 to 1.
     pub fn random_bipolar(self) -> Drawn
         ensures { λ r. ⌜ r ≡ drawn self (bipolarDrawn self) ⌝ }
     {
         self.answered(self.bipolar())
     }
 
-    // A number from 0.65 to 1.35.
+    // Draws a number from 0.65 to 1.35.
     pub fn random_segment_rate_scale(self) -> Drawn
         ensures { λ r. ⌜ r ≡ drawn self (scaleDrawn self) ⌝ }
     {
         self.answered(self.scale())
     }
 
-    // N3. The draw, or the refusal of a state that is out of range.
+    // N3. Gives the draw, or refuses a state that is out of range.
     fn answered(self, draw: Drawn) -> Drawn
         ensures { λ r. ⌜ r ≡ drawn self draw ⌝ }
     {
@@ -34,7 +34,7 @@ impl SmoothRandom {
         }
     }
 
-    // A draw without the test, for a step of the drift, which has made it already.
+    // Draws without testing the state, for a step of the drift, which has tested it already.
     pub(crate) fn bipolar(mut self) -> Drawn
         ensures { λ r. ⌜ r ≡ bipolarDrawn self ⌝ }
     {

@@ -7,8 +7,8 @@ ghost use Rattle.smooth_random.specs.Ranges.{verdict};
 ghost use Rattle.smooth_random.specs.Drift.{valueAt, advanced, turned, nextOf};
 
 impl SmoothRandom {
-    // The original's loop (001) turns at most once, because a step adds at most 1000 * 1.35 / 8000 to a position below
-    // 1. Most steps draw nothing.
+    // The original's loop (001) runs at most once, because a step adds at most 1000 * 1.35 / 8000 to a position below
+    // 1. In most steps it does not run, and nothing is drawn.
     pub fn next(self, rate_hz: f64, sample_rate: f64) -> Next
         ensures { λ r. ⌜ r ≡ nextOf self «rate_hz» «sample_rate» ⌝ }
     {
@@ -34,7 +34,7 @@ impl SmoothRandom {
         }
     }
 
-    // N1, N3, N9. 0, or the number of the lowest refusal that is due.
+    // N1, N3, N9. The number of the lowest refusal, 0 for none.
     fn refusal(self, rate_hz: f64, sample_rate: f64) -> u8
         ensures { λ r. ⌜ r ≡ verdict self «rate_hz» «sample_rate» ⌝ }
     {
@@ -49,7 +49,7 @@ impl SmoothRandom {
         }
     }
 
-    // The value at the position, between the two targets.
+    // The value at the position, on a smooth curve from one target to the next.
     fn value(self) -> f64
         ensures { λ r. ⌜ r ≡ valueAt self ⌝ }
     {
@@ -65,7 +65,7 @@ impl SmoothRandom {
         self
     }
 
-    // A turn of 001's loop: the next segment, where one has ended.
+    // One round of 001's loop: a segment has ended, so the next one begins.
     fn turn(self) -> SmoothRandom
         ensures { λ r. ⌜ r ≡ turned self ⌝ }
     {

@@ -1,9 +1,9 @@
 // The original's SmoothRandom (001): a generator, the two targets that it drew last, and the way from one to the other.
-// Each method takes the state by value and hands it back, with the number where there is one (F8). A state that is out
-// of range is refused and handed back as it was (N3).
+// Each method takes the state by value and returns the new one, with the number that it draws, if any (F8). A state
+// that is out of range is refused and handed back as it was (N3).
 mod draws; // the numbers that are made of the generator
 mod drift; // a step from one target towards the next
-mod seeds; // from a seed, by another seed, and from the start again
+mod seeds; // a new state from a seed, a new seed, and the start again
 
 ghost use mathlib.Core.Path.{_≡_};
 ghost use mathlib.Core.Bool.{_&&_};
@@ -19,20 +19,20 @@ pub struct SmoothRandom {
     pub segment_rate_scale: f64,
 }
 
-// A draw: the generator afterwards, the number, and 0 or the number of a refusal.
+// A draw: the state after it, the number drawn, and the number of the refusal, 0 for none.
 pub struct Drawn {
     pub random: SmoothRandom,
     pub value: f64,
     pub refusal: u8,
 }
 
-// A reset, or another seed: the state afterwards, and 0 or the number of a refusal.
+// A reset or a new seed: the state after it, and the number of the refusal, 0 for none.
 pub struct Renewed {
     pub random: SmoothRandom,
     pub refusal: u8,
 }
 
-// A step of the drift: the state afterwards, the value before it, and 0 or the number of a refusal.
+// A step of the drift: the state after it, the value before it, and the number of the refusal, 0 for none.
 pub struct Next {
     pub random: SmoothRandom,
     pub value: f64,

@@ -1,4 +1,4 @@
-// M1, M2, M3. From a seed, by another seed, and from the start again.
+// M1, M2, M3. A new state from a seed, a new seed for a state, and the start again.
 use super::Renewed;
 use super::SmoothRandom;
 ghost use mathlib.Core.Path.{_≡_};
@@ -20,21 +20,21 @@ impl SmoothRandom {
         result.restarted()
     }
 
-    // M2. Setting the seed already held does nothing.
+    // M2. Setting the seed that is already held does nothing.
     pub fn set_seed(self, seed: u64) -> Renewed
         ensures { λ r. ⌜ r ≡ renewed self (setSeedOf self seed) ⌝ }
     {
         self.handed_back(self.seeded(seed))
     }
 
-    // M3. Draws three times.
+    // M3. Starts again from the initial seed, which draws three times.
     pub fn reset(self) -> Renewed
         ensures { λ r. ⌜ r ≡ renewed self (resetOf self) ⌝ }
     {
         self.handed_back(self.restarted())
     }
 
-    // N3. The state afterwards, or the refusal of one that was out of range.
+    // N3. Gives the state afterwards, or refuses one that was out of range.
     fn handed_back(self, after: SmoothRandom) -> Renewed
         ensures { λ r. ⌜ r ≡ renewed self after ⌝ }
     {
@@ -62,7 +62,7 @@ impl SmoothRandom {
         self.restarted()
     }
 
-    // Of the state only the initial seed counts.
+    // Only the initial seed of the state counts.
     fn restarted(mut self) -> SmoothRandom
         ensures { λ r. ⌜ r ≡ resetOf self ⌝ }
     {

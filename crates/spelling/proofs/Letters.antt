@@ -1,4 +1,4 @@
--- Texts compared byte by byte: what each turn of the loops learns. Assumes nothing.
+-- Texts compared byte by byte: what each turn of the loops shows. Assumes nothing.
 use mathlib.Core.Path.{_≡_, refl, sym}
 use mathlib.Core.Bool.{Bool, true, false, _&&_, true≢false}
 use mathlib.Core.List.{List, [], _∷_}
@@ -50,7 +50,7 @@ pub all-of-it : allInName [] ≡ true
 unfolding allInName
 all-of-it = refl
 
--- what is named has an `=`
+-- What is NAME=VALUE has an `=`.
 pub has-value : (text : List ℕ) → isNamed text ≡ true → splitIn text < length text
 has-value text h = by (ltb 0 (splitIn text)) (ltb (splitIn text) (length text)) refl h
   where

@@ -4,7 +4,6 @@ ghost use Prim.Native.Nat.{_≤_};
 ghost use lib.ListN.{length};
 ghost use Rattle.spelling.specs.Words.{sameBytes, splitIn, inName, allInName, isNamed};
 
-// Whether two texts have the same bytes.
 pub fn same(a: &[u8], b: &[u8]) -> bool
     ensures { λ r. ⌜ r ≡ sameBytes (now (a .entry)) (now (b .entry)) ⌝ }
 {
@@ -21,7 +20,7 @@ pub fn same(a: &[u8], b: &[u8]) -> bool
     true
 }
 
-// The place of the first `=`, or the end where there is none.
+// The place of the first `=`, or the end if there is none.
 pub fn split(text: &[u8]) -> usize
     ensures { λ r. ⌜ r ≡ splitIn (now (text .entry)) ⌝ }
     ensures { λ r. ⌜ r ≤ length (now (text .entry)) ⌝ }
@@ -29,8 +28,8 @@ pub fn split(text: &[u8]) -> usize
     bytes::scan::find(text, 0, text.len(), b'=')
 }
 
-// Whether an argument is NAME=VALUE: before its first `=` stand letters, `-` and `_`, at least one, and nothing else.
-// So `./a=b.wav` is a file.
+// Whether an argument is NAME=VALUE: only letters, `-` and `_`, at least one, stand before its first `=`. So
+// `./a=b.wav` is a file.
 pub fn is_named(text: &[u8]) -> bool
     ensures { λ r. ⌜ r ≡ isNamed (now (text .entry)) ⌝ }
 {

@@ -1,5 +1,5 @@
--- Roots, computed by the definition: of 2, of the smallest value, of the largest, of -0, of -1, and of 2 in `f32`.
--- Assumes nothing.
+-- Roots that are computed by the definition: of 2, of the smallest value, of the largest, of -0, of -1, and of 2 in
+-- `f32`. Assumes nothing.
 use mathlib.Core.Path.{_≡_, refl}
 use lib.Ieee.{binary32, binary64, ofBits, nan}
 use Rattle.rounding.specs.Operations.{root}

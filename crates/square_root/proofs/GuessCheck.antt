@@ -1,5 +1,5 @@
--- The check of a guess: a difference by halves, each step of it in reach, is exact; and what it leaves says which whole
--- number is nearest. Assumes nothing.
+-- The check of a guess. A difference that is worked out by halves is exact if each step of it fits, and what it leaves
+-- shows which whole number is nearest. Assumes nothing.
 use mathlib.Core.Path.{_≡_, sym, ap, _∙_}
 use mathlib.Core.Logic.{inl, inr, dite}
 use mathlib.Core.Bool.{Bool, true, false, cond}
@@ -42,7 +42,7 @@ rest-is c h l a b r H L e f g A B R =
         → x * 2 ^ 54 + y * 2 * 2 ^ 27 + z + r ≡ c * 2 ^ 54
     together c a b r x y z e f g = omega arith
 
--- ---- a step up adds 8 y to the square of 2 y - 1
+-- ---- one step up adds 8 y to the square of 2 y - 1
 step : (z : ℕ) → (2 * (z + 1) + 1) * (2 * (z + 1) + 1) ≡ (2 * z + 1) * (2 * z + 1) + 8 * (z + 1)
 step z = simp ring (omega arith)
 
@@ -75,7 +75,7 @@ nearest-is c y r t L T e R d =
     let stay : y + t ≡ y = omega arith in
     rw stay record { least = omega arith; top = omega arith; above = omega arith; under = omega arith })
 
--- ---- digits to the nearest, with two more that say on which side the root lies
+-- ---- digits to the nearest, with two more that show on which side the root lies
 pub record Marked (c y w : ℕ) : Type 0 where
   pub least : 2 ^ 54 ≤ w
   pub below : w < 2 ^ 55

@@ -1,6 +1,6 @@
 -- IEEE 754's words for squareRoot: of all values of the format, `root` gives the one nearest to the square root.
--- In units of the smallest value let x be X, its root R and any other value Y; the square of twice x's square root is X
--- * 4 * 2 ^ low, and lies on R's side of the square of R + Y. Assumes nothing.
+-- Counted in the smallest value let x be X, its root R and any other value Y. Then the square of twice the square root
+-- of x is X * 4 * 2 ^ low, and it lies on R's side of the square of R + Y. Assumes nothing.
 use mathlib.Core.Path.{_≡_, refl, sym, ap, _∙_, subst}
 use mathlib.Core.Logic.{dite}
 use mathlib.Core.Bool.{false}
@@ -32,7 +32,7 @@ in-units f x X P h =
     ∙ ap (λ (z : ℕ). roundedRoot f (z / 2 ^ low f)) (sym (mul-assoc X (4 * 2 ^ low f) (2 ^ low f)))
     ∙ ap (roundedRoot f) (mul-div-cancel (X * (4 * 2 ^ low f)) (pow-pos (low f)))
 
--- what is said of twice the whole root, and of its 1 more, holds of the root
+-- A comparison with twice the whole root, or one more if it is not exact, holds for twice the root.
 sides : (n s Z L : ℕ) → 0 < L → s * s ≤ n → n < (s + 1) * (s + 1)
     → ((2 * s + more s n) * L * 2 ≤ Z * (4 * L) → n ≤ Z * Z) × (Z * (4 * L) ≤ (2 * s + more s n) * L * 2 → Z * Z ≤ n)
 sides n s Z L P lo hi =

@@ -1,5 +1,5 @@
--- The digits that `root_digits` finds, packed, are the root: `root` at a value, an even power of two taken out of it.
--- Assumes nothing.
+-- The digits that `root_digits` finds, packed, are the root: `root` at a value from which an even power of two is taken
+-- out. Assumes nothing.
 use mathlib.Core.Path.{_≡_, refl, sym, ap, _∙_, subst}
 use mathlib.Core.Bool.{Bool, true, false, cond}
 use Prim.Native.Nat.{ℕ, zero, suc, _+_, _-_, _*_, _/_, _%_, _^_, _≤_, _<_}

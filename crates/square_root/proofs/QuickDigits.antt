@@ -1,4 +1,4 @@
--- The digits that `quick` finds, under the exponent's field of the root, are the root's pattern. Assumes nothing.
+-- The digits that `quick` finds, below the exponent field of the root, are the root's pattern. Assumes nothing.
 use mathlib.Core.Path.{_≡_, refl, sym, ap, _∙_, subst}
 use mathlib.Core.Logic.{dite}
 use mathlib.Core.Bool.{Bool, true, false, true≢false}
@@ -24,7 +24,7 @@ use Rattle.square_root.specs.Digits.{RootDigits, NearRoot, Nearest, Quic
 use Rattle.square_root.proofs.GuessCheck.{Marked, marked}
 use Rattle.square_root.proofs.PackedRoot.{root-code}
 
--- the pattern of a positive value has no sign
+-- The pattern of a positive value has no sign.
 unsigned : (x : Float) (s : Bool) (v c : ℕ) → T (positive x) → HasValue x s v c → s ≡ false
 unsigned nan s v c p h = absurd p
 unsigned (inf t) s v c p h = absurd p

@@ -1,5 +1,5 @@
--- The restoring steps of `root_digits`: each brings down two digits and finds one, and after 55 the root is there,
--- its last digit sticky. Assumes nothing.
+-- The restoring steps of `root_digits`. Each brings down two digits and finds one; after 55 steps the root is there,
+-- and its last digit is odd if it is not exact. Assumes nothing.
 use mathlib.Core.Path.{_≡_, sym, ap, _∙_}
 use mathlib.Core.Logic.{inl, inr, dite}
 use mathlib.Core.Bool.{cond}
@@ -17,7 +17,7 @@ use Rattle.float_digits.specs.Pattern.{withSticky}
 use Rattle.square_root.specs.Digits.{NearRoot, RootDigits}
 use Rattle.square_root.proofs.Squares.{ring, sq-mono, sq-lt-back}
 
--- of z * 4 ^ i the part from 2 ^ 64 on is s * s + r, and y is the rest
+-- The part of z * 4 ^ i from 2 ^ 64 on is s * s + r, and y is the rest.
 pub record Down (z s r y i : ℕ) : Type 0 where
   pub last : i ≤ 55
   pub word : y < 2 ^ 64
@@ -31,7 +31,7 @@ start z h = record { last = zero-le; word = h; short = omega arith; rest = zero-
 pub short-55 : {z s r y i : ℕ} → Down z s r y i → s < 2 ^ 55
 short-55 d = lt-of-lt-of-le (d .short) (pow-mono (d .last))
 
--- ---- one step: a has been brought down, and 4 s + 1 is what a digit 1 takes of it
+-- ---- one step: a has been brought down, and a digit 1 takes 4 s + 1 of it
 module _ (s a d : ℕ) (A : a ≤ 8 * s + 3) (e : d ≡ cond (leb (s * 4 + 1) a) 1 0) where
   pub stepped : (d ≤ 1) × (d * (s * 4 + 1) ≤ a) × (a - d * (s * 4 + 1) ≤ 2 * (s * 2 + d))
       × ((s * 2 + d) * (s * 2 + d) + (a - d * (s * 4 + 1)) ≡ 4 * (s * s) + a)

@@ -1,5 +1,5 @@
--- The cases of `square_root`: what its tests say of x, and that x, or a NaN, is the root where nothing is to be
--- computed. Assumes nothing.
+-- The cases of `square_root`: what its tests show of x, and that x or a NaN is the root if nothing has to be computed.
+-- Assumes nothing.
 use mathlib.Core.Path.{_≡_, refl, sym, _∙_}
 use mathlib.Core.Bool.{true, false, not, true≢false}
 use Prim.Native.Nat.{zero, suc, _*_}
@@ -53,7 +53,6 @@ below-zero (fin false (suc m) e) a b =
     absurd (lt-irrefl 0 (lt-of-lt-of-le (mul-pos (mul-pos (zero-lt-suc m) (up-pos e)) (zero-lt-suc 0))
     (le-trans (ltb-false (0 * 1 * down e) (suc m * up e * 1) a) (le-of-eq (zero-mul (down e))))))
 
--- what lies below something is no NaN
 pub below-no-nan : (x y : Float) → lt x y ≡ true → T (not (isNan x))
 unfolding lt isNan
 below-no-nan nan y h = absurd (true≢false (sym h))

@@ -1,4 +1,4 @@
--- Squares in order, and that `wholeRoot` is the whole root. Nothing here is about floats. Assumes nothing.
+-- The order of squares, and that `wholeRoot` is the whole root. Nothing here is about floats. Assumes nothing.
 use mathlib.Core.Path.{_≡_}
 use mathlib.Core.Logic.{dite}
 use Prim.Native.Nat.{ℕ, zero, suc, _+_, _*_, _/_, _^_, _≤_, _<_, zero-le}
@@ -19,7 +19,7 @@ sq-mono h = mul-le-mul h h
 pub sq-lt-back : (a b : ℕ) → a * a < b * b → a < b
 sq-lt-back a b h = lt-of-not-le (λ (g : b ≤ a). lt-irrefl (a * a) (lt-of-lt-of-le h (sq-mono g)))
 
--- s is the largest with s * s ≤ n
+-- s is the largest number with s * s ≤ n.
 abbrev IsRoot : ℕ → ℕ → Type 0
 IsRoot s n = (s * s ≤ n) × (n < (s + 1) * (s + 1))
 

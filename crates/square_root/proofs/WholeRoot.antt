@@ -1,6 +1,5 @@
--- Where the root of n lies, seen from its whole root s: twice s, and 1 more if that is not exact,
--- stands for twice the root in every comparison with a whole number.
--- So digits near a root jam it. Assumes nothing.
+-- Where the root of n lies, seen from its whole root s. Twice s, and 1 more if s is not exact, stands for twice the
+-- root in every comparison with a whole number. So digits near a root stand for it. Assumes nothing.
 use mathlib.Core.Path.{_≡_, sym, ap, _∙_}
 use mathlib.Core.Logic.{inl, inr, dite}
 use Prim.Native.Nat.{ℕ, _+_, _-_, _*_, _≤_, _<_}
@@ -48,7 +47,7 @@ module _ (n s : ℕ) (lo : s * s ≤ n) (hi : n < (s + 1) * (s + 1)) where
           let q : (x + 1) * (x + 1) ≡ x * x + 2 * x + 1 = simp ring (omega arith) in
           omega arith
 
-  -- n is a * c ^ 2, and w near the root of a
+  -- n is a * c ^ 2, and w is near the root of a.
   pub near-jam : (a c w : ℕ) → 0 < c → n ≡ a * (c * c) → NearRoot a w → Jam (2 * s + more s n) (2 * c) w
   near-jam a c w C e (inl h) =
       inl (exactly (w * c) (square w ∙ ap (λ (x : ℕ). x * (c * c)) h ∙ sym e) ∙ mul-left-comm 2 w c)

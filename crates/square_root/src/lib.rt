@@ -1,6 +1,6 @@
 // The square root of an f64, rounded once (K4).
-// A guess is made and checked. Where the check decides nothing, 55 digits are found by restoring steps, the last of
-// them sticky, and rounded.
+// A guess is made and checked. Where the check decides nothing, 55 digits are found by restoring steps and rounded; the
+// last of them is odd if the root is not exact.
 mod quick;
 
 ghost use mathlib.Core.Path.{_≡_};
@@ -12,15 +12,15 @@ ghost use lib.Ieee.Positive.{positive};
 ghost use Rattle.rounding.specs.Operations.{root};
 ghost use Rattle.square_root.specs.Digits.{RootDigits};
 
-// 1 where t <= a
+// A comparison as a number, 1 if t <= a.
 fn digit(a: u64, t: u64) -> u64
     ensures { λ r. ⌜ r ≡ cond (leb t a) 1 0 ⌝ }
 {
     if t <= a { 1 } else { 0 }
 }
 
-// The root of z * 2^46; two digits of z give one of the root. s is the root of what has been brought down so far, r
-// what it leaves over, y what is still to come.
+// The root of z * 2^46. Two digits of z give one digit of the root, as on paper: s is the root of what has been brought
+// down so far, r the remainder, y what is still to come.
 fn root_digits(z: u64) -> u64
     requires { ⌜ 2 ^ 62 ≤ z ⌝ }
     ensures { λ w. ⌜ RootDigits z w ⌝ }
@@ -41,7 +41,8 @@ fn root_digits(z: u64) -> u64
     float_digits::sticky(s, r)
 }
 
-// An even power of two is taken out: x is z * 2^46 * 4^(k - 1076), where z is m or 2 m and k what is packed.
+// An even power of two is taken out, whose root is a power of two: x is z * 2^46 * 4^(k - 1076), where z is m or 2 m
+// and k is what `pack` is handed.
 fn restored(x: f64) -> f64
     requires { ⌜ positive x ≡ true ⌝ }
     ensures { λ r. ⌜ r ≡ root binary64 x ⌝ }
@@ -63,7 +64,7 @@ fn positive_root(x: f64) -> f64
     f64::from_bits(((((bits >> 52) + 1021) >> 1) << 52) + y)
 }
 
-// A zero, infinity and a NaN are their own roots; below zero there is none.
+// A zero, plus infinity and a NaN are their own roots. A number below zero has none and gives a NaN.
 pub fn square_root(x: f64) -> f64
     ensures { λ r. ⌜ r ≡ root binary64 x ⌝ }
 {

@@ -1,13 +1,13 @@
-// The root's 53 digits by a guess in floats, of which nothing is promised, and a check in whole numbers that says
+// The root's 53 digits by a guess in floats, about which nothing is promised, and a check in whole numbers that says
 // whether they are the nearest.
 ghost use mathlib.Core.Path.{_≡_};
 ghost use Prim.Native.Nat.{_+_, _*_, _^_, _≤_, _<_};
 ghost use Rattle.square_root.specs.Digits.{Nearest, Quick};
 use crate::digit;
 
-// v lies from 1 to 4, and g within a 25th of its root. One step of Halley's leaves a hundred thousandth of that, and
-// two of Heron's all but the rounding. The last one aims a quarter of a place low, so that the guess is the nearest or
-// the one below it.
+// v lies from 1 to 4, and g within a 25th of its root. One step of Halley's method leaves a hundred thousandth of that,
+// and two of Heron's all but the rounding. The last one aims a quarter of a place low, so that the guess is the nearest
+// or the one below it.
 fn guess(v: f64, g: f64) -> f64 {
     let h = g * g;
     let a = g * (h + 3.0 * v) / (3.0 * h + v);
@@ -15,7 +15,7 @@ fn guess(v: f64, g: f64) -> f64 {
     b + ((v / b - b) * 0.5 - 0.00000000000000005551115123125783)
 }
 
-// c * 2^54 - s * s by halves of s, where it is seen to lie in reach; else 2^63 or more.
+// The remainder c * 2^54 - s * s, worked out by halves of s; 2^63 or more if it does not fit.
 fn rest(c: u64, s: u64) -> u64
     requires { ⌜ s < 2 ^ 54 ⌝ }
     ensures { λ r. ⌜ (r < 2 ^ 63 → s * s + r ≡ c * 2 ^ 54) ⌝ }
@@ -33,7 +33,7 @@ fn rest(c: u64, s: u64) -> u64
     0x8000_0000_0000_0000
 }
 
-// The whole number nearest to the root of c * 2^52, where it is g's digits or one more; else 0.
+// The whole number nearest to the root of c * 2^52, if it is the digits of g or one more; otherwise 0.
 fn nearest(c: u64, g: f64) -> u64
     ensures { λ y. ⌜ (0 < y → Nearest c y) ⌝ }
 {
@@ -47,8 +47,8 @@ fn nearest(c: u64, g: f64) -> u64
     0
 }
 
-// The root's digits for the pattern of a value from 2^-1022 on, or 0 if the check fails. The field's last digit says
-// whether 2^52 or 2^53 times an even power of two is taken out.
+// The root's digits for the pattern of a value from 2^-1022 on, or 0 if the check fails. The last digit of the exponent
+// field says whether 2^52 or 2^53 times an even power of two is taken out.
 pub(crate) fn digits_of(bits: u64) -> u64
     ensures { λ y. ⌜ (0 < y → Quick bits y) ⌝ }
 {

@@ -1,5 +1,5 @@
--- W2c at one sample: what was read from stored digits is stored as the same digits, over the format and the width, and
--- so is a finite f32. By `whole_samples`' law `exact`: a whole number of units is its own nearest. Assumes nothing.
+-- W2c for one sample: what was read from stored digits is stored as the same digits, for any format and width, and so
+-- is a finite f32. By the law `exact` of `whole_samples`: a whole number of units is its own nearest. Assumes nothing.
 use mathlib.Core.Path.{_≡_, refl, ap, _∙_}
 use mathlib.Core.Bool.{Bool, true, false, cond}
 use Prim.Native.Nat.{ℕ, zero, suc, _-_, _*_, _%_, _^_, _≤_, _<_}
@@ -76,7 +76,7 @@ module _ (w n : ℕ) (P : 0 < w) where
     pub whole-digits : digitsOf w (nearestWhole w x) ≡ n % 2 ^ w
     whole-digits = rw nearest (kept .1)
 
--- ---- a kind's word
+-- ---- the word of a kind
 abbrev Again : SampleKind → Float → ℕ → Type 0
 Again kind x n = (fitsIn kind x ≡ true) × (wordOf kind x ≡ n)
 

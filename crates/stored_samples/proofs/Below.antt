@@ -1,4 +1,4 @@
--- A stored word has no more digits than its kind: it is below 256 ^ width. Assumes nothing.
+-- A stored word has no more digits than its kind, so it is below 256 ^ width. Assumes nothing.
 use mathlib.Core.Path.{_≡_, refl}
 use mathlib.Core.Bool.{Bool, true, false, cond}
 use Prim.Native.Nat.{ℕ, suc, _-_, _*_, _^_, _<_}
@@ -32,7 +32,6 @@ few-whole w x p t =
     let b = passes (fitsWhole w x) t in
     few-digits w (nearestWhole w x) p (is-true _ (and-r (finite x) _ b))
 
--- the nearest f32 is one
 pub narrow-fits : (x : Float) → T (fits binary32 (narrowed x))
 unfolding narrowed fits
 narrow-fits nan = tt

@@ -1,5 +1,5 @@
--- W2d. The last w digits of the shifted sum's pattern are the stored ones, over the format and the width: what the sum
--- adds is a multiple of 2^w. Assumes nothing.
+-- W2d. The last w digits of the shifted sum's pattern are the stored ones, for any format and width, because what the
+-- sum adds is a multiple of 2^w. Assumes nothing.
 use mathlib.Core.Path.{_≡_, refl, sym, ap, _∙_}
 use mathlib.Core.Bool.{Bool, true, false, cond, not, true≢false}
 use Prim.Native.Nat.{ℕ, zero, suc, _+_, _-_, _*_, _%_, _^_, _≤_, _<_}
@@ -17,7 +17,7 @@ use Rattle.stored_samples.proofs.Ranges.{below-zero}
 use Rattle.stored_samples.proofs.Pattern.{shifted, no-nan, bits}
 use Rattle.stored_samples.proofs.Scaled.{room}
 
--- ---- the last digits of a multiple of b, more or less n
+-- ---- the last digits of a multiple of b plus or minus n
 plus-digits : (c b n : ℕ) → n < b → (c * b + n) % b ≡ n
 plus-digits c b n h = mul-add-mod-self-right c b n ∙ mod-eq-of-lt h
 

@@ -1,5 +1,5 @@
--- W2d, W2e. Both sides of every end, ties, the smallest numbers and none at all, computed from the definitions that the
--- contracts cite: a word, or none where the sample does not fit. Assumes nothing.
+-- W2d, W2e. Both sides of every end, ties, the smallest numbers and what is no number, computed from the definitions
+-- that the contracts cite: a word, or none if the sample does not fit. Assumes nothing.
 use mathlib.Core.Path.{_≡_, refl}
 use mathlib.Core.Bool.{cond}
 use mathlib.Core.List.{[], _∷_, map}
@@ -10,7 +10,7 @@ use Rattle.sample_kind.specs.declared.SampleKind.{SampleKind}
 use Rattle.sample_kind.specs.declared.SampleKind.the-variants.{Pcm16, Pcm24, Float32}
 use Rattle.stored_samples.specs.Stored.{nearestWhole, fitsWhole, fitsIn, wordOf}
 
--- what an f64 of a pattern is stored as
+-- What the f64 with a pattern is stored as.
 pub data Stored : Type 0 where
   word : ℕ → Stored
   none : Stored
@@ -26,15 +26,15 @@ pub outside : map (storedAs Pcm16)
 unfolding ofBits fitsWhole nearestWhole
 outside = refl
 
--- 1 - 2^-16 is a tie that goes up and out, the f64 below it fits; -1 - 2^-16 is a tie that fits, the f64 below it does
--- not.
+-- 1 - 2^-16 is a tie that goes up and does not fit, and the f64 below it fits; -1 - 2^-16 is a tie that fits, and the
+-- f64 below it does not.
 pub ends16 : map (storedAs Pcm16)
     (0x3fef_ffe0_0000_0000 ∷ 0x3fef_ffdf_ffff_ffff ∷ 0xbff0_0010_0000_0000 ∷ 0xbff0_0010_0000_0001 ∷ [])
     ≡ none ∷ word 0x7fff ∷ word 0x8000 ∷ none ∷ []
 unfolding ofBits fitsWhole nearestWhole
 ends16 = refl
 
--- The same of 1 - 2^-24 and -1 - 2^-24; and of ±1.0.
+-- The same for 1 - 2^-24 and -1 - 2^-24, and for ±1.0.
 pub ends24 : map (storedAs Pcm24)
     (0x3fef_ffff_e000_0000 ∷ 0x3fef_ffff_dfff_ffff ∷ 0xbff0_0000_1000_0000 ∷ 0xbff0_0000_1000_0001
     ∷ 0x3ff0_0000_0000_0000 ∷ 0xbff0_0000_0000_0000 ∷ [])
@@ -42,8 +42,8 @@ pub ends24 : map (storedAs Pcm24)
 unfolding ofBits fitsWhole nearestWhole
 ends24 = refl
 
--- Half a unit is stored as 0, one and a half as 2, less them as 0 and -2; -0.0 and the smallest numbers as 0. A little
--- more than half a unit is 1: rounded to an f32 first, it would be the half, and 0.
+-- Half a unit is stored as 0, one and a half as 2, their negatives as 0 and -2; -0.0 and the smallest numbers as 0. A
+-- little more than half a unit is 1; rounded to an f32 first it would be the half, and then 0.
 pub ties : map (storedAs Pcm16)
     (0x3ef0_0000_0000_0000 ∷ 0x3f08_0000_0000_0000 ∷ 0xbef0_0000_0000_0000 ∷ 0xbf08_0000_0000_0000
     ∷ 0x8000_0000_0000_0000 ∷ 1 ∷ 0x8000_0000_0000_0001 ∷ 0x3ef0_0000_0004_0000 ∷ [])
@@ -51,7 +51,7 @@ pub ties : map (storedAs Pcm16)
 unfolding ofBits fitsWhole nearestWhole
 ties = refl
 
--- The largest f32; the f64 below the midpoint above it, of either sign; the midpoint; 2^1023; an infinity; a NaN.
+-- The largest f32; the f64 below the midpoint above it, with either sign; the midpoint; 2^1023; an infinity; a NaN.
 pub ends-float : map (storedAs Float32)
     (0x47ef_ffff_e000_0000 ∷ 0x47ef_ffff_efff_ffff ∷ 0xc7ef_ffff_efff_ffff ∷ 0x47ef_ffff_f000_0000
     ∷ 0xc7ef_ffff_f000_0000 ∷ 0x7fe0_0000_0000_0000 ∷ 0x7ff0_0000_0000_0000 ∷ 0x7ff8_0000_0000_0000 ∷ [])
@@ -59,7 +59,8 @@ pub ends-float : map (storedAs Float32)
 unfolding ofBits narrowed round toBits
 ends-float = refl
 
--- -0.0 keeps its sign, and so does what is rounded to it; half the smallest f32 is 0, what is above it the smallest.
+-- -0.0 keeps its sign, and so does what is rounded to it; half the smallest f32 is 0, and what lies above that is the
+-- smallest.
 pub small-floats : map (storedAs Float32)
     (0x8000_0000_0000_0000 ∷ 0x8000_0000_0000_0001 ∷ 0x3690_0000_0000_0000 ∷ 0x3690_0000_0000_0001 ∷ [])
     ≡ word 0x8000_0000 ∷ word 0x8000_0000 ∷ word 0 ∷ word 1 ∷ []

@@ -1,4 +1,4 @@
--- W2e. When the nearest f32 is finite: below the midpoint above the largest, 2^128 - 2^103, in size. Assumes nothing.
+-- W2e. The nearest f32 is finite if the size is below the midpoint above the largest, 2^128 - 2^103. Assumes nothing.
 use mathlib.Core.Path.{_≡_, refl, sym, ap, _∙_}
 use mathlib.Core.Logic.{inl, inr}
 use mathlib.Core.Bool.{Bool, true, false, _&&_}
@@ -27,7 +27,7 @@ finite-round f s n d D = elim (lt-or-ge n (limit f * d)) [
   | inr g ↦ ap finite (round-infinite f n d D s .0 g) ∙ sym (le-ltb n (limit f * d) g)
 ]
 
--- the midpoint, of either sign
+-- The midpoint with either sign.
 abbrev pub midpoint : Bool → Float
 midpoint s = fin s (2 ^ 25 - 1) (pos 103)
 

@@ -1,4 +1,4 @@
--- The nearest whole number of a quotient at a half, where the even one is taken; on which side of a whole number it
+-- The whole number nearest to a quotient at a half, where the even one is taken; on which side of a whole number it
 -- lies; and the nearest to the difference with an even number. Nothing here is about floats. Assumes nothing.
 use mathlib.Core.Path.{_≡_, sym, ap, _∙_}
 use mathlib.Core.Logic.{inl, inr}
@@ -11,7 +11,7 @@ use lib.Ieee.Positive.{first-pos}
 use Rattle.interval.proofs.Signed.{ring}
 use Rattle.rounding.proofs.WithinHalfDivisor.{closest-near, closest-unique, closest-most}
 
--- ---- q and a half
+-- ---- the nearest to q and a half
 half-of : (q : ℕ) → closest (q * 2 + 1) 2 ≡ q + q % 2
 half-of q =
     let d : (q * 2 + 1) / 2 ≡ q = omega arith in
@@ -21,7 +21,7 @@ half-of q =
 pub closest-half : (a D q : ℕ) → 0 < D → a * 2 ≡ (q * 2 + 1) * D → closest a D ≡ q + q % 2
 closest-half a D q P e = closest-same a D (q * 2 + 1) 2 P (lit≤ tt) e ∙ half-of q
 
--- ---- against an even whole number u
+-- ---- compared with an even whole number u
 module _ (a D u : ℕ) (P : 0 < D) (even : u % 2 ≡ 0) where
   pub stays-below : a * 2 + D < u * 2 * D → closest a D < u
   stays-below h = lt-of-mul-lt-mul-right D (omega (arith, closest-near a D P .0, mul-right-comm u 2 D))
@@ -42,7 +42,7 @@ module _ (a D u : ℕ) (P : 0 < D) (even : u % 2 ≡ 0) where
   pub goes-past : u * 2 * D + D < a * 2 → u < closest a D
   goes-past h = lt-of-mul-lt-mul-right D (omega (arith, closest-near a D P .1, mul-right-comm u 2 D))
 
--- ---- the nearest to an even number less a quotient: a tie is one on both sides, and goes to the even number on both
+-- ---- the nearest to an even number less a quotient: a tie is a tie on both sides, and goes to the even number on both
 module _ (K a D : ℕ) (P : 0 < D) (h : a ≤ K * 2 * D) where
   abbrev b : ℕ
   b = K * 2 * D - a
@@ -56,7 +56,7 @@ module _ (K a D : ℕ) (P : 0 < D) (h : a ≤ K * 2 * D) where
   rest : (K * 2 - c) * D + c * D ≡ K * 2 * D
   rest = sym (add-mul (K * 2 - c) c D) ∙ ap (λ (z : ℕ). z * D) (omega (arith, most))
 
-  -- a lies half below c, so half above c - 1, which is odd
+  -- a lies half a unit below c, so half a unit above c - 1, which is odd.
   from-above : (p : ℕ) → c ≡ suc p → c * D * 2 ≡ a * 2 + D → closest b D ≡ K * 2 - c
   from-above p i e =
       let m : c * D ≡ p * D + D = ap (λ (z : ℕ). z * D) i ∙ suc-mul p D in
@@ -65,7 +65,7 @@ module _ (K a D : ℕ) (P : 0 < D) (h : a ≤ K * 2 * D) where
       let w : ((K * 2 - c) * 2 + 1) * D ≡ (K * 2 - c) * D * 2 + D = simp ring (omega arith) in
       closest-half b D (K * 2 - c) P (omega (arith, rest)) ∙ omega (arith, most)
 
-  -- a lies half above c, which is even, so b half above K * 2 - c - 1, which is odd
+  -- a lies half a unit above c, which is even, so b lies half a unit above K * 2 - c - 1, which is odd.
   from-below : a * 2 ≡ c * D * 2 + D → closest b D ≡ K * 2 - c
   from-below e =
       let g : (c * 2 + 1) * D ≡ c * D * 2 + D = simp ring (omega arith) in

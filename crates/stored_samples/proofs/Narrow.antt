@@ -1,5 +1,6 @@
--- W2e. No f32 lies between -1 - 2^-24 and -1: a number of 24 digits over D, more than 1, exceeds it by 1 / D at least,
--- and D has fewer than 24 digits. So an f32 is tested against -1. And what fits is no NaN. Assumes nothing.
+-- W2e. No f32 lies between -1 - 2^-24 and -1: a number of 24 digits over D that is more than 1 exceeds it by at least 1
+-- / D, and D has fewer than 24 digits. So an f32 is compared with -1. And a sample that fits is not a NaN. Assumes
+-- nothing.
 use mathlib.Core.Path.{_≡_, refl, sym, ap, _∙_}
 use mathlib.Core.Bool.{Bool, true, false, not, _&&_, true≢false}
 use Prim.Native.Nat.{ℕ, _+_, _*_, _^_, _≤_, _<_}
@@ -16,7 +17,7 @@ use Rattle.rounding.proofs.Values.{fits-parts}
 use Rattle.stored_samples.specs.Stored.{fitsWhole}
 use Rattle.stored_samples.proofs.Ranges.{least, past, in-range}
 
--- 1 as an f32's end
+-- The end -1 for an f32.
 abbrev pub one : Float
 one = fin true 1 (pos 0)
 
@@ -48,7 +49,7 @@ same-end (fin true m e) h =
 pub in-narrow : (x : Float) → T (fits binary32 x) → (le one x && lt x (past 22)) ≡ fitsWhole 24 x
 in-narrow x h = ap (λ (b : Bool). b && lt x (past 22)) (same-end x h) ∙ in-range 22 x
 
--- ---- no NaN
+-- ---- not a NaN
 pub fits-number : (w : ℕ) (x : Float) → fitsWhole w x ≡ true → T (not (isNan x))
 unfolding fitsWhole isNan
 fits-number w nan h = absurd (true≢false (sym h))

@@ -1,5 +1,5 @@
--- W2d. No whole number lies nearer to x · 2^(w-1) than the one that is stored, and of two as near it is the even one:
--- over the width, in exact fractions. Assumes nothing.
+-- W2d. No whole number lies nearer to x · 2^(w-1) than the one that is stored, and of two as near it is the even one.
+-- This is shown for any width, in exact fractions. Assumes nothing.
 use mathlib.Core.Path.{_≡_, refl, sym, ap, _∙_}
 use mathlib.Core.Logic.{inl, inr}
 use mathlib.Core.Bool.{Bool, true, false, cond, not}
@@ -27,7 +27,7 @@ module _ (a D : ℕ) (P : 0 < D) where
   abbrev gap : ℕ → ℕ
   gap n = a - n * D + (n * D - a)
 
-  -- which side of the middle between q and n the quotient lies on
+  -- On which side of the middle between q and n the quotient lies.
   sides : (n : ℕ) → (q < n → a * 2 ≤ (q + n) * D) × (n < q → (q + n) * D ≤ a * 2)
   sides n = (
     (λ l. omega (arith, closest-near a D P .1, add-mul q n D, mul-le-mul-right D l, suc-mul q D)),
@@ -40,7 +40,7 @@ module _ (a D : ℕ) (P : 0 < D) where
   little : gap q ≤ a
   little = le-trans (closer 0) (omega (arith, zero-mul D))
 
-  -- as near as another: they are neighbours, and the quotient is the half between them
+  -- If another is as near, they are neighbours, and the quotient is the half between them.
   tie : (n : ℕ) → (q ≡ n → ⊥) → gap q ≡ gap n → q % 2 ≡ 0
   tie n d e = elim (lt-or-ge q n) [
     | inl l ↦
@@ -62,7 +62,7 @@ module _ (a D : ℕ) (P : 0 < D) where
       back : q * D ≤ suc n * D
       back = omega (arith, h, closest-near a D P .0, add-mul q n D, suc-mul n D)
 
-  -- the stored number, of either sign
+  -- The stored number with either sign.
   abbrev with : Bool → ℕ → ℤ
   with s n = cond s (negℤ (pos n)) (pos n)
 

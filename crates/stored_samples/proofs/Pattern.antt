@@ -1,7 +1,6 @@
--- W2d. The stored digits by one product and one sum, over the format and the width: x · 2^(w-1) is exact, and with
--- 3 · 2^(prec-2) added it lies where the format's values are the whole numbers, so that the sum rounds it to the
--- nearest, a tie to the even one. The last w digits of the sum's pattern are those of two's complement.
--- Assumes nothing.
+-- W2d. The stored digits by one product and one sum, for any format and width. x · 2^(w-1) is exact, and with 3 ·
+-- 2^(prec-2) added it lies where the format's values are the whole numbers, so that the sum rounds it to the nearest, a
+-- tie to the even one. The last w digits of the sum's pattern are those of two's complement. Assumes nothing.
 use mathlib.Core.Path.{_≡_, refl, sym, ap, _∙_, subst}
 use mathlib.Core.Bool.{Bool, true, false, cond, not}
 use Prim.Native.Nat.{ℕ, suc, _+_, _-_, _*_, _^_, _≤_, _<_}
@@ -64,7 +63,8 @@ module _ (f : Format) (k : ℕ) (wide : suc k ≤ prec f - 3)
     less : u ≤ q
     less = pow-mono wide
 
-    -- three quarters of 3 · 2^(prec-2) at most, so that the sum and the difference lie between 2^(prec-1) and 2^prec
+    -- It is at most three quarters of 3 · 2^(prec-2), so that the sum and the difference lie between 2^(prec-1) and
+    -- 2^prec.
     bound : a * 2 ≤ q * d * 3
     bound =
         omega (
@@ -118,7 +118,7 @@ module _ (f : Format) (k : ℕ) (wide : suc k ≤ prec f - 3)
             ∙ whole-units f (big + a) d D (omega (arith, big-is, lower)) (omega (arith, bound, big-is, upper, some))
             ∙ ap (λ (z : ℕ). units f false z (low f)) (closest-shift (3 * q) a d D)
 
-    -- ---- its pattern
+    -- ---- the pattern of the sum
     between : (hid f ≤ total) × (total ≤ 2 ^ prec f)
     between = go s
       where

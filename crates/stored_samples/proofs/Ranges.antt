@@ -1,4 +1,4 @@
--- W2e. Two comparisons say whether the rounded value fits, over the width: its ends in units are -2^(w-1) - 1/2, a tie
+-- W2e. Two comparisons show whether the rounded value fits, for any width. The ends in units are -2^(w-1) - 1/2, a tie
 -- that goes to the even -2^(w-1), and 2^(w-1) - 1/2, a tie that goes to 2^(w-1). Assumes nothing.
 use mathlib.Core.Path.{_≡_, refl, sym, ap, _∙_}
 use mathlib.Core.Logic.{inl, inr}
@@ -19,7 +19,7 @@ use Rattle.rounding.proofs.NumberOrders.{same-test, and-true, ltb-iff, lt-or-ge
 use Rattle.stored_samples.specs.Stored.{nearestWhole, inDigits, fitsWhole}
 use Rattle.stored_samples.proofs.Halves.{stays-below, gets-there, stays-at, goes-past}
 
--- the two ends at a width of k + 2
+-- The two ends at a width of k + 2.
 abbrev pub least : ℕ → Float
 least k = fin true (2 ^ suc (suc k) + 1) (negsuc (suc k))
 
@@ -46,7 +46,7 @@ module _ (k : ℕ) where
   even : u % 2 ≡ 0
   even = ap (λ (z : ℕ). z % 2) (pow-suc 2 k) ∙ mul-mod-left (2 ^ k) 2
 
-  -- a is the size of x in units, times the denominator d; over the ends' denominator both tests are about a
+  -- a is the size of x in units, times the denominator d. Over the denominator of the ends both tests are about a.
   module _ (n d : ℕ) (D : 0 < d) where
     abbrev a : ℕ
     a = n * u

@@ -1,5 +1,5 @@
--- W2e. What is not stored, exactly: as PCM of w digits a NaN, an infinity, and a number whose rounded value lies
--- outside -2^(w-1) to 2^(w-1) - 1; as a float a NaN, an infinity, and a number from 2^128 - 2^103 on in size, whose
+-- W2e. Exactly what is not stored. As PCM of w digits: a NaN, an infinity, and a number whose rounded value lies
+-- outside -2^(w-1) to 2^(w-1) - 1. As a float: a NaN, an infinity, and a number of size 2^128 - 2^103 or more, whose
 -- nearest f32 is an infinity. Assumes nothing.
 use mathlib.Core.Path.{_≡_, sym, _∙_}
 use mathlib.Core.Logic.{_↔_}
@@ -19,7 +19,7 @@ use Rattle.sample_kind.specs.declared.SampleKind.the-variants.{Float32}
 use Rattle.stored_samples.specs.Stored.{nearestWhole, inDigits, fitsWhole, fitsIn}
 use Rattle.stored_samples.proofs.Floats.{finite-round}
 
--- from -2^(w-1) to 2^(w-1) - 1
+-- z lies from -2^(w-1) to 2^(w-1) - 1.
 abbrev pub InRange : ℕ → ℤ → Type 0
 InRange w (pos n) = n < 2 ^ (w - 1)
 InRange w (negsuc n) = suc n ≤ 2 ^ (w - 1)
@@ -37,7 +37,7 @@ fits-whole w x = (
   (λ h. rw (is-true (finite x) (h .0)) (in-range w (nearestWhole w x) .1 (h .1))),
 )
 
--- a number of size below 2^128 - 2^103
+-- x is a number of size below 2^128 - 2^103.
 abbrev pub BelowMidpoint : Float → Type 0
 BelowMidpoint nan = ⊥
 BelowMidpoint (inf s) = ⊥

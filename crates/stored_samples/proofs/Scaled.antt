@@ -1,5 +1,5 @@
--- A format's powers of two near its digits; a fraction where its values are the whole numbers, rounded; and a value
--- times a power of two, which is exact. Over the format. Assumes nothing.
+-- For any format: powers of two near the number of its digits; the rounding of a fraction where its values are the
+-- whole numbers; and a value times a power of two, which is exact. Assumes nothing.
 use mathlib.Core.Path.{_≡_, refl, sym, ap, _∙_, subst}
 use mathlib.Core.Bool.{Bool, true, false}
 use Prim.Native.Nat.{ℕ, suc, _+_, _-_, _*_, _^_, _≤_, _<_}
@@ -17,7 +17,7 @@ use lib.Ieee.Nearest.{closest, closest-same}
 use Rattle.rounding.proofs.DroppedDigits.{round-at}
 use Rattle.rounding.proofs.Values.{fits-units, rescale}
 
--- ---- what is known of a format, q standing for 2 ^ (prec - 3)
+-- ---- what is known of a format, where q stands for 2 ^ (prec - 3)
 pub record Room (f : Format) (q : ℕ) : Type 0 where
   pub added : 2 ^ (prec f - 2) ≡ q * 2
   pub hidden : hid f ≡ q * 4

@@ -1,4 +1,4 @@
--- What a stored word is, by whether its sample fits. Assumes nothing.
+-- The stored word of a sample, by whether the sample fits. Assumes nothing.
 use mathlib.Core.Path.{_≡_, sym, ap, _∙_}
 use mathlib.Core.Bool.{Bool, true, false, cond}
 use Prim.Native.Nat.{ℕ}
@@ -6,7 +6,7 @@ use lib.Ieee.{Float}
 use Rattle.sample_kind.specs.declared.SampleKind.{SampleKind}
 use Rattle.stored_samples.specs.Stored.{fitsIn, digitsIn, wordOf}
 
--- `test` is what the code asked
+-- `test` is the test of the code.
 module _ (kind : SampleKind) (x : Float) {test : Bool} (e : test ≡ fitsIn kind x) where
   pub fitting : test ≡ true → fitsIn kind x ≡ true
   fitting t = sym e ∙ t

@@ -1,5 +1,5 @@
-// W2. One sample rounded to its stored digits, and whether it fits them. Nothing is clipped: what does not fit has no
-// digits, and its word is 0.
+// W2. One sample rounded to its stored digits, and whether it fits. Nothing is clipped: a sample that does not fit has
+// no digits, and its word is 0.
 ghost use mathlib.Core.Path.{_≡_};
 ghost use Rattle.sample_kind.specs.declared.SampleKind.the-variants.{Pcm16, Pcm24, Float32};
 ghost use Rattle.stored_samples.specs.Stored.{fitsIn, wordOf};
@@ -35,8 +35,9 @@ pub fn fits_float(x: f64) -> bool
     )
 }
 
-// x × 2^15 is exact, and 3 × 2^51 brings it to where the f64s are the whole numbers: the sum rounds to the nearest, a
-// tie to the even one. Its last digits are the stored ones, in two's complement, since 2^51 is a multiple of 2^16.
+// The product x × 2^15 is exact, and adding 3 × 2^51 brings it to where the f64s are the whole numbers, so the sum
+// rounds to the nearest, a tie to the even one. Its last digits are the stored ones, in two's complement, since 2^51 is
+// a multiple of 2^16.
 pub fn stored16(x: f64) -> u32
     ensures { λ r. ⌜ r ≡ wordOf Pcm16 x ⌝ }
 {

@@ -1,4 +1,4 @@
-// W2. The same for a sample that is an f32: a float is a float, so the definitions are the same.
+// W2. The same for a sample that is an f32. The definitions are the same, because they are over floats of any width.
 ghost use mathlib.Core.Path.{_≡_};
 ghost use Rattle.sample_kind.specs.declared.SampleKind.the-variants.{Pcm16, Pcm24, Float32};
 ghost use Rattle.stored_samples.specs.Stored.{fitsIn, wordOf};
@@ -11,7 +11,7 @@ pub fn fits16_f32(x: f32) -> bool
     both(-1.0000152587890625 <= x, x < 0.9999847412109375)
 }
 
-// No f32 lies between -1 - 2^-24, the end that an f64 is tested by, and -1.
+// No f32 lies between -1 - 2^-24, the end for an f64, and -1.
 pub fn fits24_f32(x: f32) -> bool
     ensures { λ r. ⌜ r ≡ fitsIn Pcm24 x ⌝ }
 {
@@ -35,7 +35,7 @@ pub fn stored16_f32(x: f32) -> u32
     }
 }
 
-// 24 digits and what is added are more than an f32 has, so the sum is an f64.
+// An f32 has too few digits for 24 digits and what is added, so the sum is an f64.
 pub fn stored24_f32(x: f32) -> u32
     ensures { λ r. ⌜ r ≡ wordOf Pcm24 x ⌝ }
 {

@@ -1,5 +1,5 @@
--- W3a. A stretch by its turns, in place: what is answered so far stands in front of the place k, what is still to come
--- is as it was, and together they are the whole stretch. Assumes nothing.
+-- W3a. A stretch step by step, in place: the answers so far stand in front of the place k, what is still to come is as
+-- it was, and together they are the whole stretch. Assumes nothing.
 use mathlib.Core.Path.{_≡_, refl, sym, ap, _∙_}
 use mathlib.Core.Bool.{Bool, true, false}
 use mathlib.Core.List.{List, [], _∷_, _++_, append-assoc, append-nil}
@@ -14,12 +14,12 @@ use lib.Ieee.{Float}
 use Rattle.stretch.specs.Stretch.{Called, Call, Ran, nothing, andThen, stretchOf}
 
 module _ {S : Type 0} where
-  -- samples in front of what a stretch leaves
+  -- What a stretch leaves, with samples in front.
   abbrev pub behind : List Float → Ran S → Ran S
   behind ys o = record { state = o .state; ring = o .ring; number = o .number; samples = ys ++ o .samples }
 
   module _ (call : Call S) (s₀ : S) (ring₀ xs ds : List Float) where
-    -- up to a place: s, ring and ys are what the loop has, the others what it began with
+    -- The state up to a place: s, ring and ys are what the loop has, the others what it began with.
     pub record Half (s : S) (ring ys : List Float) (k : ℕ) : Type 0 where
       pub long : length ys ≡ length xs
       pub rest : drop k ys ≡ drop k xs
@@ -30,7 +30,7 @@ module _ {S : Type 0} where
 
     module _ {s : S} {ring ys : List Float} {k : ℕ} (h : Half s ring ys k) (z : Float) (l : k < length xs)
         (m : k < length ds) where
-      -- the call that the loop makes: what it finds at the place is what was lent
+      -- The call of the loop: what it finds at the place is what was lent.
       abbrev pub called : Called S
       called = call s ring (getD ys k z) (getD ds k z)
 
@@ -50,7 +50,7 @@ module _ {S : Type 0} where
               let c = call s ring x (getD ds k z) in
               andThen (c .number) c (stretchOf call (c .state) (c .ring) (drop (suc k) xs) (drop (suc k) ds))
 
-      -- a call that is not refused
+      -- A call that is not refused.
       pub turn : {n : ℕ} {t : S} {r : List Float} {y : Float} → n ≡ called .number → n ≡ 0 → t ≡ called .state
           → r ≡ called .ring
           → y ≡ called .sample → Half t r (set ys k y) (k + 1)
@@ -72,7 +72,7 @@ module _ {S : Type 0} where
               ≡ behind (us ++ (u ∷ [])) o
           more us u o = rw (append-assoc us (u ∷ []) (o .samples))
 
-      -- one that is refused ends it
+      -- A call that is refused ends the stretch.
       pub stopped : (n : ℕ) {t : S} {r : List Float} → n ≡ called .number → (n ≡ 0 → ⊥) → t ≡ called .state
           → r ≡ called .ring
           → stretchOf call s₀ ring₀ xs ds ≡ record { state = t; ring = r; number = n; samples = take k ys }
@@ -95,7 +95,7 @@ module _ {S : Type 0} where
           none [] = refl
           none (u ∷ us) = rw (drop-of-length-le ds e)
 
-      -- at the end of the shorter list
+      -- The end of the shorter list.
       pub ended : min (length xs) (length ds) ≤ k
           → stretchOf call s₀ ring₀ xs ds ≡ record { state = s; ring = ring; number = 0; samples = take k ys }
       ended e = by (leb (length xs) k) refl
@@ -107,7 +107,7 @@ module _ {S : Type 0} where
       pub done : k ≤ length xs → length (take k ys) ≡ k
       done l = length-take-le k ys (omega (arith, h .long))
 
-      -- what the loop has left of the list: answers, then what was lent
+      -- What the loop leaves of the list: answers, then what was lent.
       pub in-place : k ≤ length xs → ys ≡ take k ys ++ drop (length (take k ys)) xs
       in-place l =
           sym (take-append-drop k ys)

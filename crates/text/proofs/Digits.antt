@@ -1,5 +1,4 @@
--- The decimal digits of a word, written from the last one on into a row: each turn puts the next in front.
--- Assumes nothing.
+-- The decimal digits of a word, written from the last one on: each turn puts the next in front. Assumes nothing.
 use mathlib.Core.Path.{_≡_}
 use mathlib.Core.Bool.{Bool, true, false, cond}
 use mathlib.Core.List.{List, [], _∷_, _++_, append-assoc}
@@ -12,7 +11,7 @@ use lib.ListN.{length, drop, set, length-append, length-set}
 use lib.Seq.{drop-cons, drop-set-lt, getD-set-same}
 use Rattle.text.specs.Text.{decimalTo}
 
--- what a store leaves from its own place on
+-- What a store leaves from its own place on.
 drop-set : (xs : List ℕ) (k d : ℕ) → k < length xs → drop k (set xs k d) ≡ d ∷ drop (suc k) xs
 drop-set xs k d h =
     let s : k < length (set xs k d) = simp length-set (omega arith) in
@@ -29,11 +28,11 @@ pub first-digit : (xs : List ℕ) (k v : ℕ) {d : ℕ} → d ≡ 48 + v → k <
 unfolding decimalTo
 first-digit xs k v e h l = rw (e, drop-set xs k (48 + v) h, lt-ltb v 10 l, mod-eq-of-lt l)
 
--- the quotient by ten has one digit fewer
+-- The quotient by ten has one digit fewer.
 pub fewer : (k v : ℕ) → v < 10 ^ suc k → v / 10 < 10 ^ k
 fewer k v h = div-lt-iff-lt-mul (lit≤ tt) .1 (rw pow-suc at h)
 
--- a number above 9 has a digit in front of its last
+-- A number above 9 has a digit in front of its last.
 pub more : (k v : ℕ) → v < 10 ^ suc k → 9 < v → 0 < k
 more zero v h l = absurd (omega arith)
 more (suc k) v h l = omega arith

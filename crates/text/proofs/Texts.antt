@@ -1,5 +1,5 @@
--- Texts put one after the other are one text put at once, and past the end nothing is put. By the bytes of the text.
--- Assumes nothing.
+-- Texts that are put one after the other are one text put at once, and past the end nothing is put. By induction over
+-- the bytes of the text. Assumes nothing.
 use mathlib.Core.Path.{_≡_, refl, sym, _∙_}
 use mathlib.Core.Bool.{Bool, true, false}
 use mathlib.Core.List.{List, [], _∷_, _++_}
@@ -16,7 +16,7 @@ pub put-out : (text xs : List ℕ) (at : ℕ) → length xs ≤ at → putAt xs 
 put-out [] xs at h = refl
 put-out (c ∷ cs) xs at h = put-out cs (set xs at c) (suc at) (simp length-set (omega arith)) ∙ set-out xs at c h
 
--- one byte of a text, and what is left of it
+-- One byte of a text, and the rest of it.
 pub put-next : (xs text : List ℕ) (at k : ℕ) → k < length text
     → putAt xs at (drop k text) ≡ putAt (set xs at (getD text k 0)) (suc at) (drop (suc k) text)
 put-next xs text at k h = rw (drop-cons text k 0 h)
@@ -27,7 +27,7 @@ put-both (c ∷ cs) b xs at =
     let e : suc at + length cs ≡ at + suc (length cs) = omega arith in
     put-both cs b (set xs at c) (suc at) ∙ rw e
 
--- the place r and the bytes ys are what putting a text at a place of xs leaves
+-- The place r and the bytes ys are what putting a text at a place of xs leaves.
 abbrev pub Puts : List ℕ → ℕ → List ℕ → ℕ → List ℕ → Type 0
 Puts xs at text r ys = (r ≡ placeAfter (length xs) at text) × (ys ≡ putAt xs at text)
 

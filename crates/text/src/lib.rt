@@ -5,7 +5,6 @@ ghost use Prim.Native.Nat.{_+_, _<_};
 ghost use lib.ListN.{length};
 ghost use Rattle.text.specs.Text.{decimal, putAt, placeAfter};
 
-// Puts a text at a place.
 pub fn put(out: &mut [u8], at: usize, text: &[u8]) -> usize
     ensures { λ r. ⌜ r ≡ placeAfter (length (now (out .entry))) at (now (text .entry)) ⌝ }
     ensures { λ r. ⌜ now (out .exit) ≡ putAt (now (out .entry)) at (now (text .entry)) ⌝ }
@@ -26,7 +25,6 @@ pub fn put(out: &mut [u8], at: usize, text: &[u8]) -> usize
     to
 }
 
-// Puts the decimal digits of a word at a place.
 pub fn put_decimal(out: &mut [u8], at: usize, n: u64) -> usize
     ensures { λ r. ⌜ r ≡ placeAfter (length (now (out .entry))) at (decimal n) ⌝ }
     ensures { λ r. ⌜ now (out .exit) ≡ putAt (now (out .entry)) at (decimal n) ⌝ }

@@ -17,7 +17,7 @@ struct Turn {
 // The descriptor that ./run opens so that the program can say that all went well; a program here has no exit status.
 const SIGN: i32 = 3;
 
-// Whether to go on after a block of n bytes. A read or a write that failed is said on standard error.
+// Whether to go on after a block of n bytes. A failed read or write is reported on standard error.
 fn goes_on(n: usize, written: bool, spare: &mut [u8]) -> bool {
     if !written {
         io::write_all(STDERR_FILENO, b"trace: standard output takes no more\n");
@@ -34,7 +34,8 @@ fn goes_on(n: usize, written: bool, spare: &mut [u8]) -> bool {
     true
 }
 
-// One block. With 50 bytes for each sample no line is cut off (trace_lines, proofs/NothingCutOff.antt).
+// Reads one block and writes its lines. With 50 bytes for each sample no line is cut off (trace_lines,
+// proofs/NothingCutOff.antt).
 fn block(state: VariableDelay, ring: &mut [f64]) -> Turn {
     let mut samples = [0u8; BLOCK];
     let mut lines = [0u8; 51200];
@@ -49,7 +50,8 @@ fn block(state: VariableDelay, ring: &mut [f64]) -> Turn {
     }
 }
 
-// Block after block: as many as a u64 counts, which no input outlasts.
+// Goes block after block. The loop counts down from the largest u64, because the language demands that it ends; no
+// input is that long.
 fn run(start: VariableDelay, ring: &mut [f64]) {
     let mut state = start;
     let mut more = true;

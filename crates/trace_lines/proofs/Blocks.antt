@@ -1,5 +1,5 @@
--- A block of bytes, sample by sample: what a turn of the loop does to what is still to come,
--- and that samples handed over in two blocks give the same lines as in one. Assumes nothing.
+-- A block of bytes, sample by sample: what a turn of the loop does, and that samples handed over in two blocks give the
+-- same lines as in one. Assumes nothing.
 use mathlib.Core.Path.{_≡_, refl, sym, _∙_, ap}
 use mathlib.Core.List.{List, [], _∷_, _++_, append-assoc}
 use Prim.Native.Nat.{ℕ, suc, _+_, _-_, _/_, _<_, _≤_}
@@ -32,7 +32,7 @@ next-sample bytes at e h =
     let n : length (drop at bytes) / 8 ≡ suc (length (drop (at + 8) bytes) / 8) = simp length-drop (omega arith) in
     rw (n, drop-drop 8 at bytes, e)
 
--- what samples that are still to come lead to, from a reader and a place of the bytes `out` on
+-- What the samples that are still to come lead to, from a reader and a place of the bytes `out` on.
 pub record Come : Type 0 where
   pub reader : Reader
   pub place : ℕ
@@ -46,7 +46,7 @@ come r out at xs =
       bytes = putAt out at (linesOf r xs);
     }
 
--- one turn: the reader's call, and its line
+-- One turn: the reader's call, and its line.
 pub turn : (r : Reader) (out : List ℕ) (at : ℕ) {x : Float} {all xs : List Float} {p : Processed} {ring : List Float}
     {q : ℕ} {zs : List ℕ}
     → all ≡ x ∷ xs
@@ -65,13 +65,12 @@ turn r out at {x} {all} {xs} n e f p =
       f,
     ) (λ i. record { reader = readerAfter (after r (call x)) xs; place = sym (t .0) i; bytes = sym (t .1) i })
 
--- where nothing is to come
+-- No samples are to come.
 pub ended : (r : Reader) (out : List ℕ) (at : ℕ) {all : List Float} → all ≡ [] → at ≤ length out
     → come r out at all ≡ record { reader = r; place = at; bytes = out }
 unfolding linesOf runOf
 ended r out at n h = rw (n, add-zero at, min-eq-right h)
 
--- samples in two blocks
 pub in-blocks : (r : Reader) (xs ys : List Float) → linesOf r (xs ++ ys) ≡ linesOf r xs ++ linesOf (readerAfter r xs) ys
 unfolding linesOf runOf
 in-blocks r [] ys = refl

@@ -1,5 +1,5 @@
--- X1. 01's four lines for the inputs 1, 2, 3, 4, to the byte, with a trailing part that is ignored:
--- computed over the definitions that the contracts cite. Assumes nothing.
+-- X1. 01's four lines for the inputs 1, 2, 3, 4, to the byte, with a part of a sample at the end that is ignored.
+-- Computed from the definitions that the contracts cite. Assumes nothing.
 use mathlib.Core.Path.{_≡_, refl}
 use mathlib.Core.List.{List, [], _∷_, _++_}
 use Prim.Native.Nat.{ℕ}
@@ -15,7 +15,7 @@ use Rattle.runs.specs.Calls.{runOf}
 use Rattle.runs.specs.Runs.{opened}
 use Rattle.trace_lines.specs.Lines.{linesOf, samplesOf, textOf}
 
--- 1.0, 2.0, 3.0, 4.0, low byte first, and three bytes more
+-- The numbers 1.0, 2.0, 3.0, 4.0, low byte first, and three more bytes.
 abbrev pub bytes : List ℕ
 bytes =
     replicate 6 0 ++ 0xF0 ∷ 0x3F ∷ replicate 7 0 ++ 0x40 ∷ replicate 6 0 ++ 0x08 ∷ 0x40 ∷ replicate 6 0 ++ 0x10 ∷ 0x40

@@ -1,6 +1,5 @@
--- Nothing is cut off where there are 50 bytes for each sample: a line has at most 20 digits, a blank,
--- 28 bytes of an answer and a line's end. By the digits.
--- Assumes nothing.
+-- Nothing is cut off if there are 50 bytes for each sample: a line has at most 20 digits, a blank, 28 bytes of an
+-- answer and the end of the line. By the number of digits. Assumes nothing.
 use mathlib.Core.Path.{_≡_, refl, _∙_, ap}
 use mathlib.Core.List.{List, [], _∷_, _++_}
 use Prim.Native.Nat.{ℕ, zero, suc, _+_, _*_, _/_, _%_, _≤_}
@@ -58,7 +57,7 @@ unfolding samplesOf
 in-samples zero bytes = refl
 in-samples (suc n) bytes = ap suc (in-samples n (drop 8 bytes))
 
--- so what `put_lines` leaves up to the length that it gives is the whole text
+-- So what `put_lines` leaves, up to the length that it gives, is the whole text.
 pub whole : (d : VariableDelay) (ring : List Float) (bytes out : List ℕ) {r : ℕ} {ys : List ℕ}
     → 50 * (length bytes / 8) ≤ length out
     → Puts out 0 (textOf d ring bytes) r ys → take r ys ≡ textOf d ring bytes

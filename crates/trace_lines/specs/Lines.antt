@@ -15,12 +15,12 @@ use Rattle.variable_delay.specs.declared.VariableDelay.{VariableDelay}
 use Rattle.cubic_farrow.specs.Cubic.{cubicAt}
 use Rattle.runs.specs.Runs.{Call, bareCall, Reader, after, run}
 
--- The answer's 16 hex digits in capitals, or `refused`, a blank and the number in place of the digits.
+-- The answer is 16 hex digits in capitals, or `refused`, a blank and the number of the refusal.
 abbrev pub answerText : Answer → List ℕ
 answerText (Sample y) = hexDigits 16 (toBits binary64 y)
 answerText (Refused k) = ascii "refused " ++ decimal k
 
--- The accepted count before the call in decimal, a blank, and the answer.
+-- The line is the number of samples accepted before the call in decimal, a blank, and the answer.
 abbrev pub lineOf : ℕ → Answer → List ℕ
 lineOf count a = decimal count ++ (ascii " " ++ (answerText a ++ ascii "\n"))
 
@@ -40,16 +40,16 @@ linesOf r (x ∷ xs) = lineOf (r .state .accepted) (answerTo r (call x)) ++ line
 abbrev pub readerAfter : Reader → List Float → Reader
 readerAfter r xs = run r (map call xs)
 
--- Headerless binary64, low byte first: the first n samples.
+-- The first n samples of headerless binary64, low byte first.
 unfoldable pub samplesOf : ℕ → List ℕ → List Float
 samplesOf zero bytes = []
 samplesOf (suc n) bytes = ofBits binary64 (bytesValue (take 8 bytes)) ∷ samplesOf n (drop 8 bytes)
 
--- A trailing part of fewer than 8 bytes is ignored.
+-- At the end a part of fewer than 8 bytes is ignored.
 abbrev pub samplesIn : List ℕ → List Float
 samplesIn bytes = samplesOf (length bytes / 8) bytes
 
--- A block of bytes: the reader that it leaves, and the text for it.
+-- The reader that a block of bytes leaves, and the text for it.
 abbrev pub afterBlock : VariableDelay → List Float → List ℕ → Reader
 afterBlock d ring bytes = readerAfter (record { state = d; ring = ring }) (samplesIn bytes)
 

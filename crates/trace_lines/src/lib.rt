@@ -8,7 +8,7 @@ use bit_patterns::bits_of;
 use bit_patterns::float_of;
 use variable_delay::VariableDelay;
 
-// The reader's state after the samples, and where their lines end.
+// The state of the reader after the samples, and the place where their lines end.
 pub struct Traced {
     pub state: VariableDelay,
     pub length: usize,
@@ -30,7 +30,6 @@ fn put_answer(out: &mut [u8], at: usize, answer: Answer) -> usize
     }
 }
 
-// Puts a call's line at a place, and gives the place after it.
 pub fn put_line(out: &mut [u8], at: usize, count: u64, answer: Answer) -> usize
     ensures { λ r. ⌜ r ≡ placeAfter (length (now (out .entry))) at (lineOf count answer) ⌝ }
     ensures { λ r. ⌜ now (out .exit) ≡ putAt (now (out .entry)) at (lineOf count answer) ⌝ }
@@ -41,7 +40,7 @@ pub fn put_line(out: &mut [u8], at: usize, count: u64, answer: Answer) -> usize
     text::put(out, end, b"\n")
 }
 
-// Puts a line for each whole sample of a block at the start of out.
+// Puts a line for each whole sample of a block, from the start of `out` on.
 pub fn put_lines(state: VariableDelay, ring: &mut [f64], block: &[u8], out: &mut [u8]) -> Traced
     ensures { λ r. ⌜ r .state ≡ afterBlock state (now (ring .entry)) (now (block .entry)) .state ⌝ }
     ensures { λ r. ⌜ r .length ≡

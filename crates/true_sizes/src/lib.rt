@@ -2,7 +2,8 @@
 // at place 20. Bytes that are missing count as 0, so that any slice is taken.
 ghost use mathlib.Core.Path.{_≡_};
 ghost use mathlib.Core.Bool.{_||_};
-ghost use Prim.Native.Nat.{_-_, _≤_};
+ghost use Prim.Native.Nat.{_+_, _-_, _/_, _≤_, min};
+ghost use lib.ListN.{length};
 ghost use Rattle.true_sizes.specs.Sizes.{isLong, smallSizes, size64, trueSize, entryCount, entryAt, entriesFrom};
 ghost use Rattle.true_sizes.specs.Sizes.{sizeIn, allSmall};
 use refusal_order::both;
@@ -48,7 +49,7 @@ fn size_64(opening: &[u8], id: u32) -> usize
     if id == 0x3436_7364 {
         return 0xffff_ffff;
     }
-    size_in(opening, entry_count(opening), id)
+    size_in(opening, looked_at(opening), id)
 }
 
 // 19: neither `data`'s size nor an entry's is above 2^40.
@@ -57,7 +58,7 @@ pub fn small_sizes(opening: &[u8]) -> bool
 {
     both(
         low_first(opening, 28) <= 0x100_0000_0000,
-        all_small(opening, entry_count(opening)),
+        all_small(opening, looked_at(opening)),
     )
 }
 
@@ -69,6 +70,17 @@ pub fn entry_count(opening: &[u8]) -> usize
     let told = low_first_u32(opening, 44) as usize;
     let held = less(low_first_u32(opening, 16) as usize, 28) / 12;
     if told < held { told } else { held }
+}
+
+// As many of them as tell what all do: those behind the lent bytes are zeros, and the first of these stands for the
+// others.
+fn looked_at(opening: &[u8]) -> usize
+    ensures { λ r. ⌜ r ≡ min (entryCount (now (opening .entry))) ((length (now (opening .entry)) - 48) / 12 + 2) ⌝ }
+    ensures { λ r. ⌜ r ≤ 0xffff_ffff ⌝ }
+{
+    let count = entry_count(opening);
+    let lent = less(opening.len(), 48) / 12 + 2;
+    if lent < count { lent } else { count }
 }
 
 fn less(n: usize, by: usize) -> usize

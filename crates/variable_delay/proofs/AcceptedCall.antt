@@ -1,4 +1,4 @@
--- What an accepted call knows: every test passed, and the position lies in range. Assumes nothing.
+-- What follows if a call is accepted: every test passed, and the position is in range. Assumes nothing.
 use mathlib.Core.Path.{_≡_, refl}
 use mathlib.Core.Bool.{Bool, true, false, _&&_}
 use Prim.Native.Nat.{ℕ, _^_, _<_, _≤_}
@@ -54,7 +54,7 @@ module _ {own lent : Bool} {d : VariableDelay} {len : ℕ} {x y : Float} (t : Ta
   pub ring-some : 0 < len
   ring-some = rw (t .long) (some (d .maximum) (d .margin))
 
-  -- from 0 - 2^36 to 2^36 - 0, each rounded, which is exact
+  -- The position lies from 0 - 2^36 to 2^36 - 0; both ends are exact.
   pub position-in-range : positionOk (positionOf (d .accepted) y) ≡ true
   unfolding ofInt sub
   position-in-range =

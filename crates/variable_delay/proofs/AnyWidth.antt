@@ -1,6 +1,7 @@
--- A reader's call, from what `accept` handed back: refused with the state as it was, or read behind the stored sample.
--- Over the kernel's reading, over the record `made` of a state and an answer, and over the answer of a number and a
--- sample, in which a refused call's sample must not show: so each width and each kernel cites it. Assumes nothing.
+-- A reader's call, from what `accept` returned: it is refused and the state stays as it was, or it reads behind the
+-- stored sample. The laws are over the kernel's reading, over the record `made` of a state and an answer, and over the
+-- answer of a number and a sample, in which the sample of a refused call must not show. So each width and each kernel
+-- can cite them. Assumes nothing.
 use mathlib.Core.Path.{_≡_, sym, _∙_, ap}
 use mathlib.Core.Bool.{Bool, true, false}
 use mathlib.Core.List.{List}
@@ -22,7 +23,7 @@ refusal-is (suc k) d y e = rw e
 
 module _ {A P : Type 0} (made : VariableDelay → A → P) (answered : ℕ → Float → A)
     (silent : (k : ℕ) (z w : Float) → answered (suc k) z ≡ answered (suc k) w) where
-  -- a call's record, by the state and the answer that the verdict gives
+  -- The record of a call, by the state and the answer for a refusal number.
   abbrev pub calledBy : Reading → ℕ → VariableDelay → List Float → Float → Float → P
   calledBy read v d xs x y =
       made (stateAfter v d)
@@ -34,8 +35,8 @@ module _ {A P : Type 0} (made : VariableDelay → A → P) (answered : ℕ → F
   refused read zero d xs x y z e h = absurd (h (refusal-is zero d y e))
   refused read (suc k) d xs x y z e h = rw (refusal-is (suc k) d y e) (ap (made d) (silent k z _))
 
-  -- `accept` was handed p and q, which tell what the kernel's own settings and its lent table tell, and gave a;
-  -- the ring is ys then
+  -- `accept` was handed p and q, which count like the tests of the kernel's own settings and of its lent table, and
+  -- gave a; then the ring is ys.
   module _ (read : Reading) (own lent : Bool) (d : VariableDelay) (xs : List Float) (x y : Float) {p q : Bool}
       {a : Accepted} {ys : List Float}
       (told : (f : Bool → Bool → ℕ) → ((t u : Bool) → f false t ≡ f false u) → f p q ≡ f own lent)
@@ -65,7 +66,7 @@ module _ {A P : Type 0} (made : VariableDelay → A → P) (answered : ℕ → F
       accepted-is : a ≡ acceptedOf 0 d y
       accepted-is = handed ∙ ap (λ (v : ℕ). acceptedOf v d y) verdict-none
 
-      -- what the kernel reads, it reads where its settings, its table and the position are in range
+      -- The kernel has to read as defined only if its settings, its table and the position are in range.
       pub taken-call : {r : A} {z : Float}
           → (own ≡ true → lent ≡ true → positionOk (a .position) ≡ true → z ≡ read ys (a .count) (a .position))
           → r ≡ answered 0 z

@@ -1,5 +1,5 @@
--- A call at f64: its record and its answer, for the laws of AnyWidth, which each kernel's f64 reader cites.
--- Assumes nothing.
+-- A call at f64: its record and its answer, for the laws of AnyWidth. Each kernel's f64 reader cites this. Assumes
+-- nothing.
 use mathlib.Core.Path.{_≡_, refl}
 use Prim.Native.Nat.{ℕ, suc}
 use lib.Ieee.{Float}

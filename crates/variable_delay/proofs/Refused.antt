@@ -1,4 +1,5 @@
--- A refusal changes neither the state nor the ring (D1c), and an answer's number is the verdict (C4). Assumes nothing.
+-- A refusal changes neither the state nor the ring (D1c), and the number of an answer is that of the refusal (C4).
+-- Assumes nothing.
 use mathlib.Core.Path.{_≡_, refl}
 use mathlib.Core.Bool.{false}
 use mathlib.Core.List.{List}
@@ -15,7 +16,7 @@ use Rattle.variable_delay.specs.declared.VariableDelay.{VariableDelay}
 use Rattle.variable_delay.specs.declared.Accepted.{Accepted}
 use Rattle.variable_delay.specs.declared.Opened.the-variants.{Refused}
 
--- each at a number w that the code holds for the verdict v
+-- Each law is at a number w that the code holds for the refusal v.
 pub same-state : (w : ℕ) {v : ℕ} → w ≡ v → (w ≡ 0 → ⊥) → (d : VariableDelay) → d ≡ stateAfter v d
 same-state zero e h d = absurd (h refl)
 same-state (suc k) e h d = rw (← e)

@@ -1,5 +1,5 @@
--- A reset, from what the calls within it ensure: refused with the ring as it was, or begun anew over the ring that was
--- cleared. In no width's terms, so both cite it. Assumes nothing.
+-- A reset, from the contracts of the calls within it: it is refused and the ring stays as it was, or it begins anew
+-- over a cleared ring. It is stated without a width, so that both widths cite it. Assumes nothing.
 use mathlib.Core.Path.{_≡_, refl, sym, _∙_}
 use mathlib.Core.Bool.{Bool, true, not, cond}
 use mathlib.Core.List.{List}
@@ -15,7 +15,7 @@ use Rattle.variable_delay.proofs.Refused.{not-opened, not-cleared}
 use Rattle.variable_delay.specs.declared.VariableDelay.{VariableDelay}
 use Rattle.variable_delay.specs.declared.Opened.the-variants.{Reader, Refused}
 
--- n is the length that the settings need, v the number that the code has for the verdict
+-- n is the length that the settings need, and v the number that the code has for the refusal.
 module _ (d : VariableDelay) (xs : List Float) {n v : ℕ}
     (long : n ≡ cond (settingsOk (d .maximum) (d .margin)) (lengthFor (d .maximum) (d .margin)) 0)
     (first : v

@@ -1,5 +1,5 @@
--- The tests 1 and 2 as the code makes them, on the length that `length_for` gives: it is 0 exactly where the settings
--- are out of range, and what test 2 says then counts for nothing. Assumes nothing.
+-- The tests 1 and 2 as the code makes them, on the length that `length_for` gives. That is 0 exactly if the settings
+-- are out of range, and then test 2 does not count. Assumes nothing.
 use mathlib.Core.Path.{_≡_, refl, sym, _∙_}
 use mathlib.Core.Bool.{Bool, true, false, not, cond, _&&_, true≢false}
 use Prim.Native.Nat.{ℕ, _^_}
@@ -32,12 +32,12 @@ never : (s : Bool) → s && false ≡ false
 never true = refl
 never false = refl
 
--- likewise of a kernel's own settings: where they are out of range, what its table's length says counts for nothing
+-- Likewise for a kernel's own settings: if they are out of range, the length of its table does not count.
 pub unowned : (d : VariableDelay) (len : ℕ) (x y : Float) (a b : Bool)
     → verdict false a d len x y ≡ verdict false b d len x y
 unowned d len x y a b = rw (never (settingsOk (d .maximum) (d .margin)))
 
--- the verdict on the length that `length_for` gives
+-- The refusal, from the length that `length_for` gives.
 pub due-is : (own lent : Bool) (d : VariableDelay) (len : ℕ) (x y : Float) {n : ℕ}
     → n ≡ cond (settingsOk (d .maximum) (d .margin)) (lengthFor (d .maximum) (d .margin)) 0
     → dueOf n own lent len (d .accepted) x y ≡ verdict own lent d len x y
@@ -48,7 +48,7 @@ due-is own lent d len x y {n} e =
     (le y (fin false 1 (pos 36))) true (ltb (d .accepted) (2 ^ 36)))
     (λ t u. refl) e
 
--- a delay from 0 to 2 ^ 36 is finite
+-- A delay from 0 to 2 ^ 36 is finite.
 bounded : (y : Float)
     → (finite y && le (fin false 0 (pos 0)) y) && le y (fin false 1 (pos 36))
     ≡ le (fin false 0 (pos 0)) y && le y (fin false 1 (pos 36))
@@ -66,7 +66,7 @@ delay-finite y a b = go (finite y) _ _ (bounded y) a b
     go true p q e a b = refl
     go false p q e a b = e ∙ rw (a, b)
 
--- none is due where every test passes, the third by the last
+-- There is no refusal if every test passes; the third follows from the last.
 none-of : (p q t3 t4 t5 t6 t8 : Bool) → (t8 ≡ true → t3 ≡ true)
     → (p && q) && (t8 && (t4 && (t5 && t6))) ≡ eqb (lowestOf p q t3 t4 t5 t6 true t8) 0
 none-of false q t3 t4 t5 t6 t8 h = refl

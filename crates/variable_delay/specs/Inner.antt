@@ -1,5 +1,5 @@
--- The steps of a call as the code makes them: the tests on a length that is computed once, and what `accept` hands a
--- kernel. 01 names neither; what a reader promises stands in Reader.antt without them. Definitions only.
+-- The steps of a call as the code makes them: tests on a length that is computed once, and what `accept` hands to a
+-- kernel. They are no part of what a reader promises, which stands in Reader.antt. Definitions only.
 use Prim.Native.Nat.{ℕ, zero, suc, _+_}
 use mathlib.Core.Bool.{Bool, not, _&&_}
 use mathlib.Core.List.{[], _∷_}
@@ -12,7 +12,7 @@ use Rattle.variable_delay.specs.declared.VariableDelay.{VariableDelay}
 use Rattle.variable_delay.specs.declared.Accepted.{Accepted}
 use Rattle.variable_delay.specs.Reader.{positionOf}
 
--- Reader's `verdict`, by the length that `ring::length_for` gives: it is 0 where the settings are out of range, so one
+-- Reader's `verdict`, from the length that `ring::length_for` gives. That is 0 if the settings are out of range, so one
 -- computation serves the tests 1 and 2.
 abbrev pub dueOf : ℕ → Bool → Bool → ℕ → ℕ → Float → Float → ℕ
 dueOf needed own lent len accepted x y =
@@ -26,7 +26,7 @@ dueOf needed own lent len accepted x y =
     ∷ 8 unless ltb accepted limit
     ∷ [])
 
--- What the kernel is handed: the samples accepted with this one, and the position.
+-- What the kernel is handed: the number of samples accepted, with this one, and the position.
 abbrev pub acceptedOf : ℕ → VariableDelay → Float → Accepted
 acceptedOf zero d y = record { refusal = 0; count = d .accepted + 1; position = positionOf (d .accepted) y }
 acceptedOf (suc k) d y = record { refusal = suc k; count = 0; position = zero-f }

@@ -1,4 +1,4 @@
--- K1. Opening a reader over a lent ring, and resetting one: both zero the ring and the count. Definitions only.
+-- K1. Opening a reader over a lent ring, and resetting one. Both set the ring and the count to zero. Definitions only.
 use Prim.Native.Nat.{ℕ, zero, suc, _^_}
 use mathlib.Core.Bool.{true}
 use mathlib.Core.List.{List, [], _∷_}
@@ -16,7 +16,7 @@ use Rattle.variable_delay.specs.declared.Opened.the-variants.{Reader, Re
 abbrev pub fresh : ℕ → ℕ → VariableDelay
 fresh maximum margin = record { maximum = maximum; margin = margin; accepted = 0 }
 
--- N1 to N3. The refusal that is due at a reset, 0 for none; a full state may be reset.
+-- N1 to N3. The number of the refusal of a reset, 0 for none. A reader that is full may be reset.
 abbrev pub resetVerdict : VariableDelay → ℕ → ℕ
 resetVerdict d len =
     firstOf
@@ -25,7 +25,7 @@ resetVerdict d len =
     ∷ 3 unless leb (d .accepted) limit
     ∷ [])
 
--- The reader that a verdict leaves, and its ring: a refusal leaves every element (D1c).
+-- D1c. The reader that is left for each number, and its ring: a refusal leaves every element as it was.
 abbrev pub openedBy : ℕ → VariableDelay → Opened
 openedBy zero d = Reader (fresh (d .maximum) (d .margin))
 openedBy (suc k) d = Refused (suc k)
@@ -40,7 +40,7 @@ resetOf d len = openedBy (resetVerdict d len) d
 abbrev pub ringReset : VariableDelay → List Float → List Float
 ringReset d xs = clearedBy (resetVerdict d (length xs)) xs
 
--- Opening is the reset of a state that has accepted nothing, so that only 1 and 2 can be due.
+-- Opening is the reset of a state that has accepted nothing, so that only 1 and 2 are possible.
 abbrev pub openedOf : ℕ → ℕ → ℕ → Opened
 openedOf maximum margin len = resetOf (fresh maximum margin) len
 

@@ -1,5 +1,5 @@
--- A delay reader, defined once over what its kernel reads and what its kernel asks of its own settings (01, 'Reading a
--- ring'); a kernel without settings asks nothing. Samples are floats of either width. Definitions only.
+-- A delay reader, defined once for all kernels, over what the kernel reads and what it needs of its own settings (01,
+-- 'Reading a ring'). A kernel without settings needs nothing. Samples are floats of either width. Definitions only.
 use Prim.Native.Nat.{ℕ, zero, suc, _+_, _%_}
 use mathlib.Core.Bool.{Bool, true, _&&_}
 use mathlib.Core.List.{List, [], _∷_}
@@ -15,12 +15,12 @@ use Rattle.ring.specs.Length.{settingsOk, lengthFor}
 use Rattle.variable_delay.specs.declared.VariableDelay.{VariableDelay}
 use Rattle.variable_delay.specs.declared.Processed.{Processed}
 
--- What a kernel reads: from the ring, the number of samples accepted with the newest, and the position.
+-- What a kernel reads from: the ring, the number of samples accepted (the newest included), and the position.
 abbrev pub Reading : Type 0
 Reading = List Float → ℕ → Float → Float
 
--- N1 to N6, N8. The refusal that is due, 0 for none. `own` says that the kernel's own settings are in range, `lent`
--- that its lent table has its length.
+-- N1 to N6, N8. The number of the refusal, 0 for none. `own` says that the kernel's own settings are in range, `lent`
+-- that the table lent to it has its length.
 abbrev pub verdict : Bool → Bool → VariableDelay → ℕ → Float → Float → ℕ
 verdict own lent d len x y =
     firstOf
@@ -41,7 +41,7 @@ stored i xs x = set xs (i % length xs) x
 abbrev pub positionOf : ℕ → Float → Float
 positionOf i y = sub binary64 (ofInt binary64 (pos i)) y
 
--- The ring, and the state, after a call with a verdict: a refusal changes neither (D1c).
+-- D1c. The ring and the state after a call: a refusal changes neither.
 abbrev pub ringAfter : ℕ → VariableDelay → List Float → Float → List Float
 ringAfter zero d xs x = stored (d .accepted) xs x
 ringAfter (suc k) d xs x = xs
@@ -50,7 +50,7 @@ abbrev pub stateAfter : ℕ → VariableDelay → VariableDelay
 stateAfter zero d = record { maximum = d .maximum; margin = d .margin; accepted = d .accepted + 1 }
 stateAfter (suc k) d = d
 
--- A call: refused with the state as it was, or stored, then read.
+-- A call is refused and leaves the state as it was, or it stores the sample and then reads.
 abbrev pub processedBy : Reading → ℕ → VariableDelay → List Float → Float → Float → Processed
 processedBy read v d xs x y = record {
   state = stateAfter v d;

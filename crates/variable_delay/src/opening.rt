@@ -1,4 +1,4 @@
-// Opening a reader over a lent ring, and resetting it.
+// Opens a reader over a lent ring, and resets it.
 ghost use mathlib.Core.Path.{_≡_};
 ghost use lib.ListN.{length};
 ghost use Rattle.variable_delay.specs.Opening.{openedOf, ringOpened, resetOf, ringReset};

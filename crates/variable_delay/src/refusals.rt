@@ -1,4 +1,4 @@
-// The refusal that is due at a call, and whether none is.
+// The number by which a call is refused, and a quicker test for a call that is not.
 ghost use mathlib.Core.Path.{_≡_};
 ghost use mathlib.Core.Bool.{_&&_};
 ghost use lib.Dec.{eqb};
@@ -9,7 +9,7 @@ use constants::LIMIT;
 use constants::LIMIT_F64;
 use refusal_order::both;
 
-// The refusal that is due, in 01's order, and 0 for none.
+// N1 to N6, N8. The number of the refusal, in 01's order, 0 for none.
 pub fn refusal(
     state: VariableDelay,
     own: bool,
@@ -24,7 +24,7 @@ pub fn refusal(
     due(needed, own, lent, len, state.accepted, input, delay)
 }
 
-// The same, given the length that the settings need, 0 if they are out of range.
+// The same from the length that the settings need, which is 0 if they are out of range.
 pub(crate) fn due(
     needed: usize,
     own: bool,
@@ -46,7 +46,7 @@ pub(crate) fn due(
     answer::first(t1, t2, t3, t4, t5, t6, true, t8)
 }
 
-// Whether no refusal is due, by fewer tests: a delay from 0 to 2^36 is finite, and a count below 2^36 is in range.
+// Whether nothing is refused, by fewer tests: a delay from 0 to 2^36 is finite, and a count below 2^36 is in range.
 pub(crate) fn passes(
     needed: usize,
     own: bool,

@@ -1,5 +1,5 @@
--- A call at f32: its record and its answer, for the laws of variable_delay's AnyWidth, which each kernel's f32 reader
--- cites. An answer's number is the verdict (C4). Assumes nothing.
+-- A call at f32: its record and its answer, for the laws of variable_delay's AnyWidth. Each kernel's f32 reader cites
+-- this. The number of an answer is that of the refusal (C4). Assumes nothing.
 use mathlib.Core.Path.{_≡_, refl}
 use mathlib.Core.List.{List}
 use Prim.Native.Nat.{ℕ, suc}

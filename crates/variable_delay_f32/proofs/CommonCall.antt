@@ -1,4 +1,4 @@
--- Where the tests of a common call pass, nothing is to be refused: each of 01's is among them, or follows.
+-- If the tests of the fast path pass, nothing is refused: each of 01's tests is among them, or follows from them.
 -- Assumes nothing.
 use mathlib.Core.Path.{_≡_, refl, sym, _∙_, ap}
 use mathlib.Core.Bool.{Bool, true, false, cond, false≢true}
@@ -14,7 +14,7 @@ use Rattle.variable_delay.specs.Reader.{verdict}
 use Rattle.variable_delay.proofs.Settings.{delay-finite}
 use Rattle.variable_delay.specs.declared.VariableDelay.{VariableDelay}
 
--- something lent that is not empty, and has the length that is m where b holds and else 0
+-- A lent slice that is not empty and has the length n, which is m if b holds and otherwise 0.
 pub filled : (b : Bool) (m len n : ℕ) → n ≡ cond b m 0 → (len ≡ 0 → ⊥) → eqb len n ≡ true
     → (b ≡ true) × (eqb len m ≡ true)
 filled true m len n e some h = (refl, ap (eqb len) (sym e) ∙ h)
@@ -40,6 +40,6 @@ none-due own lent d len x y n o l room a b f some e h =
       lt-ltb (d .accepted) (2 ^ 36) room,
     )
 
--- a call that a test led away from says nothing
+-- A test that failed leaves nothing to show.
 pub led-away : {A : Type 0} → false ≡ true → A
 led-away h = absurd (false≢true h)

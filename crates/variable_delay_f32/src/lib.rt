@@ -1,6 +1,6 @@
 // The original's VariableDelayF32 (000): `variable_delay` over a ring of f32.
 // The state and the answer of an opening are variable_delay's; the delay and the position stay f64.
-mod served; // a call of which nothing is to be refused
+mod served; // a quick test for calls that are not refused
 
 ghost use mathlib.Core.Path.{_≡_};
 ghost use mathlib.Core.Bool.{_&&_};
@@ -57,8 +57,8 @@ pub fn reset(state: VariableDelay, ring: &mut [f32]) -> Opened
     })
 }
 
-// The refusal that is due, in 01's order, 0 for none. Most calls are accepted, which fewer tests than the order has can
-// tell.
+// N1 to N6, N8. The number of the refusal, in 01's order, 0 for none. Most calls are accepted, and fewer tests are
+// enough to show that.
 pub fn refusal(
     state: VariableDelay,
     own: bool,

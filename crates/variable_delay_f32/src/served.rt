@@ -1,4 +1,5 @@
-// Fast path: true only if no refusal is due. Returns at the first failing test; `refusal` works out the number.
+// Fast path: true only if the call is not refused. It returns at the first failing test; `refusal` works out the
+// number.
 ghost use mathlib.Core.Path.{_≡_};
 ghost use mathlib.Core.Bool.{true};
 ghost use Rattle.variable_delay.specs.Reader.{verdict};
@@ -6,7 +7,7 @@ use constants::LIMIT;
 use constants::LIMIT_F64;
 use variable_delay::VariableDelay;
 
-// Whether no refusal is due. A delay between two finite numbers is finite; an empty ring never has the length that
+// Whether nothing is refused. A delay between two finite numbers is finite, and an empty ring never has the length that
 // settings need.
 pub(crate) fn served(
     state: VariableDelay,

@@ -1,4 +1,4 @@
--- What the value of a name has to be, in words. Definitions only.
+-- What the value of a setting must be, in words. Definitions only.
 use Prim.Native.Nat.{ℕ}
 use mathlib.Core.List.{List}
 use Rattle.text.specs.Text.{ascii}

@@ -1,4 +1,4 @@
-// What the value of a name has to be, in words, for a program that refuses one.
+// What the value of a setting must be, in words, for a program that refuses one.
 ghost use mathlib.Core.Path.{_≡_};
 ghost use lib.ListN.{length};
 ghost use Rattle.text.specs.Text.{putAt, placeAfter};
@@ -6,7 +6,6 @@ ghost use Rattle.wanted.specs.Wanted.{wantedOf};
 use arguments::Name;
 use text::put;
 
-// Puts the sentence at a place, and gives the place after it.
 pub fn put_wanted(out: &mut [u8], at: usize, name: Name) -> usize
     ensures { λ r. ⌜ r ≡ placeAfter (length (now (out .entry))) at (wantedOf name) ⌝ }
     ensures { λ r. ⌜ now (out .exit) ≡ putAt (now (out .entry)) at (wantedOf name) ⌝ }

@@ -1,5 +1,5 @@
--- Two files whose first bytes are the same: so are the parts and the chunks that lie in these and, where both files
--- hold their RIFF, the first two tests and the walk. Assumes nothing.
+-- Two files with the same first bytes have the same parts and chunks in these and, if both hold their RIFF, the same
+-- first two tests and the same walk. Assumes nothing.
 use mathlib.Core.Path.{_≡_, refl, sym, ap, _∙_}
 use mathlib.Core.Bool.{not}
 use mathlib.Core.List.{List, [], _∷_}
@@ -28,7 +28,7 @@ same-part (suc n) (x ∷ b) [] e (suc at) k h = let z : _≡_ {A = ℕ} 0 1 = cc
 same-part (suc n) (x ∷ b) (y ∷ c) e (suc at) k h =
     same-part n b c (tails x y (take n b) (take n c) e) at k (omega arith)
 
--- where a file holds its RIFF, the RIFF's end is the walk's
+-- If a file holds its RIFF, the walk ends at the RIFF's end.
 pub walk-held : (b : List ℕ) → 8 + riffSize b ≤ length b
     → walkIn b ≡ walkTo riffSought (chunkAt bytesValue b) (8 + riffSize b)
 walk-held b h =

@@ -1,4 +1,4 @@
--- An answer by what it rests on: the tag, the first two tests, the walk and the body of the `fmt `. Assumes nothing.
+-- An answer by what it depends on: the tag, the first two tests, the walk and the body of the `fmt `. Assumes nothing.
 use mathlib.Core.Path.{_≡_, refl, ap, _∙_}
 use mathlib.Core.Bool.{Bool, true, false}
 use mathlib.Core.List.{List, [], _∷_}
@@ -28,7 +28,7 @@ judged t is fit v f =
       length = v .samples .size;
     })
 
--- Readings that tell the same tag answer alike.
+-- Readings that take the same tag answer alike.
 pub by-tag : (f g : List ℕ → ℕ → ℕ) (b : List ℕ) → tagIn f b ≡ tagIn g b → foundBy f b ≡ foundBy g b
 by-tag f g b e = ap (λ (t : ℕ). judged t (isWave b) (within b) (walkIn b) (fmtOf b)) e
 
@@ -36,7 +36,7 @@ module _ (tagOf : List ℕ → ℕ → ℕ) where
   abbrev pub judgedBy : Bool → Bool → Walked → List ℕ → Found
   judgedBy is fit v f = judged (tagOf f (v .format .size)) is fit v f
 
-  -- the body matters only where the first four tests pass
+  -- The body matters only if the first four tests pass.
   pub body-matters : (is fit : Bool) (v : Walked) (f g : List ℕ)
       → (fit ≡ true → v .format .found ≡ true → v .samples .found ≡ true → f ≡ g)
       → judgedBy is fit v f ≡ judgedBy is fit v g

@@ -1,5 +1,6 @@
--- W1d. Bytes behind the RIFF's end do not show, nor do bytes behind the first `data`'s body: where samples are found
--- the bytes before them decide. For both readings, by the walk, which looks at no others. Assumes nothing.
+-- W1d. Bytes behind the RIFF's end do not count, nor do bytes behind the body of the first `data`: if samples are
+-- found, the bytes before them decide. This is shown for both readings, by the walk, which looks at no others. Assumes
+-- nothing.
 use mathlib.Core.Path.{_≡_, refl, sym, ap, _∙_}
 use mathlib.Core.Bool.{Bool, true, false, not, _&&_}
 use mathlib.Core.List.{List, _++_}
@@ -33,7 +34,7 @@ unfolding isWave
 small-refused tagOf b h = rw (lt-leb 4 (riffSize b) h, and-false, and-false, and-false)
 
 module _ (tagOf : List ℕ → ℕ → ℕ) (b c : List ℕ) where
-  -- what is to be shown of the body of the `fmt `
+  -- What has to be shown for the body of the `fmt `.
   abbrev SameBody : Type 0
   SameBody =
       partOf b (walkIn b .format .body) (walkIn b .format .size)
@@ -95,8 +96,8 @@ module _ (tagOf : List ℕ → ℕ → ℕ) (b c : List ℕ) where
           let o = in-order riffSought f (λ at. refl) e refl refl e (leb (12 + 8) e) 12 x y in
           same-part n b c same (walkIn b .format .body) (walkIn b .format .size) (omega arith)
 
-  -- W1d. Where samples are found the bytes before them decide: another file with the same, that holds its RIFF, is
-  -- answered alike.
+  -- W1d. If samples are found, the bytes before them decide: another file with the same bytes there, that holds its
+  -- RIFF, is answered alike.
   pub header-decides : (w : Wave) → foundBy tagOf b ≡ found.Wave w → take (w .start) b ≡ take (w .start) c
       → 8 + riffSize c ≤ length c → foundBy tagOf c ≡ found.Wave w
   header-decides w e same holds =
@@ -104,14 +105,14 @@ module _ (tagOf : List ℕ → ℕ → ℕ) (b c : List ℕ) where
       let l = ap (λ (v : Wave). v .start) (o .1) in
       sym (passed-alike (all-passed tagOf b (o .0)) (w .start) (omega arith) same holds) ∙ e
 
-  -- W1d. So the bytes behind the part that holds samples do not show.
+  -- W1d. So the bytes behind the samples do not count.
   pub behind-data : (w : Wave) → foundBy tagOf b ≡ found.Wave w
       → take (w .start + w .length) b ≡ take (w .start + w .length) c → 8 + riffSize c ≤ length c
       → foundBy tagOf c ≡ found.Wave w
   behind-data w e same holds =
       header-decides w e (same-part (w .start + w .length) b c same 0 (w .start) (omega arith)) holds
 
--- W1d. Whatever follows a file that holds its RIFF, as in a larger buffer.
+-- W1d. What follows a file that holds its RIFF, as in a larger buffer, does not count.
 pub longer : (tagOf : List ℕ → ℕ → ℕ) (b more : List ℕ) → 8 + riffSize b ≤ length b
     → foundBy tagOf (b ++ more) ≡ foundBy tagOf b
 longer tagOf b more h =

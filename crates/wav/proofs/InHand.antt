@@ -1,5 +1,5 @@
--- What `read_by` and `fmt_told` have in hand is what the definitions name, and an answer by its number. Assumes
--- nothing.
+-- The values that `read_by` and `fmt_told` have are those that the definitions name, and an answer is determined by its
+-- number. Assumes nothing.
 use mathlib.Core.Path.{_≡_, refl, ap, _∙_}
 use mathlib.Core.Bool.{Bool, true, false, cond, not, _&&_}
 use mathlib.Core.List.{List, [], _∷_}
@@ -24,7 +24,7 @@ refused (suc k) w h = refl
 pub taken : (k : ℕ) (w : Wave) → k ≡ 0 → found.Wave w ≡ answered k w
 taken k w h = rw h
 
--- the tests of `first`, in their order
+-- The tests of `first`, in their order.
 pub in-order : (wave inside : Bool) (t : ℕ) (f : List ℕ) (w : Walked) {t13 : Bool} {r : ℕ}
     → t13 ≡ formatOk t f (w .format .size) (w .samples .size)
     → r ≡ firstOf (9 unless wave ∷ 10 unless inside ∷ 11 unless w .format .found ∷ 12 unless w .samples .found
@@ -32,7 +32,7 @@ pub in-order : (wave inside : Bool) (t : ℕ) (f : List ℕ) (w : Walked) {t13 :
     → r ≡ firstOf (testsOf wave inside t f w)
 in-order wave inside t f w p q = q ∙ rw p
 
--- a RIFF that runs past the file
+-- The RIFF runs past the file.
 pub past : (tagOf : List ℕ → ℕ → ℕ) (b : List ℕ) → length b < 8 + riffSize b
     → found.Refused (cond (isWave b) 10 9) ≡ answered (verdict tagOf b) (waveIn tagOf b)
 past tagOf b h = rw (lt-leb (8 + riffSize b) (length b) h) (by (isWave b))
@@ -41,7 +41,7 @@ past tagOf b h = rw (lt-leb (8 + riffSize b) (length b) h) (by (isWave b))
     by true = refl
     by false = refl
 
--- the walk, the body of the `fmt ` and the tag that the reading tells
+-- The walk, the body of the `fmt ` and the tag that the reading takes.
 pub record InHand (tagOf : List ℕ → ℕ → ℕ) (b : List ℕ) (w : Walked) (f : List ℕ) (t : ℕ) : Type 0 where
   pub walk-is : w ≡ walkIn b
   pub fmt-is : f ≡ fmtOf b

@@ -1,4 +1,4 @@
--- W1. The identifiers are their letters, `RIFF` and `WAVE`, and the standard tail is the bytes of
+-- W1. The identifiers are the letters `RIFF` and `WAVE`, and the standard tail is the bytes of
 -- 0000-0010-8000-00AA00389B71 as they are stored, behind any 26. Assumes nothing.
 use mathlib.Core.Path.{_≡_, refl}
 use mathlib.Core.Bool.{true}

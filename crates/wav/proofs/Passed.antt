@@ -1,4 +1,5 @@
--- W1. Where no refusal is due every test has passed, each by its name, and so has every part of 13's. Assumes nothing.
+-- W1. If nothing is refused every test has passed, each by its name, and so has every part of the test for 13. Assumes
+-- nothing.
 use mathlib.Core.Path.{_≡_, refl, sym}
 use mathlib.Core.Bool.{Bool, true, false, true≢false, not, _&&_, _||_}
 use mathlib.Core.List.{List}
@@ -13,12 +14,11 @@ use Rattle.riff_chunks.specs.declared.Walked.{Walked}
 use Rattle.wav_format.specs.Format.{channels, block, bits, listed, wholeFrames, formatOk}
 use Rattle.wav.specs.Wave.{riffSize, walkIn, fmtOf, isWave, within, tagIn, testsOf, tests, verdict}
 
--- both tests of a conjunction
 pub both-hold : (a b : Bool) → a && b ≡ true → (a ≡ true) × (b ≡ true)
 both-hold true b h = (refl, h)
 both-hold false b h = absurd (true≢false (sym h))
 
--- 13's tests, one by one
+-- The parts of the test for 13, one by one.
 pub record Formatted (t : ℕ) (f : List ℕ) (size samples : ℕ) : Type 0 where
   pub long : 16 ≤ size
   pub is-listed : listed t (bits f) ≡ true
@@ -52,7 +52,7 @@ formatted t f size samples h =
       frame = ltb-true 0 (block f) (v .0);
     }
 
--- all tests, in their order
+-- All tests, in their order.
 pub record Passed (tagOf : List ℕ → ℕ → ℕ) (b : List ℕ) : Type 0 where
   pub is-wave : isWave b ≡ true
   pub held : 8 + riffSize b ≤ length b

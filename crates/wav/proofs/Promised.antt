@@ -1,5 +1,5 @@
--- W1a, W1b, W1j. What a reading promises, whatever tells its tag: each number of 9 to 13 exactly when, and the part
--- whole where none is due. By the table of tests and what they leave. Assumes nothing.
+-- W1a, W1b, W1j. What a reading promises, however it takes the tag: exactly when each number of 9 to 13 is given, and
+-- that the samples are all there if none is. By the table of tests and what they show. Assumes nothing.
 use mathlib.Core.Path.{_≡_, refl, sym, ap, _∙_}
 use mathlib.Core.Logic.{_↔_}
 use mathlib.Core.Bool.{Bool, true, false, true≢false, cond, _&&_, _||_}
@@ -24,7 +24,7 @@ use Rattle.wav.specs.Wave.{riffSize, walkIn, fmtOf, isWave, tagIn, tests
 use Rattle.wav.specs.Accepted.{Accepted}
 use Rattle.wav.proofs.Passed.{formatted, all-passed}
 
--- W1a. 9 + k is given exactly when test k, counted from 0, is the first of the five that fails.
+-- W1a. 9 + k is given exactly if test k, counted from 0, is the first of the five that fails.
 pub exactly-when : (tagOf : List ℕ → ℕ → ℕ) (b : List ℕ) (k : ℕ) → verdict tagOf b ≡ 9 + k ↔ First (tests tagOf b) k
 exactly-when tagOf b k = (given, λ w. first-given (tests tagOf b) k w ∙ number k w)
   where
@@ -47,7 +47,7 @@ pub riff-past : (tagOf : List ℕ → ℕ → ℕ) (b : List ℕ) → isWave b �
     → verdict tagOf b ≡ 10
 riff-past tagOf b w h = rw (w, lt-leb (8 + riffSize b) (length b) h)
 
--- a kind that is listed has bytes of eight bits
+-- A listed kind has whole bytes of eight bits.
 width-is : (t n : ℕ) → listed t n ≡ true → widthOf (kindOf t n) ≡ n / 8
 width-is t n h = by (eqb t 3) (eqb t 1) (eqb n 16) (eqb n 24) (eqb n 32) refl refl refl refl refl h
   where
@@ -61,7 +61,7 @@ width-is t n h = by (eqb t 3) (eqb t 1) (eqb n 16) (eqb n 24) (eqb n 32) refl re
     by false true false true n32 p q a b c h = rw (eqb-true n 24 b)
     by false true false false n32 p q a b c h = absurd (true≢false (sym h))
 
--- an answer that is a wave, by its number
+-- An answer with samples, by its number.
 pub wave-of : (k : ℕ) (v w : Wave) → answered k v ≡ found.Wave w → (k ≡ 0) × (v ≡ w)
 wave-of zero v w e = (refl, cc)
 wave-of (suc k) v w e = let z : _≡_ {A = ℕ} 0 1 = cc in absurd (omega arith)
@@ -86,7 +86,7 @@ module _ (tagOf : List ℕ → ℕ → ℕ) (b : List ℕ) where
         whole = simp (length-take, length-drop) (omega arith);
       }
 
-  -- W1b, W1c. Where samples are found the part is whole, of one or two channels and of whole frames.
+  -- W1b, W1c. If samples are found they are all there, in one or two channels and in whole frames.
   pub accepted : (w : Wave) → foundBy tagOf b ≡ found.Wave w → Accepted b w
   accepted w e =
       let o = wave-of (verdict tagOf b) (waveIn tagOf b) w e in

@@ -1,6 +1,6 @@
--- W1. The two readings beside each other: where the tag is not FFFE they answer alike, the one that unwraps finds
--- whatever the plain one finds, and what it finds beyond that the plain one refuses by 13. By the tag, which is all
--- that they tell differently. Assumes nothing.
+-- W1. The two readings compared. If the tag is not FFFE they answer alike; the one that unwraps finds whatever the
+-- plain one finds, and what it finds beyond that the plain one refuses by 13. By the tag, which is all that they read
+-- differently. Assumes nothing.
 use mathlib.Core.Path.{_≡_, refl, sym, ap, _∙_}
 use mathlib.Core.Bool.{Bool, true, false, true≢false, cond}
 use mathlib.Core.List.{List, [], _∷_}
@@ -23,7 +23,7 @@ pub not-wrapped : (b : List ℕ) → eqb (tag (fmtOf b)) wrapper ≡ false → f
 unfolding wraps
 not-wrapped b e = by-tag wrappedTag plainTag b (rw e)
 
--- no listed kind has the tag FFFE
+-- No listed kind has the tag FFFE.
 listed-plain : (t n : ℕ) → listed t n ≡ true → eqb t wrapper ≡ false
 listed-plain t n h = by (eqb t wrapper) refl
   where
@@ -37,7 +37,7 @@ finds-as-plain b w e =
     let f = formatted _ _ _ _ (all-passed plainTag b z .format-ok) in
     not-wrapped b (listed-plain (tag (fmtOf b)) (bits (fmtOf b)) (f .is-listed)) ∙ e
 
--- where the tests before it pass, 13 is due or none
+-- If the tests before it pass, the refusal is 13 or none.
 last-due : (t9 t10 t11 t12 t13 : Bool) → t9 ≡ true → t10 ≡ true → t11 ≡ true → t12 ≡ true
     → firstOf (9 unless t9 ∷ 10 unless t10 ∷ 11 unless t11 ∷ 12 unless t12 ∷ 13 unless t13 ∷ []) ≡ cond t13 0 13
 last-due t9 t10 t11 t12 t13 p q r s = rw (p, q, r, s)
@@ -46,7 +46,7 @@ refused-last : (t13 : Bool) (w : Wave) (k : ℕ) → answered (cond t13 0 13) w 
 refused-last true w k e = let z : _≡_ {A = ℕ} 0 1 = cc in absurd (omega arith)
 refused-last false w k e = cc
 
--- Where the one that unwraps finds samples and the plain one does not, the plain one refuses by 13.
+-- If the one that unwraps finds samples and the plain one does not, the plain one refuses by 13.
 pub else-thirteen : (b : List ℕ) (w : Wave) (k : ℕ) → foundWrapped b ≡ found.Wave w → foundIn b ≡ found.Refused k
     → k ≡ 13
 else-thirteen b w k e r =

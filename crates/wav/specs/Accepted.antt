@@ -1,5 +1,4 @@
--- W1b, W1c. What a file has in which samples were found, by either reading. A statement, which proofs/Promised.antt
--- shows.
+-- W1b, W1c. What holds for a file in which samples were found, by either reading. proofs/Promised.antt shows it.
 use Prim.Native.Nat.{ℕ, _+_, _%_, _≤_, _<_}
 use mathlib.Core.Path.{_≡_}
 use mathlib.Core.List.{List}
@@ -9,13 +8,13 @@ use Rattle.wav.specs.declared.Wave.{Wave}
 use Rattle.wav.specs.Wave.{riffSize, partOf}
 
 pub record Accepted (b : List ℕ) (w : Wave) : Type 0 where
-  -- one or two channels
+  -- There are one or two channels.
   pub some : 1 ≤ w .channels
   pub few : w .channels ≤ 2
-  -- whole frames
+  -- The samples are whole frames.
   pub frame : 0 < frameOf (w .kind) (w .channels)
   pub frames : w .length % frameOf (w .kind) (w .channels) ≡ 0
-  -- the part is whole, and lies inside the RIFF and the file
+  -- The samples lie inside the RIFF and the file.
   pub inside : w .start + w .length ≤ 8 + riffSize b
   pub held : 8 + riffSize b ≤ length b
   pub whole : length (partOf b (w .start) (w .length)) ≡ w .length

@@ -1,4 +1,4 @@
-// W1. What is found, once the first tests are made, the chunks are walked and the body of `fmt ` is at hand.
+// W1. The answer, once the first tests have been made, the chunks walked and the body of `fmt ` read.
 ghost use mathlib.Core.Path.{_≡_};
 ghost use Rattle.wav.specs.Wave.{foundOf};
 use crate::Found;
@@ -10,7 +10,8 @@ use wav_format::format_ok;
 use wav_format::kind_of;
 use word_bytes::low_first_u32;
 
-// `wave` and `inside` are what 9 and 10 ask, `tag` what the reading takes for the tag of the `fmt ` whose body is f.
+// `wave` and `inside` are the tests for 9 and 10; `tag` is what the reading takes for the tag of the `fmt ` with the
+// body f.
 pub fn finish(wave: bool, inside: bool, tag: u32, f: &[u8], walked: Walked) -> Found
     ensures { λ r. ⌜ r ≡ foundOf wave inside tag (now (f .entry)) walked ⌝ }
 {

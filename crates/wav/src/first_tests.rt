@@ -10,7 +10,7 @@ ghost use Rattle.refusal_order.specs.Order.{_unless_, firstOf};
 use refusal_order::both;
 use word_bytes::low_first_u32;
 
-// 9. `RIFF`, `WAVE` and a RIFF size that holds the latter.
+// The test for 9: `RIFF`, `WAVE`, and a RIFF size that includes the latter.
 pub fn is_wave(file: &[u8]) -> bool
     ensures { λ r. ⌜ r ≡ isWave (now (file .entry)) ⌝ }
 {
@@ -26,7 +26,7 @@ pub fn is_wave(file: &[u8]) -> bool
     )
 }
 
-// 10. The RIFF counts as a chunk.
+// The test for 10, in which the RIFF counts as a chunk.
 pub fn within(file: &[u8], overruns: bool) -> bool
     ensures { λ r. ⌜ r ≡ leb (8 + riffSize (now (file .entry))) (length (now (file .entry))) && not overruns ⌝ }
 {
@@ -34,14 +34,14 @@ pub fn within(file: &[u8], overruns: bool) -> bool
     both(end <= file.len(), !overruns)
 }
 
-// What is due where the RIFF runs past the file.
+// The refusal of a file past whose end the RIFF runs.
 pub fn past(is: bool) -> u8
     ensures { λ r. ⌜ r ≡ cond is 10 9 ⌝ }
 {
     if is { 10 } else { 9 }
 }
 
-// The lowest number whose test fails; 0 where all pass.
+// The lowest number whose test fails; 0 if all pass.
 pub fn first(t9: bool, t10: bool, t11: bool, t12: bool, t13: bool) -> u8
     ensures { λ r. ⌜ r ≡ firstOf (9 unless t9 ∷ 10 unless t10 ∷ 11 unless t11 ∷ 12 unless t12 ∷ 13 unless t13 ∷ []) ⌝ }
 {

@@ -15,7 +15,7 @@ use sample_kind::SampleKind;
 use wav_format::tag_of;
 use word_bytes::low_first_u32;
 
-// One or two channels; the samples' bytes are `length` bytes from `start` on.
+// There are one or two channels, and the samples are the `length` bytes from `start` on.
 pub struct Wave {
     pub kind: SampleKind,
     pub channels: u8,
@@ -29,7 +29,7 @@ pub enum Found {
     Refused(u8),
 }
 
-// What the first `fmt ` says, its size, and the size of the first `data`; zeros where there is none.
+// What the first `fmt ` says, its size, and the size of the first `data`; zeros for what is missing.
 pub struct Told {
     pub size: usize,
     pub tag: u32,
@@ -39,14 +39,14 @@ pub struct Told {
     pub samples: usize,
 }
 
-// Tag 1 is PCM and tag 3 IEEE float. Every other tag is refused by 13.
+// Tag 1 is PCM and tag 3 IEEE float; every other tag is refused by 13.
 pub fn read(file: &[u8]) -> Found
     ensures { λ r. ⌜ r ≡ foundIn (now (file .entry)) ⌝ }
 {
     read_by(false, file)
 }
 
-// The same, but that a kind wrapped as WAVE_FORMAT_EXTENSIBLE, tag FFFE, is read by the tag inside.
+// `read`, except that a kind wrapped as WAVE_FORMAT_EXTENSIBLE, tag FFFE, is read by the tag inside.
 pub fn read_wrapped(file: &[u8]) -> Found
     ensures { λ r. ⌜ r ≡ foundWrapped (now (file .entry)) ⌝ }
 {
@@ -58,7 +58,7 @@ fn read_by(wrapped: bool, file: &[u8]) -> Found
 {
     let size = low_first_u32(file, 4);
     let end = 8 + size as usize;
-    // Where the RIFF runs past the file the number is known without a walk.
+    // If the RIFF runs past the file the number is known without a walk.
     if file.len() < end {
         return Found::Refused(past(is_wave(file)));
     }
@@ -70,7 +70,7 @@ fn read_by(wrapped: bool, file: &[u8]) -> Found
     finish(is_wave(file), within(file, walked.overruns), tag, f, walked)
 }
 
-// What a file says of its samples, whether it is refused or not: for who explains a 13.
+// What a file says of its samples, whether it is refused or not, for a caller that explains a 13.
 pub fn fmt_told(file: &[u8]) -> Told
     ensures { λ r. ⌜ r ≡ toldIn (now (file .entry)) ⌝ }
 {
@@ -89,14 +89,14 @@ pub fn fmt_told(file: &[u8]) -> Told
     }
 }
 
-// The part of a file that holds samples.
+// The part of a file that holds the samples.
 pub fn part(file: &[u8], wave: Wave) -> &[u8]
     ensures { λ r. ⌜ now r ≡ partOf (now (file .entry)) (wave .start) (wave .length) ⌝ }
 {
     part_of(file, wave.start, wave.length)
 }
 
-// Up to size bytes of s from a place on: fewer where s ends before.
+// Up to `size` bytes of s from a place on; fewer if s ends before that.
 pub fn part_of(s: &[u8], start: usize, size: usize) -> &[u8]
     ensures { λ r. ⌜ now r ≡ partOf (now (s .entry)) start size ⌝ }
 {

@@ -1,5 +1,5 @@
--- W2c. A file that `write` made, read and written again, is the same file: storing what is read from its samples' bytes
--- gives them again. Assumes nothing.
+-- W2c. A file that `write` made, of any length, read and written again, is the same file: storing what is read from its
+-- samples' bytes gives them again. Assumes nothing.
 use mathlib.Core.Path.{_≡_, ap, _∙_}
 use mathlib.Core.Bool.{true}
 use mathlib.Core.List.{List, _++_}
@@ -19,10 +19,10 @@ use Rattle.wav_store.specs.Parts.{samplesOf}
 use Rattle.wav_store.proofs.Placed.{length-bytes}
 use Rattle.wav_store.proofs.ReadBack.{read-back}
 use Rattle.wav_header.specs.Header.{sizeOf}
+use Rattle.long_header.specs.declared.Form.{Form}
 use Rattle.wav_write.specs.Writing.{fileOf, verdict}
 use Rattle.wav_write.proofs.Order.{write-none}
-use Rattle.wav_back.proofs.Read.{waveFor}
-use Rattle.wav_back.proofs.Written.{part-read}
+use Rattle.wav_back.proofs.Written.{waveOfAny, part-read}
 use Rattle.wav_back.proofs.Stored.{stored-bytes, stored-finite}
 
 -- The samples of a file, as it is read: in f64 or in f32.
@@ -34,17 +34,17 @@ some-bytes Pcm16 = omega arith
 some-bytes Pcm24 = omega arith
 some-bytes Float32 = omega arith
 
-module _ (f : Format) (kind : SampleKind) (channels rate : ℕ) (samples : List Float) (room : ℕ)
+module _ (f : Format) (form : Form) (kind : SampleKind) (channels rate : ℕ) (samples : List Float) (room : ℕ)
     (v : verdict kind channels rate samples room ≡ 0) (behind : List ℕ) where
   -- the file, and its samples read again
   abbrev again : List Float
   again =
-      samplesIn f (fileOf kind channels rate samples ++ behind) (waveFor kind channels rate (length samples))
+      samplesIn f (fileOf form kind channels rate samples ++ behind) (waveOfAny kind channels rate (length samples))
 
   again-is : again ≡ samplesOf f kind (bytesOf kind samples) (length samples)
   again-is =
       ap (λ (b : List ℕ). samplesOf f kind b (sizeOf kind (length samples) / widthOf kind))
-      (part-read kind channels rate samples room v behind)
+      (part-read form kind channels rate samples behind)
       ∙ ap (λ (n : ℕ). samplesOf f kind (bytesOf kind samples) n) (mul-div-cancel (length samples) (some-bytes kind))
 
   length-again : length again ≡ length samples
@@ -52,17 +52,17 @@ module _ (f : Format) (kind : SampleKind) (channels rate : ℕ) (samples : List 
 
   stored-again : (allFit kind again ≡ true) × (bytesOf kind again ≡ bytesOf kind samples)
   stored-again =
-      let fit = write-none kind channels rate samples room .0 v 3 in
+      let fit = write-none kind channels rate samples room .0 v 4 in
       let r = read-back kind f (bytesOf kind samples) (stored-bytes kind samples) (length samples)
       (length-bytes kind samples) (stored-finite f kind samples fit) in
       (ap (allFit kind) again-is ∙ r .0, ap (bytesOf kind) again-is ∙ r .1)
 
   -- W2c. Written again, it is the same file, and nothing is refused.
-  pub same-file : fileOf kind channels rate again ≡ fileOf kind channels rate samples
+  pub same-file : fileOf form kind channels rate again ≡ fileOf form kind channels rate samples
   unfolding fileOf
   same-file = rw (length-again, stored-again .1)
 
   pub not-refused-again : verdict kind channels rate again room ≡ 0
   not-refused-again =
       let test = write-none kind channels rate samples room .0 v in
-      rw (length-again, stored-again .0, test 0, test 1, test 2)
+      rw (length-again, stored-again .0, test 0, test 1, test 2, test 3)

@@ -1,5 +1,5 @@
--- W1e, D3 at the file: of a PCM file in which a reading found samples, what `fill` and `fill_whole` hand out of the
--- part are demand 3's whole samples and their numbers, all of 24 bits. Assumes nothing.
+-- W1e, D3 for a file: if a reading found samples in a PCM file, what `fill` and `fill_whole` hand out are demand 3's
+-- whole samples and their numbers, all of 24 bits. Assumes nothing.
 use mathlib.Core.Path.{_≡_}
 use mathlib.Core.Bool.{true}
 use mathlib.Core.List.{List}

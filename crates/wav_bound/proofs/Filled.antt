@@ -1,6 +1,6 @@
--- W1e, D3. Every sample of a PCM part that `fill` hands out is demand 3's whole sample of the very number that
--- `fill_whole` hands out: so demand 3's suppositions on samples are met from a file. And each such number is one of 24
--- bits, so that the residual's refusal 1 is never due. Once over the width, in both formats. Assumes nothing.
+-- W1e, D3. Every sample of a PCM part that `fill` hands out is demand 3's whole sample for the very number that
+-- `fill_whole` hands out, so that a file satisfies the premises of demand 3 about samples. Each such number has 24
+-- bits, so that the residual never refuses it by 1. This is shown once for any width, in both formats. Assumes nothing.
 use mathlib.Core.Path.{_≡_, refl, sym}
 use mathlib.Core.Bool.{Bool, true, false, true≢false, _&&_}
 use mathlib.Core.List.{List, [], _∷_, _++_}
@@ -24,7 +24,7 @@ use Rattle.wav_samples.specs.Samples.{sampleOf, isPcm, wholeNumber}
 use Rattle.wav_samples.specs.Filling.{verdict, wholeVerdict, framesOf, filled, filledWhole}
 use Rattle.wav_bound.proofs.PcmIsWhole.{suits}
 
--- the sample at a place, by the kind
+-- The sample at a place, by the kind.
 pub whole-sample : (f : Format) (kind : SampleKind) → isPcm kind ≡ true → (b : List ℕ) (at : ℕ)
     → WholeSample (sampleOf f kind b at) (wholeNumber kind b at)
 whole-sample f Pcm16 p b at = suits f 16 (number 2 b at) (lit≤ tt) (lit≤ tt)
@@ -77,7 +77,7 @@ module _ (kind : SampleKind) (pcm : isPcm kind ≡ true) (b : List ℕ) where
     whole-in-24 = every-24 _ (λ k. in-24 (wholeNumber kind b (k * frame + first)) (few kind pcm b (k * frame + first)))
         n
 
-  -- a call of each that is not refused
+  -- A call of each that is not refused.
   module _ (channels channel n : ℕ) (accepted : wholeVerdict kind channels channel (length b) n ≡ 0) where
     same-verdict : verdict kind channels channel (length b) n ≡ 0
     same-verdict = rw pcm at accepted

@@ -1,5 +1,5 @@
--- W1e, D3. A stored PCM sample of at most 24 digits is a whole sample of the desk: signed w n · 2^(24-w) of 2^23. By
--- one law over the width. Assumes nothing.
+-- W1e, D3. A stored PCM sample of at most 24 digits is a whole sample in the sense of demand 3: signed w n · 2^(24-w)
+-- of 2^23. By one law for any width. Assumes nothing.
 use mathlib.Core.Path.{_≡_, sym, ap, _∙_}
 use mathlib.Core.Bool.{Bool, true, false, cond}
 use Prim.Native.Nat.{ℕ, _+_, _-_, _*_, _^_, _≤_, _<_}
@@ -21,7 +21,7 @@ use Rattle.cubic_bound.specs.Desk.{WholeSample}
 use Rattle.whole_samples.specs.Whole.{negative, size, wholeOf, unitsOf}
 use Rattle.whole_samples.proofs.Exact.{small, exact}
 
--- a number over its sign: its size, as a fraction and as a whole number's
+-- The size of a signed number, as a fraction and as a whole number.
 absolute : (z : ℤ) (s : Bool) (a : ℕ) → Rep z (cond s 0 a) (cond s a 0) → natAbs z ≡ a
 absolute (pos k) true a r = omega (arith, r .is)
 absolute (pos k) false a r = omega (arith, r .is)
@@ -37,7 +37,7 @@ scaled : (s : Bool) (a m : ℕ) → Rep (cond s (negℤ (pos a)) (pos a) *ℤ po
 scaled true a m = rep-to (rep-mul (rep-neg (rep-pos a)) (rep-pos m)) (simp (mul-zero, zero-mul) (omega arith))
 scaled false a m = rep-to (rep-mul (rep-pos a) (rep-pos m)) (simp (mul-zero, zero-mul) (omega arith))
 
--- W1k, D3. In both formats: an f32 of the desk is the same whole sample.
+-- W1k, D3. In both formats: an f32 sample is the same whole sample.
 pub suits : (f : Format) (w n : ℕ) → 0 < w → w ≤ 24 → WholeSample (wholeOf f w n) (unitsOf w n)
 suits f w n p h =
     let m = 2 ^ (24 - w) in

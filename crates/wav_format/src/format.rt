@@ -1,4 +1,4 @@
-// W1. What a `fmt ` says, and whether it is a kind that is listed.
+// W1. What a `fmt ` says, and whether its kind is listed.
 ghost use mathlib.Core.Path.{_≡_};
 ghost use mathlib.Core.Bool.{_&&_, _||_};
 ghost use Rattle.wav_format.specs.Format.{listed, kindOf, wholeFrames, formatOk};
@@ -6,7 +6,7 @@ use little_endian::two;
 use refusal_order::both;
 use sample_kind::SampleKind;
 
-// 13, by the tag that was told.
+// The test for 13, by the tag that was read.
 pub fn format_ok(tag: u32, f: &[u8], size: usize, samples: usize) -> bool
     ensures { λ r. ⌜ r ≡ formatOk tag (now (f .entry)) size samples ⌝ }
 {

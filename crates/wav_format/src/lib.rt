@@ -1,4 +1,4 @@
-// W1. The body of a `fmt `: how a reading tells its tag, which kinds are listed, and what 13 asks of it.
+// W1. The body of a `fmt `: how its tag is read, which kinds are listed, and the test for refusal 13.
 mod format;
 mod tags;
 

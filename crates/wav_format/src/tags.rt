@@ -1,11 +1,11 @@
-// W1. How a reading tells the tag from the body of a `fmt ` and its size.
+// W1. How the tag is read from the body of a `fmt ` and its size.
 ghost use mathlib.Core.Path.{_≡_};
 ghost use Rattle.wav_format.specs.Tags.{standardTail, wraps, wrappedTag, tagBy};
 use little_endian::two;
 use refusal_order::both;
 use word_bytes::low_first_u32;
 
-// The tag as it stands, or, where wrapped kinds are taken, the one inside.
+// The tag as it stands, or, if wrapped kinds are accepted, the one inside.
 pub fn tag_of(wrapped: bool, f: &[u8], size: usize) -> u32
     ensures { λ r. ⌜ r ≡ tagBy wrapped (now (f .entry)) size ⌝ }
 {
@@ -24,7 +24,7 @@ fn unwrapped(f: &[u8], size: usize) -> u32
     two(f, 0)
 }
 
-// WAVE_FORMAT_EXTENSIBLE with all bits valid and the standard tail.
+// The tag is WAVE_FORMAT_EXTENSIBLE, all bits are valid, and the standard tail follows.
 fn is_wrapped(f: &[u8], size: usize) -> bool
     ensures { λ r. ⌜ r ≡ wraps (now (f .entry)) size ⌝ }
 {
@@ -40,7 +40,7 @@ fn is_wrapped(f: &[u8], size: usize) -> bool
     )
 }
 
-// 00 00, 00 00 10 00, 80 00 00 AA, 00 38 9B 71.
+// The tail's bytes are 00 00, 00 00 10 00, 80 00 00 AA, 00 38 9B 71.
 fn has_tail(f: &[u8]) -> bool
     ensures { λ r. ⌜ r ≡ standardTail (now (f .entry)) ⌝ }
 {

@@ -7,7 +7,7 @@ use Prim.Native.Nat.{_-_, _^_}
 use Rattle.word_bytes.specs.Bytes.{lowBytes}
 use Rattle.sample_kind.specs.declared.SampleKind.the-variants.{Pcm16, Pcm24, Float32}
 use Rattle.wav_header.specs.Header.{fileLength, headerOf}
-use Rattle.wav_header.specs.Refusals.{fitsRiff, fileVerdict, unlistedVerdict, headerVerdict, lengthFor}
+use Rattle.wav_header.specs.Refusals.{fitsRiff, unlistedVerdict, headerVerdict}
 
 -- ---- a RIFF's size has 32 bits
 pub last-16 : fitsRiff Pcm16 2_147_483_629 ≡ true
@@ -32,36 +32,33 @@ pub past-float : fitsRiff Float32 1_073_741_812 ≡ false
 past-float = refl
 
 -- the largest count of a word: its bytes pass the word, and it is refused
-pub every-count : fileVerdict Float32 1 48000 (2 ^ 64 - 1) ≡ 1
+pub every-count : headerVerdict Float32 1 48000 (2 ^ 64 - 1) 58 ≡ 1
 every-count = refl
 
-pub no-length : lengthFor Pcm16 2 (2 ^ 64 - 2) ≡ 0
-no-length = refl
-
 -- ---- rates, channels, broken frames
-pub lowest-rate : fileVerdict Pcm16 1 8000 0 ≡ 0
+pub lowest-rate : headerVerdict Pcm16 1 8000 0 44 ≡ 0
 lowest-rate = refl
 
-pub below-rates : fileVerdict Pcm16 1 7999 0 ≡ 1
+pub below-rates : headerVerdict Pcm16 1 7999 0 44 ≡ 1
 below-rates = refl
 
-pub highest-rate : fileVerdict Pcm24 2 768000 2 ≡ 0
+pub highest-rate : headerVerdict Pcm24 2 768000 2 44 ≡ 0
 highest-rate = refl
 
-pub above-rates : fileVerdict Pcm24 2 768001 2 ≡ 1
+pub above-rates : headerVerdict Pcm24 2 768001 2 44 ≡ 1
 above-rates = refl
 
-pub broken-frame : fileVerdict Float32 2 48000 3 ≡ 1
+pub broken-frame : headerVerdict Float32 2 48000 3 58 ≡ 1
 broken-frame = refl
 
-pub no-channel : fileVerdict Float32 0 48000 3 ≡ 13
+pub no-channel : headerVerdict Float32 0 48000 3 58 ≡ 13
 no-channel = refl
 
 -- frames are counted for one or two channels only
-pub three-channels : fileVerdict Float32 3 48000 4 ≡ 13
+pub three-channels : headerVerdict Float32 3 48000 4 58 ≡ 13
 three-channels = refl
 
-pub rate-before-channels : fileVerdict Float32 3 768001 3 ≡ 1
+pub rate-before-channels : headerVerdict Float32 3 768001 3 58 ≡ 1
 rate-before-channels = refl
 
 -- a kind that is none of the three
@@ -79,13 +76,6 @@ count-before-block = refl
 
 pub block-before-channels : headerVerdict Pcm16 3 48000 1 45 ≡ 2
 block-before-channels = refl
-
--- ---- the pad byte counts
-pub odd-length : lengthFor Pcm24 1 3 ≡ 54
-odd-length = refl
-
-pub empty-lengths : (lengthFor Pcm16 1 0 ≡ 44) × (lengthFor Float32 2 0 ≡ 58)
-empty-lengths = (refl, refl)
 
 -- ---- three headers: three frames of two channels at 44100 Hz, three samples at 96000 Hz, three frames at 768000 Hz
 pub pcm-16 : headerOf Pcm16 2 44100 6 ≡

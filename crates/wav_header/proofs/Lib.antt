@@ -6,4 +6,3 @@ pub mod Taken
 pub mod Long
 pub mod Order
 pub mod Ends
-pub mod Again

@@ -11,7 +11,8 @@ use Rattle.refusal_order.specs.Order.{Test, _unless_, First, numberOf, testOf, 
 use Rattle.refusal_order.proofs.First.{exactly, none}
 use Rattle.sample_kind.specs.declared.SampleKind.{SampleKind}
 use Rattle.wav_header.specs.Header.{headerLength, headerOf}
-use Rattle.wav_header.specs.Refusals.{rateOk, oneOrTwo, countOk, headerVerdict, headerIn}
+use Rattle.wav_header.specs.Refusals.{countOk, headerVerdict, headerIn}
+use Rattle.wav_settings.specs.Settings.{rateOk, oneOrTwo}
 use Rattle.wav_header.proofs.Taken.{kept}
 
 module _ (kind : SampleKind) (channels rate count : ℕ) where

@@ -1,16 +1,14 @@
--- W2. What is known of a file that neither 1 nor 13 refuses, test by test. Assumes nothing.
+-- W2. What is known of a file that fits RIFF and that neither 1 nor 13 refuses, test by test. Assumes nothing.
 use mathlib.Core.Path.{_≡_, refl, sym}
 use mathlib.Core.Bool.{Bool, true, false, true≢false, _&&_, _||_}
-use mathlib.Core.List.{[], _∷_}
 use Prim.Native.Nat.{ℕ, _-_, _%_, _^_, _≤_}
 use native.Mathlib.Omega.{arith}
 use borrow.Author.Tests.{eqb-true, leb-true}
 use lib.Dec.{eqb, leb}
-use Rattle.refusal_order.specs.Order.{_unless_}
-use Rattle.refusal_order.proofs.First.{none}
 use Rattle.sample_kind.specs.declared.SampleKind.{SampleKind}
 use Rattle.wav_header.specs.Header.{fileLength}
-use Rattle.wav_header.specs.Refusals.{rateOk, oneOrTwo, wholeFrames, fitsRiff, countOk, fileVerdict}
+use Rattle.wav_header.specs.Refusals.{fitsRiff, countOk}
+use Rattle.wav_settings.specs.Settings.{rateOk, oneOrTwo, wholeFrames}
 
 -- both tests of a conjunction
 pub both-hold : (a b : Bool) → a && b ≡ true → (a ≡ true) × (b ≡ true)
@@ -36,21 +34,17 @@ between channels false false p q h = absurd (true≢false (sym h))
 frames : (channels count : ℕ) → oneOrTwo channels ≡ true → wholeFrames channels count ≡ true → count % channels ≡ 0
 frames channels count o h = eqb-true (count % channels) 0 (rw o at h)
 
-pub planned : (kind : SampleKind) (channels rate count : ℕ) → fileVerdict kind channels rate count ≡ 0
-    → Planned kind channels rate count
-planned kind channels rate count h =
-    let test =
-    none (1 unless (rateOk rate && countOk kind channels count) ∷ 13 unless oneOrTwo channels ∷ []) refl .0 h in
-    let p = both-hold (rateOk rate) (countOk kind channels count) (test 0) in
-    let q = both-hold (wholeFrames channels count) (fitsRiff kind count) (p .1) in
-    let n = between channels (eqb channels 1) (eqb channels 2) refl refl (test 1) in
+pub planned : (kind : SampleKind) (channels rate count : ℕ) → rateOk rate ≡ true → wholeFrames channels count ≡ true
+    → fitsRiff kind count ≡ true → oneOrTwo channels ≡ true → Planned kind channels rate count
+planned kind channels rate count r w f o =
+    let n = between channels (eqb channels 1) (eqb channels 2) refl refl o in
     record {
-      rate-fits = p .0;
-      count-fits = p .1;
-      mono-or-stereo = test 1;
-      slow = leb-true rate 768000 (both-hold (leb 8000 rate) (leb rate 768000) (p .0) .1);
+      rate-fits = r;
+      count-fits = rw (w, f);
+      mono-or-stereo = o;
+      slow = leb-true rate 768000 (both-hold (leb 8000 rate) (leb rate 768000) r .1);
       some = n .0;
       few = n .1;
-      whole = frames channels count (test 1) (q .0);
-      short = leb-true (fileLength kind count - 8) (2 ^ 32 - 1) (q .1);
+      whole = frames channels count o w;
+      short = leb-true (fileLength kind count - 8) (2 ^ 32 - 1) f;
     }

@@ -10,7 +10,8 @@ use Rattle.sample_kind.specs.declared.SampleKind.the-variants.{Pcm16, Pcm24, Fl
 use Rattle.sample_kind.specs.Kinds.{widthOf}
 use Rattle.wav_header.specs.Header.{headerLength, sizeOf, fileLength}
 use Rattle.wav_header.proofs.Planned.{both-hold}
-use Rattle.wav_header.specs.Refusals.{oneOrTwo, wholeFrames, fitsRiff, countOk}
+use Rattle.wav_header.specs.Refusals.{fitsRiff, countOk}
+use Rattle.wav_settings.specs.Settings.{oneOrTwo, wholeFrames}
 
 pub few-bytes : (kind : SampleKind) (count : ℕ) → count < 2 ^ 32 → sizeOf kind count < 2 ^ 34
 few-bytes Pcm16 count h = omega arith
@@ -47,10 +48,3 @@ pub fits-few : (kind : SampleKind) (count : ℕ) → fitsRiff kind count ≡ tru
 fits-few Pcm16 count h = omega (arith, leb-true (fileLength Pcm16 count - 8) (2 ^ 32 - 1) h)
 fits-few Pcm24 count h = omega (arith, leb-true (fileLength Pcm24 count - 8) (2 ^ 32 - 1) h)
 fits-few Float32 count h = omega (arith, leb-true (fileLength Float32 count - 8) (2 ^ 32 - 1) h)
-
-pub count-few : (kind : SampleKind) (channels count : ℕ) → countOk kind channels count && oneOrTwo channels ≡ true
-    → count < 2 ^ 32
-count-few kind channels count h =
-    let w = wholeFrames channels count in
-    let f = fitsRiff kind count in
-    fits-few kind count (both-hold w f (both-hold (w && f) (oneOrTwo channels) h .0) .1)

@@ -9,7 +9,8 @@ use lib.Dec.{eqb}
 use Rattle.refusal_order.specs.Order.{_unless_, firstOf}
 use Rattle.sample_kind.specs.declared.SampleKind.{SampleKind}
 use Rattle.wav_header.specs.Header.{headerLength}
-use Rattle.wav_header.specs.Refusals.{rateOk, oneOrTwo, wholeFrames, fitsRiff, headerVerdict, writtenBy}
+use Rattle.wav_header.specs.Refusals.{fitsRiff, headerVerdict, writtenBy}
+use Rattle.wav_settings.specs.Settings.{rateOk, oneOrTwo, wholeFrames}
 use Rattle.wav_header.specs.Fields.{Room}
 use Rattle.wav_header.proofs.Sizes.{fits-few}
 

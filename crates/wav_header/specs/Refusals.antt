@@ -1,25 +1,15 @@
 -- W2. Which refusal is due where a header is written, and what the lent block then holds. Definitions only.
-use Prim.Native.Nat.{ℕ, zero, suc, _-_, _%_, _^_}
-use mathlib.Core.Bool.{Bool, true, false, cond, _&&_, _||_}
+use Prim.Native.Nat.{ℕ, zero, suc, _-_, _^_}
+use mathlib.Core.Bool.{Bool, false, cond, _&&_}
 use mathlib.Core.List.{List, [], _∷_}
 use lib.Dec.{eqb, leb}
 use lib.ListN.{length}
 use Rattle.refusal_order.specs.Order.{_unless_, firstOf}
 use Rattle.sample_kind.specs.declared.SampleKind.{SampleKind}
+use Rattle.wav_settings.specs.Settings.{rateOk, oneOrTwo, wholeFrames}
 use Rattle.wav_header.specs.Header.{headerLength, fileLength, headerOf}
 
--- A rate is a setting wherever it is handed in: 8000 to 768000.
-abbrev pub rateOk : ℕ → Bool
-rateOk rate = leb 8000 rate && leb rate 768000
-
-abbrev pub oneOrTwo : ℕ → Bool
-oneOrTwo channels = eqb channels 1 || eqb channels 2
-
--- A count of whole frames: asked for one or two channels only, as any other number of them is 13's.
-abbrev pub wholeFrames : ℕ → ℕ → Bool
-wholeFrames channels count = cond (oneOrTwo channels) (eqb (count % channels) 0) true
-
--- The RIFF's size, which counts from place 8 on, has 32 bits. Until Wish 10 a longer file is refused by 1.
+-- The RIFF's size, which counts from place 8 on, has 32 bits: a longer file has no RIFF header, but Wish 10's.
 abbrev pub fitsRiff : SampleKind → ℕ → Bool
 fitsRiff kind count = leb (fileLength kind count - 8) (2 ^ 32 - 1)
 
@@ -27,17 +17,12 @@ fitsRiff kind count = leb (fileLength kind count - 8) (2 ^ 32 - 1)
 abbrev pub countOk : SampleKind → ℕ → ℕ → Bool
 countOk kind channels count = wholeFrames channels count && fitsRiff kind count
 
--- W2f. 1 the rate or the count, 13 not one or two channels; 0 for none.
-abbrev pub fileVerdict : SampleKind → ℕ → ℕ → ℕ → ℕ
-fileVerdict kind channels rate count =
-    firstOf (1 unless (rateOk rate && countOk kind channels count) ∷ 13 unless oneOrTwo channels ∷ [])
-
--- The same for a kind that is none of the three, which has no sizes: 13, where 1 is not due for what it can be due for.
+-- A kind that is none of the three has no sizes: 13, where 1 is not due for what it can be due for.
 abbrev pub unlistedVerdict : ℕ → ℕ → ℕ → ℕ
 unlistedVerdict channels rate count =
     firstOf (1 unless (rateOk rate && wholeFrames channels count) ∷ 13 unless false ∷ [])
 
--- W2f. The same for a header alone: between the two 2, a block of another length than the header's.
+-- W2f. 1 the rate or the count, 2 a block of another length than the header's, 13 not one or two channels.
 abbrev pub headerVerdict : SampleKind → ℕ → ℕ → ℕ → ℕ → ℕ
 headerVerdict kind channels rate count room =
     firstOf
@@ -54,7 +39,3 @@ writtenBy (suc k) new old = old
 abbrev pub headerIn : SampleKind → ℕ → ℕ → ℕ → List ℕ → List ℕ
 headerIn kind channels rate count old =
     writtenBy (headerVerdict kind channels rate count (length old)) (headerOf kind channels rate count) old
-
--- How long a file of so many samples is, 0 where 1 or 13 is due whatever the rate.
-abbrev pub lengthFor : SampleKind → ℕ → ℕ → ℕ
-lengthFor kind channels count = cond (countOk kind channels count && oneOrTwo channels) (fileLength kind count) 0

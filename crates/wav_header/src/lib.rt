@@ -1,22 +1,19 @@
-// W2. The bytes of a RIFF WAVE file before its samples, and how long a file is: 44 bytes for PCM, 58 for float.
+// W2. The bytes of a RIFF WAVE file before its samples, 44 for PCM and 58 for float, and whether a file fits RIFF.
 mod fields; // the header, field by field
 mod tests; // what is refused
 
 ghost use mathlib.Core.Path.{_≡_};
 ghost use lib.ListN.{length};
 ghost use Rattle.wav_header.specs.Header.{headerLength};
-ghost use Rattle.wav_header.specs.Refusals.{fileVerdict, unlistedVerdict, headerVerdict, headerIn, lengthFor};
-use fields::length_of;
+ghost use Rattle.wav_header.specs.Refusals.{unlistedVerdict, headerVerdict, headerIn};
 use fields::put_header;
 use refusal_order::both;
 use sample_kind::SampleKind;
-use tests::count_ok;
 use tests::first_of_file;
 pub use tests::fits_riff;
 use tests::header_refusal;
-pub use tests::one_or_two;
-pub use tests::rate_ok;
-pub use tests::whole_frames;
+use wav_settings::rate_ok;
+use wav_settings::whole_frames;
 
 pub fn header_length(kind: SampleKind) -> usize
     ensures { λ r. ⌜ r ≡ headerLength kind ⌝ }
@@ -28,31 +25,12 @@ pub fn header_length(kind: SampleKind) -> usize
     }
 }
 
-// 1 or 13, whatever holds the file; 0 for none.
-pub fn refusal(kind: SampleKind, channels: u8, rate: u32, count: usize) -> u8
-    ensures { λ r. ⌜ r ≡ fileVerdict kind channels rate count ⌝ }
-{
-    let t1 = both(rate_ok(rate), count_ok(kind, channels, count));
-    first_of_file(t1, one_or_two(channels))
-}
-
-// The same for a kind that is none of the three: 1 for the rate or broken frames, else 13.
+// The refusal of a kind that is none of the three: 1 for the rate or broken frames, else 13.
 pub fn refusal_unlisted(channels: u8, rate: u32, count: usize) -> u8
     ensures { λ r. ⌜ r ≡ unlistedVerdict channels rate count ⌝ }
 {
     let t1 = both(rate_ok(rate), whole_frames(channels, count));
     first_of_file(t1, false)
-}
-
-// How long a file of `count` samples is, over all channels; 0 where 1 or 13 is due whatever the rate.
-pub fn file_length(kind: SampleKind, channels: u8, count: usize) -> usize
-    ensures { λ r. ⌜ r ≡ lengthFor kind channels count ⌝ }
-{
-    if both(count_ok(kind, channels, count), one_or_two(channels)) {
-        length_of(kind, count)
-    } else {
-        0
-    }
 }
 
 // Refuses by 1, 2 or 13, or writes the header into a block of exactly its length.

@@ -2,35 +2,19 @@
 ghost use mathlib.Core.Path.{_≡_};
 ghost use mathlib.Core.List.{[], _∷_};
 ghost use Rattle.refusal_order.specs.Order.{_unless_, firstOf};
-ghost use Rattle.wav_header.specs.Refusals.{rateOk, oneOrTwo, wholeFrames, fitsRiff, countOk, headerVerdict};
+ghost use Rattle.wav_header.specs.Refusals.{fitsRiff, countOk, headerVerdict};
 use crate::fields::length_of;
 use crate::header_length;
 use refusal_order::both;
 use sample_kind::SampleKind;
+use wav_settings::one_or_two;
+use wav_settings::rate_ok;
+use wav_settings::whole_frames;
 
-pub fn rate_ok(rate: u32) -> bool
-    ensures { λ r. ⌜ r ≡ rateOk rate ⌝ }
-{
-    both(8000 <= rate, rate <= 768000)
-}
-
-pub fn one_or_two(channels: u8) -> bool
-    ensures { λ r. ⌜ r ≡ oneOrTwo channels ⌝ }
-{
-    if channels == 1 { true } else { channels == 2 }
-}
-
-pub(crate) fn count_ok(kind: SampleKind, channels: u8, count: usize) -> bool
+fn count_ok(kind: SampleKind, channels: u8, count: usize) -> bool
     ensures { λ r. ⌜ r ≡ countOk kind channels count ⌝ }
 {
     both(whole_frames(channels, count), fits_riff(kind, count))
-}
-
-// One channel's samples are always whole frames.
-pub fn whole_frames(channels: u8, count: usize) -> bool
-    ensures { λ r. ⌜ r ≡ wholeFrames channels count ⌝ }
-{
-    if channels == 2 { count % 2 == 0 } else { true }
 }
 
 // A count of 2^32 or more is out before it is multiplied, so that no product passes a word.

@@ -1,5 +1,5 @@
--- What is added: 3 · 2^51 of the last unit of an f32, by the exponent of the f64, and not less than for 2^-126.
--- Assumes nothing.
+-- What is added to a sample: 3 · 2^51 of the last unit of an f32, by the exponent of the f64, and at least as much as
+-- for 2^-126. Assumes nothing.
 use mathlib.Core.Path.{_≡_, refl, sym, ap, _∙_, subst}
 use mathlib.Core.Logic.{inl, inr}
 use mathlib.Core.Bool.{Bool, true, false, cond}
@@ -18,14 +18,14 @@ use Rattle.rounding.proofs.NumberOrders.{lt-or-ge}
 use Rattle.narrowing.proofs.Patterns.{value}
 use Rattle.wav_store.specs.Inner.{leastAdded}
 
--- 3 · 2^28
+-- The factor 3 · 2^28.
 abbrev pub times : Float
 times = fin false 3 (pos 28)
 
 least-value : HasValue leastAdded false (3 * 2 ^ 976) (2 ^ 1074)
 least-value = (refl, refl)
 
--- a power of two by its field: 2^(51 + E) of the smallest f64
+-- A power of two by its field: 2^(51 + E) of the smallest f64.
 power : (E : ℕ) → 0 < E → E < 2047 → HasValue (ofBits binary64 (E * 2 ^ 52)) false (2 ^ 52 * 2 ^ (E - 1)) (2 ^ 1074)
 power E z l =
     let b = E * 2 ^ 52 in
@@ -71,7 +71,7 @@ module _ (E : ℕ) (l : E < 1151) where
   abbrev chosen : Bool → Float
   chosen t = cond t (scaled E l) leastAdded
 
-  -- from 2^-126 on it is not the least that is added
+  -- From 2^-126 on it is more than the least that is added.
   pub above : 897 < E → HasValue (scaled E l) false (3 * 2 ^ 50 * 2 * 2 ^ (925 + (E - 897))) (2 ^ 1074)
   above g =
       let z : 0 < E = omega arith in

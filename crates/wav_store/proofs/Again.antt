@@ -1,5 +1,5 @@
--- W2c at a call: the samples of a part, stored into a slice of the part's length, are not refused and leave the part's
--- bytes. And one channel's samples, frame by frame, are the part's samples in order. Assumes nothing.
+-- W2c for a call: the samples of a part, stored into a slice of the part's length, are not refused and give the part's
+-- bytes. And the samples of one channel, frame by frame, are the part's samples in order. Assumes nothing.
 use mathlib.Core.Path.{_≡_, refl, sym, ap, _∙_}
 use mathlib.Core.List.{List}
 use Prim.Native.Nat.{ℕ, _+_, _*_}

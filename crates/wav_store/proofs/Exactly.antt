@@ -1,5 +1,5 @@
--- W2e, W2f. Which refusal is given, exactly: 2 where the slice is not as long as the samples' bytes; else 15 where some
--- sample does not fit; else none. Assumes nothing.
+-- W2e, W2f. Exactly which refusal is given: 2 if the slice is not as long as the samples' bytes; otherwise 15 if some
+-- sample does not fit; otherwise none. Assumes nothing.
 use mathlib.Core.Path.{_≡_, refl}
 use mathlib.Core.Logic.{_↔_}
 use mathlib.Core.Bool.{Bool, true, false, cond, _&&_, true≢false}
@@ -16,7 +16,7 @@ use Rattle.stored_samples.specs.Stored.{fitsIn}
 use Rattle.wav_store.specs.Storing.{allFit, verdict}
 
 module _ (kind : SampleKind) (d : Float) where
-  -- sample k, counted from 0, does not fit
+  -- Sample k, counted from 0, does not fit.
   abbrev pub Outside : List Float → ℕ → Type 0
   Outside xs k = (k < length xs) × (fitsIn kind (getD xs k d) ≡ false)
 

@@ -1,5 +1,5 @@
--- `nearest_float` step by step, for an f64 that is finite as an f32: its pattern apart, what is added, and the pattern
--- of the nearest f32 put together. Assumes nothing.
+-- The steps of `nearest_float`, for an f64 that is finite as an f32: its pattern is taken apart, a number is added, and
+-- the pattern of the nearest f32 is put together. Assumes nothing.
 use mathlib.Core.Path.{_≡_, refl, sym, ap, _∙_, subst}
 use mathlib.Core.Bool.{Bool, true, false, cond, not, _&&_}
 use Prim.Native.Nat.{ℕ, _+_, _-_, _*_, _/_, _%_, _^_, _<_}

@@ -1,4 +1,4 @@
--- A loop over samples that remembers whether all of them so far fit: its invariant, over the kind. Assumes nothing.
+-- The invariant of a loop over samples that remembers whether all of them so far fit, for any kind. Assumes nothing.
 use mathlib.Core.Path.{_≡_, refl, sym, ap, _∙_}
 use mathlib.Core.Bool.{Bool, true, false, cond, _&&_, true≢false}
 use mathlib.Core.List.{List, [], _∷_}
@@ -21,7 +21,7 @@ and-true : (a : Bool) → (a && true) ≡ a
 and-true true = refl
 and-true false = refl
 
--- the first i of them were looked at
+-- The first i of them have been tested.
 pub record Looked (kind : SampleKind) (xs : List Float) (ok : Bool) (i : ℕ) : Type 0 where
   pub most : i ≤ length xs
   pub rest : (ok && allFit kind (drop i xs)) ≡ allFit kind xs
@@ -48,7 +48,7 @@ module _ {kind : SampleKind} {xs : List Float} {ok : Bool} {i : ℕ} (l : Looked
       sym (and-true ok)
       ∙ ap (λ (ys : List Float). ok && allFit kind ys) (sym (drop-of-length-le xs h)) ∙ l .rest
 
--- ---- each of them
+-- ---- each sample
 left : (a b : Bool) → (a && b) ≡ true → a ≡ true
 left true b e = refl
 left false b e = e
@@ -64,7 +64,7 @@ each-fits kind [] i d e h = absurd (omega arith)
 each-fits kind (x ∷ xs) zero d e h = left (fitsIn kind x) (allFit kind xs) e
 each-fits kind (x ∷ xs) (suc i) d e h = each-fits kind xs i d (right (fitsIn kind x) (allFit kind xs) e) (omega arith)
 
--- ---- its number
+-- ---- the number that stands for the result
 pub seen-by : (kind : SampleKind) (xs : List Float) (ok : Bool) → ok ≡ allFit kind xs → Seen kind xs (cond ok 1 0)
 seen-by kind xs true e = sym e
 seen-by kind xs false e = sym e

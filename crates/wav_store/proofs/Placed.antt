@@ -1,4 +1,4 @@
--- A loop that writes each sample's bytes behind those before it: its invariant, over the kind. Assumes nothing.
+-- The invariant of a loop that writes the bytes of each sample behind those before it, for any kind. Assumes nothing.
 use mathlib.Core.Path.{_≡_, refl, sym, ap, _∙_, subst}
 use mathlib.Core.List.{List, [], _∷_, _++_, append-assoc, append-nil}
 use Prim.Native.Nat.{ℕ, zero, suc, _+_, _*_, _≤_, _<_}
@@ -21,7 +21,7 @@ unfolding lowBytes
 length-low zero n = refl
 length-low (suc k) n = ap suc (length-low k _)
 
--- W2. As many bytes as the samples have.
+-- W2. There are as many bytes as the samples have.
 pub length-bytes : (kind : SampleKind) (xs : List Float) → length (bytesOf kind xs) ≡ length xs * widthOf kind
 unfolding bytesOf
 length-bytes kind [] = sym (zero-mul (widthOf kind))
@@ -38,7 +38,7 @@ module _ {kind : SampleKind} {xs : List Float} where
     abbrev at : ℕ
     at = i * widthOf kind
 
-    -- the next sample's bytes lie in the slice
+    -- The bytes of the next sample lie in the slice.
     pub inside : at + widthOf kind ≤ length out
     inside = omega (arith, p .long, mul-le-mul-right (widthOf kind) h, suc-mul i (widthOf kind))
 
@@ -73,7 +73,7 @@ module _ {kind : SampleKind} {xs : List Float} where
       sym (p .whole ∙ ap (λ (ys : List Float). take (i * widthOf kind) out ++ bytesOf kind ys) (drop-of-length-le xs h)
       ∙ append-nil (take (i * widthOf kind) out) ∙ all)
 
--- ---- four samples' bytes, as the code writes them
+-- ---- the bytes of four samples, as the code writes them
 pub step : {xs : List Float} {out o : List ℕ} {i w : ℕ} → Placed Float32 xs out i → i < length xs
     → w ≡ wordOf Float32 (getD xs i nan) → {n : ℕ} → o ≡ sets out n (lowBytes 4 w) → n ≡ i * 4
     → Placed Float32 xs o (i + 1)

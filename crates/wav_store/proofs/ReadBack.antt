@@ -1,5 +1,5 @@
--- W2c at a block: storing the samples that were read from a part gives the part's bytes. Sample by sample: its word is
--- the number that its bytes stand for, and that number's bytes are they. Assumes nothing.
+-- W2c for a block: storing the samples that were read from a part gives the part's bytes. For each sample the word is
+-- the number that its bytes stand for, and the bytes of that number are these. Assumes nothing.
 use mathlib.Core.Path.{_≡_, refl, sym, ap, _∙_}
 use mathlib.Core.Logic.{inl, inr}
 use mathlib.Core.Bool.{Bool, true, _&&_}
@@ -33,7 +33,7 @@ use Rattle.wav_store.proofs.Looked.{and-assoc}
 abbrev pub Bytes : List ℕ → Type 0
 Bytes bs = (i : ℕ) → getD bs i 0 < 256
 
--- the number of k bytes at a place
+-- The number that k bytes at a place stand for.
 abbrev number : ℕ → List ℕ → ℕ → ℕ
 number k b at = bytesValue (take k (drop at b))
 
@@ -85,7 +85,7 @@ sample-back f Float32 b at h l t =
     let r = again-float (number 4 b at) (few b h at 4 l) t in
     (r .0, ap (lowBytes 4) (r .1) ∙ its-bytes b h at 4 l)
 
--- ---- all of them
+-- ---- all samples
 module _ (kind : SampleKind) where
   all-append : (xs : List Float) (x : Float) → allFit kind (xs ++ (x ∷ [])) ≡ (allFit kind xs && fitsIn kind x)
   unfolding allFit
@@ -119,7 +119,7 @@ module _ (kind : SampleKind) where
               ∙ rw (r .1, s .1, e) (sym (take-add (n * w) w b)),
         )
 
-    -- W2c. A part of n samples, in their order: all fit, and their bytes are the part's.
+    -- W2c. The n samples of a part, in their order: all fit, and their bytes are the part's.
     pub read-back : (n : ℕ) → length b ≡ n * widthOf kind → AllFinite f kind b n
         → (allFit kind (samplesOf f kind b n) ≡ true) × (bytesOf kind (samplesOf f kind b n) ≡ b)
     read-back n l t =
@@ -135,7 +135,7 @@ pcm-finite f Pcm16 p b n k l = pcm-value f 16 (number 2 b (k * 2)) (lit≤ tt) (
 pcm-finite f Pcm24 p b n k l = pcm-value f 24 (number 3 b (k * 3)) (lit≤ tt) (lit≤ tt)
 pcm-finite f Float32 p b n k l = absurd (p refl)
 
--- ---- frame q, channel c: its place among all samples
+-- ---- the sample of frame q and channel c: its place among all samples
 pub interleaved : (f : Format) (kind : SampleKind) (b : List ℕ) (n channels q c : ℕ) (d : Float) → q * channels + c < n
     → getD (samplesOf f kind b n) (q * channels + c) d ≡ sampleOf f kind b (q * frameOf kind channels + frameOf kind c)
 interleaved f kind b n channels q c d h =

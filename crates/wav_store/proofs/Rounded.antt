@@ -1,5 +1,5 @@
--- The nearest f32 of an f64 without a branch: 3 · 2^51 of the f32's last unit are added and taken off again, so that
--- the sum rounds at that unit; the sign is put back, for a zero has lost it. Assumes nothing.
+-- The nearest f32 of an f64 without a branch. 3 · 2^51 of the f32's last unit are added and subtracted again, so that
+-- the sum rounds at that unit; the sign is put back, because a zero has lost it. Assumes nothing.
 use mathlib.Core.Path.{_≡_, refl, sym, ap, _∙_, subst}
 use mathlib.Core.Logic.{inl, inr}
 use mathlib.Core.Bool.{Bool, true, false, cond, _&&_}
@@ -28,7 +28,7 @@ use Rattle.rounding.proofs.RoundsToItself.{value-unique}
 use Rattle.narrowing.proofs.Patterns.{exponent, count, under, value, narrows}
 use Rattle.stored_samples.proofs.Halves.{closest-less}
 
--- a pattern's sign taken off, and another put on
+-- The sign of a pattern is taken off, and another put on.
 joined : (t s : Bool) (m n h l : ℕ) → m ≡ cond t (2 ^ 63) 0 + h + l → n ≡ cond s (2 ^ 63) 0 + h + l
     → 2 ^ 63 + (h + l) < 2 ^ 64 → m % 2 ^ 63 + cond s (2 ^ 63) 0 ≡ n
 joined true true m n h l e f g = omega arith
@@ -36,7 +36,7 @@ joined true false m n h l e f g = omega arith
 joined false true m n h l e f g = omega arith
 joined false false m n h l e f g = omega arith
 
--- x has the sign s and, without it, the pattern b; it is finite as an f32
+-- x has the sign s and, without it, the pattern b; it is finite as an f32.
 module _ (s : Bool) (b : ℕ) (fine : b < 0x7ff0_0000_0000_0000) where
   abbrev x : Float
   x = ofBits binary64 (cond s 0x8000_0000_0000_0000 0 + b)
@@ -44,7 +44,7 @@ module _ (s : Bool) (b : ℕ) (fine : b < 0x7ff0_0000_0000_0000) where
   abbrev k : ℕ
   k = b / 2 ^ 52 - 897
 
-  -- the f32's last unit, in smallest f64s
+  -- The last unit of the f32, in smallest f64s.
   abbrev j : ℕ
   j = 925 + k
 
@@ -76,7 +76,7 @@ module _ (s : Bool) (b : ℕ) (fine : b < 0x7ff0_0000_0000_0000) where
   q-le : q ≤ 2 ^ 24
   q-le = closest-le v (2 ^ j) (2 ^ 24) (pow-pos j) v-lt
 
-  -- a magnitude below 2 is finite as an f32
+  -- A magnitude below 2 is finite as an f32.
   pub below-two : b / 2 ^ 52 < 1024 → T (finite (narrowed x))
   below-two h =
       let e : k ≤ 126 = omega arith in
@@ -148,7 +148,7 @@ module _ (s : Bool) (b : ℕ) (fine : b < 0x7ff0_0000_0000_0000) where
           go true = omega arith
           go false = omega (arith, q-le)
 
-      -- so many units are finite
+      -- So many units are finite.
       held : (n : ℕ) → n ≤ 2 ^ 53 → n * u < 2 ^ 2098
       held n h =
           let e : j ≤ 1178 = omega (arith, k-lt) in
@@ -159,7 +159,7 @@ module _ (s : Bool) (b : ℕ) (fine : b < 0x7ff0_0000_0000_0000) where
           subst (λ (z : Float). HasValue z false (total * u) (2 ^ 1074)) (sym sum-is)
           (units-val binary64 false total j (held total total-le))
 
-      -- ---- the difference, exact
+      -- ---- the difference is exact
       exact : (t : Bool) → HasValue (round binary64 t (q * u) (2 ^ 1074)) t (q * u) (2 ^ 1074)
       exact t =
           let l : q < 2 ^ 53 = omega (arith, q-le) in
@@ -194,7 +194,7 @@ module _ (s : Bool) (b : ℕ) (fine : b < 0x7ff0_0000_0000_0000) where
           ∙ ap (λ (z : ℕ). round binary64 true z (2 ^ 1074)) e))
           (exact true)
 
-      -- it has x's sign, but where it is zero
+      -- It has the sign of x, unless it is zero.
       pub apart : HasValue y (s && ltb 0 q) (q * u) (2 ^ 1074)
       apart = go s sum-value
         where
@@ -210,7 +210,7 @@ module _ (s : Bool) (b : ℕ) (fine : b < 0x7ff0_0000_0000_0000) where
                 rw (le-ltb 0 q g) (back ((3 * 2 ^ 50 * 2 - q) * u) h (omega (arith, less)) (omega (arith, less)))
           ]
 
-      -- ---- with x's sign it is the nearest f32
+      -- ---- with the sign of x it is the nearest f32
       abbrev w : Float
       w = round binary64 s (q * u) (2 ^ 1074)
 
@@ -228,7 +228,7 @@ module _ (s : Bool) (b : ℕ) (fine : b < 0x7ff0_0000_0000_0000) where
           (fits-widens (narrowed x) m) (exact s)
           (rescale (narrowed x) s (q * 2 ^ k) (2 ^ 149) (q * u) (2 ^ 1074) (pow-pos 149) e n)
 
-      -- from 2^-126 on it has x's sign by itself
+      -- From 2^-126 on it has the sign of x already.
       pub is-nearest : 0 < k → y ≡ narrowed x
       is-nearest z =
           let some : 0 < q = lt-of-lt-of-le (lit< tt) (closest-ge v (2 ^ j) (2 ^ 23) (pow-pos j) (v-ge z)) in

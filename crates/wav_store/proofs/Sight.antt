@@ -1,4 +1,5 @@
--- What the digits of patterns tell of all samples: those that some has, and those that all have. Assumes nothing.
+-- What the digits of patterns show of all samples: the digits that some sample has, and those that all have. Assumes
+-- nothing.
 use mathlib.Core.Path.{_≡_, refl, sym, ap, _∙_, subst}
 use mathlib.Core.Logic.{inl, inr}
 use mathlib.Core.Bool.{Bool, true, false, cond, not, true≢false}
@@ -43,7 +44,7 @@ module _ (x : Float) (held : T (fits binary64 x)) where
         plain = λ e h. record { fit = fits-below e; large = omega (arith, e, h) };
       }
 
--- 2 has the digit 2^62
+-- The number 2 has the digit 2^62.
 two-tells : (x : Float) → Tells x (toBits binary64 two)
 unfolding toBits
 two-tells x = record { fits = λ e. absurd (omega (arith, e)); plain = λ e h. absurd (omega (arith, e)) }
@@ -70,7 +71,7 @@ cut-tells x held = go (lt x two)
     go false = two-tells x
 
 -- ---- digits
--- the digit 2^62 is in neither of two numbers where it is not in `or`
+-- If the digit 2^62 is not in the `or` of two numbers, it is in neither.
 or-away : (a b : ℕ) → bitOr a b / 2 ^ 62 % 2 ≡ 0 → (a / 2 ^ 62 % 2 ≡ 0) × (b / 2 ^ 62 % 2 ≡ 0)
 or-away a b e =
     let u = a / 2 ^ 62 in
@@ -83,7 +84,7 @@ or-away a b e =
     none : (q m c d : ℕ) → (q * 2 + m) % 2 ≡ 0 → c ≤ m → d ≤ m → m ≤ 1 → (c ≡ 0) × (d ≡ 0)
     none q m c d h l k o = (omega arith, omega arith)
 
--- the four digits from 2^58 on are in both numbers where they are in `and`
+-- If the four digits from 2^58 on are in the `and` of two numbers, they are in both.
 and-there : (a b : ℕ) → a ≤ four → bitAnd a b ≡ four → (a ≡ four) × (b / 2 ^ 58 % 16 ≡ 15)
 and-there a b l e =
     let i : a ≡ four = omega (arith, and-le-l a b, e, l) in
@@ -106,7 +107,7 @@ gather (x ∷ xs) f = rw (f 0 (omega arith) x) (gather xs (λ k h d. f (suc k) (
 pub plain-fit : (xs : List Float) → AllPlain xs → allFit Float32 xs ≡ true
 plain-fit xs p = gather xs (λ k h d. p k h d .fit)
 
--- of the samples the first i were looked at
+-- The first i samples have been looked at.
 pub record Sighted (xs : List Float) (some every i : ℕ) : Type 0 where
   pub most : i ≤ length xs
   pub under : every ≤ four
@@ -153,7 +154,7 @@ module _ {xs : List Float} {some every i : ℕ} (l : Sighted xs some every i) wh
     pub all-plain : every ≡ four → AllPlain xs
     all-plain e k h d = l .plain away e k (omega (arith, h, end)) d
 
--- ---- sixteen samples from the i-th on, of which the first k were looked at
+-- ---- sixteen samples from the i-th on, of which the first k have been looked at
 pub record Shared (xs : List Float) (i all k : ℕ) : Type 0 where
   pub under : all ≤ four
   pub most : k ≤ 16

@@ -25,7 +25,7 @@ some-bytes Pcm16 = omega arith
 some-bytes Pcm24 = omega arith
 some-bytes Float32 = omega arith
 
--- n bytes are so many of w, by a remainder and a quotient
+-- A slice of n bytes has `count` samples of w bytes, by a remainder and a quotient.
 pub counted : (n count w : ℕ) → 0 < w → (eqb (n % w) 0 && eqb (n / w) count) ≡ eqb n (count * w)
 counted n count w W =
     same-test (eqb (n % w) 0 && eqb (n / w) count) (eqb n (count * w))
@@ -39,7 +39,7 @@ counted n count w W =
     (passes _ (eq-eqb (n % w) 0 (ap (λ (z : ℕ). z % w) e ∙ mul-mod-left count w)))
     (passes _ (eq-eqb (n / w) count (ap (λ (z : ℕ). z / w) e ∙ mul-div-cancel count W))))
 
--- neither 0 nor 1 was seen
+-- The result was neither 0 nor 1.
 pub plain-seen : (kind : SampleKind) (xs : List Float) (r : ℕ) → (r ≡ 0 → ⊥) → (r ≡ 1 → ⊥) → Seen kind xs r
     → (kind ≡ Float32) × AllPlain xs
 plain-seen kind xs zero e f h = absurd (e refl)

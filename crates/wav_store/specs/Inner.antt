@@ -1,4 +1,4 @@
--- What the crate's own functions ask and promise each other. Definitions only.
+-- What the private functions of the crate need and promise. Definitions only.
 use Prim.Native.Nat.{ℕ, zero, suc, _+_, _*_, _/_, _%_, _^_, _≤_, _<_}
 use mathlib.Core.Path.{_≡_}
 use mathlib.Core.Bool.{true, false}
@@ -12,7 +12,7 @@ use Rattle.sample_kind.specs.Kinds.{widthOf}
 use Rattle.stored_samples.specs.Stored.{fitsIn}
 use Rattle.wav_store.specs.Storing.{allFit, bytesOf}
 
--- What writing asks: a slice of the right length, and samples that fit.
+-- What writing needs: a slice of the right length, and samples that fit.
 pub record Ready (kind : SampleKind) (xs : List Float) (out : List ℕ) : Type 0 where
   pub long : length out ≡ length xs * widthOf kind
   pub fit : allFit kind xs ≡ true
@@ -21,7 +21,7 @@ pub record Ready (kind : SampleKind) (xs : List Float) (out : List ℕ) : Type 0
 abbrev pub leastAdded : Float
 leastAdded = fin false 3 (negsuc 97)
 
--- A sample that is plain to store as an f32: by its exponent it is at least 2^-125.
+-- A sample is plain if its exponent shows that it is at least 2^-125; then storing it as an f32 takes fewer steps.
 pub record Plain (x : Float) : Type 0 where
   pub fit : fitsIn Float32 x ≡ true
   pub large : 897 < toBits binary64 x / 2 ^ 52 % 2048
@@ -32,31 +32,31 @@ AllPlain xs = (k : ℕ) → k < length xs → (d : Float) → Plain (getD xs k d
 abbrev pub two : Float
 two = fin false 1 (pos 1)
 
--- What a sample's pattern, cut at 2, tells: with the digit 2^62 away it fits, and with the four below it also there it
--- is plain.
+-- What the pattern of a sample, cut off at 2, shows. If the digit 2^62 is 0 the sample fits, and if the four digits
+-- below it are all 1 it is also plain.
 pub record Tells (x : Float) (b : ℕ) : Type 0 where
   pub fits : b / 2 ^ 62 % 2 ≡ 0 → fitsIn Float32 x ≡ true
   pub plain : b / 2 ^ 62 % 2 ≡ 0 → b / 2 ^ 58 % 16 ≡ 15 → Plain x
 
--- What looking at all samples tells. 0: some does not fit. 1: all fit. Above: all are plain, and are stored as floats.
+-- What testing all samples shows. 0: some does not fit. 1: all fit. 2: all are plain, and are to be stored as floats.
 abbrev pub Seen : SampleKind → List Float → ℕ → Type 0
 Seen kind xs zero = allFit kind xs ≡ false
 Seen kind xs (suc zero) = allFit kind xs ≡ true
 Seen kind xs (suc (suc n)) = (kind ≡ Float32) × AllPlain xs
 
--- What writing plain samples as floats asks.
+-- What writing plain samples as floats needs.
 pub record PlainReady (xs : List Float) (out : List ℕ) : Type 0 where
   pub long : length out ≡ length xs * 4
   pub plain : AllPlain xs
 
--- ---- sixteen samples a turn
--- Of the samples the first i are written.
+-- ---- sixteen samples at a time
+-- The first i samples are written.
 pub record Placed (kind : SampleKind) (xs : List Float) (out : List ℕ) (i : ℕ) : Type 0 where
   pub long : length out ≡ length xs * widthOf kind
   pub most : i ≤ length xs
   pub whole : bytesOf kind xs ≡ take (i * widthOf kind) out ++ bytesOf kind (drop i xs)
 
--- From the i-th on there are n more samples, and all fit.
+-- There are n more samples from the i-th on, and all samples fit.
 pub record Next (n : ℕ) (xs : List Float) (i : ℕ) : Type 0 where
   pub room : i + n ≤ length xs
   pub fit : allFit Float32 xs ≡ true
@@ -72,6 +72,6 @@ pub record PlainTurn (n : ℕ) (xs : List Float) (out : List ℕ) (i : ℕ) : Ty
   pub turn : Turn n xs out i
   pub plain : PlainFrom n xs i
 
--- The four digits from 2^58 on.
+-- The four digits below 2^62.
 abbrev pub four : ℕ
 four = 0x3c00_0000_0000_0000

@@ -1,4 +1,4 @@
--- W2c. The samples of a part in the order in which they stand, whatever the channels. Definitions only.
+-- W2c. The samples of a part of a file in the order in which they stand, whatever the channels. Definitions only.
 use Prim.Native.Nat.{ℕ, _*_, _<_}
 use mathlib.Core.List.{List}
 use lib.Dec.{T}
@@ -12,6 +12,6 @@ use Rattle.wav_samples.specs.Samples.{sampleOf}
 abbrev pub samplesOf : Format → SampleKind → List ℕ → ℕ → List Float
 samplesOf f kind b n = listOf (λ (k : ℕ). sampleOf f kind b (k * widthOf kind)) n
 
--- None is a NaN or an infinity.
+-- None of the samples is a NaN or an infinity.
 abbrev pub AllFinite : Format → SampleKind → List ℕ → ℕ → Type 0
 AllFinite f kind b n = (k : ℕ) → k < n → T (finite (sampleOf f kind b (k * widthOf kind)))

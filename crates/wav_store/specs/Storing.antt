@@ -1,4 +1,4 @@
--- W2. A block of samples as stored bytes, and which refusal is due. Definitions only.
+-- W2. A block of samples as stored bytes, and by which number it is refused. Definitions only.
 use Prim.Native.Nat.{ℕ, zero, suc, _*_}
 use mathlib.Core.Bool.{Bool, true, _&&_}
 use mathlib.Core.List.{List, [], _∷_, _++_}
@@ -22,12 +22,13 @@ unfolding lowBytes
 bytesOf kind [] = []
 bytesOf kind (x ∷ xs) = lowBytes (widthOf kind) (wordOf kind x) ++ bytesOf kind xs
 
--- W2f. 2: a lent slice of n bytes that is not as long as the samples' bytes. 15: a sample is out of range or a NaN.
+-- W2f. 2 means that a lent slice of n bytes is not as long as the samples' bytes, 15 that a sample is out of range or a
+-- NaN.
 unfoldable pub verdict : SampleKind → List Float → ℕ → ℕ
 unfolding allFit
 verdict kind xs n = firstOf (2 unless eqb n (length xs * widthOf kind) ∷ 15 unless allFit kind xs ∷ [])
 
--- What the lent slice holds afterwards: a refusal writes nothing.
+-- What the lent slice holds after the call: a refusal writes nothing.
 abbrev pub storedBy : ℕ → List ℕ → List ℕ → List ℕ
 storedBy zero new old = new
 storedBy (suc k) new old = old

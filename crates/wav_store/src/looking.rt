@@ -1,4 +1,4 @@
-// W2e. Every sample is looked at, with no way out between: a compiler takes several at once.
+// W2e. Every sample is tested, without an early exit, so that a compiler takes several at once.
 ghost use mathlib.Core.Path.{_≡_};
 ghost use mathlib.Core.Bool.{cond};
 ghost use lib.Ieee as Ieee;
@@ -11,7 +11,8 @@ use stored_samples::fits_float;
 use stored_samples::fits16;
 use stored_samples::fits24;
 
-// 0 where some sample does not fit, 1 where all do, 2 where all are plain too and are to be floats.
+// 0 if some sample does not fit; 1 if all do; 2 if they are to be stored as floats and their digits show that all are
+// at least 2^-125, so that storing them takes fewer steps.
 pub(crate) fn seen(kind: SampleKind, samples: &[f64]) -> u8
     ensures { λ r. ⌜ Seen kind (now (samples .entry)) r ⌝ }
 {
@@ -64,7 +65,7 @@ fn all_float(samples: &[f64]) -> bool
     ok
 }
 
-// A NaN is not less than 2.
+// A NaN becomes 2, because it is not less than 2.
 fn below_two(x: f64) -> f64
     ensures { λ r. ⌜ r ≡ cond (Ieee.lt x two) x two ⌝ }
 {
@@ -77,8 +78,9 @@ fn cut(x: f64) -> u64
     f64::to_bits(below_two(x))
 }
 
-// Digits that some sample has, and that all have. Of a magnitude below 2 the exponent's first digit is 0, and from
-// 2^-63 on the next four are 1: one pass tells of most blocks that they fit and are plain, another looks at the rest.
+// `some` has the digits that any sample has, `every` those that all have. For a magnitude below 2 the exponent's first
+// digit is 0, and from 2^-63 on the next four are 1. So one pass shows that most blocks fit and are large enough; the
+// others are tested again.
 fn seen_float(samples: &[f64]) -> u8
     ensures { λ r. ⌜ Seen Float32 (now (samples .entry)) r ⌝ }
 {

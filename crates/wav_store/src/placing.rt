@@ -1,4 +1,4 @@
-// W2. The bytes of samples that fit, the low one first: one loop a kind.
+// W2. Writes the bytes of samples that fit, the low byte first, with a loop for each kind.
 ghost use mathlib.Core.Path.{_≡_};
 ghost use Prim.Native.Nat.{_*_};
 ghost use lib.ListN.{length};

@@ -1,5 +1,6 @@
-// W2. Sixteen samples a turn, read before they are written: a compiler takes several at once. Where all of them are
-// plain they take fewer steps, so that a silence costs its own turns alone.
+// W2. Sixteen samples at a time, read before they are written, so that a compiler takes several at once. If their
+// digits show that all of them are at least 2^-125 they take fewer steps, so that a silence slows down only its own
+// blocks.
 ghost use mathlib.Core.Path.{_≡_};
 ghost use mathlib.Core.Bool.{true};
 ghost use Prim.Native.Nat.{_+_, _≤_};
@@ -50,7 +51,7 @@ fn sixteen_plain(samples: &[f64], i: usize, out: &mut [u8])
     four_plain(samples, l, &mut out[..]);
 }
 
-// What fits is no NaN, so it has a pattern.
+// A sample that fits is not a NaN, so it has a bit pattern.
 fn pattern(x: f64) -> u64
     requires { ⌜ fitsIn Float32 x ≡ true ⌝ }
     ensures { λ r. ⌜ r ≡ toBits binary64 x ⌝ }
@@ -58,7 +59,7 @@ fn pattern(x: f64) -> u64
     f64::to_bits(x)
 }
 
-// The digits that all sixteen have.
+// The digits that all sixteen samples have.
 fn every(samples: &[f64], i: usize) -> u64
     requires { ⌜ Next 16 (now samples) i ⌝ }
     ensures { λ r. ⌜ (r ≡ four → PlainFrom 16 (now (samples .entry)) i) ⌝ }

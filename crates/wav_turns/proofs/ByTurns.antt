@@ -1,5 +1,5 @@
--- W1. By turns a file gives the answer of the whole file. By the first 12 bytes, the walk, and the fields of `fmt `.
--- Assumes nothing.
+-- W1. Reading a file step by step gives the answer of the whole file. By the first 12 bytes, the walk, and the fields
+-- of `fmt `. Assumes nothing.
 use mathlib.Core.Path.{_≡_, refl, sym, ap, _∙_}
 use mathlib.Core.Bool.{Bool, true, false, not, cond, _&&_}
 use mathlib.Core.List.{List, [], _∷_}
@@ -23,7 +23,7 @@ use Rattle.wav_turns.specs.Turns.{startedOf, finishedOf, byTurns, foundB
 use Rattle.wav_turns.proofs.Walking.{walks}
 use Rattle.wav_turns.proofs.Fields.{same-tag, same-found}
 
--- ---- the first 12 bytes tell 9 and the RIFF size
+-- ---- the first 12 bytes show 9 and the RIFF size
 twelve : (b : List ℕ) → leb 12 (length (take 12 b)) ≡ leb 12 (length b)
 twelve b = by (leb 12 (length b)) refl
   where
@@ -44,7 +44,7 @@ same-letters b =
       same-size b,
     )
 
--- ---- where the file holds its RIFF
+-- ---- if the file holds its RIFF
 held : (b : List ℕ) → isWave b ≡ true → 8 + riffSize b ≤ length b → byTurns 0 (8 + riffSize b) b ≡ foundWrapped b
 held b p h =
     let w = walkIn b in

@@ -1,4 +1,4 @@
--- The first 40 bytes of a `fmt ` are all that a reading looks at: every field lies in them. Assumes nothing.
+-- A reading looks only at the first 40 bytes of a `fmt `: every field lies in them. Assumes nothing.
 use mathlib.Core.Path.{_≡_, refl, ap}
 use mathlib.Core.Bool.{Bool}
 use mathlib.Core.List.{List}

@@ -1,5 +1,5 @@
--- The walk by turns: as long as 8 bytes are left each turn is a chunk more, and at the end it has seen what the whole
--- walk sees. By the laws of a walk's turns in riff_chunks. Assumes nothing.
+-- The walk step by step. As long as 8 bytes are left each step is one more chunk, and at the end it has seen what the
+-- whole walk sees. By the laws of the steps of a walk in riff_chunks. Assumes nothing.
 use mathlib.Core.Path.{_≡_, refl, ap, _∙_}
 use mathlib.Core.List.{List}
 use Prim.Native.Nat.{ℕ, _+_, _-_, _≤_, _<_}
@@ -20,7 +20,7 @@ module _ (b : List ℕ) (end : ℕ) where
   abbrev riff : ℕ → Chunk
   riff = chunkAt bytesValue b
 
-  -- the 8 bytes at a place are the head of the chunk there
+  -- The 8 bytes at a place are the head of the chunk there.
   head-is : (left : ℕ) → chunkBy end left (take 8 (drop (end - left) b)) ≡ riff (end - left)
   head-is left =
       let at = drop (end - left) b in

@@ -1,5 +1,5 @@
--- W1. A RIFF WAVE file by turns: what its beginning tells, a chunk more by its first 8 bytes,
--- and the answer from the walk and the first bytes of `fmt `. Definitions only.
+-- W1. A RIFF WAVE file read step by step: what its beginning shows, one more chunk by its first 8 bytes, and the answer
+-- from the walk and the first bytes of `fmt `. Definitions only.
 use Prim.Native.Nat.{ℕ, zero, suc, _+_, _-_}
 use mathlib.Core.Bool.{Bool, true, not, cond, _&&_}
 use mathlib.Core.List.{List, [], _∷_}
@@ -17,7 +17,7 @@ use Rattle.wav_format.specs.Tags.{wrappedTag}
 use Rattle.wav.specs.Wave.{riffSize, isWave, foundOf}
 use Rattle.wav_turns.specs.declared.Started.{Started}
 
--- 9 from the first 12 bytes, 10 where the RIFF runs past the file's length.
+-- The refusal is 9 by the first 12 bytes, and 10 if the RIFF runs past the file's length.
 abbrev pub startedOf : List ℕ → ℕ → Started
 startedOf head length =
     record {
@@ -25,7 +25,7 @@ startedOf head length =
       end = 8 + riffSize head;
     }
 
--- The chunk whose first 8 bytes are at hand, where `left` bytes are left before the end.
+-- The chunk with these first 8 bytes, when `left` bytes are left before the end.
 abbrev pub chunkBy : ℕ → ℕ → List ℕ → Chunk
 chunkBy end left head = record { id = number 4 head 0; body = end - left + 8; size = number 4 head 4 }
 
@@ -39,7 +39,7 @@ turnedBy w end head = cond (goesOn w end) (turned riffSought w (chunkBy end (w .
 abbrev pub finishedOf : Walked → List ℕ → Found
 finishedOf w f = foundOf true (not (w .overruns)) (wrappedTag f (w .format .size)) f w
 
--- ---- a whole file by turns: each turn is lent the 8 bytes at its place
+-- ---- a whole file step by step: each step is lent the 8 bytes at its place
 abbrev pub turnsOf : List ℕ → ℕ → ℕ → Walking → Walking
 turnsOf b end = turnsBy (λ (w : Walking). turnedBy w end (take 8 (drop (end - w .left) b)))
 
@@ -49,6 +49,6 @@ byTurns zero end b =
     finishedOf w (take 40 (take (w .format .size) (drop (w .format .body) b)))
 byTurns (suc k) end b = found.Refused (suc k)
 
--- The answer, from what is lent turn by turn.
+-- The answer, from what is lent step by step.
 abbrev pub foundByTurns : List ℕ → ℕ → Found
 foundByTurns b length = byTurns (startedOf (take 12 b) length .refusal) (startedOf (take 12 b) length .end) b

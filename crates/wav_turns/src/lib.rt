@@ -1,6 +1,6 @@
-// W1. A RIFF WAVE file read by turns, where it is too long to be held: its first 12 bytes and its length,
-// then the 8 bytes at the head of each chunk that is walked, then the first 40 bytes of `fmt `.
-// The answer is the one of the whole file, by the reading that takes wrapped kinds.
+// W1. A RIFF WAVE file read step by step, for files that are too long to be held. It takes the first 12 bytes and the
+// length, then the 8 bytes at the head of each chunk that is walked, then the first 40 bytes of `fmt `. The answer is
+// that of the whole file, by the reading that accepts wrapped kinds.
 ghost use mathlib.Core.Path.{_≡_};
 ghost use mathlib.Core.List.{[], _∷_};
 ghost use Rattle.refusal_order.specs.Order.{_unless_, firstOf};
@@ -13,13 +13,13 @@ use wav::Found;
 use wav::is_wave;
 use word_bytes::low_first_u32;
 
-// 9 or 10 where the beginning tells it already, else 0; the walk's end.
+// `refusal` is 9 or 10 if the beginning shows it already, and otherwise 0; `end` is the end of the walk.
 pub struct Started {
     pub refusal: u8,
     pub end: usize,
 }
 
-// The walk then begins by `riff_chunks::begin(end)`.
+// The walk then begins with `riff_chunks::begin(end)`.
 pub fn start(head: &[u8], length: usize) -> Started
     ensures { λ r. ⌜ r ≡ startedOf (now (head .entry)) length ⌝ }
 {
@@ -36,7 +36,8 @@ fn due(wave: bool, held: bool) -> u8
     if wave { if held { 0 } else { 10 } } else { 9 }
 }
 
-// One chunk more: `head` is the 8 bytes at the place `end` less what is left. Where fewer are left the walk is over.
+// One more chunk. `head` is the 8 bytes at the place `end` less what is left; if fewer than 8 are left the walk is
+// over.
 pub fn turn(walking: Walking, end: usize, head: &[u8]) -> Walking
     ensures { λ r. ⌜ r ≡ turnedBy walking end (now (head .entry)) ⌝ }
 {
@@ -58,7 +59,8 @@ pub fn turn(walking: Walking, end: usize, head: &[u8]) -> Walking
     riff_chunks::turn(walking, riff_sought(), c)
 }
 
-// What the walk and the first bytes of `fmt ` tell: 10 to 13, or the part that holds samples and what they are.
+// The answer from the walk and the first bytes of `fmt `: a refusal by 10 to 13, or where the samples stand and what
+// they are.
 pub fn finish(walked: Walked, fmt: &[u8]) -> Found
     ensures { λ r. ⌜ r ≡ finishedOf walked (now (fmt .entry)) ⌝ }
 {

@@ -8,7 +8,8 @@ use lib.ListN.{length, take, drop, set, length-append, take-append-drop}
 use lib.Seq.{take-at, drop-at, length-take-le, set-split, drop-drop}
 use Rattle.word_bytes.specs.Bytes.{lowBytes}
 use Rattle.sample_kind.specs.declared.SampleKind.{SampleKind}
-use Rattle.wav_header.specs.Header.{headerLength, sizeOf, padOf, fileLength}
+use Rattle.wav_header.specs.Header.{sizeOf, padOf}
+use Rattle.long_header.specs.LongHeader.{headerLengthFor, fileLengthFor}
 use Rattle.wav_write.specs.Placing.{padded}
 
 -- a part that came back as it was lent leaves the list as it was
@@ -26,17 +27,20 @@ none : (xs : List ℕ) (end pad file : ℕ) → pad ≡ 0 → file ≡ end → x
 unfolding lowBytes
 none xs end pad file p f = rw (p, f) (sym (take-append-drop end xs))
 
-module _ (kind : SampleKind) (count : ℕ) (xs : List ℕ) (end : ℕ) (e : end ≡ headerLength kind + sizeOf kind count)
-    (held : fileLength kind count ≤ length xs) where
-  pub pad-one : end < fileLength kind count → set xs end 0 ≡ padded kind count xs
+module _ (kind : SampleKind) (count : ℕ) (xs : List ℕ) (end : ℕ) (e : end
+    ≡ headerLengthFor kind count + sizeOf kind count)
+    (held : fileLengthFor kind count ≤ length xs) where
+  pub pad-one : end < fileLengthFor kind count → set xs end 0 ≡ padded kind count xs
   pad-one h =
       rw e
-      (one xs (headerLength kind + sizeOf kind count) (padOf kind count) (fileLength kind count) (omega arith)
+      (one xs (headerLengthFor kind count + sizeOf kind count) (padOf kind count) (fileLengthFor kind count)
+      (omega arith)
       (omega arith) (omega arith))
 
-  pub pad-none : fileLength kind count ≤ end → xs ≡ padded kind count xs
+  pub pad-none : fileLengthFor kind count ≤ end → xs ≡ padded kind count xs
   pad-none h =
-      none xs (headerLength kind + sizeOf kind count) (padOf kind count) (fileLength kind count) (omega arith)
+      none xs (headerLengthFor kind count + sizeOf kind count) (padOf kind count) (fileLengthFor kind count)
+      (omega arith)
       (omega arith)
 
 -- samples of s bytes behind h bytes, a head of h bytes before them, a pad of p bytes behind them

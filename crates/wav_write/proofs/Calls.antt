@@ -11,8 +11,11 @@ use Rattle.sample_kind.specs.Kinds.{widthOf}
 use Rattle.wav_store.specs.Storing.{bytesOf, stored}
 use Rattle.wav_store.specs.Storing.{verdict as storeVerdict}
 use Rattle.wav_store.proofs.Placed.{length-bytes}
-use Rattle.wav_header.specs.Header.{headerLength, sizeOf, fileLength}
-use Rattle.wav_header.proofs.Planned.{planned}
+use Rattle.wav_header.specs.Header.{sizeOf}
+use Rattle.long_header.specs.declared.Form.{Form}
+use Rattle.long_header.specs.LongHeader.{headerLengthFor, fileLengthFor}
+use Rattle.long_header.proofs.Bounds.{longest-header}
+use Rattle.wav_write.proofs.Planned.{small}
 use Rattle.wav_header.proofs.Taken.{kept, given}
 use Rattle.wav_write.specs.declared.Written.the-variants as answers
 use Rattle.wav_write.specs.Writing.{verdict, answerOf, written}
@@ -21,17 +24,17 @@ use Rattle.wav_write.proofs.Around.{same-part}
 use Rattle.wav_write.proofs.Verdicts.{roomy, refused-early, refused-late, refused, accepted}
 use Rattle.wav_write.proofs.Laid.{part-long, length-stored, unstored, in-place, laid}
 
-module _ (kind : SampleKind) (channels rate : ℕ) (samples : List Float) (xs : List ℕ) (r : ℕ)
+module _ (form : Form) (kind : SampleKind) (channels rate : ℕ) (samples : List Float) (xs : List ℕ) (r : ℕ)
     (early : r ≡ earlyVerdict kind channels rate (length samples) (length xs)) where
   pub left-early : (r ≡ 0 → ⊥)
       → (answers.Refused r ≡ answerOf kind channels rate samples (length xs))
-      × (xs ≡ written kind channels rate samples xs)
+      × (xs ≡ written form kind channels rate samples xs)
   left-early h =
       let v = refused-early kind channels rate samples (length xs) r early h in
       (refused _ _ _ v h, kept _ _ _ _ v h)
 
   -- a header of a bytes, and samples of w bytes each behind it
-  module _ (z : r ≡ 0) (a w : ℕ) (h : a ≡ headerLength kind) (d : w ≡ widthOf kind) where
+  module _ (z : r ≡ 0) (a w : ℕ) (h : a ≡ headerLengthFor kind (length samples)) (d : w ≡ widthOf kind) where
     pub room : Room kind channels rate (length samples) (length xs)
     room = roomy kind channels rate (length samples) (length xs) (sym early ∙ z)
 
@@ -41,10 +44,10 @@ module _ (kind : SampleKind) (channels rate : ℕ) (samples : List Float) (xs : 
     pub end-fits : a + length samples * w ≤ length xs
     end-fits = rw (h, d) (omega (arith, room .holds))
 
-    pub end-small : a + length samples * w < 2 ^ 33
+    pub end-small : a + length samples * w < 2 ^ 41
     end-small =
-        let q = planned kind channels rate (length samples) (room .planned) in
-        rw (h, d) (omega (arith, q .short))
+        let q = small kind channels rate (length samples) (room .planned) in
+        rw (h, d) (omega (arith, q, longest-header kind (length samples)))
 
     -- u by the store, whose part came back as ys
     module _ (u : ℕ) (ys : List ℕ)
@@ -60,7 +63,7 @@ module _ (kind : SampleKind) (channels rate : ℕ) (samples : List Float) (xs : 
 
       pub left-late : (u ≡ 0 → ⊥)
           → (answers.Refused u ≡ answerOf kind channels rate samples (length xs))
-          × (after ≡ written kind channels rate samples xs)
+          × (after ≡ written form kind channels rate samples xs)
       left-late h = (
         refused _ _ _ due h,
         same-part xs ys a (a + length samples * w - a) (p ∙ unstored u _ _ _ s h) ∙ kept _ _ _ _ due h,
@@ -75,12 +78,12 @@ module _ (kind : SampleKind) (channels rate : ℕ) (samples : List Float) (xs : 
             let l = ap length bytes ∙ length-bytes kind samples ∙ sym size-is in
             rw (length-stored xs ys a (a + length samples * w - a) l (omega (arith, end-fits))) room
 
-        pub all-written : (m : ℕ) (out : List ℕ) → m ≡ fileLength kind (length samples)
-            → out ≡ padded kind (length samples) (headed kind channels rate (length samples) after)
+        pub all-written : (m : ℕ) (out : List ℕ) → m ≡ fileLengthFor kind (length samples)
+            → out ≡ padded kind (length samples) (headed form kind channels rate (length samples) after)
             → (answers.Length m ≡ answerOf kind channels rate samples (length xs))
-            × (out ≡ written kind channels rate samples xs)
+            × (out ≡ written form kind channels rate samples xs)
         all-written m out e o =
             let v = sym due ∙ t in (
               accepted _ _ _ v e,
-              o ∙ laid kind channels rate samples xs ys a _ h size-is bytes (room .holds) ∙ given _ _ _ _ refl v,
+              o ∙ laid form kind channels rate samples xs ys a _ h size-is bytes (room .holds) ∙ given _ _ _ _ refl v,
             )

@@ -10,6 +10,7 @@ use Rattle.sample_kind.specs.declared.SampleKind.the-variants.{Pcm16, Pcm24, Fl
 use Rattle.stored_samples.specs.Stored.{nearestWhole, fitsWhole}
 use Rattle.wav_store.specs.Storing.{allFit, bytesOf}
 use Rattle.wav_header.specs.Header.{headerOf}
+use Rattle.long_header.specs.declared.Form.the-variants.{Rf64}
 use Rattle.wav_write.specs.Writing.{verdict, fileOf, written}
 
 abbrev half : Float
@@ -52,7 +53,7 @@ pub three-and-rate : verdict Pcm16 3 7999 [] 0 ≡ 1
 three-and-rate = refl
 
 -- ---- a file of one sample at 8000 Hz, its pad byte, and the last two of a buffer's fifty bytes
-pub whole-file : written Pcm24 1 8000 (half ∷ [])
+pub whole-file : written Rf64 Pcm24 1 8000 (half ∷ [])
     (9 ∷ 9 ∷ 9 ∷ 9 ∷ 9 ∷ 9 ∷ 9 ∷ 9 ∷ 9 ∷ 9 ∷ 9 ∷ 9 ∷ 9 ∷ 9 ∷ 9 ∷ 9 ∷ 9 ∷ 9 ∷ 9 ∷ 9 ∷ 9 ∷ 9 ∷ 9 ∷ 9 ∷ 9 ∷ 9 ∷ 9
     ∷ 9 ∷ 9 ∷ 9 ∷ 9 ∷ 9 ∷ 9 ∷ 9 ∷ 9 ∷ 9 ∷ 9 ∷ 9 ∷ 9 ∷ 9 ∷ 9 ∷ 9 ∷ 9 ∷ 9 ∷ 9 ∷ 9 ∷ 9 ∷ 9 ∷ 9 ∷ 9 ∷ [])
     ≡

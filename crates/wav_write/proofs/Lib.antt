@@ -1,3 +1,4 @@
+pub mod Planned
 pub mod Around
 pub mod Verdicts
 pub mod Laid

@@ -1,5 +1,5 @@
--- W2f. The refusals of a write, each exactly when its test is the first that fails, none exactly when all tests hold,
--- and a refused call writes nothing. From the laws over any table. Assumes nothing.
+-- W2f, W10f. The refusals of a write, each exactly when its test is the first that fails, none exactly when all tests
+-- hold, and a refused call writes nothing. From the laws over any table. Assumes nothing.
 use mathlib.Core.Path.{_≡_, refl, sym}
 use mathlib.Core.Logic.{_↔_}
 use mathlib.Core.Bool.{true}
@@ -11,6 +11,7 @@ use Rattle.refusal_order.specs.Order.{First, numberOf, testOf, lineOf}
 use Rattle.refusal_order.proofs.First.{exactly, none}
 use Rattle.sample_kind.specs.declared.SampleKind.{SampleKind}
 use Rattle.wav_header.proofs.Taken.{kept}
+use Rattle.long_header.specs.declared.Form.{Form}
 use Rattle.wav_write.specs.Writing.{tests, verdict, written}
 
 module _ (kind : SampleKind) (channels rate : ℕ) (samples : List Float) where
@@ -25,6 +26,6 @@ module _ (kind : SampleKind) (channels rate : ℕ) (samples : List Float) where
       ↔ ((k : ℕ) → testOf (lineOf (tests kind channels rate samples room) k) ≡ true)
   write-none room = none (tests kind channels rate samples room) refl
 
-  pub refused-writes-nothing : (old : List ℕ) → (verdict kind channels rate samples (length old) ≡ 0 → ⊥)
-      → written kind channels rate samples old ≡ old
-  refused-writes-nothing old h = sym (kept (verdict kind channels rate samples (length old)) _ _ old refl h)
+  pub refused-writes-nothing : (form : Form) (old : List ℕ) → (verdict kind channels rate samples (length old) ≡ 0 → ⊥)
+      → written form kind channels rate samples old ≡ old
+  refused-writes-nothing form old h = sym (kept (verdict kind channels rate samples (length old)) _ _ old refl h)

@@ -13,8 +13,10 @@ use Rattle.refusal_order.specs.Order.{_unless_, firstOf}
 use Rattle.sample_kind.specs.declared.SampleKind.{SampleKind}
 use Rattle.wav_store.specs.Storing.{allFit}
 use Rattle.wav_store.specs.Storing.{verdict as storeVerdict}
-use Rattle.wav_header.specs.Header.{sizeOf, fileLength}
-use Rattle.wav_header.specs.Refusals.{rateOk, oneOrTwo, countOk, fileVerdict}
+use Rattle.wav_header.specs.Header.{sizeOf}
+use Rattle.long_header.specs.LongHeader.{fileLengthFor}
+use Rattle.wav_settings.specs.Settings.{rateOk, oneOrTwo, wholeFrames}
+use Rattle.long_header.specs.Refusals.{sizeOk, fileVerdictFor}
 use Rattle.wav_write.specs.declared.Written.the-variants as answers
 use Rattle.wav_write.specs.Writing.{verdict, answerBy}
 use Rattle.wav_write.specs.Placing.{earlyVerdict, Room}
@@ -24,18 +26,21 @@ abbrev pub orLater : ℕ → ℕ → ℕ
 orLater zero m = m
 orLater (suc n) m = suc n
 
-two-then-one : (a b c : Bool) → firstOf (1 unless a ∷ 13 unless b ∷ 14 unless c ∷ [])
-    ≡ orLater (firstOf (1 unless a ∷ 13 unless b ∷ [])) (cond c 0 14)
-two-then-one true true c = refl
-two-then-one true false c = refl
-two-then-one false b c = refl
+three-then-one : (a s b c : Bool) → firstOf (1 unless a ∷ 19 unless s ∷ 13 unless b ∷ 14 unless c ∷ [])
+    ≡ orLater (firstOf (1 unless a ∷ 19 unless s ∷ 13 unless b ∷ [])) (cond c 0 14)
+three-then-one true true true c = refl
+three-then-one true true false c = refl
+three-then-one true false b c = refl
+three-then-one false s b c = refl
 
-three-then-one : (a b c d : Bool) → firstOf (1 unless a ∷ 13 unless b ∷ 14 unless c ∷ 15 unless d ∷ [])
-    ≡ orLater (firstOf (1 unless a ∷ 13 unless b ∷ 14 unless c ∷ [])) (cond d 0 15)
-three-then-one true true true d = refl
-three-then-one true true false d = refl
-three-then-one true false c d = refl
-three-then-one false b c d = refl
+four-then-one : (a s b c d : Bool)
+    → firstOf (1 unless a ∷ 19 unless s ∷ 13 unless b ∷ 14 unless c ∷ 15 unless d ∷ [])
+    ≡ orLater (firstOf (1 unless a ∷ 19 unless s ∷ 13 unless b ∷ 14 unless c ∷ [])) (cond d 0 15)
+four-then-one true true true true d = refl
+four-then-one true true true false d = refl
+four-then-one true true false c d = refl
+four-then-one true false b c d = refl
+four-then-one false s b c d = refl
 
 pub refused-first : (r v m : ℕ) → r ≡ v → (r ≡ 0 → ⊥) → r ≡ orLater v m
 refused-first r zero m e h = absurd (h e)
@@ -43,16 +48,18 @@ refused-first r (suc v) m e h = e
 
 pub early-is : (kind : SampleKind) (channels rate count room : ℕ)
     → earlyVerdict kind channels rate count room
-    ≡ orLater (fileVerdict kind channels rate count) (cond (leb (fileLength kind count) room) 0 14)
+    ≡ orLater (fileVerdictFor kind channels rate count) (cond (leb (fileLengthFor kind count) room) 0 14)
 early-is kind channels rate count room =
-    two-then-one (rateOk rate && countOk kind channels count) (oneOrTwo channels) (leb (fileLength kind count) room)
+    three-then-one (rateOk rate && wholeFrames channels count) (sizeOk kind count) (oneOrTwo channels)
+    (leb (fileLengthFor kind count) room)
 
 pub verdict-is : (kind : SampleKind) (channels rate : ℕ) (samples : List Float) (room : ℕ)
     → verdict kind channels rate samples room
     ≡ orLater (earlyVerdict kind channels rate (length samples) room) (cond (allFit kind samples) 0 15)
 verdict-is kind channels rate samples room =
-    three-then-one (rateOk rate && countOk kind channels (length samples)) (oneOrTwo channels)
-    (leb (fileLength kind (length samples)) room) (allFit kind samples)
+    four-then-one (rateOk rate && wholeFrames channels (length samples)) (sizeOk kind (length samples))
+    (oneOrTwo channels)
+    (leb (fileLengthFor kind (length samples)) room) (allFit kind samples)
 
 -- ---- what is due by the calls of a write
 module _ (kind : SampleKind) (channels rate : ℕ) (samples : List Float) (room r : ℕ)
@@ -76,12 +83,12 @@ module _ (kind : SampleKind) (channels rate : ℕ) (samples : List Float) (room 
 pub roomy : (kind : SampleKind) (channels rate count room : ℕ) → earlyVerdict kind channels rate count room ≡ 0
     → Room kind channels rate count room
 roomy kind channels rate count room h =
-    by (fileVerdict kind channels rate count) (leb (fileLength kind count) room) refl refl
+    by (fileVerdictFor kind channels rate count) (leb (fileLengthFor kind count) room) refl refl
     (sym (early-is kind channels rate count room) ∙ h)
   where
-    by : (v : ℕ) (t : Bool) → fileVerdict kind channels rate count ≡ v → leb (fileLength kind count) room ≡ t
+    by : (v : ℕ) (t : Bool) → fileVerdictFor kind channels rate count ≡ v → leb (fileLengthFor kind count) room ≡ t
         → orLater v (cond t 0 14) ≡ 0 → Room kind channels rate count room
-    by zero true p q z = record { planned = p; holds = leb-true (fileLength kind count) room q }
+    by zero true p q z = record { planned = p; holds = leb-true (fileLengthFor kind count) room q }
     by zero false p q z = absurd (omega arith)
     by (suc v) t p q z = absurd (omega arith)
 

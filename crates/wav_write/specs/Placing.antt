@@ -8,22 +8,26 @@ use lib.ListN.{length, take, drop}
 use Rattle.refusal_order.specs.Order.{_unless_, firstOf}
 use Rattle.word_bytes.specs.Bytes.{lowBytes}
 use Rattle.sample_kind.specs.declared.SampleKind.{SampleKind}
-use Rattle.wav_header.specs.Header.{headerLength, sizeOf, padOf, fileLength, headerOf}
-use Rattle.wav_header.specs.Refusals.{rateOk, oneOrTwo, countOk, fileVerdict}
+use Rattle.wav_header.specs.Header.{sizeOf, padOf}
+use Rattle.wav_settings.specs.Settings.{rateOk, oneOrTwo, wholeFrames}
+use Rattle.long_header.specs.declared.Form.{Form}
+use Rattle.long_header.specs.LongHeader.{headerLengthFor, fileLengthFor, headerFor}
+use Rattle.long_header.specs.Refusals.{sizeOk, fileVerdictFor}
 
 -- The refusals that are due before a sample is looked at.
 abbrev pub earlyVerdict : SampleKind → ℕ → ℕ → ℕ → ℕ → ℕ
 earlyVerdict kind channels rate count room =
     firstOf
-    (1 unless (rateOk rate && countOk kind channels count)
+    (1 unless (rateOk rate && wholeFrames channels count)
+    ∷ 19 unless sizeOk kind count
     ∷ 13 unless oneOrTwo channels
-    ∷ 14 unless leb (fileLength kind count) room
+    ∷ 14 unless leb (fileLengthFor kind count) room
     ∷ [])
 
--- A buffer that holds a file which neither 1 nor 13 refuses.
+-- A buffer that holds a file which none of 1, 19 and 13 refuses.
 pub record Room (kind : SampleKind) (channels rate count room : ℕ) : Type 0 where
-  pub planned : fileVerdict kind channels rate count ≡ 0
-  pub holds : fileLength kind count ≤ room
+  pub planned : fileVerdictFor kind channels rate count ≡ 0
+  pub holds : fileLengthFor kind count ≤ room
 
 -- A number that is a file's length, and a buffer that is not shorter.
 pub record Held (file n : ℕ) (buffer : List ℕ) : Type 0 where
@@ -31,11 +35,12 @@ pub record Held (file n : ℕ) (buffer : List ℕ) : Type 0 where
   pub long : file ≤ length buffer
 
 -- The header in front of what stands behind its place.
-abbrev pub headed : SampleKind → ℕ → ℕ → ℕ → List ℕ → List ℕ
-headed kind channels rate count old = headerOf kind channels rate count ++ drop (headerLength kind) old
+abbrev pub headed : Form → SampleKind → ℕ → ℕ → ℕ → List ℕ → List ℕ
+headed form kind channels rate count old =
+    headerFor form kind channels rate count ++ drop (headerLengthFor kind count) old
 
 -- The pad byte behind the samples, where there is one.
 abbrev pub padded : SampleKind → ℕ → List ℕ → List ℕ
 padded kind count old =
-    take (headerLength kind + sizeOf kind count) old
-    ++ (lowBytes (padOf kind count) 0 ++ drop (fileLength kind count) old)
+    take (headerLengthFor kind count + sizeOf kind count) old
+    ++ (lowBytes (padOf kind count) 0 ++ drop (fileLengthFor kind count) old)

@@ -1,4 +1,5 @@
-// W2. Samples written as a RIFF WAVE file into a lent buffer, or a refusal by number that leaves the buffer as it was.
+// W2, W10e. Samples written as a WAV file into a lent buffer, RIFF where that holds it and past that RF64 or BW64, up
+// to 2^40 bytes of samples, or a refusal by number that leaves the buffer as it was.
 ghost use mathlib.Core.Path.{_≡_};
 ghost use lib.ListN.{length};
 ghost use Rattle.wav_write.specs.Writing.{answerOf, written};
@@ -8,10 +9,11 @@ mod narrow_samples; // the same for samples that are f32s
 
 use frame::early;
 use frame::finish;
+use long_header::Form;
+use long_header::header_length_for;
 pub use narrow_samples::write_f32;
 use sample_kind::SampleKind;
 use sample_kind::width;
-use wav_header::header_length;
 
 // The length of the file that was written, or why none was.
 pub enum Written {
@@ -19,23 +21,30 @@ pub enum Written {
     Refused(u8),
 }
 
-// Refuses by 1, 13, 14 or 15, or writes the file. The samples go first, as only they can still be refused: so one look
-// at them is enough, and a refusal finds nothing written.
-pub fn write(kind: SampleKind, channels: u8, rate: u32, samples: &[f64], out: &mut [u8]) -> Written
+// Refuses by 1, 19, 13, 14 or 15, or writes the file. The samples go first, as only they can still be refused: so one
+// look at them is enough, and a refusal finds nothing written.
+pub fn write(
+    form: Form,
+    kind: SampleKind,
+    channels: u8,
+    rate: u32,
+    samples: &[f64],
+    out: &mut [u8],
+) -> Written
     ensures { λ r. ⌜ r ≡ answerOf kind channels rate (now (samples .entry)) (length (now (out .entry))) ⌝ }
-    ensures { λ _. ⌜ now (out .exit) ≡ written kind channels rate (now (samples .entry)) (now (out .entry)) ⌝ }
+    ensures { λ _. ⌜ now (out .exit) ≡ written form kind channels rate (now (samples .entry)) (now (out .entry)) ⌝ }
 {
     let count = samples.len();
     let refused = early(kind, channels, rate, count, out.len());
     if refused != 0 {
         return Written::Refused(refused);
     }
-    let start = header_length(kind);
+    let start = header_length_for(kind, count);
     let end = start + count * width(kind);
     let unfit = wav_store::store(kind, samples, &mut out[start..end]);
     if unfit != 0 {
         return Written::Refused(unfit);
     }
-    let length = finish(kind, channels, rate, count, &mut out[..]);
+    let length = finish(form, kind, channels, rate, count, &mut out[..]);
     Written::Length(length)
 }

@@ -1,11 +1,20 @@
-// A WAV file's header and its last byte, written to an open file. What goes wrong is said on standard error.
+// A WAV file's header and its last byte, written to an open file: RIFF where the file fits it, else RF64 (W10e). What
+// goes wrong is said on standard error.
+ghost use mathlib.Core.Path.{_≡_};
+ghost use mathlib.Core.Bool.{true, false};
+ghost use Prim.Native.Nat.{_%_};
+ghost use lib.Dec.{eqb};
+ghost use lib.ListN.{length};
+ghost use Rattle.long_header.specs.declared.Form.the-variants.{Rf64};
+ghost use Rattle.long_header.specs.Refusals.{fileVerdictFor, headerVerdictFor, headerAfter};
 use error_lines::say_of;
+use long_header::Form;
 use part_file::write;
 use sample_kind::SampleKind;
 use sizes::begun;
 use text::put;
 
-// Whether so many samples can be written as a file, or why not (1).
+// Whether so many samples can be written as a file, or why not (1, 19).
 pub fn can_be_written(
     command: &[u8],
     name: &[u8],
@@ -13,20 +22,28 @@ pub fn can_be_written(
     channels: u8,
     rate: u32,
     count: usize,
-) -> bool {
-    if wav_header::refusal(kind, channels, rate, count) == 0 {
+) -> bool
+    ensures { λ r. ⌜ r ≡ eqb (fileVerdictFor kind channels rate count) 0 ⌝ }
+{
+    let refused = long_header::refusal_for(kind, channels, rate, count);
+    if refused == 0 {
         return true;
     }
-    if wav_header::file_length(kind, channels, count) == 0 {
+    say_refused(command, name, refused, rate);
+    false
+}
+
+// A file that is read has one or two channels and whole frames: what is left of 1 is the rate.
+fn say_refused(command: &[u8], name: &[u8], refused: u8, rate: u32) {
+    if refused == 19 {
         say_of(
             command,
             name,
-            b" is refused by 1: what is to be written is longer than a RIFF file of 32 bits can be\n",
+            b" is refused by 19: what is to be written has more than 1099511627776 bytes: cut the side in two\n",
         );
-        return false;
+        return;
     }
     say_rate(command, name, rate);
-    false
 }
 
 fn say_rate(command: &[u8], name: &[u8], rate: u32) {
@@ -41,6 +58,7 @@ fn say_rate(command: &[u8], name: &[u8], rate: u32) {
     say_of(command, name, begun(&line, at));
 }
 
+// Writes the header. No contract can say what reaches a file: where it is refused nothing is written.
 pub fn write_header(
     command: &[u8],
     name: &[u8],
@@ -49,35 +67,32 @@ pub fn write_header(
     channels: u8,
     rate: u32,
     count: usize,
-) -> bool {
-    let mut head = [0u8; 58];
-    let n = wav_header::header_length(kind);
-    if put_header(kind, channels, rate, count, &mut head, n) != 0 {
+) -> bool
+    ensures { λ r. ⌜ ((headerVerdictFor kind channels rate count 94 ≡ 0 → ⊥) → r ≡ false) ⌝ }
+{
+    let mut head = [0u8; 94];
+    let n = long_header::header_length_for(kind, count);
+    if put_header(kind, channels, rate, count, &mut head) != 0 {
         return false;
     }
     write_head(command, name, fd, &head, n)
 }
 
-fn write_head(command: &[u8], name: &[u8], fd: i32, head: &[u8; 58], n: usize) -> bool {
+fn write_head(command: &[u8], name: &[u8], fd: i32, head: &[u8; 94], n: usize) -> bool {
     write(command, name, fd, begun(head, n))
 }
 
-fn put_header(
-    kind: SampleKind,
-    channels: u8,
-    rate: u32,
-    count: usize,
-    head: &mut [u8],
-    n: usize,
-) -> u8 {
-    if n <= head.len() {
-        return wav_header::write_header(kind, channels, rate, count, &mut head[..n]);
-    }
-    2
+fn put_header(kind: SampleKind, channels: u8, rate: u32, count: usize, head: &mut [u8]) -> u8
+    ensures { λ r. ⌜ r ≡ headerVerdictFor kind channels rate count (length (now (head .entry))) ⌝ }
+    ensures { λ _. ⌜ now (head .exit) ≡ headerAfter Rf64 kind channels rate count (now (head .entry)) ⌝ }
+{
+    long_header::header_of(Form::Rf64, kind, channels, rate, count, &mut head[..])
 }
 
-// The pad byte behind an odd number of bytes.
-pub fn write_pad(command: &[u8], name: &[u8], fd: i32, size: usize) -> bool {
+// The pad byte behind an odd number of bytes; behind an even one there is nothing that could fail.
+pub fn write_pad(command: &[u8], name: &[u8], fd: i32, size: usize) -> bool
+    ensures { λ r. ⌜ (size % 2 ≡ 0 → r ≡ true) ⌝ }
+{
     if size % 2 == 1 {
         return write(command, name, fd, b"\0");
     }

@@ -1,4 +1,4 @@
--- What `write_table` and `write_rows` rest on, for a table of either width: the window stands in the scratch's front,
+-- What `write_table` and `write_rows` need, for a table of either width: the window stands in the front of the buffer,
 -- and each row ends within the lent table. Assumes nothing.
 use mathlib.Core.Path.{_≡_, ap, _∙_}
 use mathlib.Core.List.{List, _++_}
@@ -28,7 +28,7 @@ module _ {s : Settings} {len : ℕ} (lent : Fitting s len) where
       let g : phase + 1 ≤ s .phases + 1 = omega arith in
       omega (arith, lent .long, add-mul phase 1 (s .taps), one-mul (s .taps), mul-le-mul-right (s .taps) g)
 
-  -- the scratch, once `write_window_in` was lent its front
+  -- The buffer, after its front was lent to `write_window_in`.
   module _ (m : Mode) (front rest : List Float) (e : front ≡ windowAfterIn m s (take (s .taps - 0) scratch)) where
     pub window-fits : s .taps ≤ length (front ++ rest)
     window-fits = front-fits front rest (s .taps) (window-made m s front (lent .settings) e .1)

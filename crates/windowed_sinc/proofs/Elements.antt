@@ -1,4 +1,4 @@
--- T1. A windowed sinc table by its rows and by its elements: each is 000's coefficient, divided by its row's sum.
+-- T1. A windowed sinc table by its rows and by its elements: each is 000's coefficient, divided by the sum of its row.
 -- Assumes nothing.
 use mathlib.Core.Path.{_≡_, _∙_}
 use Prim.Native.Nat.{ℕ, _+_, _*_, _≤_, _<_}

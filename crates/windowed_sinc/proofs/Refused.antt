@@ -1,4 +1,4 @@
--- A refused build writes nothing (D1c), and the answer's number is the verdict (C4). Assumes nothing.
+-- A refused build writes nothing (D1c), and the number of the answer is that of the refusal (C4). Assumes nothing.
 use mathlib.Core.Path.{_≡_, refl}
 use mathlib.Core.List.{List}
 use Prim.Native.Nat.{ℕ, zero, suc}
@@ -8,7 +8,7 @@ use Rattle.bessel.specs.declared.Mode.{Mode}
 use Rattle.windowed_sinc.specs.Table.{builtIn, tableAfter, numberOf}
 use Rattle.windowed_sinc.specs.declared.Built.the-variants.{Refused}
 
--- of either width
+-- This serves tables of either width.
 pub not-written : (v : ℕ) → (v ≡ 0 → ⊥) → (made xs : List Float) → xs ≡ tableAfter v made xs
 not-written zero h made xs = absurd (h refl)
 not-written (suc k) h made xs = refl

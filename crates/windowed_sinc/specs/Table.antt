@@ -1,5 +1,5 @@
--- T1. A windowed sinc table, and what a builder answers and leaves in the lent slice by the refusal that is due.
--- Definitions only.
+-- T1. A windowed sinc table, and what a builder answers and leaves in the lent slice, for each refusal. Definitions
+-- only.
 use Prim.Native.Nat.{ℕ, zero, suc, _+_}
 use mathlib.Core.List.{List}
 use lib.Ieee.{Float}
@@ -12,19 +12,19 @@ use Rattle.sinc_row.specs.Row.{rowOf}
 use Rattle.windowed_sinc.specs.declared.Built.{Built}
 use Rattle.windowed_sinc.specs.declared.Built.the-variants.{Kernel, Refused}
 
--- A row for each phase from 0 to phases, each divided by its sum, under a window.
+-- The table under a window: a row for each phase from 0 to phases, each divided by its sum.
 unfoldable pub tableUnder : (ℕ → Float) → Settings → List Float
 tableUnder window s = rows (rowOf s window) (s .phases + 1)
 
--- W5. Under Kaiser's window in a mode.
+-- W5. The table under Kaiser's window in a mode.
 abbrev pub tableIn : Mode → Settings → List Float
 tableIn mode s = tableUnder (windowIn mode s) s
 
--- 000's
+-- 000's table, which is that of the ported mode.
 abbrev pub tableOf : Settings → List Float
 tableOf = tableIn Ported
 
--- W5e. A table names its mode.
+-- W5e. The kernel of a table names its mode.
 abbrev pub builtIn : Mode → ℕ → Settings → Built
 builtIn mode zero s = Kernel (record { taps = s .taps; phases = s .phases; cutoff = s .cutoff; mode = mode })
 builtIn mode (suc k) s = Refused (suc k)
@@ -32,7 +32,7 @@ builtIn mode (suc k) s = Refused (suc k)
 abbrev pub builtBy : ℕ → Settings → Built
 builtBy = builtIn Ported
 
--- A refusal leaves every element (D1c). Of either width.
+-- D1c. A refusal leaves every element as it was. This serves tables of either width.
 abbrev pub tableAfter : ℕ → List Float → List Float → List Float
 tableAfter zero made xs = made
 tableAfter (suc k) made xs = xs

@@ -20,7 +20,7 @@ pub enum Built {
     Refused(u8),
 }
 
-// T1. Lends each phase's part of the table to `write_row`, under one window.
+// T1. Lends the part of each phase to `write_row`, with the same window.
 fn write_rows<'a>(table: &mut [f64], settings: Settings, window: &'a [f64])
     requires { ⌜ (verdict settings (length (now table)) ≡ 0) × (length (now window) ≡ settings .taps) ⌝ }
     ensures { λ _. ⌜ now (table .exit) ≡ tableUnder (at (now (window .entry))) settings ⌝ }
@@ -36,7 +36,7 @@ fn write_rows<'a>(table: &mut [f64], settings: Settings, window: &'a [f64])
     }
 }
 
-// The window depends on the tap alone, so it is computed once for all rows.
+// The window does not depend on the phase, so it is computed once for all rows.
 fn write_table(table: &mut [f64], settings: Settings, mode: Mode)
     requires { ⌜ verdict settings (length (now table)) ≡ 0 ⌝ }
     ensures { λ _. ⌜ now (table .exit) ≡ tableIn mode settings ⌝ }
@@ -47,7 +47,7 @@ fn write_table(table: &mut [f64], settings: Settings, mode: Mode)
     write_rows(&mut table[..], settings, &window[0..taps]);
 }
 
-// What the builders do once they know which refusal is due.
+// What both builders do when the refusal is known.
 fn build(no: u8, settings: Settings, mode: Mode, table: &mut [f64]) -> Built
     requires { ⌜ (no ≡ 0 → verdict settings (length (now table)) ≡ 0) ⌝ }
     ensures { λ r. ⌜ r ≡ builtIn mode no settings ⌝ }
@@ -76,7 +76,7 @@ pub fn new(settings: Settings, table: &mut [f64]) -> Built
     new_in(settings, Mode::Ported, &mut table[..])
 }
 
-// W5. The same with the window in a mode, which the kernel names.
+// W5. `new` with the window in a mode, which the kernel then names.
 pub fn new_in(settings: Settings, mode: Mode, table: &mut [f64]) -> Built
     ensures { λ r. ⌜ r ≡ builtIn mode (verdict settings (length (now (table .entry)))) settings ⌝ }
     ensures { λ r. ⌜
@@ -88,7 +88,7 @@ pub fn new_in(settings: Settings, mode: Mode, table: &mut [f64]) -> Built
     build(no, settings, mode, &mut table[..])
 }
 
-// 000's WindowedSinc::for_max_rate: the cutoff is passband / max_rate, and both have their range.
+// 000's WindowedSinc::for_max_rate. The cutoff is passband / max_rate, and each of the two has a range of its own.
 pub fn for_max_rate(
     taps: usize,
     phases: usize,
@@ -121,7 +121,7 @@ pub fn for_max_rate(
     )
 }
 
-// W5. The same with the window in a mode, which the kernel names.
+// W5. `for_max_rate` with the window in a mode, which the kernel then names.
 pub fn for_max_rate_in(
     taps: usize,
     phases: usize,

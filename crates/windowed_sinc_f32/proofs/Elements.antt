@@ -1,4 +1,4 @@
--- T1. The f32 table by its rows and by its elements: each is the f64 table's, rounded once. Assumes nothing.
+-- T1. The f32 table by its rows and by its elements: each is that of the f64 table, rounded once. Assumes nothing.
 use mathlib.Core.Path.{_≡_, ap, _∙_}
 use mathlib.Core.List.{map}
 use Prim.Native.Nat.{ℕ, _+_, _*_, _≤_, _<_}
@@ -24,7 +24,7 @@ module _ (m : Mode) (s : Settings) where
   table-row-f32 phase h =
       map-part narrowed (tableIn m s) (phase * s .taps) (s .taps) ∙ ap (map narrowed) (table-row m s phase h)
 
-  -- wherever it stands, inside the table or not: the NaN stands for no element
+  -- This holds at every index, inside the table or not, because a NaN stands for a missing element.
   pub rounded-once : (i : ℕ) → getD (tableF32In m s) i nan ≡ narrowed (getD (tableIn m s) i nan)
   unfolding narrowed
   rounded-once i = List·getD-map narrowed (tableIn m s) i nan

@@ -1,5 +1,5 @@
--- A refused build says so, and the answer's number is the verdict (C4); that nothing is written is windowed_sinc's law.
--- Assumes nothing.
+-- A refused build says so, and the number of the answer is that of the refusal (C4). That nothing is written is
+-- windowed_sinc's law. Assumes nothing.
 use mathlib.Core.Path.{_≡_, refl}
 use Prim.Native.Nat.{ℕ, zero, suc}
 use Rattle.sinc_settings.specs.declared.Settings.{Settings}

@@ -1,5 +1,5 @@
 // The original's WindowedSincF32 (000) built into a lent table: `new` and `for_max_rate`.
-// No f64 table is made: each row is computed in a scratch and rounded into its place.
+// No f64 table is made: each row is computed in a buffer of f64 and rounded into its place.
 ghost use mathlib.Core.Path.{_≡_};
 ghost use mathlib.Core.Bool.{true};
 ghost use mathlib.Core.List.{map};
@@ -25,7 +25,7 @@ pub enum Built {
     Refused(u8),
 }
 
-// 000's `value as f32`, element by element.
+// 000's `value as f32`, for each element.
 fn narrow_row<'a>(row: &mut [f32], from: &'a [f64])
     requires { ⌜ length (now row) ≡ length (now from) ⌝ }
     ensures { λ _. ⌜ now (row .exit) ≡ map narrowed (now (from .entry)) ⌝ }
@@ -37,7 +37,7 @@ fn narrow_row<'a>(row: &mut [f32], from: &'a [f64])
     }
 }
 
-// A phase's row in f64, then each coefficient rounded once.
+// Computes the row of a phase in f64, then rounds each coefficient once.
 fn write_row<'a>(row: &mut [f32], settings: Settings, window: &'a [f64], phase: usize)
     requires { ⌜
         (settingsOk settings ≡ true) × (length (now window) ≡ settings .taps) × (phase ≤ settings .phases)
@@ -51,7 +51,7 @@ fn write_row<'a>(row: &mut [f32], settings: Settings, window: &'a [f64], phase: 
     narrow_row(&mut row[..], &scratch[0..taps]);
 }
 
-// T1. Lends each phase's part of the table to `write_row`, under one window.
+// T1. Lends the part of each phase to `write_row`, with the same window.
 fn write_rows<'a>(table: &mut [f32], settings: Settings, window: &'a [f64])
     requires { ⌜ (verdict settings (length (now table)) ≡ 0) × (length (now window) ≡ settings .taps) ⌝ }
     ensures { λ _. ⌜ now (table .exit) ≡ map narrowed (tableUnder (at (now (window .entry))) settings) ⌝ }
@@ -77,7 +77,7 @@ fn write_table(table: &mut [f32], settings: Settings, mode: Mode)
     write_rows(&mut table[..], settings, &window[0..taps]);
 }
 
-// What the builders do once they know which refusal is due.
+// What both builders do when the refusal is known.
 fn build(no: u8, settings: Settings, mode: Mode, table: &mut [f32]) -> Built
     requires { ⌜ (no ≡ 0 → verdict settings (length (now table)) ≡ 0) ⌝ }
     ensures { λ r. ⌜ r ≡ builtIn mode no settings ⌝ }
@@ -105,7 +105,7 @@ pub fn new(settings: Settings, table: &mut [f32]) -> Built
     new_in(settings, Mode::Ported, &mut table[..])
 }
 
-// W5. The same with the window in a mode, which the kernel names.
+// W5. `new` with the window in a mode, which the kernel then names.
 pub fn new_in(settings: Settings, mode: Mode, table: &mut [f32]) -> Built
     ensures { λ r. ⌜ r ≡ builtIn mode (verdict settings (length (now (table .entry)))) settings ⌝ }
     ensures { λ r. ⌜
@@ -117,7 +117,7 @@ pub fn new_in(settings: Settings, mode: Mode, table: &mut [f32]) -> Built
     build(no, settings, mode, &mut table[..])
 }
 
-// 000's WindowedSincF32::for_max_rate: the cutoff is passband / max_rate, and both have their range.
+// 000's WindowedSincF32::for_max_rate. The cutoff is passband / max_rate, and each of the two has a range of its own.
 pub fn for_max_rate(
     taps: usize,
     phases: usize,
@@ -150,7 +150,7 @@ pub fn for_max_rate(
     )
 }
 
-// W5. The same with the window in a mode, which the kernel names.
+// W5. `for_max_rate` with the window in a mode, which the kernel then names.
 pub fn for_max_rate_in(
     taps: usize,
     phases: usize,

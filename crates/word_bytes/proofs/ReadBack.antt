@@ -11,11 +11,11 @@ use lib.Dec.{ltb, lit≤}
 use Rattle.word_bytes.specs.Hex.{glyph, hexDigits, digitOf, hexValue}
 use Rattle.word_bytes.specs.Bytes.{lowBytes, bytesValue}
 
--- the quotient by the base has one digit fewer
+-- The quotient by the base has one digit fewer.
 fewer : (b k n : ℕ) → zero < b → n < b ^ suc k → n / b < b ^ k
 fewer b k n p h = div-lt-iff-lt-mul p .1 (rw pow-suc at h)
 
--- by the test of `glyph`
+-- The two cases of the test in `glyph`.
 either : (d : ℕ) (small : Bool) → ltb d 10 ≡ small → d < 16 → digitOf (cond small (48 + d) (55 + d)) ≡ d
 either d true e h =
     let l = ltb-true d 10 e in

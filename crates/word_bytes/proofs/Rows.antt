@@ -1,4 +1,5 @@
--- One more digit of a row: what each turn of the loops adds to the number read, or to the row written. Assumes nothing.
+-- One more digit: what each turn of the loops adds to the number that is read, or to the digits that are written.
+-- Assumes nothing.
 use mathlib.Core.Path.{_≡_}
 use mathlib.Core.List.{List, _++_, append-assoc}
 use Prim.Native.Nat.{ℕ, zero, suc, _+_, _*_, _/_, _%_, _^_, _<_, _≤_}
@@ -10,15 +11,15 @@ use lib.Seq.{drop-cons, drop-set-lt, getD-set-same, take-suc-set}
 use Rattle.word_bytes.specs.Hex.{glyph, hexDigits, digitOf, hexValue}
 use Rattle.word_bytes.specs.Bytes.{lowBytes, bytesValue}
 
--- a number of i digits to the base b, and one digit more
+-- A number of i digits to the base b, with one more digit.
 pub one-more : (b i : ℕ) {v d : ℕ} → v < b ^ i → d < b → v * b + d < b ^ suc i
 one-more b i hv hd = rw pow-suc (digits-lt hv hd)
 
--- a number of i digits is one of j digits
+-- A number of i digits is also one of j digits.
 pub within : (b : ℕ) {i : ℕ} (j : ℕ) {v : ℕ} → v < b ^ i → i ≤ j → zero < b → v < b ^ j
 within b j hv hj hb = lt-of-lt-of-le hv (pow-le-pow-right hb hj)
 
--- the digits of v, all but k of them written: the next, at k
+-- All but k digits of v are written; the next is written at k.
 pub hex-written : (xs : List ℕ) (k v : ℕ) → k < length xs
     → hexDigits (suc k) v ++ drop (suc k) xs ≡ hexDigits k (v / 16) ++ drop k (set xs k (glyph (v % 16)))
 unfolding hexDigits

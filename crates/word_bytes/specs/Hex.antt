@@ -8,7 +8,7 @@ use lib.Dec.{ltb}
 abbrev pub glyph : ℕ → ℕ
 glyph d = cond (ltb d 10) (48 + d) (55 + d)
 
--- The last k hex digits of n.
+-- The lowest k hex digits of n.
 unfoldable pub hexDigits : ℕ → ℕ → List ℕ
 hexDigits zero n = []
 hexDigits (suc k) n = hexDigits k (n / 16) ++ (glyph (n % 16) ∷ [])
@@ -17,7 +17,7 @@ hexDigits (suc k) n = hexDigits k (n / 16) ++ (glyph (n % 16) ∷ [])
 abbrev pub digitOf : ℕ → ℕ
 digitOf c = cond (ltb c 48) 0 (cond (ltb c 58) (c - 48) (cond (ltb c 65) 0 (cond (ltb c 71) (c - 55) 0)))
 
--- The number n followed by the digits of a text: `hexValue 0` reads a text, however long.
+-- The number n followed by the digits of a text. `hexValue 0` reads a text of any length.
 unfoldable pub hexValue : ℕ → List ℕ → ℕ
 hexValue n [] = n
 hexValue n (c ∷ cs) = hexValue (n * 16 + digitOf c) cs

@@ -1,18 +1,18 @@
-// Words as bytes, the lowest first.
+// Words as bytes, the lowest byte first.
 ghost use mathlib.Core.Path.{_≡_};
 ghost use Prim.Native.Nat.{_^_, _<_, _≤_};
 ghost use lib.ListN.{length, take, drop};
 ghost use Rattle.word_bytes.specs.Bytes.{lowBytes, bytesValue};
 use crate::part;
 
-// The word whose eight bytes stand at a place of s.
+// The word whose eight bytes stand at a place of s; bytes past the end count as 0.
 pub fn low_first(s: &[u8], at: usize) -> u64
     ensures { λ r. ⌜ r ≡ bytesValue (take 8 (drop at (now (s .entry)))) ⌝ }
 {
     read_bytes(part(s, at, 8))
 }
 
-// The word whose four bytes stand at a place of s.
+// The word whose four bytes stand at a place of s; bytes past the end count as 0.
 pub fn low_first_u32(s: &[u8], at: usize) -> u32
     ensures { λ r. ⌜ r ≡ bytesValue (take 4 (drop at (now (s .entry)))) ⌝ }
 {
@@ -40,7 +40,6 @@ fn wide(x: u8) -> u64
     x as u64
 }
 
-// The eight bytes of a word.
 pub fn low_first_bytes(n: u64) -> [u8; 8]
     ensures { λ r. ⌜ r ≡ lowBytes 8 n ⌝ }
 {
@@ -49,7 +48,6 @@ pub fn low_first_bytes(n: u64) -> [u8; 8]
     out
 }
 
-// The four bytes of a word.
 pub fn low_first_bytes_u32(n: u32) -> [u8; 4]
     ensures { λ r. ⌜ r ≡ lowBytes 4 n ⌝ }
 {

@@ -1,4 +1,4 @@
-// Words as text: sixteen hex digits, the highest first, of which the letters are capitals.
+// Words as text: sixteen hex digits in capitals, the highest first.
 ghost use mathlib.Core.Path.{_≡_};
 ghost use Prim.Native.Nat.{_<_, _≤_};
 ghost use lib.ListN.{length, take, drop};
@@ -6,7 +6,6 @@ ghost use Rattle.word_bytes.specs.Hex.{hexDigits, hexValue, digitOf};
 ghost use Rattle.word_bytes.specs.Hex.{glyph as Hex·glyph};
 use crate::part;
 
-// The sixteen hex digits of a word.
 pub fn hex16(n: u64) -> [u8; 16]
     ensures { λ r. ⌜ r ≡ hexDigits 16 n ⌝ }
 {
@@ -28,7 +27,7 @@ fn glyph(d: u64) -> u8
     if d < 10 { 48 + d as u8 } else { 55 + d as u8 }
 }
 
-// The word whose sixteen hex digits stand at a place of s.
+// The word whose sixteen hex digits stand at a place of s; digits past the end are left out.
 pub fn word_at(s: &[u8], at: usize) -> u64
     ensures { λ r. ⌜ r ≡ hexValue 0 (take 16 (drop at (now (s .entry)))) ⌝ }
 {

@@ -1,6 +1,6 @@
 // Words as bytes, low byte first, and as text in hex digits, both written and read (X1, X2).
-// Hex digits have capital letters, the highest digit first. A slice may have any length and a place may lie past its
-// end: reading takes what is there.
+// Hex digits have capital letters, the highest digit first. A slice may have any length, and a place may lie past its
+// end: bytes that are missing count as 0.
 mod as_bytes; // low byte first
 mod as_text; // hex digits
 
@@ -15,7 +15,7 @@ ghost use mathlib.Core.Path.{_≡_};
 ghost use Prim.Native.Nat.{_≤_};
 ghost use lib.ListN.{length, take, drop};
 
-// Up to count bytes of s from a place on: fewer where s ends before.
+// Up to `count` bytes of s from a place on; fewer if s ends before that.
 pub fn part(s: &[u8], at: usize, count: usize) -> &[u8]
     ensures { λ r. ⌜ now r ≡ take count (drop at (now (s .entry))) ⌝ }
     ensures { λ r. ⌜ length (now r) ≤ count ⌝ }

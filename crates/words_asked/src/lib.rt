@@ -1,13 +1,76 @@
-// What a program's arguments ask for. Each command takes its own settings; whatever else stands there is said and
-// refused. What an argument means is proved in `arguments`, what it changes in `asked`.
-mod for_imitate; // `imitate`
-mod for_plain; // `plain`
-mod for_residual; // `residual`
-mod names; // the files' places, and what is said of an argument
+// The files' places among a program's arguments, and what is said of an argument that will not do. What an argument
+// means is proved in `arguments`, what it changes in `asked`; a program goes through its own arguments.
+ghost use mathlib.Core.Path.{_≡_};
+ghost use Rattle.words_asked.specs.Names.{noNames, withFile, refusedNames, ofTwo};
+ghost use Rattle.words_asked.specs.Words.{isHelp};
 
-pub use for_imitate::ToImitate;
-pub use for_imitate::to_imitate;
-pub use for_plain::to_copy;
-pub use for_residual::ToCompare;
-pub use for_residual::to_compare;
-pub use names::Names;
+mod words; // what is said
+
+pub use words::say_bad;
+pub use words::say_elsewhere;
+pub use words::say_too_long;
+pub use words::say_unknown;
+
+// Places of arguments, 0 for none; how many files were named, at most 3. Not good where an argument will not do.
+pub struct Names {
+    pub first: usize,
+    pub second: usize,
+    pub files: u8,
+    pub good: bool,
+}
+
+pub fn none() -> Names
+    ensures { λ r. ⌜ r ≡ noNames ⌝ }
+{
+    Names {
+        first: 0,
+        second: 0,
+        files: 0,
+        good: true,
+    }
+}
+
+pub fn with_file(names: Names, i: usize) -> Names
+    ensures { λ r. ⌜ r ≡ withFile names i ⌝ }
+{
+    let mut n = names;
+    if n.files == 0 {
+        n.first = i;
+        n.files = 1;
+        return n;
+    }
+    if n.files == 1 {
+        n.second = i;
+        n.files = 2;
+        return n;
+    }
+    n.files = 3;
+    n
+}
+
+pub fn refused(names: Names) -> Names
+    ensures { λ r. ⌜ r ≡ refusedNames names ⌝ }
+{
+    let mut n = names;
+    n.good = false;
+    n
+}
+
+// Good where two files were named.
+pub fn of_two(names: Names) -> Names
+    ensures { λ r. ⌜ r ≡ ofTwo names ⌝ }
+{
+    let mut n = names;
+    n.good = refusal_order::both(names.good, names.files == 2);
+    n
+}
+
+// Whether an argument asks for the usage: `--help` or `-h`.
+pub fn is_help(words: &[u8]) -> bool
+    ensures { λ r. ⌜ r ≡ isHelp (now (words .entry)) ⌝ }
+{
+    if spelling::same(words, b"--help") {
+        return true;
+    }
+    spelling::same(words, b"-h")
+}

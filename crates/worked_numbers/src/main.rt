@@ -19,7 +19,7 @@ fn word(name: &[u8], n: u64) {
     io::write_all(STDOUT_FILENO, b"\n");
 }
 
-// A reader with ring 8 that has accepted so many samples.
+// A reader over a ring of 8 that has accepted some samples.
 fn reader(accepted: u64) -> VariableDelay {
     VariableDelay {
         maximum: 0,
@@ -28,7 +28,7 @@ fn reader(accepted: u64) -> VariableDelay {
     }
 }
 
-// G1. 0 stands for refusal 1.
+// G1. For settings out of range 0 is printed.
 fn ring_lengths() {
     number(b"ring for 0 and 0: ", ring::length_for(0, 0) as u64);
     number(b"ring for 1016 and 0: ", ring::length_for(1016, 0) as u64);
@@ -43,7 +43,7 @@ fn ring_lengths() {
     );
 }
 
-// N5, N6, N8. The refusal that is due, 0 for none.
+// N5, N6, N8. The number of the refusal, 0 for none.
 fn due(accepted: u64, delay: f64) -> u64 {
     let no_settings = true;
     let no_table = true;
@@ -63,7 +63,7 @@ fn refusals() {
     number(b"refusal after 2^36 + 1 samples: ", due(68719476737, 1.5));
 }
 
-// K3. What the cubic reader answers to its first sample; a refusal would show as its number.
+// K3. What the cubic reader answers to its first sample. If it were refused, the number would be printed.
 fn first(input: f64, delay: f64) -> u64 {
     let mut ring = [0.0f64; 8];
     let answer = cubic_delay::process_sample(reader(0), &mut ring, input, delay).answer;
@@ -73,7 +73,7 @@ fn first(input: f64, delay: f64) -> u64 {
     }
 }
 
-// E4. A refusal would show as its number.
+// E4. If it were refused, the number would be printed.
 fn power(x: f64) -> u64 {
     match elementary::exp2(x) {
         Power::Value(y) => bits_of(y),

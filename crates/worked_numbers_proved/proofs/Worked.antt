@@ -1,5 +1,5 @@
--- C3. P1 to P9 as 01 has them, in one table, computed over the definitions that the contracts cite.
--- A float is its odd whole number times a power of two. Assumes nothing.
+-- C3. P1 to P9 as 01 has them, in one table, computed from the definitions that the contracts cite. A float is given as
+-- an odd whole number times a power of two. Assumes nothing.
 use mathlib.Core.Path.{_≡_, refl}
 use mathlib.Core.Bool.{false, true}
 use mathlib.Core.List.{[], _∷_}
@@ -14,7 +14,7 @@ use Rattle.xorshift.specs.Xorshift.{stepOf}
 use Rattle.runs.specs.Calls.{runOf}
 use Rattle.worked_numbers_proved.specs.Cases.{cases, answerTo}
 
--- 2.5, -0.0625, 0.4375, 3.8125, 2, 0; integer -1 and fraction 0.5
+-- The answers are 2.5, -0.0625, 0.4375, 3.8125, 2 and 0; the integer part is -1 and the fraction 0.5.
 pub worked : cases ≡ record {
   P1 = Sample (fin false 5 (negsuc 0));
   P2 = Sample (fin true 1 (negsuc 3));

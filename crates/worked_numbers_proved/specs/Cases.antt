@@ -16,13 +16,13 @@ use Rattle.runs.specs.Runs.{Call, bareCall, opened, run}
 abbrev pub whole : ℕ → Float
 whole n = ofInt binary64 (pos n)
 
--- The inputs 1 to n, each at one delay.
+-- The calls with the inputs 1 to n, all at one delay.
 abbrev pub upTo : ℕ → Float → List Call
 upTo zero delay = []
 upTo (suc n) delay = upTo n delay ++ (bareCall (whole (suc n)) delay ∷ [])
 
--- What the cubic f64 reader with ring 8 answers to the input n + 1, after the inputs 1 to n since opening, all at one
--- delay.
+-- What the cubic f64 reader over a ring of 8 answers to the input n + 1, after the inputs 1 to n since opening, all at
+-- one delay.
 unfoldable pub answerTo : ℕ → Float → Answer
 answerTo n delay =
     let r = run (opened 0 0 8) (upTo n delay) in processed cubicAt (r .state) (r .ring) (whole (suc n)) delay .answer
@@ -34,14 +34,14 @@ pub record Nine : Type 0 where
   pub P4 : Answer
   pub P5 : Answer
   pub P6 : Answer
-  -- The generator's next state, its value, and that shifted by 11.
+  -- The generator's next state, its value, and the value shifted by 11.
   pub P7 : List ℕ
-  -- Integer and fraction.
+  -- The integer part and the fraction of a position.
   pub P8 : ℤ × Float
   -- The flutter seed.
   pub P9 : ℕ
 
--- Delays 1.5, 0.5, 7 and 8; position -0.5.
+-- The delays are 1.5, 0.5, 7 and 8, and the position is -0.5.
 abbrev pub cases : Nine
 cases = record {
   P1 = answerTo 3 (fin false 3 (negsuc 0));

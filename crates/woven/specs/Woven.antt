@@ -1,4 +1,4 @@
--- Two channels' samples in turn. Definitions only.
+-- The samples of two channels in turn. Definitions only.
 use Prim.Native.Nat.{ℕ, _/_, _%_}
 use mathlib.Core.Bool.{cond}
 use mathlib.Core.List.{List}
@@ -7,6 +7,7 @@ use lib.ListN.{getD}
 use lib.Ieee.{Float}
 use Rattle.constants.specs.Numbers.{zero-f}
 
--- At place 2i stands sample i of the first, at 2i + 1 that of the second; 0.0 for a sample that is not there.
+-- Sample i of the first channel stands at place 2i, and that of the second at 2i + 1; 0.0 stands for one that is not
+-- there.
 unfoldable pub wovenAt : List Float → List Float → ℕ → Float
 wovenAt one two k = cond (eqb (k % 2) 0) (getD one (k / 2) zero-f) (getD two (k / 2) zero-f)

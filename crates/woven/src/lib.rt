@@ -1,11 +1,11 @@
-// Two channels' samples in turn, as a file of two channels has them.
+// The samples of two channels in turn, as a file of two channels has them.
 ghost use mathlib.Core.Path.{_≡_};
 ghost use lib.ListN.{length, getD};
 ghost use Rattle.constants.specs.Numbers.{zero-f};
 ghost use Rattle.loop_laws.specs.Loops.{listOf};
 ghost use Rattle.woven.specs.Woven.{wovenAt};
 
-// A sample by its place; one that is not there is 0.0.
+// A sample by its place; 0.0 stands for one that is not there.
 pub fn sample_at(samples: &[f32], k: usize) -> f32
     ensures { λ r. ⌜ r ≡ getD (now (samples .entry)) k zero-f ⌝ }
 {
@@ -21,7 +21,7 @@ fn woven_at(one: &[f32], two: &[f32], k: usize) -> f32
     sample_at(two, k / 2)
 }
 
-// Fills the slice.
+// Fills the slice with the samples of both channels in turn.
 pub fn weave(one: &[f32], two: &[f32], out: &mut [f32])
     ensures { λ _. ⌜ now (out .exit)
         ≡ listOf (wovenAt (now (one .entry)) (now (two .entry))) (length (now (out .entry))) ⌝ }

@@ -1,5 +1,5 @@
--- The exclusive or that computes is the machine's, over any number of digits; and an exclusive or is 0 only of two
--- equal numbers. Assumes nothing.
+-- The definition of exclusive or that computes agrees with the machine's, for any number of digits; and the exclusive
+-- or of two numbers is 0 only if they are equal. Assumes nothing.
 use mathlib.Core.Path.{_≡_, refl, _∙_}
 use Prim.Native.Nat.{ℕ, zero, suc, _+_, _/_, _%_, _^_, _<_}
 use native.Mathlib.Nat.{pow-succ'}

@@ -7,7 +7,7 @@ use native.Mathlib.Nat.{add-mul-mod-self-right, add-mod, add-mod-mod, lt-of-le-o
 use native.Mathlib.Nat.{mul-lt-mul-of-pos-right}
 use lib.Pow.{pow-add, pow-pos}
 
--- What a factor c shifts out may go before or after.
+-- Digits that a factor c shifts out of the modulus may be dropped before or after the product.
 keeps : (x m c : ℕ) → x % m * c % (m * c) ≡ x * c % (m * c)
 keeps x m c =
     let whole : (x % m + x / m * m) * c ≡ x % m * c + x / m * (m * c) = simp (add-mul, mul-assoc) in
@@ -28,7 +28,7 @@ halves a b B =
       add-mod-mod,
     )
 
--- The product of two halves fits a whole.
+-- The product of two halves fits a whole word.
 pub below : (k : ℕ) {a b : ℕ} → a < 2 ^ k → b < 2 ^ k → a * b < 2 ^ (k + k)
 below k {a} {b} ha hb =
     subst⁻¹ (λ (n : ℕ). a * b < n) (pow-add 2 k k)

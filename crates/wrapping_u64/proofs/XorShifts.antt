@@ -1,6 +1,6 @@
--- A word exclusive or itself shifted, either way and by any number of digits above 0, is 0 only of the word 0:
--- it would equal itself shifted. To the right that halves it; to the left, where 2^j divides it so does 2^(j + 1).
--- Assumes nothing.
+-- A word exclusive or a shift of itself, to either side and by any number of digits above 0, is 0 only if the word is
+-- 0. Otherwise the word would equal its own shift. To the right the shift halves it; to the left, if 2^j divides it
+-- then so does 2^(j + 1). Assumes nothing.
 use mathlib.Core.Path.{_≡_, _∙_}
 use mathlib.Core.Logic.{inl, inr}
 use Prim.Native.Nat.{ℕ, zero, suc, _-_, _*_, _/_, _%_, _^_, _≤_, _<_, _∣_}

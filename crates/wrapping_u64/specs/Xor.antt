@@ -3,7 +3,7 @@
 -- that they are the same.
 use Prim.Native.Nat.{ℕ, zero, suc, _+_, _*_, _/_, _%_}
 
--- Of the k lowest digits.
+-- The exclusive or of the k lowest digits.
 unfoldable pub xorTo : ℕ → ℕ → ℕ → ℕ
 xorTo zero a b = 0
 xorTo (suc k) a b = xorTo k (a / 2) (b / 2) * 2 + (a % 2 + b % 2) % 2

@@ -3,8 +3,8 @@
 ghost use mathlib.Core.Path.{_≡_};
 ghost use Prim.Native.Nat.{_*_, _%_, _^_};
 
-// a * b modulo 2^64 (F6). The product of the two upper halves is a multiple of 2^64; of the two mixed products only the
-// lower halves count.
+// F6. Schoolbook product by 32-bit halves: the product of the two upper halves is a multiple of 2^64 and drops out, and
+// of the two mixed products only the lower halves count.
 pub fn wrapping_mul(a: u64, b: u64) -> u64
     ensures { λ r. ⌜ r ≡ a * b % 2 ^ 64 ⌝ }
 {
@@ -16,7 +16,7 @@ pub fn wrapping_mul(a: u64, b: u64) -> u64
     std::num::wrapping_add_u64(al * bl, (mixed & 0xffff_ffff) << 32)
 }
 
-// F6. a shifted to the left by n digits, those beyond 2^64 lost: for every n, where Rust's << asks for one below 64.
+// F6. A shift by 64 or more gives 0. The language's own `<<` is defined only for an n below 64.
 pub fn shl(a: u64, n: u64) -> u64
     ensures { λ r. ⌜ r ≡ a * 2 ^ n % 2 ^ 64 ⌝ }
 {

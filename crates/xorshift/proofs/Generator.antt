@@ -1,5 +1,5 @@
--- G8. Every state is a word, and one that is not 0 is followed by one that is not 0: each of the three xor-shifts gives
--- 0 at 0 alone. Assumes nothing.
+-- G8. Every state is a word, and after one that is not 0 comes one that is not 0: each of the three xor-shifts gives 0
+-- only at 0. Assumes nothing.
 use mathlib.Core.Path.{_≡_}
 use Prim.Native.Nat.{ℕ, _*_, _/_, _%_, _^_, _<_}
 use Rattle.wrapping_u64.specs.Xor.{xor}

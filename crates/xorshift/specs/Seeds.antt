@@ -1,4 +1,4 @@
--- M1. Which seed a generator starts from. Definitions only.
+-- M1. The seed that a generator starts from. Definitions only.
 use Prim.Native.Nat.{ℕ}
 use mathlib.Core.Bool.{cond}
 use lib.Dec.{eqb}

@@ -17,6 +17,6 @@ stepOf x =
     let b = xor a (shiftedLeft 25 a) in
     xor b (shiftedRight 27 b)
 
--- What is handed out where the state has become x.
+-- What is handed out when the state has become x.
 abbrev pub valueOf : ℕ → ℕ
 valueOf x = x * 2685821657736338717 % 2 ^ 64

@@ -4,7 +4,7 @@ ghost use Rattle.xorshift.specs.Xorshift.{stepOf};
 ghost use Rattle.xorshift.specs.Seeds.{seedOf, flutterSeedOf};
 ghost use Rattle.xorshift.specs.Draws.{bipolarOf, scaleOf};
 
-// M1. 001's normalized_seed: the generator would stay at 0, so 0 is replaced.
+// M1. 001's normalized_seed. From a state of 0 the generator would only ever give 0, so another seed replaces it.
 pub fn normalized_seed(seed: u64) -> u64
     ensures { λ r. ⌜ r ≡ seedOf seed ⌝ }
 {
@@ -22,7 +22,7 @@ pub fn flutter_seed(seed: u64) -> u64
     normalized_seed(seed ^ 0xD1B5_4A32_D192_ED03)
 }
 
-// One step of xorshift64*.
+// M3. One step of xorshift64*. The shift to the left drops what does not fit into 64 bits.
 pub fn step(x: u64) -> u64
     ensures { λ r. ⌜ r ≡ stepOf x ⌝ }
 {
@@ -31,7 +31,8 @@ pub fn step(x: u64) -> u64
     b ^ (b >> 27)
 }
 
-// The number drawn where the state has become x. The value's 53 highest digits are a whole number that a float holds.
+// M3. The number drawn when the state has become x, from -1 to 1. Only the 53 highest digits are taken, because a float
+// holds a whole number of 53 digits exactly.
 pub fn bipolar(x: u64) -> f64
     ensures { λ r. ⌜ r ≡ bipolarOf x ⌝ }
 {
@@ -40,7 +41,7 @@ pub fn bipolar(x: u64) -> f64
     unit * 2.0 - 1.0
 }
 
-// From the same draw a number from 0.65 to 1.35, so that the targets do not come at a steady beat.
+// M3. A number from 0.65 to 1.35 from the same draw, so that the targets do not come at a steady beat.
 pub fn scale(x: u64) -> f64
     ensures { λ r. ⌜ r ≡ scaleOf x ⌝ }
 {

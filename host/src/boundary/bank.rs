@@ -1,6 +1,7 @@
 //! The bank of tables, and the reader whose quality may change.
 
-/// A quality reader's numbers beside its ring. A quality is its place in 000's list, from 0.
+/// A quality reader's numbers beside its ring. A quality is its place in 000's list, from 0; the rule is 0 for the ported
+/// one and 1 for the one that goes back without a jump, the direction 0 for onwards and 1 for back.
 #[derive(Clone, Debug)]
 pub struct QualityReader {
     pub maximum: usize,
@@ -10,6 +11,8 @@ pub struct QualityReader {
     pub target: u8,
     pub crossfade_position: u32,
     pub crossfade_samples: u32,
+    pub rule: u8,
+    pub direction: u8,
     pub ring: Vec<f32>,
 }
 
@@ -25,27 +28,31 @@ extern "C" {
     fn fugnadri_bank_build_in(max_rate: f64, mode: u8, sets: *mut f32, sets_len: usize) -> u8;
     fn fugnadri_quality_open(
         maximum: usize, margin: usize, quality: u8, crossfade_samples: u32, accepted: &mut u64, current: &mut u8, target: &mut u8, crossfade_position: &mut u32,
-        ring: *mut f32, ring_len: usize,
+        rule: &mut u8, direction: &mut u8, ring: *mut f32, ring_len: usize,
+    ) -> u8;
+    fn fugnadri_quality_open_returning(
+        maximum: usize, margin: usize, quality: u8, crossfade_samples: u32, accepted: &mut u64, current: &mut u8, target: &mut u8, crossfade_position: &mut u32,
+        rule: &mut u8, direction: &mut u8, ring: *mut f32, ring_len: usize,
     ) -> u8;
     fn fugnadri_quality_reset(
         maximum: usize, margin: usize, accepted: &mut u64, current: &mut u8, target: &mut u8, crossfade_position: &mut u32, crossfade_samples: u32,
-        ring: *mut f32, ring_len: usize,
+        rule: u8, direction: &mut u8, ring: *mut f32, ring_len: usize,
     ) -> u8;
     fn fugnadri_quality_process(
         maximum: usize, margin: usize, accepted: &mut u64, current: &mut u8, target: &mut u8, crossfade_position: &mut u32, crossfade_samples: u32,
-        ring: *mut f32, ring_len: usize, sets: *const f32, sets_len: usize, max_rate: f64, input: f32, delay: f64, quality: u8, sample: &mut f32,
+        rule: u8, direction: &mut u8, ring: *mut f32, ring_len: usize, sets: *const f32, sets_len: usize, max_rate: f64, input: f32, delay: f64, quality: u8, sample: &mut f32,
     ) -> u8;
     fn fugnadri_quality_process_bits(
         maximum: usize, margin: usize, accepted: &mut u64, current: &mut u8, target: &mut u8, crossfade_position: &mut u32, crossfade_samples: u32,
-        ring: *mut f32, ring_len: usize, sets: *const f32, sets_len: usize, max_rate: f64, input: f32, delay: f64, quality: u8, sample: &mut u32,
+        rule: u8, direction: &mut u8, ring: *mut f32, ring_len: usize, sets: *const f32, sets_len: usize, max_rate: f64, input: f32, delay: f64, quality: u8, sample: &mut u32,
     ) -> u8;
     fn fugnadri_quality_process_rate_aware(
         maximum: usize, margin: usize, accepted: &mut u64, current: &mut u8, target: &mut u8, crossfade_position: &mut u32, crossfade_samples: u32,
-        ring: *mut f32, ring_len: usize, sets: *const f32, sets_len: usize, max_rate: f64, input: f32, delay: f64, quality: u8, playback_rate: f64, sample: &mut f32,
+        rule: u8, direction: &mut u8, ring: *mut f32, ring_len: usize, sets: *const f32, sets_len: usize, max_rate: f64, input: f32, delay: f64, quality: u8, playback_rate: f64, sample: &mut f32,
     ) -> u8;
     fn fugnadri_quality_process_rate_aware_bits(
         maximum: usize, margin: usize, accepted: &mut u64, current: &mut u8, target: &mut u8, crossfade_position: &mut u32, crossfade_samples: u32,
-        ring: *mut f32, ring_len: usize, sets: *const f32, sets_len: usize, max_rate: f64, input: f32, delay: f64, quality: u8, playback_rate: f64, sample: &mut u32,
+        rule: u8, direction: &mut u8, ring: *mut f32, ring_len: usize, sets: *const f32, sets_len: usize, max_rate: f64, input: f32, delay: f64, quality: u8, playback_rate: f64, sample: &mut u32,
     ) -> u8;
 }
 
@@ -99,7 +106,16 @@ impl QualityReader {
         unsafe {
             fugnadri_quality_open(
                 self.maximum, self.margin, quality, self.crossfade_samples, &mut self.accepted, &mut self.current, &mut self.target, &mut self.crossfade_position,
-                self.ring.as_mut_ptr(), self.ring.len(),
+                &mut self.rule, &mut self.direction, self.ring.as_mut_ptr(), self.ring.len(),
+            )
+        }
+    }
+
+    pub fn open_returning(&mut self, quality: u8) -> u8 {
+        unsafe {
+            fugnadri_quality_open_returning(
+                self.maximum, self.margin, quality, self.crossfade_samples, &mut self.accepted, &mut self.current, &mut self.target, &mut self.crossfade_position,
+                &mut self.rule, &mut self.direction, self.ring.as_mut_ptr(), self.ring.len(),
             )
         }
     }
@@ -108,7 +124,7 @@ impl QualityReader {
         unsafe {
             fugnadri_quality_reset(
                 self.maximum, self.margin, &mut self.accepted, &mut self.current, &mut self.target, &mut self.crossfade_position, self.crossfade_samples,
-                self.ring.as_mut_ptr(), self.ring.len(),
+                self.rule, &mut self.direction, self.ring.as_mut_ptr(), self.ring.len(),
             )
         }
     }
@@ -118,7 +134,7 @@ impl QualityReader {
         unsafe {
             fugnadri_quality_process(
                 self.maximum, self.margin, &mut self.accepted, &mut self.current, &mut self.target, &mut self.crossfade_position, self.crossfade_samples,
-                self.ring.as_mut_ptr(), self.ring.len(), sets.as_ptr(), sets.len(), max_rate, input, delay, quality, sample,
+                self.rule, &mut self.direction, self.ring.as_mut_ptr(), self.ring.len(), sets.as_ptr(), sets.len(), max_rate, input, delay, quality, sample,
             )
         }
     }
@@ -128,7 +144,7 @@ impl QualityReader {
         unsafe {
             fugnadri_quality_process_bits(
                 self.maximum, self.margin, &mut self.accepted, &mut self.current, &mut self.target, &mut self.crossfade_position, self.crossfade_samples,
-                self.ring.as_mut_ptr(), self.ring.len(), sets.as_ptr(), sets.len(), max_rate, input, delay, quality, sample,
+                self.rule, &mut self.direction, self.ring.as_mut_ptr(), self.ring.len(), sets.as_ptr(), sets.len(), max_rate, input, delay, quality, sample,
             )
         }
     }
@@ -141,7 +157,7 @@ impl QualityReader {
         unsafe {
             fugnadri_quality_process_rate_aware(
                 self.maximum, self.margin, &mut self.accepted, &mut self.current, &mut self.target, &mut self.crossfade_position, self.crossfade_samples,
-                self.ring.as_mut_ptr(), self.ring.len(), sets.as_ptr(), sets.len(), max_rate, input, delay, quality, playback_rate, sample,
+                self.rule, &mut self.direction, self.ring.as_mut_ptr(), self.ring.len(), sets.as_ptr(), sets.len(), max_rate, input, delay, quality, playback_rate, sample,
             )
         }
     }
@@ -154,7 +170,7 @@ impl QualityReader {
         unsafe {
             fugnadri_quality_process_rate_aware_bits(
                 self.maximum, self.margin, &mut self.accepted, &mut self.current, &mut self.target, &mut self.crossfade_position, self.crossfade_samples,
-                self.ring.as_mut_ptr(), self.ring.len(), sets.as_ptr(), sets.len(), max_rate, input, delay, quality, playback_rate, sample,
+                self.rule, &mut self.direction, self.ring.as_mut_ptr(), self.ring.len(), sets.as_ptr(), sets.len(), max_rate, input, delay, quality, playback_rate, sample,
             )
         }
     }

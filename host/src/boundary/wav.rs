@@ -1,10 +1,16 @@
-//! RIFF WAVE files: what is found in one, what its `fmt ` tells, and one channel's samples.
+//! WAV files: what is found in one or by its first bytes, what its `fmt ` tells, and one channel's samples.
 
 #[rustfmt::skip]
 extern "C" {
     fn fugnadri_wav_read(file: *const u8, file_len: usize, kind: &mut u8, channels: &mut u8, rate: &mut u32, start: &mut usize, size: &mut usize) -> u8;
     fn fugnadri_wav_read_wrapped(file: *const u8, file_len: usize, kind: &mut u8, channels: &mut u8, rate: &mut u32, start: &mut usize, size: &mut usize) -> u8;
     fn fugnadri_wav_told(file: *const u8, file_len: usize, size: &mut usize, tag: &mut u32, channels: &mut u32, block: &mut u32, bits: &mut u32, samples: &mut usize);
+    fn fugnadri_wav_read_header(prefix: *const u8, prefix_len: usize, length: usize, kind: &mut u8, channels: &mut u8, rate: &mut u32, start: &mut usize, size: &mut usize) -> u8;
+    fn fugnadri_wav_read_header_wrapped(prefix: *const u8, prefix_len: usize, length: usize, kind: &mut u8, channels: &mut u8, rate: &mut u32, start: &mut usize, size: &mut usize) -> u8;
+    fn fugnadri_wav_needs(prefix: *const u8, prefix_len: usize, length: usize) -> usize;
+    fn fugnadri_wav_begin(opening: *const u8, opening_len: usize, length: usize, end: &mut usize, left: &mut usize) -> u8;
+    fn fugnadri_wav_turn(opening: *const u8, opening_len: usize, end: usize, head: *const u8, head_len: usize, left: &mut usize, overruns: &mut u8, format: &mut usize, format_size: &mut usize, samples: &mut usize, samples_size: &mut usize);
+    fn fugnadri_wav_finish(overruns: u8, format: usize, format_size: usize, samples: usize, samples_size: usize, fmt: *const u8, fmt_len: usize, kind: &mut u8, channels: &mut u8, rate: &mut u32, start: &mut usize, size: &mut usize) -> u8;
     fn fugnadri_wav_samples(kind: u8, channels: u8, channel: u8, part: *const u8, part_len: usize, out: *mut f64, out_len: usize) -> u8;
     fn fugnadri_wav_samples_f32(kind: u8, channels: u8, channel: u8, part: *const u8, part_len: usize, out: *mut f32, out_len: usize) -> u8;
     fn fugnadri_wav_whole(kind: u8, channels: u8, channel: u8, part: *const u8, part_len: usize, out: *mut i32, out_len: usize) -> u8;
@@ -39,6 +45,69 @@ pub fn wav_read_wrapped(file: &[u8]) -> (u8, WavePart) {
     let (at, len) = (file.as_ptr(), file.len());
     let number = unsafe {
         fugnadri_wav_read_wrapped(at, len, &mut w.kind, &mut w.channels, &mut w.rate, &mut w.start, &mut w.length)
+    };
+    (number, w)
+}
+
+/// A file of `length` bytes by its first ones.
+pub fn wav_read_header(prefix: &[u8], length: usize) -> (u8, WavePart) {
+    let mut w = UNWRITTEN;
+    let (at, len) = (prefix.as_ptr(), prefix.len());
+    let WavePart { kind, channels, rate, start, length: size } = &mut w;
+    let number = unsafe { fugnadri_wav_read_header(at, len, length, kind, channels, rate, start, size) };
+    (number, w)
+}
+
+/// The same, a wrapped kind by what is inside.
+pub fn wav_read_header_wrapped(prefix: &[u8], length: usize) -> (u8, WavePart) {
+    let mut w = UNWRITTEN;
+    let (at, len) = (prefix.as_ptr(), prefix.len());
+    let WavePart { kind, channels, rate, start, length: size } = &mut w;
+    let number = unsafe { fugnadri_wav_read_header_wrapped(at, len, length, kind, channels, rate, start, size) };
+    (number, w)
+}
+
+/// How many of the first bytes such a reading needs; 0 where enough are at hand.
+pub fn wav_needs(prefix: &[u8], length: usize) -> usize {
+    unsafe { fugnadri_wav_needs(prefix.as_ptr(), prefix.len(), length) }
+}
+
+/// A walk over a file's chunks on its way: what is left before its end, whether a chunk ran past that, and place and size
+/// of the first `fmt ` and of the first `data`.
+#[derive(Clone, Copy, Debug, Default, PartialEq, Eq)]
+pub struct WavWalk {
+    pub left: usize,
+    pub overruns: u8,
+    pub format: usize,
+    pub format_size: usize,
+    pub samples: usize,
+    pub samples_size: usize,
+}
+
+/// The refusal's number, the walk's end, and the walk before its first turn.
+pub fn wav_begin(opening: &[u8], length: usize) -> (u8, usize, WavWalk) {
+    let (mut end, mut left) = (usize::MAX, usize::MAX);
+    let number = unsafe { fugnadri_wav_begin(opening.as_ptr(), opening.len(), length, &mut end, &mut left) };
+    (number, end, WavWalk { left, ..WavWalk::default() })
+}
+
+/// One chunk more, by its first 8 bytes.
+pub fn wav_turn(opening: &[u8], end: usize, head: &[u8], walk: &mut WavWalk) {
+    let (at, len, to, size) = (opening.as_ptr(), opening.len(), head.as_ptr(), head.len());
+    let WavWalk { left, overruns, format, format_size, samples, samples_size } = walk;
+    unsafe { fugnadri_wav_turn(at, len, end, to, size, left, overruns, format, format_size, samples, samples_size) }
+}
+
+/// What the walk and the first bytes of `fmt ` tell.
+pub fn wav_finish(walk: &WavWalk, fmt: &[u8]) -> (u8, WavePart) {
+    let mut w = UNWRITTEN;
+    let (at, len) = (fmt.as_ptr(), fmt.len());
+    let WavWalk { overruns, format, format_size, samples, samples_size, .. } = *walk;
+    let WavePart { kind, channels, rate, start, length } = &mut w;
+    let number = unsafe {
+        fugnadri_wav_finish(
+            overruns, format, format_size, samples, samples_size, at, len, kind, channels, rate, start, length,
+        )
     };
     (number, w)
 }

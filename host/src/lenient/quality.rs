@@ -45,6 +45,20 @@ impl QualityVariableDelayF32 {
         }
     }
 
+    /// By a second rule for a change of quality, which the original does not have: going back runs the weight down again
+    /// from where it stands, and a third quality waits until the running fade has ended.
+    #[track_caller]
+    pub fn new_returning(
+        max_delay_samples: usize,
+        kernel_margin: usize,
+        kernels: Arc<SincBankF32>,
+        quality: QualityMode,
+        crossfade_samples: u32,
+    ) -> Self {
+        let reader = strict::Fading::new_returning(max_delay_samples, kernel_margin, quality, crossfade_samples);
+        Self { reader: or_panic(reader), kernels }
+    }
+
     #[inline]
     #[track_caller]
     pub fn process_sample(&mut self, input: f32, delay_samples: f64, requested_quality: QualityMode) -> f32 {

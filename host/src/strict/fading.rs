@@ -8,6 +8,26 @@ pub(crate) struct Fading(pub(crate) QualityReader);
 
 impl Fading {
     pub fn new(maximum: usize, margin: usize, quality: QualityMode, crossfade_samples: u32) -> Result<Self, Refusal> {
+        Self::opened(maximum, margin, quality, crossfade_samples, QualityReader::open)
+    }
+
+    /// By the rule that goes back without a jump.
+    pub fn new_returning(
+        maximum: usize,
+        margin: usize,
+        quality: QualityMode,
+        crossfade_samples: u32,
+    ) -> Result<Self, Refusal> {
+        Self::opened(maximum, margin, quality, crossfade_samples, QualityReader::open_returning)
+    }
+
+    fn opened(
+        maximum: usize,
+        margin: usize,
+        quality: QualityMode,
+        crossfade_samples: u32,
+        open: fn(&mut QualityReader, u8) -> u8,
+    ) -> Result<Self, Refusal> {
         let (current, ring) = (quality as u8, vec![0.0; ring_length(maximum, margin)]);
         let mut reader = QualityReader {
             maximum,
@@ -17,9 +37,11 @@ impl Fading {
             target: current,
             crossfade_position: 0,
             crossfade_samples,
+            rule: 0,
+            direction: 0,
             ring,
         };
-        Refusal::of(reader.open(current))?;
+        Refusal::of(open(&mut reader, current))?;
         Ok(Self(reader))
     }
 

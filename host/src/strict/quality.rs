@@ -22,6 +22,19 @@ impl QualityVariableDelayF32 {
         Ok(Self { reader: Fading::new(max_delay_samples, kernel_margin, quality, crossfade_samples)?, kernels })
     }
 
+    /// The same by a second rule for a change of quality, which the original does not have: going back runs the weight
+    /// down again from where it stands, and a third quality waits until the running fade has ended.
+    pub fn new_returning(
+        max_delay_samples: usize,
+        kernel_margin: usize,
+        kernels: Arc<SincBankF32>,
+        quality: QualityMode,
+        crossfade_samples: u32,
+    ) -> Result<Self, Refusal> {
+        let reader = Fading::new_returning(max_delay_samples, kernel_margin, quality, crossfade_samples)?;
+        Ok(Self { reader, kernels })
+    }
+
     /// Reads at the bank's own rate. Refused by 4, 5, 6 or 8; a refused call forgets the quality that it asked for.
     #[inline]
     pub fn process_sample(

@@ -24,6 +24,12 @@ pub const EXPORTS: &[Export] = &[
         let quality = t.random.count(0, 3) as u8;
         opened(t, |reader| reader.open(quality))
     }),
+    ("fugnadri_quality_open_returning", |t| {
+        let quality = t.random.count(0, 3) as u8;
+        let number = opened(t, |reader| reader.open_returning(quality));
+        t.hold(quality <= 3 || number == 1, "a number that names no quality is taken");
+        number
+    }),
     ("fugnadri_quality_reset", |t| opened(t, |reader| reader.reset())),
     ("fugnadri_quality_process", |t| process(t, |r, c, _, v: &mut f32| r.process(c.sets, c.max_rate, c.input, c.delay, c.quality, v))),
     ("fugnadri_quality_process_bits", |t| process(t, |r, c, _, v: &mut u32| r.process_bits(c.sets, c.max_rate, c.input, c.delay, c.quality, v))),
@@ -80,13 +86,69 @@ fn reader(t: &mut Turn) -> (ManuallyDrop<QualityReader>, Lent<f32>) {
     let crossfade_position = if r.one_in(16) || below == 0 { r.whole() } else { r.word() % below } as u32;
     let target = if below == 0 && !r.one_in(16) { current } else { target };
     let ring_of = ring.vector();
-    let reader = QualityReader { maximum, margin, accepted, current, target, crossfade_position, crossfade_samples, ring: ring_of };
+    let rule = r.count(0, 1) as u8;
+    let direction = if rule == 0 && !r.one_in(16) { 0 } else { r.count(0, 1) as u8 };
+    let reader =
+        QualityReader { maximum, margin, accepted, current, target, crossfade_position, crossfade_samples, rule, direction, ring: ring_of };
     (ManuallyDrop::new(reader), ring)
 }
 
 /// Every number of the state.
-fn numbers(r: &QualityReader) -> (usize, usize, usize, u64, u8, u8, u32, u32) {
-    (r.maximum, r.margin, r.ring.len(), r.accepted, r.current, r.target, r.crossfade_position, r.crossfade_samples)
+fn numbers(r: &QualityReader) -> ([usize; 3], u64, u32, u8, Fade) {
+    ([r.maximum, r.margin, r.ring.len()], r.accepted, r.crossfade_samples, r.rule, Fade::of(r))
+}
+
+/// What a call changes of the qualities.
+#[derive(Clone, Copy, PartialEq)]
+struct Fade {
+    current: u8,
+    target: u8,
+    place: u32,
+    direction: u8,
+}
+
+impl Fade {
+    fn of(r: &QualityReader) -> Self {
+        Fade { current: r.current, target: r.target, place: r.crossfade_position, direction: r.direction }
+    }
+
+    /// W9g. Whether a fade of this length is in its ranges by a rule.
+    fn fine(self, rule: u8, length: u32) -> bool {
+        let Fade { current, target, place, direction } = self;
+        let known = current <= 3 && target <= 3 && rule <= 1 && direction <= 1 && length <= 1 << 24;
+        known
+            && match (rule, current == target) {
+                (_, true) => direction == 0 && place <= length,
+                (0, false) => direction == 0 && place < length,
+                (_, false) => 0 < place && place < length,
+            }
+    }
+
+    /// What an accepted call that asks for a quality leaves, in plain steps.
+    fn after(self, rule: u8, length: u32, asked: u8) -> Self {
+        let mut f = self;
+        if rule == 1 && f.current != f.target {
+            let back = asked != f.target && (asked == f.current || f.direction == 1);
+            f.direction = back as u8;
+            if back {
+                f.place -= 1;
+                if f.place == 0 {
+                    return Fade { current: f.current, target: f.current, place: length, direction: 0 };
+                }
+                return f;
+            }
+        } else if asked != f.target {
+            (f.target, f.place) = (asked, 0);
+        }
+        if f.current != f.target && length != 0 {
+            f.place += 1;
+            if f.place < length {
+                return f;
+            }
+        }
+        f.current = f.target;
+        f
+    }
 }
 
 fn opened(t: &mut Turn, call: impl FnOnce(&mut QualityReader) -> u8) -> u8 {
@@ -97,7 +159,8 @@ fn opened(t: &mut Turn, call: impl FnOnce(&mut QualityReader) -> u8) -> u8 {
     if number == 0 {
         let zero = ring.slice().iter().all(|x| x.to_bits() == 0) && ring.zone_kept();
         let one = reader.current == reader.target && reader.crossfade_position == reader.crossfade_samples;
-        t.hold(zero && one && reader.accepted == 0, "an accepted call leaves something else than zeros and one quality");
+        let still = reader.direction == 0 && reader.rule <= 1;
+        t.hold(zero && one && still && reader.accepted == 0, "an accepted call leaves something else than zeros and one quality");
     } else {
         t.hold(ring.kept() && numbers(&reader) == before, "a refused call has changed the ring or the state");
     }
@@ -130,10 +193,13 @@ fn process<V: Value>(t: &mut Turn, call: impl FnOnce(&mut QualityReader, Call, f
     let rate = if r.one_in(16) { r.float() } else { r.ranged(1.0, max_rate) };
     let number = t.value(|_, v| call(&mut reader, Call { sets, max_rate, input, delay, quality }, rate, v));
     let after = numbers(&reader);
-    t.hold((after.0, after.1, after.2, after.7) == (before.0, before.1, before.2, before.7), "something beside the state is written");
+    t.hold((after.0, after.2, after.3) == (before.0, before.2, before.3), "something beside the state is written");
     t.hold(number == 0 || after == before, "a refused call has changed the state");
-    t.hold(number != 0 || after.4 <= 3 && after.5 == quality, "an accepted call does not have the quality that it asked for as its target");
-    left(t, number, &ring, before.3, after.3, input);
+    let (fade, length, rule) = (before.4, before.2, before.3);
+    t.hold(number != 0 || fade.fine(rule, length), "a state out of its ranges is accepted");
+    let right = number != 0 || after.4 == fade.after(rule, length, quality) && after.4.fine(rule, length);
+    t.hold(right, "an accepted call leaves other qualities than plain steps do");
+    left(t, number, &ring, before.1, after.1, input);
     t.saw(reader.current);
     t.saw(reader.crossfade_position as usize);
     number

@@ -3,9 +3,9 @@
 use crate::random::Random;
 use boundary::WavePart;
 
-const BITS: [u16; 3] = [16, 24, 32];
+pub const BITS: [u16; 3] = [16, 24, 32];
 
-fn chunk(out: &mut Vec<u8>, id: &[u8; 4], size: u32, body: &[u8], pad: bool) {
+pub fn chunk(out: &mut Vec<u8>, id: &[u8; 4], size: u32, body: &[u8], pad: bool) {
     out.extend_from_slice(id);
     out.extend_from_slice(&size.to_le_bytes());
     out.extend_from_slice(body);
@@ -31,7 +31,7 @@ fn wrapping(r: &mut Random, tag: u16, bits: u16) -> Vec<u8> {
     body
 }
 
-fn fmt(r: &mut Random, kind: usize, channels: u16) -> Vec<u8> {
+pub fn fmt(r: &mut Random, kind: usize, channels: u16) -> Vec<u8> {
     let mut bits = BITS[kind];
     let mut tag = if kind == 2 { 3u16 } else { 1 };
     let mut block = channels * (bits / 8);
@@ -141,20 +141,26 @@ pub fn found(f: &[u8], wrapped: bool) -> Result<WavePart, u8> {
         return Err(10);
     }
     let ((body, size), (start, length)) = (fmt.ok_or(11)?, data.ok_or(12)?);
+    told(&f[body..body + size], size, wrapped, start, length)
+}
+
+/// What a `fmt ` of so many bytes tells of a part; of its bytes the first 40 count, and those that are missing are 0.
+pub fn told(fmt: &[u8], size: usize, wrapped: bool, start: usize, length: usize) -> Result<WavePart, u8> {
+    let mut fmt = fmt[..fmt.len().min(40)].to_vec();
+    fmt.resize(size.min(40), 0);
     if size < 16 {
         return Err(13);
     }
-    let fmt = &f[body..body + size];
-    let kind = match (tag(fmt, wrapped), half(fmt, 14)) {
+    let kind = match (tag(&fmt, wrapped), half(&fmt, 14)) {
         (1, 16) => 0,
         (1, 24) => 1,
         (3, 32) => 2,
         _ => return Err(13),
     };
-    let (channels, block) = (half(fmt, 2), usize::from(half(fmt, 12)));
-    let bytes = usize::from(channels) * usize::from(half(fmt, 14) / 8);
+    let (channels, block) = (half(&fmt, 2), usize::from(half(&fmt, 12)));
+    let bytes = usize::from(channels) * usize::from(half(&fmt, 14) / 8);
     if !(1..=2).contains(&channels) || block != bytes || length % block != 0 {
         return Err(13);
     }
-    Ok(WavePart { kind, channels: channels as u8, rate: word(fmt, 4) as u32, start, length })
+    Ok(WavePart { kind, channels: channels as u8, rate: word(&fmt, 4) as u32, start, length })
 }

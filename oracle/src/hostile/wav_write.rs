@@ -1,4 +1,4 @@
-//! W2. Samples written as RIFF WAVE files, beside the same bytes made plainly.
+//! W2, W10. Samples and headers written as WAV files, beside the same bytes made plainly.
 
 use super::{turn::Turn, value::Value};
 use crate::{random::Random, Export};
@@ -8,6 +8,7 @@ pub const EXPORTS: &[Export] = &[
     ("fugnadri_wav_write", |t| file(t, t.memory.doubles, |x| x, b::wav_write)),
     ("fugnadri_wav_write_f32", |t| file(t, t.memory.floats, |x| x as f32, b::wav_write_f32)),
     ("fugnadri_wav_file_length", file_length),
+    ("fugnadri_wav_header_length", header_length),
     ("fugnadri_wav_header", header),
     ("fugnadri_wav_store", |t| store(t, t.memory.doubles, |x| x, b::wav_store)),
     ("fugnadri_wav_store_f32", |t| store(t, t.memory.floats, |x| x as f32, b::wav_store_f32)),
@@ -33,9 +34,9 @@ fn sample(r: &mut Random) -> f64 {
     }
 }
 
-/// A kind's code, channels and a rate: mostly good ones.
-fn plan(r: &mut Random) -> (u8, u8, u32) {
-    (r.count(0, 2) as u8, r.count(1, 2) as u8, r.count(8000, 768_000) as u32)
+/// A form, a kind's code, channels and a rate: mostly good ones.
+fn plan(r: &mut Random) -> (u8, u8, u8, u32) {
+    (r.count(0, 1) as u8, r.count(0, 2) as u8, r.count(1, 2) as u8, r.count(8000, 768_000) as u32)
 }
 
 fn samples_of<T>(r: &mut Random, channels: u8, of: fn(f64) -> T) -> Vec<T> {
@@ -48,17 +49,28 @@ fn width(kind: u8) -> u128 {
     [2, 3, 4][usize::from(kind)]
 }
 
+/// Whether the RIFF's size fits 32 bits.
+fn fits(kind: u8, count: usize) -> bool {
+    let size = count as u128 * width(kind);
+    [44, 44, 58][usize::from(kind)] + size + size % 2 - 8 <= u128::from(u32::MAX)
+}
+
+fn head_length(kind: u8, count: usize) -> u128 {
+    [44, 44, 58][usize::from(kind)] + if fits(kind, count) { 0 } else { 36 }
+}
+
 /// The whole length of a file, as a number that no count of samples makes too long.
 fn length(kind: u8, count: usize) -> u128 {
     let size = count as u128 * width(kind);
-    [44, 44, 58][usize::from(kind)] + size + size % 2
+    head_length(kind, count) + size + size % 2
 }
 
-/// 1 or 13: what is due whatever holds the file. Of a kind that is unknown no length is known.
-fn refusal(kind: u8, channels: u8, rate: u32, count: usize) -> u8 {
-    let past = kind <= 2 && length(kind, count) - 8 > u128::from(u32::MAX);
-    if !(8000..=768_000).contains(&rate) || past || channels == 2 && count % 2 == 1 {
+/// 1, 19 or 13: what is due whatever holds the file. Of a kind that is unknown no length is known.
+fn refusal(form: u8, kind: u8, channels: u8, rate: u32, count: usize) -> u8 {
+    if form > 1 || !(8000..=768_000).contains(&rate) || channels == 2 && count % 2 == 1 {
         1
+    } else if kind <= 2 && count as u128 * width(kind) > 1 << 40 {
+        19
     } else if kind > 2 || !(1..=2).contains(&channels) {
         13
     } else {
@@ -67,21 +79,32 @@ fn refusal(kind: u8, channels: u8, rate: u32, count: usize) -> u8 {
 }
 
 /// The bytes before the samples.
-fn before(kind: u8, channels: u8, rate: u32, count: usize) -> Vec<u8> {
+fn before(form: u8, kind: u8, channels: u8, rate: u32, count: usize) -> Vec<u8> {
     let float = kind == 2;
+    let short_form = fits(kind, count);
+    // past RIFF every size of 32 bits is FFFFFFFF
     let word = |n: u128| (n as u32).to_le_bytes();
+    let size = |n: u128| if short_form { word(n) } else { [0xFF; 4] };
     let short = |n: u128| (n as u16).to_le_bytes();
     let frame = u128::from(channels) * width(kind);
-    let mut all = [*b"RIFF", word(length(kind, count) - 8), *b"WAVE"].concat();
+    let (riff, data) = (length(kind, count) - 8, count as u128 * width(kind));
+    let frames = (count / usize::from(channels)) as u128;
+    let name = if short_form { *b"RIFF" } else { [*b"RF64", *b"BW64"][usize::from(form)] };
+    let mut all = [name, size(riff), *b"WAVE"].concat();
+    if !short_form {
+        all.extend([*b"ds64", word(28)].concat());
+        all.extend([riff, data, frames].map(|n| (n as u64).to_le_bytes()).concat());
+        all.extend(word(0));
+    }
     all.extend([*b"fmt ", word(if float { 18 } else { 16 })].concat());
     all.extend([short(if float { 3 } else { 1 }), short(channels.into())].concat());
     all.extend([word(rate.into()), word(u128::from(rate) * frame)].concat());
     all.extend([short(frame), short(8 * width(kind))].concat());
     if float {
         all.extend(short(0));
-        all.extend([*b"fact", word(4), word((count / usize::from(channels)) as u128)].concat());
+        all.extend([*b"fact", word(4), size(frames)].concat());
     }
-    all.extend([*b"data", word(count as u128 * width(kind))].concat());
+    all.extend([*b"data", size(data)].concat());
     all
 }
 
@@ -125,23 +148,26 @@ fn room(r: &mut Random, right: usize, more: u64) -> usize {
     }
 }
 
-type Write<T> = fn(u8, u8, u32, &[T], &mut [u8]) -> (u8, usize);
+type Write<T> = fn(u8, u8, u8, u32, &[T], &mut [u8]) -> (u8, usize);
 
 fn file<T: Value + Into<f64>>(t: &mut Turn, pool: &'static [T], of: fn(f64) -> T, call: Write<T>) -> u8 {
-    let (kind, channels, rate) = plan(&mut t.random);
+    let (form, kind, channels, rate) = plan(&mut t.random);
     let samples = samples_of(&mut t.random, channels, of);
     let lent = lent!(t, pool, samples);
     let right = length(kind.min(2), samples.len()) as usize;
     let room = room(&mut t.random, right, 40);
     let out = t.memory.table.lend(&mut t.random, t.memory.bytes, room);
     let old = out.slice().to_vec();
-    let (number, written) = call(kind, channels, rate, lent.slice(), out.slice());
-    let early = refusal(kind, channels, rate, samples.len());
+    let (number, written) = call(form, kind, channels, rate, lent.slice(), out.slice());
+    let early = refusal(form, kind, channels, rate, samples.len());
     let meant = match stored(kind, &samples) {
         _ if early != 0 => Err(early),
         _ if room < right => Err(14),
         None => Err(15),
-        Some(all) => Ok([before(kind, channels, rate, samples.len()), all, vec![0; right]].concat()[..right].to_vec()),
+        Some(all) => {
+            let head = before(form, kind, channels, rate, samples.len());
+            Ok([head, all, vec![0; right]].concat()[..right].to_vec())
+        }
     };
     t.hold(number == meant.as_ref().err().copied().unwrap_or(0), "another refusal is due");
     t.hold(written == meant.as_ref().map_or(0, |file| file.len()), "another length is told");
@@ -159,39 +185,51 @@ fn file<T: Value + Into<f64>>(t: &mut Turn, pool: &'static [T], of: fn(f64) -> T
 
 /// Many samples too: a length is a number.
 fn many(r: &mut Random) -> usize {
-    match r.word() % 4 {
+    match r.word() % 8 {
         0 => r.whole() as usize,
-        1 => (r.pick(&[2_147_483_629u64, 1_431_655_753, 1_073_741_809, 1 << 32]) + r.word() % 4 - 2) as usize,
+        1 | 2 => (r.pick(&[2_147_483_629u64, 1_431_655_753, 1_073_741_811, 1 << 32]) + r.word() % 4 - 2) as usize,
+        3 | 4 => (r.pick(&[1u64 << 39, (1 << 40) / 3, 1 << 38]) + r.word() % 4 - 2) as usize,
         _ => (r.word() % 5000) as usize,
     }
 }
 
 fn file_length(t: &mut Turn) -> u8 {
-    let (kind, channels, _) = plan(&mut t.random);
+    let (_, kind, channels, _) = plan(&mut t.random);
     let count = many(&mut t.random);
     let told = b::wav_file_length(kind, channels, count);
-    let meant = if refusal(kind, channels, 8000, count) == 0 { length(kind, count) } else { 0 };
+    let meant = if refusal(0, kind, channels, 8000, count) == 0 { length(kind, count) } else { 0 };
     t.hold(told as u128 == meant, "another length is told");
     t.saw(told);
     0
 }
 
-fn header(t: &mut Turn) -> u8 {
-    let (kind, channels, rate) = plan(&mut t.random);
+fn header_length(t: &mut Turn) -> u8 {
+    let (_, kind, _, _) = plan(&mut t.random);
     let count = many(&mut t.random);
-    let right = if kind == 2 { 58 } else { 44 };
-    let room = room(&mut t.random, right, 2);
+    let told = b::wav_header_length(kind, count);
+    t.hold(told as u128 == if kind <= 2 { head_length(kind, count) } else { 0 }, "another length is told");
+    t.saw(told);
+    0
+}
+
+fn header(t: &mut Turn) -> u8 {
+    let (form, kind, channels, rate) = plan(&mut t.random);
+    let count = many(&mut t.random);
+    let right = head_length(kind.min(2), count) as usize;
+    let room = room(&mut t.random, right, 40);
     let out = t.memory.table.lend(&mut t.random, t.memory.bytes, room);
-    let number = b::wav_header(kind, channels, rate, count, out.slice());
-    let wanted = match refusal(kind, channels, rate, count) {
-        1 => 1,
-        _ if kind <= 2 && room != right => 2,
+    let old = out.slice().to_vec();
+    let number = b::wav_header(form, kind, channels, rate, count, out.slice());
+    let wanted = match refusal(form, kind, channels, rate, count) {
+        0 if room < right => 14,
         other => other,
     };
     t.hold(number == wanted, "another refusal is due");
     if number == 0 {
-        t.hold(out.zone_kept() && out.slice() == before(kind, channels, rate, count), "the header is another");
-        out.slice().iter().for_each(|x| t.saw(*x));
+        let head = before(form, kind, channels, rate, count);
+        t.hold(out.zone_kept() && out.slice()[..right] == head, "the header is another");
+        t.hold(out.slice()[right..] == old[right..], "what stands behind the header has changed");
+        head.iter().for_each(|x| t.saw(*x));
     } else {
         t.hold(out.kept(), "a refused call has written");
     }
@@ -201,7 +239,7 @@ fn header(t: &mut Turn) -> u8 {
 type Store<T> = fn(u8, &[T], &mut [u8]) -> u8;
 
 fn store<T: Value + Into<f64>>(t: &mut Turn, pool: &'static [T], of: fn(f64) -> T, call: Store<T>) -> u8 {
-    let (kind, channels, _) = plan(&mut t.random);
+    let (_, kind, channels, _) = plan(&mut t.random);
     let samples = samples_of(&mut t.random, channels, of);
     let lent = lent!(t, pool, samples);
     let right = samples.len() * width(kind.min(2)) as usize;

@@ -5,8 +5,9 @@
 //! `c`, maximum rate, rate, 0: safe set, tighter set and which is read (0 safe, 1 tighter, 2 both),
 //! two hex digits each; the blend where both are.
 //! `o`, quality, crossfade length, 0, and `q`, quality, 0, 0, and `r`, 0, 0, 0 open, call and reset
-//! a reader: current quality, target and whether the call mixed, two digits each; the crossfade's
-//! place and the target's weight (0 where it does not mix), eight digits each.
+//! a reader: direction, current quality, target and whether the call mixed, two digits each; the
+//! crossfade's place and the target's weight (0 where it does not mix), eight digits each. `b` opens
+//! one by the second rule, which the original does not have: a plain reckoning answers.
 //! `p`, place, f32 pattern, 0 puts a sample into the ring: the same two words.
 //! `d`, samples accepted, position, length of the ring: `cubic_sample_f32`, and the length.
 
@@ -36,6 +37,7 @@ pub fn write(list: &mut List) {
         sets(list, max, &rates(max), None);
     }
     qualities(list, &Arc::new(SincBankF32::for_max_rate(1.0)));
+    returning(list);
     draft(list);
 }
 
@@ -167,6 +169,68 @@ fn state(list: &mut List, reader: &QualityVariableDelayF32, letter: char, words:
     let (current, target) = (reader.current_quality as u64, reader.target_quality as u64);
     let places = (reader.crossfade_position as u64) << 32 | weight as u64;
     list.line(letter, words, packed(current, target, (weight != 0) as u64), places);
+}
+
+/// A fade by the second rule (W9): going back runs the weight down, and a third quality waits.
+struct Returning {
+    length: u64,
+    current: u64,
+    target: u64,
+    place: u64,
+    back: bool,
+}
+
+impl Returning {
+    fn line(&self, list: &mut List, letter: char, words: [u64; 3], weight: u64) {
+        let first = (self.back as u64) << 24 | packed(self.current, self.target, (weight != 0) as u64);
+        list.line(letter, words, first, self.place << 32 | weight);
+    }
+
+    fn call(&mut self, list: &mut List, asked: u64) {
+        let mut weight = 0;
+        if self.current == self.target && asked != self.target {
+            (self.target, self.place) = (asked, 0);
+        } else if self.current != self.target {
+            self.back = asked != self.target && (asked == self.current || self.back);
+        }
+        if self.back {
+            self.place -= 1;
+            weight = self.place;
+            if weight == 0 {
+                (self.target, self.place, self.back) = (self.current, self.length, false);
+            }
+        } else if self.current != self.target {
+            if self.length > 0 {
+                self.place += 1;
+                weight = self.place;
+            }
+            if self.place >= self.length {
+                self.current = self.target;
+            }
+        }
+        self.line(list, 'q', [asked, 0, 0], weight);
+    }
+}
+
+/// Crossfades of 0, 1, 2 and 5 calls by the second rule: at every place of a fade every quality is asked for, for one
+/// call and for three; then the fade is left to end.
+fn returning(list: &mut List) {
+    for length in [0, 1, 2, 5] {
+        for (from, to) in (0..4).flat_map(|a| (0..4).map(move |b| (a, b))).filter(|(a, b)| a != b) {
+            let mut fade = Returning { length, current: from, target: from, place: length, back: false };
+            fade.line(list, 'b', [from, length, 0], 0);
+            for place in 1..length {
+                for (other, many) in (0..4).flat_map(|q| [(q, 1), (q, 3)]) {
+                    (0..place).for_each(|_| fade.call(list, to));
+                    (0..many).for_each(|_| fade.call(list, other));
+                }
+            }
+            (0..2 * length + 1).for_each(|_| fade.call(list, to));
+            fade.call(list, (to + 1) % 4);
+            (fade.current, fade.place, fade.back) = (fade.target, length, false);
+            fade.line(list, 'r', [0; 3], 0);
+        }
+    }
 }
 
 /// Rings of 4, 8 and 16 places, filled twice: with samples as a recording has them, and with others.

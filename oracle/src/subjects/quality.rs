@@ -43,6 +43,7 @@ impl Session {
         // opening must set all of it
         let state = session.port.state();
         (state.accepted, state.current, state.target, state.crossfade_position) = (random.word(), 9, 9, 77);
+        (state.rule, state.direction) = (9, 9);
         state.ring.fill(f32::NAN);
         let opened = state.open(quality);
         session.hold(opened == 0, "open", None);
@@ -97,6 +98,7 @@ impl Session {
         p.accepted == r.write_index as u64
             && [p.current, p.target] == [code(r.current_quality), code(r.target_quality)]
             && p.crossfade_position == r.crossfade_position
+            && [p.rule, p.direction] == [0, 0]
     }
 
     fn reset(&mut self) {
@@ -141,6 +143,13 @@ impl Session {
             ([3, 3], with(|r| (r.current, r.target, r.crossfade_position) = (0, 1, r.crossfade_samples)), sets, max, 1),
             ([3, 3], with(|r| r.current = 4), sets, max, 0),
             ([3, 3], with(|r| r.target = 255), sets, max, 0),
+            ([3, 3], with(|r| r.rule = 2), sets, max, 0),
+            ([3, 3], with(|r| r.direction = 1), sets, max, 0),
+            ([3, 3], with(|r| (r.rule, r.direction) = (1, 2)), sets, max, 0),
+            ([3, 3], with(|r| (r.rule, r.current, r.target, r.crossfade_position) = (1, 0, 1, 0)), sets, max, 0),
+            ([3, 3], with(|r| (r.rule, r.direction, r.target) = (1, 1, r.current)), sets, max, 0),
+            ([2, 3], with(|r| r.rule = 255), short, max, 0),
+            ([1, 3], with(|r| r.direction = 255), sets, max, 4),
         ];
         for (numbers, reader, sets, max, quality) in cases {
             let (mut after, mut answer) = (reader.clone(), f32::NAN);

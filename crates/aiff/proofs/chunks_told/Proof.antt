@@ -1,4 +1,4 @@
--- `aiff::chunks_told` meets its contract: what the calls ensure, put together. Assumes nothing.
+-- `aiff::chunks_told` meets its contract, by the contracts of the functions that it calls. Assumes nothing.
 use borrow.Author.Needs.{needs}
 use Rattle.aiff.proofs.InHand.{in-hand, told-is}
 use Rattle.aiff.proofs.chunks_told.Statement.{statement}

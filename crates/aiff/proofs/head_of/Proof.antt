@@ -1,4 +1,4 @@
--- `aiff::head_of` meets its contract: what the calls ensure, one put into the other. Assumes nothing.
+-- `aiff::head_of` meets its contract, by the contracts of the functions that it calls. Assumes nothing.
 use borrow.Author.Needs.{needs}
 use Rattle.aiff.proofs.head_of.Statement.{statement}
 use Rattle.aiff.proofs.head_of.Tie as tie

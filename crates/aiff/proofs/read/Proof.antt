@@ -1,4 +1,4 @@
--- `aiff::read` meets its contract: what the calls ensure is what the definitions name. Assumes nothing.
+-- `aiff::read` meets its contract: the values that its calls give are those that the definitions name. Assumes nothing.
 use borrow.Author.Needs.{needs}
 use mathlib.Core.Path.{_∙_}
 use Rattle.aiff.proofs.InHand.{in-hand, found-is}

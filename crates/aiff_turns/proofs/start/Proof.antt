@@ -1,4 +1,4 @@
--- `aiff_turns::start` meets its contract: what the calls ensure, put together. Assumes nothing.
+-- `aiff_turns::start` meets its contract, by the contracts of the functions that it calls. Assumes nothing.
 use borrow.Author.Needs.{needs}
 use Rattle.aiff_turns.proofs.start.Statement.{statement}
 use Rattle.aiff_turns.proofs.start.Tie as tie

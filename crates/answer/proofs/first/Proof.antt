@@ -1,4 +1,4 @@
--- `answer::first` meets its contract: each answer rewrites with the tests that led there. Assumes nothing.
+-- `answer::first` meets its contract: each answer follows from the tests that led to it. Assumes nothing.
 use borrow.Author.Needs.{needs}
 use Rattle.answer.proofs.first.Statement.{statement}
 use Rattle.answer.proofs.first.Tie as tie

@@ -1,4 +1,4 @@
--- `arguments::valued` meets its contract: the name that an arm is told says how the value is read. Assumes nothing.
+-- `arguments::valued` meets its contract: each arm of the match reads the value as its name demands. Assumes nothing.
 use borrow.Author.Needs.{needs}
 use mathlib.Core.Path.{_≡_, sym, ap, _∙_}
 use mathlib.Core.List.{List}

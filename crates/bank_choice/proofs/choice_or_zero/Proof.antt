@@ -1,4 +1,4 @@
--- `bank_choice::choice_or_zero` meets its contract: by the test of the bank's rate. Assumes nothing.
+-- `bank_choice::choice_or_zero` meets its contract, by the test of the bank's rate. Assumes nothing.
 use borrow.Author.Needs.{needs}
 use mathlib.Core.Path.{sym, _∙_}
 use lib.Ieee.{ofBits}

@@ -1,4 +1,4 @@
--- `bank_choice::choose` meets its contract: where nothing is refused the bank's rate is in range, and the choice is the
+-- `bank_choice::choose` meets its contract: if nothing is refused the bank's rate is in range, and the choice is the
 -- definition's. Assumes nothing.
 use borrow.Author.Needs.{needs}
 use mathlib.Core.Path.{_≡_, refl, sym, _∙_}
@@ -14,7 +14,7 @@ use Rattle.bank_choice.specs.Inner.{choiceOf, pickChoice}
 use Rattle.bank_choice.proofs.choose.Statement.{statement}
 use Rattle.bank_choice.proofs.choose.Tie as tie
 
--- what is not refused has the bank's rate in range
+-- If nothing is refused the bank's rate is in range.
 in-range : (top rate : Float) → chooseVerdict top rate ≡ 0 → choiceOf top rate ≡ chosenOf top rate
 in-range top rate = go (bankOk top)
   where

@@ -1,4 +1,4 @@
--- `bank_choice::chosen` meets its contract: its steps are the definition's, one for one. Assumes nothing.
+-- `bank_choice::chosen` meets its contract: its steps are those of the definition. Assumes nothing.
 use borrow.Author.Needs.{needs}
 use mathlib.Core.Path.{_≡_}
 use mathlib.Core.Bool.{Bool, true, false}
@@ -16,7 +16,7 @@ use Rattle.bank_choice.proofs.SetCounts.{least}
 use Rattle.bank_choice.proofs.chosen.Statement.{statement}
 use Rattle.bank_choice.proofs.chosen.Tie as tie
 
--- each of the code's values is the definition's
+-- Each value of the code is the definition's.
 joined : (top rate : Float) (n p s t w : ℕ) (r o l b g : Float) (k : Bool)
     → n ≡ stepsOf top → r ≡ clamped rate one-f top → p ≡ partitionOf top n r → s ≡ min p (n - 1)
     → t ≡ min (s + 1) (n - 1) → o ≡ rateOf top n (s + 1) → l ≡ lowerOf top n s
@@ -27,7 +27,7 @@ joined : (top rate : Float) (n p s t w : ℕ) (r o l b g : Float) (k : Bool)
 unfolding chosenOf blendOf
 joined top rate n p s t w r o l b g k hn hr hp hs ht ho hl hb hk hw hg = rw (hg, hw, hk, hb, hl, ho, ht, hs, hp, hr, hn)
 
--- in range, the number of sets is the definition's
+-- In range the number of sets is the definition's.
 count : (c : tie.After-steps) → c .steps .result ≡ stepsOf (c .before .args .max-rate)
 count c = rw (c .before .pre) at (c .steps .ensures)
 

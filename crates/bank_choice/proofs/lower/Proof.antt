@@ -1,4 +1,4 @@
--- `bank_choice::lower` meets its contract: by the test of the set. Assumes nothing.
+-- `bank_choice::lower` meets its contract, by the test of the set. Assumes nothing.
 use borrow.Author.Needs.{needs}
 use borrow.Author.Tests.{eq-eqb, ne-eqb}
 use lib.Ieee.{ofBits}

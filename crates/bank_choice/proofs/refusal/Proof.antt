@@ -1,4 +1,4 @@
--- `bank_choice::refusal` meets its contract: the definition at what each test found. Assumes nothing.
+-- `bank_choice::refusal` meets its contract: each branch returns what the definition gives there. Assumes nothing.
 use borrow.Author.Needs.{needs}
 use lib.Ieee.{ofBits}
 use Rattle.bank_choice.proofs.refusal.Statement.{statement}

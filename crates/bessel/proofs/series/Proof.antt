@@ -1,5 +1,5 @@
--- `bessel::series` meets its contract: what is still to be added to the loop's sum gives the whole series.
--- Assumes nothing.
+-- `bessel::series` meets its contract: the loop's sum, with what is still to be added, is the whole series. Assumes
+-- nothing.
 use borrow.Author.Needs.{needs}
 use mathlib.Core.Path.{_≡_, refl}
 use mathlib.Core.Bool.{Bool, true, false, cond}
@@ -22,7 +22,7 @@ tiny : ofBits binary64 0x3c9c_d2b2_97d8_89bc ≡ round binary64 false 1 (10 ^ 16
 unfolding ofBits round
 tiny = refl
 
--- one turn: the next term, then the end or what follows, as the test says
+-- One turn adds the next term; then the test decides whether the series ends or goes on.
 turn : (n k : ℕ) (y sum term : Float) {r : Float} (b : Bool) → k < n → sumAfter (n - k) k y sum term ≡ r
     → let next = termOf y (k + 1) term in let more = add binary64 sum next in
     lt next (mul binary64 more (ofBits binary64 0x3c9c_d2b2_97d8_89bc)) ≡ b

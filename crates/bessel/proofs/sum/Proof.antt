@@ -1,4 +1,4 @@
--- `bessel::sum` meets its contract: the series with the mode's terms. Assumes nothing.
+-- `bessel::sum` meets its contract: it is the series with the number of terms of the mode. Assumes nothing.
 use borrow.Author.Needs.{needs}
 use Rattle.bessel.proofs.sum.Statement.{statement}
 use Rattle.bessel.proofs.sum.Tie as tie

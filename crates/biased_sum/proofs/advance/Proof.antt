@@ -1,4 +1,4 @@
--- `biased_sum::advance` meets its contract: every test holds where all do. Assumes nothing.
+-- `biased_sum::advance` meets its contract: if all tests pass together, each of them passes. Assumes nothing.
 use borrow.Author.Needs.{needs}
 use mathlib.Core.Path.{refl}
 use Rattle.biased_sum.proofs.CombinedTests.{advanced, all-taken}

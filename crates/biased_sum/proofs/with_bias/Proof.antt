@@ -1,4 +1,4 @@
--- `biased_sum::with_bias` meets its contract: its tests tell whether the sum has a bias. Assumes nothing.
+-- `biased_sum::with_bias` meets its contract: its tests show whether the sum has a bias. Assumes nothing.
 use borrow.Author.Needs.{needs}
 use mathlib.Core.Path.{sym, subst}
 use mathlib.Core.Bool.{not}

@@ -1,4 +1,4 @@
--- `bit_patterns::float_of_f32` meets its contract, by the laws over the format. Assumes nothing.
+-- `bit_patterns::float_of_f32` meets its contract, by the laws for any format. Assumes nothing.
 use borrow.Author.Needs.{needs}
 use native.Mathlib.Omega.{arith}
 use lib.Ieee.{binary32}

@@ -1,4 +1,4 @@
--- `bit_patterns::one_nan` meets its contract, by the law over the format. Assumes nothing.
+-- `bit_patterns::one_nan` meets its contract, by the law for any format. Assumes nothing.
 use borrow.Author.Needs.{needs}
 use lib.Ieee.{binary64}
 use Rattle.bit_patterns.proofs.Quiet.{one-nan}

@@ -1,5 +1,5 @@
--- `cubic_bound::process_sample` meets Demand 3: what it calls answers as the definition says,
--- and the definition meets it. Assumes nothing.
+-- `cubic_bound::process_sample` meets Demand 3: the reader that it calls answers as defined, and the definition meets
+-- it. Assumes nothing.
 use borrow.Author.Needs.{needs}
 use Rattle.cubic_bound.proofs.Demand.{demand3}
 use Rattle.cubic_bound.proofs.process_sample.Statement.{statement}

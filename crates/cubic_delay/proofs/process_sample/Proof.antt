@@ -1,5 +1,5 @@
 -- `cubic_delay::process_sample` meets its contract: `accept` refuses or stores, and what is read behind the stored
--- sample is the cubic's reading, by the laws over any kernel's reading. Assumes nothing.
+-- sample is the cubic's reading, by the laws for any kernel. Assumes nothing.
 use borrow.Author.Needs.{needs}
 use mathlib.Core.Path.{_∙_, refl}
 use mathlib.Core.Bool.{true}

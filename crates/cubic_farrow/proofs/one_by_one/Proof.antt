@@ -1,5 +1,5 @@
--- `cubic_farrow::one_by_one` meets its contract: the indices fit, and each tap is the definition's,
--- by the law over the width. Assumes nothing.
+-- `cubic_farrow::one_by_one` meets its contract: the indices fit, and each tap is the definition's, by the law for
+-- either width. Assumes nothing.
 use borrow.Author.Needs.{needs}
 use lib.Dec.{lit≤}
 use lib.IntN.{pos, negsuc}

@@ -1,6 +1,5 @@
--- `cubic_farrow::read` meets its contract: each way is the definition's, by `BothWays` and by `at`,
--- and the indices fit since a position in range has a small integer part.
--- Assumes nothing.
+-- `cubic_farrow::read` meets its contract: each way gives the definition's value, by `BothWays` and by `at`, and the
+-- indices fit since a position in range has a small integer part. Assumes nothing.
 use borrow.Author.Needs.{needs}
 use mathlib.Core.Path.{_≡_, sym, _∙_}
 use mathlib.Core.Bool.{true}
@@ -29,7 +28,7 @@ use Rattle.cubic_farrow.proofs.read.Tie as tie
 in-range : (c : tie.Then1) → positionOk (c .before .before .before .args .position) ≡ true
 in-range c = sym (c .before .position-ok .ensures) ∙ c .if1 .taken
 
--- the integer part, as the code holds it
+-- The integer part, as the code holds it.
 abbrev Z : tie.After-floor → ℤ
 Z c = toZ w64 (ofZ w64 (c .floor .result))
 
@@ -42,7 +41,7 @@ small c = rw (whole c) (floor-mag (2 ^ 36) _ (lit< tt) (position-at-most _ (in-r
 sub-first : tie.Need-sub-first
 sub-first c = sum-fits (Z c) (negsuc 0) (omega (arith, small c))
 
--- where the run starts
+-- The place where the run starts.
 start : (c : tie.After-run-start) → let a = c .before .before .before .before .before .args in
     c .run-start .result ≡ startOf (length (now (a .source))) (a .count) (Z (c .before) -ℤ pos 1) 4
 start c = rw (toZ-ofZ w64 _ (sub-first (c .before))) at (c .run-start .ensures)

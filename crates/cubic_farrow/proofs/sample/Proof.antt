@@ -1,4 +1,4 @@
--- `cubic_farrow::sample` meets its contract: by the test of the position. Assumes nothing.
+-- `cubic_farrow::sample` meets its contract, by the test of the position. Assumes nothing.
 use borrow.Author.Needs.{needs}
 use mathlib.Core.Path.{sym, _∙_}
 use lib.Ieee.{ofBits}

@@ -18,7 +18,7 @@ use Rattle.cubic_farrow_f32.proofs.BothWays as ways
 use Rattle.cubic_farrow_f32.proofs.at.Statement.{statement}
 use Rattle.cubic_farrow_f32.proofs.at.Tie as tie
 
--- the integer part, as the code holds it
+-- The integer part, as the code holds it.
 abbrev Z : tie.After-floor → ℤ
 Z c = toZ w64 (ofZ w64 (c .floor .result))
 

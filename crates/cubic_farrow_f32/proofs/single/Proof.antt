@@ -1,4 +1,4 @@
--- `cubic_farrow_f32::single` meets its contract: the pattern of a normal f32 is narrowing's, by `normal-code`,
+-- `cubic_farrow_f32::single` meets its contract: the pattern of a normal f32 is that of `narrowing`, by `normal-code`,
 -- and has no sign. Assumes nothing.
 use borrow.Author.Needs.{needs}
 use mathlib.Core.Path.{_≡_, sym, subst, _∙_, ap}
@@ -24,7 +24,7 @@ number nan h = absurd h
 number (inf s) h = tt
 number (fin s m e) h = tt
 
--- the pattern r of the f32, with no sign
+-- The pattern r of the f32, without a sign.
 no-nan : (b r : ℕ) → Rounds b r → T (not (nanBits binary32 r))
 no-nan b r R = subst (λ (z : ℕ). T (not (nanBits binary32 z))) (zero-add r) (sign-no-nan binary32 false r (R .small))
 

@@ -1,4 +1,4 @@
--- `delay_range::excursion` meets its contract: by whether 001's function answers. Assumes nothing.
+-- `delay_range::excursion` meets its contract, by whether 001's function answers. Assumes nothing.
 use borrow.Author.Needs.{needs}
 use Rattle.delay_range.specs.Reach.{excursionIn}
 use Rattle.delay_range.proofs.excursion.Statement.{statement}

@@ -1,4 +1,4 @@
--- `delay_range::reach` meets its contract: the sum of two excursions. Assumes nothing.
+-- `delay_range::reach` meets its contract: it is the sum of two excursions. Assumes nothing.
 use borrow.Author.Needs.{needs}
 use Rattle.delay_range.specs.Reach.{reachOf}
 use Rattle.delay_range.proofs.reach.Statement.{statement}

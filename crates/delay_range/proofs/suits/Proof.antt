@@ -1,4 +1,4 @@
--- `delay_range::suits` meets its contract: it is the test's own. Assumes nothing.
+-- `delay_range::suits` meets its contract, by that of `within`. Assumes nothing.
 use borrow.Author.Needs.{needs}
 use Rattle.delay_range.specs.Reach.{suitsOf}
 use Rattle.delay_range.proofs.suits.Statement.{statement}

@@ -1,4 +1,4 @@
--- `demand3_trial::main` ends: the runs that are left fall. Assumes nothing.
+-- `demand3_trial::main` ends: the number of runs that are left falls at each one. Assumes nothing.
 use borrow.Author.Needs.{needs}
 use Prim.Native.Nat.{_-_}
 use Rattle.demand3_trial.proofs.main.Statement.{statement}

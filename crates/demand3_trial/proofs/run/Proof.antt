@@ -1,4 +1,5 @@
--- `demand3_trial::run` ends: the calls that are left fall. Ring and samples keep their lengths. Assumes nothing.
+-- `demand3_trial::run` ends: the number of calls that are left falls at each one. Ring and samples keep their lengths.
+-- Assumes nothing.
 use borrow.Author.Needs.{needs}
 use mathlib.Core.Path.{_≡_}
 use Prim.Native.Nat.{_-_}

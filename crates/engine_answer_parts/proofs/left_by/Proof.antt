@@ -1,4 +1,4 @@
--- `engine_answer_parts::left_by` meets its contract: by the two cases. Assumes nothing.
+-- `engine_answer_parts::left_by` meets its contract, by the two cases. Assumes nothing.
 use borrow.Author.Needs.{needs}
 use Rattle.engine_answer_parts.proofs.left_by.Statement.{statement}
 use Rattle.engine_answer_parts.proofs.left_by.Tie as tie

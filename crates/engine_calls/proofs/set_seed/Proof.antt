@@ -1,5 +1,5 @@
--- `engine_calls::set_seed` meets its contract: what the calls ensure, one put into the other;
--- none of them asks anything. Assumes nothing.
+-- `engine_calls::set_seed` meets its contract, by the contracts of the functions that it calls, which have no premises.
+-- Assumes nothing.
 use Rattle.engine_calls.proofs.set_seed.Statement.{statement}
 use Rattle.engine_calls.proofs.set_seed.Tie as tie
 

@@ -1,6 +1,5 @@
--- `farrow8::read` meets its contract: each way is the definition's, by `BothWays`, and the indices fit since a position
--- in range has a small integer part.
--- Assumes nothing.
+-- `farrow8::read` meets its contract: each way gives the definition's value, by `BothWays`, and the indices fit since a
+-- position in range has a small integer part. Assumes nothing.
 use borrow.Author.Needs.{needs}
 use mathlib.Core.Path.{_≡_, sym, _∙_}
 use mathlib.Core.Bool.{true}
@@ -31,7 +30,7 @@ use Rattle.farrow8.proofs.read.Tie as tie
 in-range : (c : tie.Then1) → positionOk (c .before .before .before .args .position) ≡ true
 in-range c = sym (c .before .position-ok .ensures) ∙ c .if1 .taken
 
--- the integer part, as the code holds it
+-- The integer part, as the code holds it.
 abbrev Z : tie.After-floor → ℤ
 Z c = toZ w64 (ofZ w64 (c .floor .result))
 
@@ -44,7 +43,7 @@ small c = rw (whole c) (floor-mag (2 ^ 36) _ (lit< tt) (position-at-most _ (in-r
 sub-run-start : tie.Need-sub-run-start
 sub-run-start c = sum-fits (Z (c .before)) _ (omega (arith, small (c .before)))
 
--- where the run starts
+-- The place where the run starts.
 start : (c : tie.After-run-start) → let a = c .before .before .before .before .before .before .args in
     c .run-start .result ≡ startOf (length (now (a .source))) (a .count) (Z (c .before .before) -ℤ pos 3) 8
 start c = rw (toZ-ofZ w64 _ (sub-run-start (c .before))) at (c .run-start .ensures)
@@ -59,7 +58,7 @@ add-if3 c =
           (c .if2 .taken) (lit< tt),
     )
 
--- a value of Horner's rule over the sums of the eight taps, read side by side
+-- The value of Horner's rule over the sums of the eight taps, read side by side.
 side-by-side : (c : tie.After-sums) {y : Float} → let m = c .before .before .before .before .before in
     y ≡ horner (c .sums .result) (m .fraction .result) → let a = m .before .before .before .before .before .args in
     y ≡ readOf (now (a .source)) (a .count) (a .position)

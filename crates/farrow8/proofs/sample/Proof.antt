@@ -1,4 +1,4 @@
--- `farrow8::sample` meets its contract: by the test of the position. Assumes nothing.
+-- `farrow8::sample` meets its contract, by the test of the position. Assumes nothing.
 use borrow.Author.Needs.{needs}
 use lib.Ieee.{ofBits}
 use Rattle.farrow8.proofs.sample.Statement.{statement}

@@ -1,4 +1,4 @@
--- `farrow8_powers::dot` meets its contract: the sum is written as the definition has it. Assumes nothing.
+-- `farrow8_powers::dot` meets its contract: the sum is written as in the definition. Assumes nothing.
 use borrow.Author.Needs.{needs}
 use mathlib.Core.Path.{refl}
 use Rattle.farrow8_powers.specs.Sums.{dotOf}

@@ -8,7 +8,7 @@ use Rattle.float_digits.proofs.PackMeaning.{quarter}
 use Rattle.float_digits.proofs.magnitude.Statement.{statement}
 use Rattle.float_digits.proofs.magnitude.Tie as tie
 
--- the last 55 digits, and a quarter of them
+-- The last 55 digits, and a quarter of them.
 digits : (c : tie.Else1) → bitAnd (c .before .args .w) 0x7f_ffff_ffff_ffff ≡ c .before .args .w % 2 ^ 55
 digits c = and-mask (c .before .args .w) 55
 

@@ -1,4 +1,4 @@
--- `float_digits::pack` meets its contract: the pattern fits a word, and is no NaN's. Assumes nothing.
+-- `float_digits::pack` meets its contract: the pattern fits a word and is not a NaN's. Assumes nothing.
 use borrow.Author.Needs.{needs}
 use native.Mathlib.Omega.{arith}
 use mathlib.Core.Path.{_≡_}

@@ -1,4 +1,4 @@
--- `float_digits::unpack` meets its contract: leading zeros and digits make a word. Assumes nothing.
+-- `float_digits::unpack` meets its contract: leading zeros and digits together fill a word. Assumes nothing.
 use borrow.Author.Needs.{needs}
 use native.Mathlib.Omega.{arith}
 use mathlib.Core.Path.{_≡_}
@@ -13,7 +13,7 @@ use Rattle.float_digits.proofs.Lengths.{zeros-and-size}
 use Rattle.float_digits.proofs.unpack.Statement.{statement}
 use Rattle.float_digits.proofs.unpack.Tie as tie
 
--- the digits as the code has them, and how long they are
+-- The digits as the code has them, and how many there are.
 abbrev D : (c : tie.After-place) → ℕ
 D c = bitAnd (c .before .args .bits) 0x7fff_ffff_ffff_ffff - c .place .result * 2 ^ 52 % 2 ^ 64
 

@@ -1,4 +1,4 @@
--- `form_chunks::walk` meets its contract: the walk up to the end that `earlier` gives. Assumes nothing.
+-- `form_chunks::walk` meets its contract: it walks up to the end that `earlier` gives. Assumes nothing.
 use borrow.Author.Needs.{needs}
 use Rattle.form_chunks.proofs.walk.Statement.{statement}
 use Rattle.form_chunks.proofs.walk.Tie as tie

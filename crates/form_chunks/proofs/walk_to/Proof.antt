@@ -1,4 +1,5 @@
--- `form_chunks::walk_to` meets its contract: the laws of a walk's turns, at a FORM's chunks. Assumes nothing.
+-- `form_chunks::walk_to` meets its contract, by the laws of the steps of a walk, for the chunks of a FORM. Assumes
+-- nothing.
 use borrow.Author.Needs.{needs}
 use mathlib.Core.Path.{refl}
 use native.Mathlib.Omega.{arith}

@@ -1,5 +1,5 @@
--- `fugnadri_residual::fugnadri_residual_compare` meets its contract: what the call ensures, by its two cases.
--- Assumes nothing.
+-- `fugnadri_residual::fugnadri_residual_compare` meets its contract, by the two cases of the call's answer. Assumes
+-- nothing.
 use borrow.Author.Needs.{needs}
 use mathlib.Core.Path.{_≡_, sym, ap, _∙_}
 use Rattle.residual.specs.declared.Place.{Place}
@@ -14,7 +14,7 @@ given c =
     let s = c .args in
     numbers (now (s .number)) (now (s .largest)) (now (s .placed)) (now (s .place)) (now (s .high)) (now (s .low))
 
--- what the call answers is what the numbers say
+-- The answer of the call is that of the report with these numbers.
 answer : (c : tie.After-compare) →
     let s = c .before .before .before .before .before .before .before .before in
     c .compare .result ≡ comparedOf (reportFrom (given s)) (now (s .args .a)) (now (s .args .b))

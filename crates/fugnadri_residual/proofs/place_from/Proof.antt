@@ -1,4 +1,4 @@
--- `fugnadri_residual::place_from` meets its contract: by the two tests. Assumes nothing.
+-- `fugnadri_residual::place_from` meets its contract, by the two tests. Assumes nothing.
 use borrow.Author.Tests.{eq-eqb, ne-eqb}
 use Rattle.fugnadri_residual.proofs.place_from.Statement.{statement}
 use Rattle.fugnadri_residual.proofs.place_from.Tie as tie

@@ -19,7 +19,7 @@ held-p c = subst T (sym (c .good .0 .1)) tt
 held-c : (c : tie.Start) → T (fits binary64 (c .args .c))
 held-c c = subst T (sym (c .good .1 .0 .1)) tt
 
--- the sum and its parts, once it is known not to be clear
+-- The sum and its parts, once it is known that the sum is not clear.
 bounded : (c : tie.Else1) → T (finite (add binary64 (c .before .before .args .p) (c .before .before .args .c)))
 bounded c = c .before .is-clear .ensures .plain (c .if1 .left)
 

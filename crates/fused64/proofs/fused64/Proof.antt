@@ -1,4 +1,4 @@
--- `fused64::fused64` meets its contract: where the sum is no NaN the three have patterns, and what the quick way makes
+-- `fused64::fused64` meets its contract: if the sum is not a NaN the three have patterns, and what the quick way makes
 -- of them is `fused`. Assumes nothing.
 use borrow.Author.Needs.{needs}
 use mathlib.Core.Path.{_≡_, sym, subst}

@@ -1,4 +1,4 @@
--- `integer_part::fraction` meets its contract: what is taken off is the floor, as `floored` has it or as the library
+-- `integer_part::fraction` meets its contract: what is subtracted is the floor, as `floored` gives it or as the library
 -- converts it. Assumes nothing.
 use borrow.Author.Needs.{needs}
 use mathlib.Core.Path.{sym, ap, _∙_}

@@ -1,5 +1,5 @@
--- `integer_part::stepped` meets its contract, by the laws of `FloorInside`. A signed local holds bits,
--- and what is read back from them is the cut. Assumes nothing.
+-- `integer_part::stepped` meets its contract, by the laws of `FloorInside`. A signed local is stored as bits, and
+-- reading them back gives the cut. Assumes nothing.
 use mathlib.Core.Path.{_≡_, ap, _∙_}
 use mathlib.Core.Bool.{true, false}
 use native.Mathlib.Omega.{arith}
@@ -16,7 +16,7 @@ use Rattle.integer_part.proofs.stepped.Tie as tie
 truncating-f64-to-i64-requires : tie.Need-truncating-f64-to-i64-requires
 truncating-f64-to-i64-requires c κs = in-range (c .args .x) (c .pre)
 
--- the cut as the machine has it
+-- The cut as the machine has it.
 cut : (c : tie.After-truncating-f64-to-i64)
     → toZ w64 (ofZ w64 (c .truncating-f64-to-i64 .result)) ≡ toSigned 63 (c .before .args .x)
 cut c =

@@ -1,4 +1,4 @@
--- `integer_part::truncated` meets its contract: between the ends the library casts, and the laws of `CastEnds` say the
+-- `integer_part::truncated` meets its contract: between the ends the library casts, and the laws of `CastEnds` give the
 -- rest. Assumes nothing.
 use borrow.Author.Needs.{needs}
 use denote.Floats.{passes}

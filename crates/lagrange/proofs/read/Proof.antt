@@ -1,4 +1,5 @@
--- `lagrange::read` meets its contract: in range the base is exact, and the loops are the definition's. Assumes nothing.
+-- `lagrange::read` meets its contract: in range the first index is exact, and the loops are the definition's. Assumes
+-- nothing.
 use borrow.Author.Needs.{needs}
 use mathlib.Core.Path.{_≡_, refl, sym, _∙_, ap, subst}
 use Prim.Native.Nat.{_-_, _*_, _/_, _^_, _≤_}
@@ -20,14 +21,13 @@ use Rattle.integer_part.proofs.SumsInRange.{small, minus-mag, minus-fits}
 use Rattle.lagrange.proofs.read.Statement.{statement}
 use Rattle.lagrange.proofs.read.Tie as tie
 
--- what the test says
 ranges : (c : tie.Then1) → let a = c .before .before .before .args in Within (a .taps) (a .position)
 ranges c = within _ _ (sym (c .before .in-range .ensures) ∙ c .if1 .taken)
 
 sub-base : tie.Need-sub-base
 sub-base c = let r = ranges (c .before) in omega (arith, r .least)
 
--- the base as the machine has it
+-- The first index, as the machine has it.
 exact : (c : tie.After-floor) → let a = c .before .before .before .before .args in
     toZ w64 (ofZ w64 (c .floor .result)) -ℤ toZ w64 (a .taps / 2 - 1) ≡ baseOf (a .position) (a .taps)
 exact c =

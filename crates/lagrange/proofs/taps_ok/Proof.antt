@@ -1,4 +1,4 @@
--- `lagrange::taps_ok` meets its contract: each answer rewrites with the tests that led there. Assumes nothing.
+-- `lagrange::taps_ok` meets its contract: each answer follows from the tests that led to it. Assumes nothing.
 use borrow.Author.Tests.{le-leb, lt-leb}
 use Rattle.lagrange.proofs.taps_ok.Statement.{statement}
 use Rattle.lagrange.proofs.taps_ok.Tie as tie

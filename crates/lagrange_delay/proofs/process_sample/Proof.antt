@@ -1,6 +1,5 @@
--- `lagrange_delay::process_sample` meets its contract: `accept` refuses, the taps out of range among the reasons,
--- or stores; what is read behind the stored sample is Lagrange's reading, by the laws over any kernel's reading.
--- Assumes nothing.
+-- `lagrange_delay::process_sample` meets its contract: `accept` refuses, among other reasons because of the taps, or
+-- stores. What is read behind the stored sample is Lagrange's reading, by the laws for any kernel. Assumes nothing.
 use borrow.Author.Needs.{needs}
 use mathlib.Core.Path.{_∙_}
 use mathlib.Core.Bool.{true}

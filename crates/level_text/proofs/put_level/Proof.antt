@@ -1,4 +1,4 @@
--- `level_text::put_level` meets its contract: the variant that an arm is told gives the text. Assumes nothing.
+-- `level_text::put_level` meets its contract: each arm of the match gives the text of its variant. Assumes nothing.
 use borrow.Author.Needs.{needs}
 use mathlib.Core.Path.{_∙_, ap, sym}
 use Rattle.text.specs.Text.{ascii, putAt, placeAfter}

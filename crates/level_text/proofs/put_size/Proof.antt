@@ -1,4 +1,4 @@
--- `level_text::put_size` meets its contract: four texts put one after the other are one. Assumes nothing.
+-- `level_text::put_size` meets its contract: four texts that are put one after the other are one text. Assumes nothing.
 use borrow.Author.Needs.{needs}
 use mathlib.Core.List.{_++_}
 use Prim.Native.Nat.{_/_, _%_}

@@ -1,4 +1,4 @@
--- `level_text::put_tenths` meets its contract: by the sign. Assumes nothing.
+-- `level_text::put_tenths` meets its contract, by the cases of the sign. Assumes nothing.
 use borrow.Author.Needs.{needs}
 use Prim.Native.Nat.{_-_}
 use borrow.Author.Tests.{lt-ltb, le-ltb}

@@ -1,5 +1,5 @@
--- `line_text::put_blanks` meets its contract. The loop's invariant: the k blanks that are left, put at the place `to`,
--- give the same as all of them put at `at`. Assumes nothing.
+-- `line_text::put_blanks` meets its contract. The loop's invariant: putting the k blanks that are left at the place
+-- `to` gives the same as putting all of them at `at`. Assumes nothing.
 use borrow.Author.Needs.{needs}
 use mathlib.Core.Path.{_≡_, sym, _∙_}
 use Prim.Native.Nat.{suc, _+_, _-_, _≤_}

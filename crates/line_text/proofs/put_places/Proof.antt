@@ -1,5 +1,5 @@
--- `line_text::put_places` meets its contract. The loop's invariant: the digits that are left of v, with what is written
--- from k on, are the digits of n. Assumes nothing.
+-- `line_text::put_places` meets its contract. The loop's invariant: the digits that are left of v, followed by those
+-- written from k on, are the digits of n. Assumes nothing.
 use borrow.Author.Needs.{needs}
 use mathlib.Core.Path.{_≡_, sym, ap, _∙_}
 use mathlib.Core.List.{_++_, append-nil}

@@ -1,5 +1,5 @@
--- `line_text::put_right` meets its contract: the place where the digits end in a row of 20 is how many there are.
--- Assumes nothing.
+-- `line_text::put_right` meets its contract: the place where the digits end in a buffer of 20 is their number. Assumes
+-- nothing.
 use borrow.Author.Needs.{needs}
 use mathlib.Core.Path.{_≡_}
 use denote.Ref.{now}

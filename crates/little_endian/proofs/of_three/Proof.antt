@@ -1,4 +1,4 @@
--- `little_endian::of_three` meets its contract: a sum of bytes. Assumes nothing.
+-- `little_endian::of_three` meets its contract: it is a sum of bytes. Assumes nothing.
 use borrow.Author.Needs.{needs}
 use native.Mathlib.Omega.{arith}
 use Rattle.word_bytes.specs.Bytes.{bytesValue}

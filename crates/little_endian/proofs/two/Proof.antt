@@ -1,4 +1,4 @@
--- `little_endian::two` meets its contract, by the law over the number of bytes. Assumes nothing.
+-- `little_endian::two` meets its contract, by the law for any number of bytes. Assumes nothing.
 use borrow.Author.Needs.{needs}
 use mathlib.Core.Path.{_≡_, ap, _∙_}
 use Prim.Native.Nat.{ℕ, _+_, _%_, _^_}

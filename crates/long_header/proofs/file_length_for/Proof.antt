@@ -3,7 +3,7 @@ use borrow.Author.Needs.{needs}
 use mathlib.Core.Path.{_≡_, sym, _∙_}
 use mathlib.Core.Bool.{true, false, _&&_}
 use native.Mathlib.Omega.{arith}
-use Rattle.wav_header.specs.Refusals.{oneOrTwo, wholeFrames}
+use Rattle.wav_settings.specs.Settings.{oneOrTwo, wholeFrames}
 use Rattle.long_header.specs.Refusals.{sizeOk}
 use Rattle.long_header.proofs.Bounds.{small-size, longest-header}
 use Rattle.long_header.proofs.file_length_for.Statement.{statement}

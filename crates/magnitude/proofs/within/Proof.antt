@@ -1,4 +1,4 @@
--- `magnitude::within` meets its contract: the second test counts where the first has passed. Assumes nothing.
+-- `magnitude::within` meets its contract: the second test counts only if the first has passed. Assumes nothing.
 use Rattle.magnitude.proofs.within.Statement.{statement}
 use Rattle.magnitude.proofs.within.Tie as tie
 

@@ -1,4 +1,4 @@
--- `min_max::clamp` meets its contract: the definition makes the code's tests. Assumes nothing.
+-- `min_max::clamp` meets its contract: the definition makes the tests of the code. Assumes nothing.
 use Rattle.min_max.specs.Choice.{clamped}
 use Rattle.min_max.proofs.clamp.Statement.{statement}
 use Rattle.min_max.proofs.clamp.Tie as tie

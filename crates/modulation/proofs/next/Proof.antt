@@ -1,4 +1,5 @@
--- `modulation::next` meets its contract: the definition at its verdict, which the tests find. Assumes nothing.
+-- `modulation::next` meets its contract: the tests find the refusal of the definition, and each branch returns what the
+-- definition gives for it. Assumes nothing.
 use mathlib.Core.Path.{_≡_, sym, ap, _∙_}
 use mathlib.Core.Bool.{Bool, true, false, _&&_}
 use lib.Dec.{eqb}
@@ -17,11 +18,11 @@ settings : (c : tie.After-both) → let a = c .before .before .before .args in
     c .both .result ≡ (sampleRateOk (a .engine .«sample_rate») && paramsOk (a .params))
 settings c = rw (c .both .ensures, c .before .in-range .ensures, c .before .before .sample-rate-ok .ensures)
 
--- two tests whose answers are known
+-- Two tests whose results are known.
 and-is : {a b r a' b' : Bool} → r ≡ (a && b) → a ≡ a' → b ≡ b' → r ≡ (a' && b')
 and-is r a b = r ∙ rw (a, b)
 
--- from the second test back to the first
+-- From the second test back to the first.
 abbrev first : tie.After-both3 → tie.Then1
 first c = c .before .before .before .before .before .before .before .before .before .before .before .before .before
 

@@ -1,4 +1,4 @@
--- `modulation_engine::handed_back` meets its contract: the definition at the refusal. Assumes nothing.
+-- `modulation_engine::handed_back` meets its contract, by the two cases of the refusal. Assumes nothing.
 use mathlib.Core.Path.{_≡_, refl}
 use Prim.Native.Nat.{ℕ, zero, suc}
 use Rattle.modulation_engine.specs.declared.ModulationEngine.{ModulationEngine}

@@ -1,4 +1,4 @@
--- `modulation_sample::multiplier` meets its contract: it is the definition. Assumes nothing.
+-- `modulation_sample::multiplier` meets its contract: its body is the definition, step by step. Assumes nothing.
 use Rattle.modulation_sample.specs.Sample.{multiplierOf}
 use Rattle.modulation_sample.proofs.multiplier.Statement.{statement}
 use Rattle.modulation_sample.proofs.multiplier.Tie as tie

@@ -1,4 +1,4 @@
--- `modulation_sample::pairs` meets its contract: the second test counts where the first has passed. Assumes nothing.
+-- `modulation_sample::pairs` meets its contract: the second test counts only if the first has passed. Assumes nothing.
 use Rattle.modulation_sample.proofs.pairs.Statement.{statement}
 use Rattle.modulation_sample.proofs.pairs.Tie as tie
 

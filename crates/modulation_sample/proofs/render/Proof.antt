@@ -1,5 +1,5 @@
--- `modulation_sample::render` meets its contract: the amplitudes do not depend on the side, and where the phases of
--- both sides are one, nothing does. Assumes nothing.
+-- `modulation_sample::render` meets its contract: the amplitudes do not depend on the side, and if the phases of both
+-- sides are equal, nothing does. Assumes nothing.
 use mathlib.Core.Path.{sym, _∙_}
 use denote.Floats.{passes}
 use Rattle.oscillator_arithmetic.specs.Arithmetic.{oscillatorDelay}

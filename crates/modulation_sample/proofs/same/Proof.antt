@@ -1,4 +1,5 @@
--- `modulation_sample::same` meets its contract: the patterns count where the numbers are equal. Assumes nothing.
+-- `modulation_sample::same` meets its contract: the patterns are compared only if the numbers are equal. Assumes
+-- nothing.
 use Rattle.modulation_sample.proofs.same.Statement.{statement}
 use Rattle.modulation_sample.proofs.same.Tie as tie
 

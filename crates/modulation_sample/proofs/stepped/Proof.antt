@@ -1,4 +1,4 @@
--- `modulation_sample::stepped` meets its contract: it is the definition. Assumes nothing.
+-- `modulation_sample::stepped` meets its contract: its body is the definition, step by step. Assumes nothing.
 use Rattle.modulation_sample.proofs.stepped.Statement.{statement}
 use Rattle.modulation_sample.proofs.stepped.Tie as tie
 

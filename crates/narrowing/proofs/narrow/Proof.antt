@@ -1,4 +1,4 @@
--- `narrowing::narrow` meets its contract: `magnitude` rounds, and the sign is joined to it. Assumes nothing.
+-- `narrowing::narrow` meets its contract: `magnitude` rounds, and the sign is put in front again. Assumes nothing.
 use mathlib.Core.Path.{sym, subst}
 use lib.Dec.{T}
 use lib.Ieee.{binary64, fits}

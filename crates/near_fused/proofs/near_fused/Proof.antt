@@ -1,5 +1,5 @@
--- `near_fused::near_fused` meets its contract: by the law of the step, and each way's answer is the definition's.
--- That the code's share of the terms makes margin enough is computed (the last `tt`). Assumes nothing.
+-- `near_fused::near_fused` meets its contract, by the law of the step; on each path the answer is the definition's.
+-- That the code's share of the terms makes the margin large enough is computed (the last `tt`). Assumes nothing.
 use borrow.Author.Needs.{needs}
 use mathlib.Core.Path.{_≡_, sym, _∙_, subst}
 use mathlib.Core.Bool.{true}
@@ -13,7 +13,6 @@ use Rattle.near_fused.proofs.StepWays as equals
 use Rattle.near_fused.proofs.near_fused.Statement.{statement}
 use Rattle.near_fused.proofs.near_fused.Tie as tie
 
--- what the two tests found
 inside-true : (c : tie.Then1) → insideOf (c .before .before .args .mu) ≡ true
 inside-true c = sym (c .before .inside .ensures) ∙ c .if1 .taken
 
@@ -70,7 +69,7 @@ returns c =
       },
     )
 
--- nothing is promised of a NaN
+-- Nothing is promised for a NaN.
 nothing : {v mu c : Float} → Sure v mu c nan
 nothing = record { factor = λ f. absurd f; is = λ f. absurd f }
 

@@ -1,4 +1,4 @@
--- `near_fused::none` meets its contract, as computed. Assumes nothing.
+-- `near_fused::none` meets its contract, by computing. Assumes nothing.
 use mathlib.Core.Path.{refl}
 use lib.Ieee.{div, ofBits}
 use Rattle.near_fused.proofs.none.Statement.{statement}

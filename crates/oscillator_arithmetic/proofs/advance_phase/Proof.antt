@@ -1,4 +1,4 @@
--- `oscillator_arithmetic::advance_phase` meets its contract: it is the definition. Assumes nothing.
+-- `oscillator_arithmetic::advance_phase` meets its contract: its body is the definition, step by step. Assumes nothing.
 use Rattle.oscillator_arithmetic.specs.Arithmetic.{advancePhase}
 use Rattle.oscillator_arithmetic.proofs.advance_phase.Statement.{statement}
 use Rattle.oscillator_arithmetic.proofs.advance_phase.Tie as tie

@@ -1,4 +1,4 @@
--- `oscillator_arithmetic::amplitude` meets its contract: it is the definition. Assumes nothing.
+-- `oscillator_arithmetic::amplitude` meets its contract: its body is the definition, step by step. Assumes nothing.
 use Rattle.oscillator_arithmetic.specs.Arithmetic.{amplitudeOf}
 use Rattle.oscillator_arithmetic.proofs.amplitude.Statement.{statement}
 use Rattle.oscillator_arithmetic.proofs.amplitude.Tie as tie

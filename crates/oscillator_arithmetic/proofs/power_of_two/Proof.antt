@@ -1,4 +1,4 @@
--- `oscillator_arithmetic::power_of_two` meets its contract: the value of the answer. Assumes nothing.
+-- `oscillator_arithmetic::power_of_two` meets its contract: it takes the value out of the answer. Assumes nothing.
 use mathlib.Core.Path.{_∙_}
 use Rattle.elementary.specs.Answers.{exp2Of}
 use Rattle.oscillator_arithmetic.specs.Arithmetic.{pow2}

@@ -1,4 +1,5 @@
--- `oscillator_arithmetic::shape_primitive` meets its contract: the definition at what its test found. Assumes nothing.
+-- `oscillator_arithmetic::shape_primitive` meets its contract: each branch returns what the definition gives there.
+-- Assumes nothing.
 use borrow.Author.Needs.{needs}
 use Rattle.oscillator_arithmetic.specs.Arithmetic.{roundedSquare, triangle, shapePrimitive}
 use Rattle.oscillator_arithmetic.proofs.shape_primitive.Statement.{statement}

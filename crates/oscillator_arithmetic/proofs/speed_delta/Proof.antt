@@ -1,4 +1,4 @@
--- `oscillator_arithmetic::speed_delta` meets its contract: it is the definition. Assumes nothing.
+-- `oscillator_arithmetic::speed_delta` meets its contract: its body is the definition, step by step. Assumes nothing.
 use Rattle.oscillator_arithmetic.specs.Arithmetic.{speedDelta}
 use Rattle.oscillator_arithmetic.proofs.speed_delta.Statement.{statement}
 use Rattle.oscillator_arithmetic.proofs.speed_delta.Tie as tie

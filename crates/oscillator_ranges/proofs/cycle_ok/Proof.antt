@@ -1,4 +1,5 @@
--- `oscillator_ranges::cycle_ok` meets its contract: the second test counts where the first has passed. Assumes nothing.
+-- `oscillator_ranges::cycle_ok` meets its contract: the second test counts only if the first has passed. Assumes
+-- nothing.
 use Rattle.oscillator_ranges.proofs.cycle_ok.Statement.{statement}
 use Rattle.oscillator_ranges.proofs.cycle_ok.Tie as tie
 

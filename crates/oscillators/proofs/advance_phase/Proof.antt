@@ -1,4 +1,4 @@
--- `oscillators::advance_phase` meets its contract: test by test it is the definition. Assumes nothing.
+-- `oscillators::advance_phase` meets its contract: its tests are those of the definition. Assumes nothing.
 use Rattle.oscillators.proofs.advance_phase.Statement.{statement}
 use Rattle.oscillators.proofs.advance_phase.Tie as tie
 

@@ -1,4 +1,4 @@
--- `oscillators::answered` meets its contract: the definition at what the test found. Assumes nothing.
+-- `oscillators::answered` meets its contract: each branch returns what the definition gives there. Assumes nothing.
 use Rattle.oscillators.specs.Answers.{answeredBy}
 use Rattle.oscillators.proofs.answered.Statement.{statement}
 use Rattle.oscillators.proofs.answered.Tie as tie

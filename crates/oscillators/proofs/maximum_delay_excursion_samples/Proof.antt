@@ -1,5 +1,5 @@
--- `oscillators::maximum_delay_excursion_samples` meets its contract: test by test it is the definition.
--- Assumes nothing.
+-- `oscillators::maximum_delay_excursion_samples` meets its contract: its tests are those of the definition. Assumes
+-- nothing.
 use mathlib.Core.Path.{_≡_, refl}
 use lib.Count.{trailingZeros}
 use lib.Ieee.{binary64, size, span, climb, odd, units, round, div, ofFields, ofBits}
@@ -8,7 +8,7 @@ use Rattle.oscillator_arithmetic.specs.Arithmetic.{excursion}
 use Rattle.oscillators.proofs.maximum_delay_excursion_samples.Statement.{statement}
 use Rattle.oscillators.proofs.maximum_delay_excursion_samples.Tie as tie
 
--- 7.0 / 6.0, as the code's constant has it
+-- The constant of the code is 7.0 / 6.0.
 ratio : ofBits binary64 0x3ff2_aaaa_aaaa_aaab ≡ maxShapePrimitive
 unfolding trailingZeros size span climb odd units round div ofFields ofBits
 ratio = refl

@@ -1,6 +1,5 @@
--- `oscillators::maximum_rate_delta` meets its contract. The loop's invariant: the depths that are left give,
--- from the sum so far, what all give.
--- The measure is their number. Assumes nothing.
+-- `oscillators::maximum_rate_delta` meets its contract. The loop's invariant: the depths that are left, with the sum so
+-- far, give what all give. The measure is their number. Assumes nothing.
 use borrow.Author.Needs.{needs}
 use borrow.Author.Needs.{scaled-fits}
 use mathlib.Core.Path.{_≡_, refl, sym, _∙_}

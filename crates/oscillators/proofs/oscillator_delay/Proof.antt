@@ -1,4 +1,4 @@
--- `oscillators::oscillator_delay` meets its contract: test by test it is the definition. Assumes nothing.
+-- `oscillators::oscillator_delay` meets its contract: its tests are those of the definition. Assumes nothing.
 use Rattle.oscillator_arithmetic.specs.Arithmetic.{oscillatorDelay}
 use Rattle.oscillators.proofs.oscillator_delay.Statement.{statement}
 use Rattle.oscillators.proofs.oscillator_delay.Tie as tie

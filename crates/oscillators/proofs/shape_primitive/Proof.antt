@@ -1,4 +1,4 @@
--- `oscillators::shape_primitive` meets its contract: test by test it is the definition. Assumes nothing.
+-- `oscillators::shape_primitive` meets its contract: its tests are those of the definition. Assumes nothing.
 use Rattle.oscillators.proofs.shape_primitive.Statement.{statement}
 use Rattle.oscillators.proofs.shape_primitive.Tie as tie
 

@@ -1,4 +1,4 @@
--- `oscillators::speed_delta` meets its contract: test by test it is the definition. Assumes nothing.
+-- `oscillators::speed_delta` meets its contract: its tests are those of the definition. Assumes nothing.
 use Rattle.oscillators.proofs.speed_delta.Statement.{statement}
 use Rattle.oscillators.proofs.speed_delta.Tie as tie
 

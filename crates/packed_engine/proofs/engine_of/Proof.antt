@@ -1,5 +1,5 @@
--- `packed_engine::engine_of` meets its contract: what the calls ensure, one put into the other;
--- none of them asks anything. Assumes nothing.
+-- `packed_engine::engine_of` meets its contract, by the contracts of the functions that it calls, which have no
+-- premises. Assumes nothing.
 use borrow.Author.Needs.{needs}
 use Rattle.packed_engine.proofs.engine_of.Statement.{statement}
 use Rattle.packed_engine.proofs.engine_of.Tie as tie

@@ -1,4 +1,4 @@
--- `peaks::largest` meets its contract: by whether W13 refuses. Assumes nothing.
+-- `peaks::largest` meets its contract, by whether the residual refuses. Assumes nothing.
 use borrow.Author.Needs.{needs}
 use Rattle.peaks.specs.Peaks.{largestOf}
 use Rattle.peaks.proofs.largest.Statement.{statement}

@@ -1,4 +1,4 @@
--- `peaks::raise` meets its contract: by whether the place is there and its number smaller. Assumes nothing.
+-- `peaks::raise` meets its contract, by whether the place exists and its number is smaller. Assumes nothing.
 use borrow.Author.Needs.{needs}
 use denote.Ref.{now}
 use mathlib.Core.Path.{_≡_, sym, ap, _∙_}

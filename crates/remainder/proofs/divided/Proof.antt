@@ -1,5 +1,5 @@
--- `remainder::divided` meets its contract: both numbers are their digits at a place, and a place common to both may be
--- taken out. Assumes nothing.
+-- `remainder::divided` meets its contract: each of the numbers is its digits at a place, and a power of two common to
+-- both may be taken out. Assumes nothing.
 use borrow.Author.Needs.{needs}
 use denote.Floats.{passes}
 use mathlib.Core.Path.{_≡_, sym}
@@ -23,7 +23,7 @@ float-to-bits-u c = finite-number _ (positive-finite (c .args .a) (c .pre .divid
 float-to-bits-v : tie.Need-float-to-bits-v
 float-to-bits-v c = finite-number _ (positive-finite (c .args .b) (c .pre .divisor))
 
--- both numbers, by their patterns
+-- Both numbers by their patterns.
 dividend : (c : tie.Start) → Taken (c .args .a) (toBits binary64 (c .args .a))
 dividend c = taken (c .args .a) (passes _ (c .good .0 .1)) (c .pre .dividend)
 

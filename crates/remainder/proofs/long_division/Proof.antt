@@ -1,6 +1,5 @@
--- `remainder::long_division` meets its contract. The loop's invariant: r, followed by the zeros that are left,
--- leaves over what m does. The measure is their number.
--- Assumes nothing.
+-- `remainder::long_division` meets its contract. The loop's invariant: r followed by the zeros that are left has the
+-- remainder of the whole. The measure is the number of these zeros. Assumes nothing.
 use mathlib.Core.Path.{_≡_, sym, ap, _∙_}
 use Prim.Native.Nat.{ℕ, _-_, _*_, _%_, _^_, _<_}
 use native.Mathlib.Nat.{mul-one, mul-assoc, mod-lt, mod-eq-of-lt}
@@ -34,7 +33,7 @@ sub-left c = omega arith
 loop-less : tie.Need-loop-less Inv-loop μ-loop
 loop-less c = omega arith
 
--- one zero less
+-- One zero fewer is left.
 onward : (r n left : ℕ) → 0 < left → r * 2 % n * 2 ^ (left - 1) % n ≡ r * 2 ^ left % n
 onward r n left h =
     step-mod (r * 2) (2 ^ (left - 1)) n

@@ -1,5 +1,5 @@
--- `remainder::rem_euclid` meets its contract: by the laws of the quick ways, which leave nothing below zero,
--- or by `remainder`. Assumes nothing.
+-- `remainder::rem_euclid` meets its contract, by the laws of the fast paths, whose results are not below zero, or by
+-- `remainder`. Assumes nothing.
 use borrow.Author.Needs.{needs}
 use denote.Floats.{passes}
 use mathlib.Core.Path.{sym}

@@ -1,4 +1,4 @@
--- `remainder::remainder` meets its contract: the sign of the second does not matter, and that of the first is the
+-- `remainder::remainder` meets its contract: the sign of the divisor does not matter, and that of the dividend is the
 -- remainder's. Assumes nothing.
 use borrow.Author.Needs.{needs}
 use lib.Ieee.{binary64, odd, ofFields, ofBits}

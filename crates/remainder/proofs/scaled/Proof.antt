@@ -1,5 +1,5 @@
--- `remainder::scaled` meets its contract: r * 2^-52 is exact, and the pattern is 2^52 of the values 2^(j - 1074).
--- Assumes nothing.
+-- `remainder::scaled` meets its contract: r * 2^-52 is exact, and the other factor's pattern is that of 2^52 times 2^(j
+-- - 1074). Assumes nothing.
 use borrow.Author.Needs.{needs}
 use mathlib.Core.Path.{_≡_, refl, sym}
 use mathlib.Core.Bool.{false}
@@ -22,7 +22,7 @@ use Rattle.remainder.proofs.scaled.Tie as tie
 float-from-bits-result : tie.Need-float-from-bits-result
 float-from-bits-result c = rest-no-nan binary64 _ (omega arith)
 
--- 2^-52
+-- The factor 2^-52.
 abbrev fine : Float
 fine = ofBits binary64 0x3cb0_0000_0000_0000
 

@@ -1,4 +1,4 @@
--- `render::block` keeps within its array: the whole samples of what was read end within it. Assumes nothing.
+-- `render::block` stays within its array: the whole samples of what was read end within it. Assumes nothing.
 use borrow.Author.Needs.{needs}
 use mathlib.Core.Path.{sym}
 use native.Mathlib.Omega.{arith}

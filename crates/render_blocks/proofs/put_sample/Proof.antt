@@ -1,4 +1,4 @@
--- `render_blocks::put_sample` meets its contract: four bytes are one word, read and written. Assumes nothing.
+-- `render_blocks::put_sample` meets its contract: four bytes are read and written as one word. Assumes nothing.
 use borrow.Author.Needs.{needs}
 use mathlib.Core.Path.{_∙_, ap}
 use native.Mathlib.Omega.{arith}

@@ -1,4 +1,4 @@
--- `render_blocks::render_block` meets its contract. The loop's invariant is Turns' `Half`: up to the place `at` the
+-- `render_blocks::render_block` meets its contract. The loop's invariant is `Half` of Turns: up to the place `at` the
 -- block is rendered. Assumes nothing.
 use borrow.Author.Needs.{needs}
 use mathlib.Core.Path.{_≡_, refl, ap}
@@ -27,7 +27,7 @@ put-sample-requires c κs =
     let half = c .before .before .before .loop .inv .1 in
     simp (length-take, length-drop) (omega (arith, half .long, half .inside))
 
--- the block after a turn
+-- The block after a turn.
 done : (c : tie.After-slice-known4 Inv-loop μ-loop)
     → let l = c .before .before .before .before .before .before .before .before .loop in
     let a = c .before .before .before .before .before .before .before .before .before .before .before .before .args in

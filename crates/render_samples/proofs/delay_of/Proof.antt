@@ -1,4 +1,4 @@
--- `render_samples::delay_of` meets its contract: the variant that an arm is told gives the delay. Assumes nothing.
+-- `render_samples::delay_of` meets its contract: each arm of the match gives the delay of its variant. Assumes nothing.
 use borrow.Author.Needs.{needs}
 use lib.Ieee.{ofBits, div}
 use Rattle.render_samples.proofs.delay_of.Statement.{statement}

@@ -1,6 +1,5 @@
--- `render_start::open` meets its contract: by 2 where a length is another one, else by what reader,
--- table and engine answer, which LengthsFit shows to be no refusal.
--- Assumes nothing.
+-- `render_start::open` meets its contract: it refuses by 2 if a length is wrong; otherwise reader, table and engine
+-- answer, and LengthsFit shows that none of them refuses. Assumes nothing.
 use borrow.Author.Needs.{needs}
 use mathlib.Core.Path.{_≡_, _∙_}
 use native.Mathlib.Omega.{arith}

@@ -1,4 +1,4 @@
--- `replay_aiff::run` ends: the turns that are left fall. Assumes nothing.
+-- `replay_aiff::run` ends: the number of turns that are left falls at each one. Assumes nothing.
 use borrow.Author.Needs.{needs}
 use mathlib.Core.Path.{_≡_, sym}
 use lib.ListN.{length}

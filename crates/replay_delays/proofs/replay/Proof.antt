@@ -1,4 +1,4 @@
--- `replay_delays::replay` keeps within the ring: the part that it lends is no longer than the ring is. Assumes nothing.
+-- `replay_delays::replay` stays within the ring: the part that it lends is not longer than the ring. Assumes nothing.
 use borrow.Author.Needs.{needs}
 use mathlib.Core.Path.{sym}
 use lib.Seq.{length-take-le}

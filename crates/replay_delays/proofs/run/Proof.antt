@@ -1,4 +1,4 @@
--- `replay_delays::run` ends: the turns that are left fall. Assumes nothing.
+-- `replay_delays::run` ends: the number of turns that are left falls at each one. Assumes nothing.
 use borrow.Author.Needs.{needs}
 use mathlib.Core.Path.{_≡_}
 use lib.ListN.{length}

@@ -1,4 +1,4 @@
--- `replay_lines::line_heard` meets its contract: its line is `line_of`'s. Assumes nothing.
+-- `replay_lines::line_heard` meets its contract, by that of `line_of`. Assumes nothing.
 use borrow.Author.Needs.{needs}
 use Rattle.replay_lines.proofs.line_heard.Statement.{statement}
 use Rattle.replay_lines.proofs.line_heard.Tie as tie

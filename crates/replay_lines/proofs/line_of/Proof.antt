@@ -1,4 +1,4 @@
--- `replay_lines::line_of` meets its contract: two bytes, and the three words that are read. Assumes nothing.
+-- `replay_lines::line_of` meets its contract: it takes two bytes and reads three words. Assumes nothing.
 use borrow.Author.Needs.{needs}
 use Rattle.replay_lines.proofs.line_of.Statement.{statement}
 use Rattle.replay_lines.proofs.line_of.Tie as tie

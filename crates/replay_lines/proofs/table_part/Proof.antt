@@ -1,4 +1,4 @@
--- `replay_lines::table_part` meets its contract: within the ranges the length is below 2 ^ 20. Assumes nothing.
+-- `replay_lines::table_part` meets its contract: in range the length is below 2 ^ 20. Assumes nothing.
 use borrow.Author.Needs.{needs}
 use borrow.Author.Tests.{le-leb, lt-leb}
 use Prim.Native.Nat.{ℕ, _+_, _*_, _^_, _≤_}

@@ -1,4 +1,4 @@
--- `replay_sinc::run` ends: the turns that are left fall. Assumes nothing.
+-- `replay_sinc::run` ends: the number of turns that are left falls at each one. Assumes nothing.
 use borrow.Author.Needs.{needs}
 use mathlib.Core.Path.{_≡_}
 use lib.ListN.{length}

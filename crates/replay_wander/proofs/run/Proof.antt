@@ -1,4 +1,4 @@
--- `replay_wander::run` ends: the turns that are left fall. Assumes nothing.
+-- `replay_wander::run` ends: the number of turns that are left falls at each one. Assumes nothing.
 use borrow.Author.Needs.{needs}
 use mathlib.Core.Path.{_≡_}
 use Rattle.replay_wander.proofs.run.Statement.{statement}

@@ -1,4 +1,5 @@
--- `report_tests::all_24` meets its contract: before each turn the values passed are all 24-bit or not. Assumes nothing.
+-- `report_tests::all_24` meets its contract: before each turn `ok` says whether the values so far all have 24 bits.
+-- Assumes nothing.
 use borrow.Author.Needs.{needs}
 use mathlib.Core.Path.{_≡_, ap, _∙_}
 use mathlib.Core.Bool.{Bool, _&&_}

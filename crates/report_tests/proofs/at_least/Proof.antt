@@ -1,4 +1,4 @@
--- `report_tests::at_least` meets its contract: a high half above 0 alone exceeds every word. Assumes nothing.
+-- `report_tests::at_least` meets its contract: a high half above 0 exceeds every word. Assumes nothing.
 use mathlib.Core.Path.{sym}
 use Prim.Native.Nat.{_+_, _*_}
 use native.Mathlib.Omega.{arith}

@@ -1,4 +1,4 @@
--- `report_tests::at_most` meets its contract: the product in units of 2^24, and what is left over. Assumes nothing.
+-- `report_tests::at_most` meets its contract: it has the product in units of 2^24, and the remainder. Assumes nothing.
 use borrow.Author.Needs.{needs}
 use mathlib.Core.Path.{sym}
 use Prim.Native.Nat.{ℕ, _+_, _*_, _^_, _%_}
@@ -8,7 +8,7 @@ use Rattle.report_tests.proofs.WideSums.{same-test, rest-below, top-bel
 use Rattle.report_tests.proofs.at_most.Statement.{statement}
 use Rattle.report_tests.proofs.at_most.Tie as tie
 
--- the sum and the product, as the contract has them
+-- The sum and the product, as the contract has them.
 abbrev sum : tie.Start → ℕ
 sum c = c .args .high * 2 ^ 64 + c .args .low
 

@@ -1,4 +1,4 @@
--- `report_tests::numbers_ok` meets its contract: by the first two tests, then the sum's. Assumes nothing.
+-- `report_tests::numbers_ok` meets its contract, by the first two tests, then that of the sum. Assumes nothing.
 use mathlib.Core.Path.{_∙_}
 use Prim.Native.Nat.{ℕ, _+_, _*_, _^_}
 use native.Mathlib.Omega.{arith}
@@ -7,7 +7,7 @@ use Rattle.report_tests.proofs.Numbers.{too-many, too-large, in-range}
 use Rattle.report_tests.proofs.numbers_ok.Statement.{statement}
 use Rattle.report_tests.proofs.numbers_ok.Tie as tie
 
--- the sum as the code has it
+-- The sum, as the code has it.
 abbrev sum : tie.Start → ℕ
 sum c = c .args .high * 2 ^ 64 + c .args .low
 

@@ -1,4 +1,5 @@
--- `residual::compare` meets its contract: a refusal's number, or the report carried on. Assumes nothing.
+-- `residual::compare` meets its contract: the answer is the number of a refusal, or the extended report. Assumes
+-- nothing.
 use borrow.Author.Needs.{needs}
 use mathlib.Core.Path.{_≡_, refl, sym, _∙_}
 use Prim.Native.Nat.{ℕ, zero, suc}

@@ -1,4 +1,4 @@
--- `riff_chunks::walk` meets its contract: the walk up to the end that `earlier` gives. Assumes nothing.
+-- `riff_chunks::walk` meets its contract: it walks up to the end that `earlier` gives. Assumes nothing.
 use borrow.Author.Needs.{needs}
 use Rattle.riff_chunks.proofs.walk.Statement.{statement}
 use Rattle.riff_chunks.proofs.walk.Tie as tie

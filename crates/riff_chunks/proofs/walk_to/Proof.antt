@@ -1,4 +1,5 @@
--- `riff_chunks::walk_to` meets its contract: the laws of a walk's turns, at RIFF's chunks. Assumes nothing.
+-- `riff_chunks::walk_to` meets its contract, by the laws of the steps of a walk, for the chunks of RIFF. Assumes
+-- nothing.
 use borrow.Author.Needs.{needs}
 use mathlib.Core.Path.{refl}
 use mathlib.Core.List.{List}

@@ -1,5 +1,5 @@
--- `ring::length_for` meets its contract: the digits that the leading zeros leave are those of need - 1,
--- at most 24 of them. Assumes nothing.
+-- `ring::length_for` meets its contract: the digits below the leading zeros are those of need - 1, at most 24 of them.
+-- Assumes nothing.
 use borrow.Author.Needs.{needs}
 use borrow.Author.Tests.{le-leb, lt-leb}
 use mathlib.Core.Path.{_≡_, ap, _∙_}
@@ -17,18 +17,18 @@ use Rattle.ring.proofs.Masks.{digits-size}
 use Rattle.ring.proofs.length_for.Statement.{statement}
 use Rattle.ring.proofs.length_for.Tie as tie
 
--- the digits of need - 1
+-- How many digits need - 1 has.
 abbrev digits : ℕ → ℕ → ℕ
 digits m g = 64 - leadingZeros 64 (need m g - 1)
 
--- the number of the last of them
+-- The number of the last digit.
 abbrev last : ℕ → ℕ → ℕ
 last m g = 63 - leadingZeros 64 (need m g - 1)
 
 few : (m g : ℕ) → need m g ≤ 2 ^ 24 → digits m g ≤ 24
 few m g h = rw (digits-size 64 (need m g - 1) (omega arith)) (size-le (need m g - 1) 24 (omega arith))
 
--- there is one at least, since need - 1 is not 0
+-- There is at least one, since need - 1 is not 0.
 one : (m g : ℕ) → need m g ≤ 2 ^ 24 → digits m g ≡ suc (last m g)
 one m g h =
     omega (

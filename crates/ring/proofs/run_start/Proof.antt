@@ -1,4 +1,4 @@
--- `ring::run_start` meets its contract: one law of `RunStartWays` for each way out. Assumes nothing.
+-- `ring::run_start` meets its contract: one law of `RunStartWays` for each return. Assumes nothing.
 use borrow.Author.Needs.{needs}
 use mathlib.Core.Path.{_≡_, _∙_}
 use native.Mathlib.Omega.{arith}
@@ -9,7 +9,7 @@ use Rattle.ring.proofs.RunStartWays as held
 use Rattle.ring.proofs.run_start.Statement.{statement}
 use Rattle.ring.proofs.run_start.Tie as tie
 
--- the index, as the code holds it
+-- The index, as the code holds it.
 word : (c : tie.Start) → toZ w64 (ofZ w64 (c .args .index)) ≡ c .args .index
 word c = toZ-ofZ w64 (c .args .index) (c .fits .index)
 

@@ -1,5 +1,5 @@
--- `rounded_samples::first_misfit` meets its contract. The loop's invariant: the first misfit is i samples behind the
--- first of what is left from i on. Assumes nothing.
+-- `rounded_samples::first_misfit` meets its contract. The loop's invariant: the place of the first misfit is i plus its
+-- place in the rest from i on. Assumes nothing.
 use borrow.Author.Needs.{needs}
 use mathlib.Core.Path.{_≡_, sym, _∙_}
 use Prim.Native.Nat.{_+_, _-_, _≤_}

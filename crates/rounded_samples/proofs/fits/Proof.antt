@@ -1,4 +1,4 @@
--- `rounded_samples::fits` meets its contract, by the three kinds. Assumes nothing.
+-- `rounded_samples::fits` meets its contract, by the cases of the three kinds. Assumes nothing.
 use borrow.Author.Needs.{needs}
 use Rattle.rounded_samples.proofs.fits.Statement.{statement}
 use Rattle.rounded_samples.proofs.fits.Tie as tie

@@ -1,4 +1,4 @@
--- `rounded_samples::round_off` meets its contract: a list that is written by a rule. Assumes nothing.
+-- `rounded_samples::round_off` meets its contract: the loop writes a list by a rule. Assumes nothing.
 use borrow.Author.Needs.{needs}
 use mathlib.Core.Path.{ap, _∙_}
 use Prim.Native.Nat.{_-_}

@@ -1,4 +1,4 @@
--- `rounded_samples::rounded` meets its contract: the stored digits, then the whole number that they mean.
+-- `rounded_samples::rounded` meets its contract: it computes the stored digits, then the whole number that they mean.
 -- Assumes nothing.
 use borrow.Author.Needs.{needs}
 use mathlib.Core.Path.{ap, _∙_}

@@ -1,5 +1,5 @@
--- `sample_kind::frame_width` meets its contract: what the call ensures, and a byte of samples is few bytes.
--- Assumes nothing.
+-- `sample_kind::frame_width` meets its contract, by that of `width`; the product of two small numbers fits. Assumes
+-- nothing.
 use borrow.Author.Needs.{needs}
 use native.Mathlib.Omega.{arith}
 use Rattle.sample_kind.proofs.Widths.{few-bytes}

@@ -1,4 +1,5 @@
--- `sinc_bank_f32::bank_length` meets its contract: a set's length for each set, and at most 50 sets. Assumes nothing.
+-- `sinc_bank_f32::bank_length` meets its contract: it is the length of a set times the number of sets, which is at most
+-- 50. Assumes nothing.
 use borrow.Author.Needs.{needs}
 use native.Mathlib.Omega.{arith}
 use Rattle.bank_choice.specs.Rates.{bankOk, stepsOf}

@@ -1,5 +1,5 @@
--- `sinc_bank_f32::build_in` meets its contract: by the number of sets and by the length, or by the bank that
--- `write_sets` leaves. Assumes nothing.
+-- `sinc_bank_f32::build_in` meets its contract: it is refused by the number of sets or by the length, or `write_sets`
+-- leaves the bank. Assumes nothing.
 use borrow.Author.Needs.{needs}
 use borrow.Author.Tests.{eq-eqb, ne-eqb}
 use mathlib.Core.Path.{_≡_, refl, sym, _∙_, ap}
@@ -20,7 +20,7 @@ returns c =
     let s = c .before in
     rw (none (s .before .before .args .max-rate) (s .steps .result) (s .steps .ensures) (c .if1 .taken)) (refl, refl)
 
--- where there is a set the rate is in range
+-- If there is a set, the rate is in range.
 ok : (c : tie.Else1) → bankOk (c .before .before .before .args .max-rate) ≡ true
 ok c =
     let s = c .before in

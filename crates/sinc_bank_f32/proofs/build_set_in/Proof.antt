@@ -1,5 +1,5 @@
--- `sinc_bank_f32::build_set_in` meets its contract: by the two tests, or by the set that `write_set` leaves.
--- Assumes nothing.
+-- `sinc_bank_f32::build_set_in` meets its contract: it is refused by one of the two tests, or `write_set` leaves the
+-- set. Assumes nothing.
 use borrow.Author.Needs.{needs}
 use borrow.Author.Tests.{not-true, not-false, eq-eqb, ne-eqb}
 use mathlib.Core.Path.{_≡_, refl, sym, _∙_}
@@ -17,7 +17,6 @@ returns : tie.Need-returns
 unfolding ofBits
 returns c = rw (← c .before .within .ensures, not-true (c .before .within .result) (c .if1 .taken)) (refl, refl)
 
--- the rate is in range
 ok : (c : tie.Else1) → bankOk (c .before .before .before .args .rate) ≡ true
 unfolding ofBits
 ok c = sym (c .before .within .ensures) ∙ not-false _ (c .if1 .left)

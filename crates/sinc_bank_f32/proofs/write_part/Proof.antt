@@ -1,5 +1,5 @@
--- `sinc_bank_f32::write_part` meets its contract: no refusal is due to the part that is lent,
--- so it comes back as the table. Assumes nothing.
+-- `sinc_bank_f32::write_part` meets its contract: the lent part is not refused, so it comes back as the table. Assumes
+-- nothing.
 use borrow.Author.Needs.{needs}
 use mathlib.Core.Path.{_≡_, refl, _∙_, ap}
 use mathlib.Core.List.{List, _++_}

@@ -27,7 +27,6 @@ write-part-requires c κs =
       unrefused 80 2048 (b .args .rate) (fin false 3 (pos 2)) 163920 (b .pre .0) refl refl refl refl,
     )
 
--- the slice keeps its length
 first-long : (c : tie.After-write-part) → length (c .write-part .last .1 .1 .1 .1 .0) ≡ setLength
 unfolding ofBits
 first-long c =

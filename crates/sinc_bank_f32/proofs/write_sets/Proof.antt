@@ -1,4 +1,4 @@
--- `sinc_bank_f32::write_sets` meets its contract: the sets below `i` are built. Assumes nothing.
+-- `sinc_bank_f32::write_sets` meets its contract: before each turn the sets below `i` are built. Assumes nothing.
 use borrow.Author.Needs.{needs}
 use mathlib.Core.Path.{_≡_, sym, _∙_, ap}
 use mathlib.Core.Bool.{true}
@@ -23,7 +23,7 @@ use Rattle.sinc_bank_f32.proofs.write_sets.Tie as tie
 abbrev set : Mode → Float → ℕ → List Float
 set mode top i = setIn mode (rateOf top (stepsOf top) (i + 1))
 
--- a set of the bank has its own rate, which is in range
+-- A set of the bank has its own rate, which is in range.
 own-rate : (top : Float) (n i : ℕ) (r : Float) → bankOk top ≡ true → n ≡ stepsOf top → i < n → r ≡ setRateOf top i
     → (r ≡ rateOf top (stepsOf top) (i + 1)) × (bankOk r ≡ true)
 own-rate top n i r ok e h q =
@@ -52,7 +52,7 @@ inside c =
       begun c .pre .3,
     )
 
--- the rate that the code holds
+-- The rate that the code holds.
 rate : (c : tie.After-set-rate Inv-loop μ-loop) → let a = begun (c .before) .args in
     (c .set-rate .result ≡ rateOf (a .max-rate) (stepsOf (a .max-rate)) (c .before .before .loop .i + 1))
     × (bankOk (c .set-rate .result) ≡ true)
@@ -73,7 +73,7 @@ write-set-requires c κs =
           ∙ b .pre .2,
     )
 
--- from the end of the loop's body back to its test
+-- From the end of the loop's body back to its test.
 abbrev turn : tie.After-slice-known2 Inv-loop μ-loop → tie.In-loop Inv-loop μ-loop
 turn c = c .before .before .before .before .before
 

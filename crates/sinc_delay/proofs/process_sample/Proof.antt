@@ -1,6 +1,6 @@
--- `sinc_delay::process_sample` meets its contract: `accept` refuses, the table's settings and length among the reasons,
--- or stores; what is read behind the stored sample is the table's reading, by the laws over any kernel's reading.
--- Assumes nothing.
+-- `sinc_delay::process_sample` meets its contract: `accept` refuses, among other reasons because of the table's
+-- settings or length, or stores. What is read behind the stored sample is the table's reading, by the laws for any
+-- kernel. Assumes nothing.
 use borrow.Author.Needs.{needs}
 use mathlib.Core.Path.{_∙_}
 use mathlib.Core.Bool.{_&&_}

@@ -1,4 +1,4 @@
--- `sinc_phases::cut_to` meets its contract: its three ways are the laws of `CutToTop`. Assumes nothing.
+-- `sinc_phases::cut_to` meets its contract: its three branches are the laws of `CutToTop`. Assumes nothing.
 use borrow.Author.Needs.{needs}
 use mathlib.Core.Path.{_≡_, sym, _∙_, ap, subst}
 use mathlib.Core.Bool.{false}
@@ -31,7 +31,7 @@ below c =
     let a = c .before .before .before in
     under (a .args .top) (a .args .x) _ (value (a .args .top) (a .pre)) (c .before .before .if1 .taken) (c .if2 .taken)
 
--- the floor, as the code holds it
+-- The floor, as the code holds it.
 word : (c : tie.After-floor) → let a = c .before .before .before .before .args in
     toZ w64 (ofZ w64 (c .floor .result)) ≡ pos (cutTo (a .top) (a .x))
 word c =

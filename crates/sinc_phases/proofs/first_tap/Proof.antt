@@ -1,4 +1,4 @@
--- `sinc_phases::first_tap` meets its contract: in range the difference stays in an `i64`. Assumes nothing.
+-- `sinc_phases::first_tap` meets its contract: in range the difference fits an `i64`. Assumes nothing.
 use borrow.Author.Needs.{needs}
 use mathlib.Core.Path.{_≡_, sym, _∙_, subst}
 use Prim.Native.Nat.{_-_, _/_, _^_}
@@ -16,14 +16,13 @@ use Rattle.sinc_phases.proofs.PositionInRange.{Aimed, aimed}
 use Rattle.sinc_phases.proofs.first_tap.Statement.{statement}
 use Rattle.sinc_phases.proofs.first_tap.Tie as tie
 
--- what the test says
 ranges : (c : tie.Then1) → let a = c .before .before .args in Aimed (a .position) (a .taps)
 ranges c = aimed _ _ (sym (c .before .taps-in-range .ensures) ∙ c .if1 .taken)
 
 sub-result : tie.Need-sub-result
 sub-result c = let r = ranges (c .before) in omega (arith, r .least)
 
--- the first tap, as the machine has it
+-- The first tap, as the machine has it.
 exact : (c : tie.After-floor) → let a = c .before .before .before .args in
     toZ w64 (ofZ w64 (c .floor .result)) -ℤ toZ w64 (a .taps / 2 - 1) ≡ firstTap (a .position) (a .taps)
 exact c =

@@ -1,5 +1,5 @@
--- `sinc_phases::phase_at` meets its contract: by the test of the ranges, and each step's `ensures` in turn;
--- what is cast is small. Assumes nothing.
+-- `sinc_phases::phase_at` meets its contract, by the test of the ranges and the contract of each step; the numbers that
+-- are cast are small. Assumes nothing.
 use borrow.Author.Needs.{needs}
 use mathlib.Core.Path.{_≡_, sym, _∙_}
 use Prim.Native.Nat.{_-_, _^_, _≤_}
@@ -17,7 +17,6 @@ use Rattle.sinc_phases.proofs.RowsInTable.{Fine, fine}
 use Rattle.sinc_phases.proofs.phase_at.Statement.{statement}
 use Rattle.sinc_phases.proofs.phase_at.Tie as tie
 
--- what the test says
 ranges : (c : tie.Then1) → let a = c .before .before .args in Fine (a .position) (a .phases)
 ranges c = fine _ _ (sym (c .before .phases-in-range .ensures) ∙ c .if1 .taken)
 
@@ -31,7 +30,6 @@ sub-cut-to c = let r = ranges (c .before .before) in omega (arith, r .least)
 cut-to-requires : tie.Need-cut-to-requires
 cut-to-requires c κs = let r = ranges (c .before .before) in omega (arith, r .most)
 
--- the phase is small
 few : (c : tie.After-cut-to) → c .cut-to .result ≤ 4096
 few c =
     let r = ranges (c .before .before .before) in rw (c .cut-to .ensures) (le-trans (held _ _) (omega (arith, r .most)))

@@ -1,4 +1,4 @@
--- `sinc_row::coefficient` meets its contract: the sinc's answer is the definition's. Assumes nothing.
+-- `sinc_row::coefficient` meets its contract: the answer of `sinc` is the definition's. Assumes nothing.
 use borrow.Author.Needs.{needs}
 use Rattle.sinc_row.proofs.coefficient.Statement.{statement}
 use Rattle.sinc_row.proofs.coefficient.Tie as tie

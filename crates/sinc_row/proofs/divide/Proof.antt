@@ -1,4 +1,4 @@
--- `sinc_row::divide` meets its contract: the elements before k are divided. Assumes nothing.
+-- `sinc_row::divide` meets its contract: after k turns the first k elements are divided. Assumes nothing.
 use borrow.Author.Needs.{needs, scaled-fits}
 use mathlib.Core.Path.{_≡_, refl, _∙_, ap}
 use Prim.Native.Nat.{_+_, _-_, _≤_, _<_}
@@ -39,7 +39,7 @@ slice-write-row c = omega arith
 add-k : tie.Need-add-k Inv-loop μ-loop
 add-k c = omega arith
 
--- the list after one turn
+-- The list after one turn.
 divided : (c : tie.After-quotient Inv-loop μ-loop) → let l = c .before .before .before in
     let a = l .before .before .before .args in
     set (l .loop .row) (l .loop .k) (c .quotient .result) ≡ halfway (by (a .gain)) (now (a .row)) (l .loop .k + 1)

@@ -1,4 +1,4 @@
--- `sinc_row::fill` meets its contract: the row is written and summed up to tap k. Assumes nothing.
+-- `sinc_row::fill` meets its contract: after k turns the row is written and summed up to tap k. Assumes nothing.
 use borrow.Author.Needs.{scaled-fits}
 use mathlib.Core.Path.{_≡_, refl, _∙_, ap}
 use Prim.Native.Nat.{ℕ, _-_, _≤_, _<_}
@@ -45,7 +45,7 @@ loop-holds c =
     let a = c .before .before .before .before .before .args in
     (refl, omega arith, none _ zero-f, nothing (rawOf (a .settings) (at (now (a .window))) (a .phase)) (now (a .row)))
 
--- inside the loop k is below the taps
+-- Inside the loop k is below the number of taps.
 abbrev begun : tie.In-loop Inv-loop μ-loop → tie.Start Inv-loop μ-loop
 begun c = c .before .before .before .before .before .before .before
 

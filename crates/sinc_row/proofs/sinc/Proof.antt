@@ -1,4 +1,5 @@
--- `sinc_row::sinc` meets its contract: the sine is asked inside its range, so its answer is a value. Assumes nothing.
+-- `sinc_row::sinc` meets its contract: the argument of the sine is in its range, so its answer is a value. Assumes
+-- nothing.
 use borrow.Author.Needs.{needs}
 use mathlib.Core.Path.{_≡_, refl, sym, _∙_, ap}
 use mathlib.Core.Bool.{Bool, true, false, cond}
@@ -14,7 +15,7 @@ use Rattle.sinc_row.proofs.Distance.{in-range}
 use Rattle.sinc_row.proofs.sinc.Statement.{statement}
 use Rattle.sinc_row.proofs.sinc.Tie as tie
 
--- the answer is a value, the sine's
+-- The answer is a value, that of the sine.
 answers : (x : Float) → AtMost 65 x → sineOf (mul binary64 pi x) ≡ Value (sineAt (mul binary64 pi x))
 unfolding sineOf
 answers x h = rw (in-range x h)

@@ -1,4 +1,4 @@
--- `sinc_row::small` meets its contract: two comparisons are one of the magnitude. Assumes nothing.
+-- `sinc_row::small` meets its contract: its two comparisons are one comparison of the magnitude. Assumes nothing.
 use mathlib.Core.Path.{_≡_, refl, sym, _∙_}
 use mathlib.Core.Bool.{true, false}
 use Prim.Native.Nat.{ℕ, _+_, _*_, _<_}
@@ -12,7 +12,7 @@ use Rattle.sinc_row.specs.Coefficient.{smallOf, absOf}
 use Rattle.sinc_row.proofs.small.Statement.{statement}
 use Rattle.sinc_row.proofs.small.Tie as tie
 
--- a bound above zero
+-- The bound is above zero.
 module _ (n : ℕ) (d : ℤ) (p : 0 < n * up d) where
   under : (x : Float) → lt x (fin false n d) ≡ true → lt (fin true n d) x ≡ lt (absOf x) (fin false n d)
   unfolding lt

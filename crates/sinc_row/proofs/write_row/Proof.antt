@@ -1,4 +1,5 @@
--- `sinc_row::write_row` meets its contract: the coefficients, then each divided by their sum. Assumes nothing.
+-- `sinc_row::write_row` meets its contract: it writes the coefficients, then divides each by their sum. Assumes
+-- nothing.
 use borrow.Author.Needs.{needs}
 use borrow.Author.Tests.{not-true, not-false}
 use mathlib.Core.Path.{_≡_, sym, _∙_, ap}
@@ -17,7 +18,6 @@ use Rattle.sinc_row.proofs.write_row.Tie as tie
 returns : tie.Need-returns
 returns c = rw (← c .before .row-ready .ensures, not-true (c .before .row-ready .result) (c .if1 .taken))
 
--- what the test says
 passed : (c : tie.Else1) → let a = c .before .before .before .before .args in
     rowReady (a .settings) (a .phase) (length (now (a .row))) (length (now (a .window))) ≡ true
 passed c = sym (c .before .row-ready .ensures) ∙ not-false _ (c .if1 .left)

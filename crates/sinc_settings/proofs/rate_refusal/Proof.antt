@@ -6,7 +6,6 @@ use Rattle.sinc_settings.specs.Ranges.{rateOk, passbandOk}
 use Rattle.sinc_settings.proofs.rate_refusal.Statement.{statement}
 use Rattle.sinc_settings.proofs.rate_refusal.Tie as tie
 
--- what the test says
 tested : (c : tie.After-rate-ok) → let a = c .before .args in
     rateOk (a .rate) && passbandOk (a .passband) ≡ c .rate-ok .result
 tested c = sym (c .rate-ok .ensures)

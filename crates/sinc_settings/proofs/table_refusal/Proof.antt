@@ -1,5 +1,5 @@
--- `sinc_settings::table_refusal` meets its contract: the length of a table in range fits, and each answer rewrites with
--- the tests that led there. Assumes nothing.
+-- `sinc_settings::table_refusal` meets its contract: the length of a table in range fits, and each answer follows from
+-- the tests that led to it. Assumes nothing.
 use borrow.Author.Needs.{needs}
 use borrow.Author.Tests.{eq-eqb, ne-eqb}
 use mathlib.Core.Path.{_≡_, sym, _∙_}
@@ -10,7 +10,6 @@ use Rattle.sinc_settings.proofs.SettingsInRange.{Counts, counts, length
 use Rattle.sinc_settings.proofs.table_refusal.Statement.{statement}
 use Rattle.sinc_settings.proofs.table_refusal.Tie as tie
 
--- what the test says
 tested : (c : tie.After-both) → let a = c .before .before .before .args in
     tapsOk (a .taps) && phasesOk (a .phases) ≡ c .both .result
 tested c = sym (c .both .ensures ∙ rw (c .before .phases-ok .ensures, c .before .before .taps-ok .ensures))

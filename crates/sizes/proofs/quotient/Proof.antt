@@ -1,4 +1,4 @@
--- `sizes::quotient` meets its contract: by whether there is something to divide by. Assumes nothing.
+-- `sizes::quotient` meets its contract, by whether the divisor is 0. Assumes nothing.
 use borrow.Author.Needs.{needs}
 use borrow.Author.Tests.{eq-eqb, ne-eqb}
 use Rattle.sizes.proofs.quotient.Statement.{statement}

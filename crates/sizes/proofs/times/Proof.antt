@@ -1,6 +1,5 @@
--- `sizes::times` meets its contract: a product fits exactly where one factor is at most the largest word over the
--- other.
--- Assumes nothing.
+-- `sizes::times` meets its contract: a product fits exactly if one factor is at most the largest word divided by the
+-- other. Assumes nothing.
 use borrow.Author.Needs.{needs}
 use Prim.Native.Nat.{ℕ, _≤_, _<_, _*_, _/_}
 use mathlib.Core.Path.{sym}

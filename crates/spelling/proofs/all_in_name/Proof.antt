@@ -1,5 +1,5 @@
--- `spelling::all_in_name` meets its contract. The loop's invariant: the whole text is a name exactly when what is left
--- from i on is one. Assumes nothing.
+-- `spelling::all_in_name` meets its contract. The loop's invariant: the whole text is a name exactly if the rest from i
+-- on is one. Assumes nothing.
 use borrow.Author.Needs.{needs}
 use mathlib.Core.Path.{_≡_, sym, _∙_}
 use Prim.Native.Nat.{_-_, _≤_}

@@ -1,4 +1,4 @@
--- `spelling::in_name` meets its contract: the code's tests are the definition's. Assumes nothing.
+-- `spelling::in_name` meets its contract: the tests of the code are the definition's. Assumes nothing.
 use borrow.Author.Tests.{lt-ltb, le-ltb}
 use Rattle.spelling.proofs.in_name.Statement.{statement}
 use Rattle.spelling.proofs.in_name.Tie as tie

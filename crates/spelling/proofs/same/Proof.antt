@@ -1,5 +1,5 @@
--- `spelling::same` meets its contract. The loop's invariant: what is left of the texts from i on is the same exactly
--- when the whole texts are. Assumes nothing.
+-- `spelling::same` meets its contract. The loop's invariant: the rests of the texts from i on are the same exactly if
+-- the whole texts are. Assumes nothing.
 use borrow.Author.Needs.{needs}
 use mathlib.Core.Path.{_≡_, sym, _∙_}
 use Prim.Native.Nat.{_-_, _≤_}

@@ -1,5 +1,5 @@
--- `square_root::positive_root` meets its contract: digits that the quick way finds are the root's,
--- and else the restoring steps find them. Assumes nothing.
+-- `square_root::positive_root` meets its contract: if the quick way finds digits they are the root's, and otherwise the
+-- restoring steps find them. Assumes nothing.
 use borrow.Author.Needs.{needs}
 use native.Mathlib.Omega.{arith}
 use mathlib.Core.Path.{_≡_, sym, ap, _∙_, subst}

@@ -1,5 +1,5 @@
--- `square_root::root_digits` meets its contract: the loop's invariant is `Down`, what has been brought down and what it
--- has given. Assumes nothing.
+-- `square_root::root_digits` meets its contract. The loop's invariant is `Down`: what has been brought down, and the
+-- root of it. Assumes nothing.
 use native.Mathlib.Omega.{arith}
 use Prim.Native.Nat.{_+_, _-_, _*_, _/_, _≤_, _^_}
 use Rattle.square_root.proofs.Restoring.{Down, start, short-55, stepped, next, found}
@@ -30,7 +30,7 @@ add-t c = omega (arith, short-55 (c .before .loop .inv))
 digit-requires : tie.Need-digit-requires Inv-loop μ-loop
 digit-requires c κs = tt
 
--- what the new digit takes
+-- What the new digit takes off.
 taken : (c : tie.After-digit Inv-loop μ-loop)
     → c .digit .result * (c .before .before .loop .s * 4 + 1)
     ≤ c .before .before .loop .r * 4 + c .before .before .loop .y / 2 ^ 62

@@ -1,4 +1,4 @@
--- `stored_samples::fits_float` meets its contract: the law of `Floats`. Assumes nothing.
+-- `stored_samples::fits_float` meets its contract, by the law of `Floats`. Assumes nothing.
 use borrow.Author.Needs.{needs}
 use mathlib.Core.Path.{_∙_}
 use lib.Ieee.{neg, ofBits}

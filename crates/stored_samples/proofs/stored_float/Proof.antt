@@ -1,4 +1,5 @@
--- `stored_samples::stored_float` meets its contract: the pattern of the nearest f32, which is finite. Assumes nothing.
+-- `stored_samples::stored_float` meets its contract: it is the pattern of the nearest f32, which is finite. Assumes
+-- nothing.
 use borrow.Author.Needs.{needs}
 use mathlib.Core.Path.{ap, _∙_}
 use denote.Floats.{passes}

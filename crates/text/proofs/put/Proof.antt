@@ -1,6 +1,5 @@
--- `text::put` meets its contract. The loop's invariant: what is left of the text from k on, put at the place `to`,
--- gives the same as the whole text put at `at`.
--- Assumes nothing.
+-- `text::put` meets its contract. The loop's invariant: putting the rest of the text from k on at the place `to` gives
+-- the same as putting the whole text at `at`. Assumes nothing.
 use borrow.Author.Needs.{needs}
 use mathlib.Core.Path.{_≡_, sym, _∙_}
 use Prim.Native.Nat.{_+_, _-_, _≤_}

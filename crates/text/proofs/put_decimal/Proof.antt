@@ -1,6 +1,5 @@
--- `text::put_decimal` meets its contract. The loop's invariant: the digits that are left of v,
--- with what is written behind k, are the digits of n.
--- Assumes nothing.
+-- `text::put_decimal` meets its contract. The loop's invariant: the digits that are left of v, followed by those
+-- written behind k, are the digits of n. Assumes nothing.
 use borrow.Author.Needs.{needs}
 use mathlib.Core.Path.{_≡_, sym, _∙_, ap}
 use mathlib.Core.List.{_++_, append-nil}

@@ -1,4 +1,4 @@
--- `trace::block` keeps within its arrays: the lines end within theirs. Assumes nothing.
+-- `trace::block` stays within its arrays: the lines end within theirs. Assumes nothing.
 use borrow.Author.Needs.{needs}
 use mathlib.Core.Path.{sym}
 use lib.Seq.{length-take-le}

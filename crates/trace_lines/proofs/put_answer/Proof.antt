@@ -1,5 +1,5 @@
--- `trace_lines::put_answer` meets its contract: the variant that an arm is told gives the text,
--- and `refused ` and the number are one text. Assumes nothing.
+-- `trace_lines::put_answer` meets its contract: each arm of the match gives the text of its variant; `refused ` and the
+-- number are put as one text. Assumes nothing.
 use borrow.Author.Needs.{needs}
 use mathlib.Core.Path.{_∙_, ap, sym}
 use denote.Ref.{now}

@@ -1,4 +1,5 @@
--- `trace_lines::put_line` meets its contract: four texts put one after the other are one. Assumes nothing.
+-- `trace_lines::put_line` meets its contract: four texts that are put one after the other are one text. Assumes
+-- nothing.
 use borrow.Author.Needs.{needs}
 use mathlib.Core.List.{_++_}
 use denote.Ref.{now}

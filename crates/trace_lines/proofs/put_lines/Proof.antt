@@ -1,5 +1,5 @@
--- `trace_lines::put_lines` meets its contract. The loop's invariant: the samples from the place `at` on lead from the
--- reader, the place and the bytes as they are now to what the whole block leads to. Assumes nothing.
+-- `trace_lines::put_lines` meets its contract. The loop's invariant: from the reader, the place and the bytes as they
+-- are now, the samples from the place `at` on lead to what the whole block leads to. Assumes nothing.
 use borrow.Author.Needs.{needs}
 use mathlib.Core.Path.{_≡_, sym, _∙_, ap}
 use Prim.Native.Nat.{_-_, _≤_}

@@ -2,6 +2,8 @@
 use borrow.Author.Needs.{needs}
 use mathlib.Core.Path.{_∙_}
 use borrow.Author.Tests.{eq-eqb, ne-eqb}
+use Rattle.true_sizes.specs.Sizes.{entryCount}
+use Rattle.true_sizes.proofs.Lent.{size-cut}
 use Rattle.true_sizes.proofs.size_64.Statement.{statement}
 use Rattle.true_sizes.proofs.size_64.Tie as tie
 
@@ -14,8 +16,9 @@ returns-2 c = simp (ne-eqb _ _ (c .before .if1 .left), eq-eqb _ _ (c .if2 .taken
 returns-3 : tie.Need-returns-3
 returns-3 c =
     let i = c .before .before in
+    let a = i .before .before .before .args in
     simp (ne-eqb _ _ (i .before .if1 .left), ne-eqb _ _ (i .if2 .left))
-    (c .size-in .ensures ∙ rw (c .before .entry-count .ensures .0))
+    (c .size-in .ensures ∙ rw (c .before .looked-at .ensures .0) (size-cut (a .opening .now) (a .id) (entryCount (a .opening .now))))
 
 pub size-64-spec : {M : Type 1} → statement M
 size-64-spec =

@@ -1,5 +1,5 @@
--- `variable_delay::accept` meets its contract: where every test passed, by the store at the sample's place,
--- which the mask of a power of two gives, and else by the refusal that is due. Assumes nothing.
+-- `variable_delay::accept` meets its contract. If every test passed, it stores at the sample's place, which the mask of
+-- a power of two gives; otherwise it refuses. Assumes nothing.
 use borrow.Author.Needs.{needs, scaled-fits}
 use borrow.Author.Tests.{ne-eqb}
 use mathlib.Core.Path.{_≡_, sym, ap, _∙_}
@@ -26,7 +26,7 @@ use Rattle.variable_delay.proofs.Refused.{not-accepted, same-ring}
 use Rattle.variable_delay.proofs.accept.Statement.{statement}
 use Rattle.variable_delay.proofs.accept.Tie as tie
 
--- the verdict, and whether it is none, as the code has them
+-- The refusal, and whether there is none, as the code has them.
 abbrev Verdict : tie.After-passes → ℕ
 Verdict c =
     let a = c .before .before .before .args in
@@ -69,7 +69,7 @@ slice-write-ring c = inside c
 add-t12 : tie.Need-add-t12
 add-t12 c = omega (arith, passed c .room)
 
--- the count is small, so both casts are exact
+-- The count is small, so both casts are exact.
 cast-t17 : tie.Need-cast-t17
 cast-t17 c = record { sfits = omega (arith, passed c .room) }
 

@@ -1,5 +1,5 @@
--- `variable_delay_f32::accept` meets its contract: by its refusal, or, where every test passed,
--- by the store at the sample's place. Assumes nothing.
+-- `variable_delay_f32::accept` meets its contract: it refuses, or, if every test passed, stores at the sample's place.
+-- Assumes nothing.
 use borrow.Author.Needs.{needs, scaled-fits}
 use mathlib.Core.Path.{_≡_, sym, _∙_}
 use Prim.Native.Nat.{_<_}
@@ -24,7 +24,7 @@ unfolding ofBits
 returns c =
     let e = c .before .refusal .ensures in (not-accepted _ e (c .if1 .taken) _ _, same-ring _ e (c .if1 .taken) _ _ _)
 
--- the call is accepted
+-- The call is accepted.
 none : (c : tie.Else1) → let a = c .before .before .before .args in
     verdict (a .own) (a .lent) (a .state) (length (now (a .ring))) (a .input) (a .delay) ≡ 0
 none c = sym (c .before .refusal .ensures) ∙ c .if1 .left
@@ -45,7 +45,7 @@ slice-write-ring c = inside c
 add-t14 : tie.Need-add-t14
 add-t14 c = omega (arith, passed (c .before) .room)
 
--- the count is small, so both casts are exact
+-- The count is small, so both casts are exact.
 cast-t15 : tie.Need-cast-t15
 cast-t15 c = record { sfits = omega (arith, passed (c .before) .room) }
 

@@ -1,4 +1,4 @@
--- `variable_delay_f32::refusal` meets its contract: a common call is refused nothing; else each test is the
+-- `variable_delay_f32::refusal` meets its contract: on the fast path nothing is refused; otherwise each test is the
 -- definition's, the first two by `settled`. Assumes nothing.
 use borrow.Author.Needs.{needs}
 use mathlib.Core.Path.{refl, sym}

@@ -1,5 +1,5 @@
--- `variable_delay_f32::reset` meets its contract: by its refusal, or by the ring that `clear_f32` leaves,
--- as in every width. Assumes nothing.
+-- `variable_delay_f32::reset` meets its contract: it is refused, or `clear_f32` leaves the ring, as in either width.
+-- Assumes nothing.
 use borrow.Author.Needs.{needs}
 use denote.Ref.{now}
 use Rattle.variable_delay.proofs.Resets.{not-reset, anew}

@@ -1,4 +1,4 @@
--- `wanted::put_wanted` meets its contract: an arm puts the sentence of the name that it is told. Assumes nothing.
+-- `wanted::put_wanted` meets its contract: each arm of the match puts the sentence of its name. Assumes nothing.
 use borrow.Author.Needs.{needs}
 use mathlib.Core.Path.{_≡_}
 use mathlib.Core.List.{List}

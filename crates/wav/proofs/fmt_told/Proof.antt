@@ -1,4 +1,4 @@
--- `wav::fmt_told` meets its contract: what the calls ensure, put together. Assumes nothing.
+-- `wav::fmt_told` meets its contract, by the contracts of the functions that it calls. Assumes nothing.
 use borrow.Author.Needs.{needs}
 use mathlib.Core.Path.{refl}
 use Rattle.wav_format.specs.Format.{tag}

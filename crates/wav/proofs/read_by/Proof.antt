@@ -1,4 +1,5 @@
--- `wav::read_by` meets its contract: what the calls ensure is what the definitions name. Assumes nothing.
+-- `wav::read_by` meets its contract: the values that its calls give are those that the definitions name. Assumes
+-- nothing.
 use borrow.Author.Needs.{needs}
 use mathlib.Core.Path.{_≡_, _∙_}
 use Rattle.wav_format.specs.Tags.{tagBy}

@@ -1,4 +1,4 @@
--- `wav_store::whole` meets its contract: a remainder and a quotient say what the product would. Assumes nothing.
+-- `wav_store::whole` meets its contract: a remainder and a quotient show what the product would. Assumes nothing.
 use borrow.Author.Needs.{needs}
 use mathlib.Core.Path.{_∙_}
 use Rattle.wav_store.proofs.Stores.{some-bytes, counted}

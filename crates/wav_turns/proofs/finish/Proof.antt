@@ -1,4 +1,4 @@
--- `wav_turns::finish` meets its contract: what the calls ensure, one put into the other. Assumes nothing.
+-- `wav_turns::finish` meets its contract, by the contracts of the functions that it calls. Assumes nothing.
 use borrow.Author.Needs.{needs}
 use Rattle.wav_turns.proofs.finish.Statement.{statement}
 use Rattle.wav_turns.proofs.finish.Tie as tie

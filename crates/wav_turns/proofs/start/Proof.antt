@@ -1,4 +1,4 @@
--- `wav_turns::start` meets its contract: what the calls ensure, put together. Assumes nothing.
+-- `wav_turns::start` meets its contract, by the contracts of the functions that it calls. Assumes nothing.
 use borrow.Author.Needs.{needs}
 use Rattle.wav_turns.proofs.start.Statement.{statement}
 use Rattle.wav_turns.proofs.start.Tie as tie

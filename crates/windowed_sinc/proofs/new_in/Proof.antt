@@ -1,4 +1,4 @@
--- `windowed_sinc::new_in` meets its contract, by the refusal that is due. Assumes nothing.
+-- `windowed_sinc::new_in` meets its contract, by the cases of the refusal. Assumes nothing.
 use borrow.Author.Needs.{needs}
 use Rattle.windowed_sinc.proofs.new_in.Statement.{statement}
 use Rattle.windowed_sinc.proofs.new_in.Tie as tie

@@ -1,5 +1,5 @@
--- `windowed_sinc_f32::for_max_rate_in` meets its contract, by the refusal that is due to the settings that it hands on.
--- Assumes nothing.
+-- `windowed_sinc_f32::for_max_rate_in` meets its contract, by the refusal of the settings that it hands on. Assumes
+-- nothing.
 use borrow.Author.Needs.{needs}
 use mathlib.Core.Path.{sym, _∙_}
 use lib.ListN.{length}

@@ -1,4 +1,4 @@
--- `windowed_sinc_f32::narrow_row` meets its contract: the elements before k are rounded. Assumes nothing.
+-- `windowed_sinc_f32::narrow_row` meets its contract: after k turns the first k elements are rounded. Assumes nothing.
 use borrow.Author.Needs.{needs, scaled-fits}
 use mathlib.Core.Path.{_≡_, sym, _∙_, ap}
 use mathlib.Core.List.{List, map}
@@ -34,7 +34,7 @@ mul-row c =
     let s = c .before .before .before .before .before .before in
     scaled-fits _ (length (now (s .args .row))) 4 (omega arith) (s .good .0 .1)
 
--- the rounded list is the list rounded
+-- After the last turn every element is rounded.
 returns : tie.Need-returns Inv-loop μ-loop
 returns c =
     let l = c .before in

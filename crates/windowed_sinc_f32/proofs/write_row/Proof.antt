@@ -1,5 +1,5 @@
--- `windowed_sinc_f32::write_row` meets its contract: the front of the scratch is the row in f64,
--- and is rounded into place. Assumes nothing.
+-- `windowed_sinc_f32::write_row` meets its contract: the front of the buffer is the row in f64, which is rounded into
+-- place. Assumes nothing.
 use borrow.Author.Needs.{needs}
 use mathlib.Core.Path.{_≡_, ap, _∙_}
 use mathlib.Core.List.{map}
@@ -22,7 +22,7 @@ part-scratch-end c =
     let s = b .args .settings in
     omega (arith, counts (s .taps) (s .phases) (accepted s (b .pre .0) .counted) .most-taps)
 
--- the row in f64
+-- The row in f64.
 abbrev begun : tie.After-write-row → tie.Start
 begun c = c .before .before .before .before
 

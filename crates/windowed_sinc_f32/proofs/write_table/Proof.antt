@@ -1,5 +1,5 @@
--- `windowed_sinc_f32::write_table` meets its contract: the front of the scratch is Kaiser's window,
--- and the rows are written under it. Assumes nothing.
+-- `windowed_sinc_f32::write_table` meets its contract: the front of the buffer is Kaiser's window, and the rows are
+-- written under it. Assumes nothing.
 use borrow.Author.Needs.{needs}
 use mathlib.Core.Path.{ap, _∙_}
 use mathlib.Core.List.{map}
@@ -12,7 +12,6 @@ use Rattle.windowed_sinc.proofs.Building.{most, window-fits, window-long, table
 use Rattle.windowed_sinc_f32.proofs.write_table.Statement.{statement}
 use Rattle.windowed_sinc_f32.proofs.write_table.Tie as tie
 
--- what the contract asks
 lent : (c : tie.Start) → Fitting (c .args .settings) (length (now (c .args .table)))
 lent c = fitting _ _ (c .pre)
 

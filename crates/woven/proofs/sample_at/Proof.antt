@@ -1,4 +1,4 @@
--- `woven::sample_at` meets its contract: by whether the sample is there. Assumes nothing.
+-- `woven::sample_at` meets its contract, by whether the sample is there. Assumes nothing.
 use borrow.Author.Needs.{needs}
 use denote.Ref.{now}
 use mathlib.Core.Path.{_≡_, sym}
@@ -12,7 +12,7 @@ use Rattle.constants.specs.Numbers.{zero-f}
 use Rattle.woven.proofs.sample_at.Statement.{statement}
 use Rattle.woven.proofs.sample_at.Tie as tie
 
--- what stands in a list does not depend on what is taken for what does not
+-- An element of a list does not depend on the default for missing elements.
 there : (l : List Float) (j : ℕ) (d e : Float) → j < length l → getD l j d ≡ getD l j e
 there l j d e h = cc (drop-cons l j d h, drop-cons l j e h)
 

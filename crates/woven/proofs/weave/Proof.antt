@@ -1,4 +1,4 @@
--- `woven::weave` meets its contract: a list that is written by a rule. Assumes nothing.
+-- `woven::weave` meets its contract: the loop writes a list by a rule. Assumes nothing.
 use borrow.Author.Needs.{needs}
 use Prim.Native.Nat.{_-_}
 use native.Mathlib.Omega.{arith}

@@ -1,4 +1,4 @@
--- `woven::woven_at` meets its contract: by whether the place is even. Assumes nothing.
+-- `woven::woven_at` meets its contract, by whether the place is even. Assumes nothing.
 use borrow.Author.Needs.{needs}
 use borrow.Author.Tests.{eq-eqb, ne-eqb}
 use Prim.Native.Nat.{_%_}

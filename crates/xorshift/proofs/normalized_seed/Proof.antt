@@ -1,5 +1,4 @@
--- `xorshift::normalized_seed` meets its contract: each answer is the definition's at what the test found.
--- Assumes nothing.
+-- `xorshift::normalized_seed` meets its contract: each branch returns what the definition gives there. Assumes nothing.
 use borrow.Author.Tests.{eq-eqb, ne-eqb}
 use Rattle.xorshift.proofs.normalized_seed.Statement.{statement}
 use Rattle.xorshift.proofs.normalized_seed.Tie as tie

@@ -1,5 +1,5 @@
--- `xorshift::step` meets its contract: from the inside out, the machine's exclusive or of two words is the
--- definition's. Assumes nothing.
+-- `xorshift::step` meets its contract: step by step, the machine's exclusive or of two words is the definition's.
+-- Assumes nothing.
 use Prim.Native.Nat.{ℕ, _*_, _/_, _%_, _^_, _<_}
 use mathlib.Core.Path.{_≡_}
 use native.Mathlib.Nat.{lt-of-le-of-lt, mod-lt}

@@ -24,6 +24,8 @@ impl Made {
                 target: quality,
                 crossfade_position: 9,
                 crossfade_samples: 9,
+                rule: asked % 2,
+                direction: 0,
                 ring: vec![odd; 1024],
             };
             self.by("quality_process", |v| reader().process(bank, 1.04, 0.5, 500.3, asked, v));
@@ -47,6 +49,8 @@ impl Made {
             target: 0,
             crossfade_position: 0,
             crossfade_samples: 0,
+            rule: 0,
+            direction: 0,
             ring: vec![0.0; 1024],
         };
         if opened.open(2) != 0 {

@@ -1,5 +1,5 @@
--- `aiff::finding::finish` meets its contract: what the calls ensure, and where no refusal is due the channels are one
--- or two and the part begins before the end, so that both fit their words. Assumes nothing.
+-- `aiff::finding::finish` meets its contract, by the contracts of the functions that it calls; if nothing is refused
+-- the channels are one or two and the samples begin before the end, so that both numbers fit. Assumes nothing.
 use borrow.Author.Needs.{needs}
 use mathlib.Core.Path.{_≡_, sym, ap, _∙_}
 use mathlib.Core.Bool.{Bool, not, _&&_}
@@ -22,11 +22,11 @@ use Rattle.aiff.proofs.finding.finish.Tie as tie
 abbrev started : tie.After-length-of → tie.Start
 started c = c .before .before .before .before
 
--- what was worked out before the tests
+-- What was computed before the tests.
 abbrev measured : tie.After-first → tie.After-length-of
 measured c = c .before .before .before .before .before .before .before .before .before .before .before .before
 
--- the rate, from its three calls
+-- The rate, from its three calls.
 paced : (c : tie.After-rate-of) → c .rate-of .result ≡ rate (started (c .before .before .before) .args .c .now)
 paced c =
     let e = c .before in
@@ -61,7 +61,7 @@ returns c =
     let f = soundOf (a .c .now) (a .s .now) (a .walked) in
     refused _ f (c .if1 .taken) ∙ ap (λ (k : ℕ). answered k f) (due (c .before))
 
--- where no refusal is due
+-- Nothing is refused.
 abbrev tested : tie.After-kind-of → tie.Else1
 tested c = c .before .before .before
 
@@ -75,7 +75,7 @@ passed : (c : tie.After-kind-of) →
     Passed (a .aiff) (a .held && inside (a .end) (a .walked)) (a .c .now) (a .s .now) (a .walked)
 passed c = all-passed _ _ _ _ _ (none-due c)
 
--- the part begins before the end
+-- The samples begin before the end.
 begins : (body end size : ℕ) {n skip : ℕ} → n ≡ skip → 8 + skip ≤ size → body + size ≤ end → body + 8 + n ≤ end
 begins body end size e h l = omega arith
 

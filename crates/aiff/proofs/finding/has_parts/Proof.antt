@@ -1,4 +1,4 @@
--- `aiff::finding::has_parts` meets its contract: what the calls ensure, put together. Assumes nothing.
+-- `aiff::finding::has_parts` meets its contract, by the contracts of the functions that it calls. Assumes nothing.
 use borrow.Author.Needs.{needs}
 use Rattle.aiff.proofs.finding.has_parts.Statement.{statement}
 use Rattle.aiff.proofs.finding.has_parts.Tie as tie

@@ -1,4 +1,4 @@
--- `aiff::finding::is_listed` meets its contract: what the calls ensure, put together. Assumes nothing.
+-- `aiff::finding::is_listed` meets its contract, by the contracts of the functions that it calls. Assumes nothing.
 use borrow.Author.Needs.{needs}
 use Rattle.aiff.proofs.finding.is_listed.Statement.{statement}
 use Rattle.aiff.proofs.finding.is_listed.Tie as tie

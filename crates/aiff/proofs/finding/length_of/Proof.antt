@@ -1,5 +1,5 @@
--- `aiff::finding::length_of` meets its contract: what the calls ensure, and the products are of small numbers. Assumes
--- nothing.
+-- `aiff::finding::length_of` meets its contract, by the contracts of the functions that it calls; the products are of
+-- small numbers. Assumes nothing.
 use borrow.Author.Needs.{needs}
 use mathlib.Core.Path.{_≡_, refl}
 use mathlib.Core.Bool.{Bool, true, false, cond}

@@ -1,4 +1,4 @@
--- `aiff::first_tests::ends_by` meets its contract: no sum that could pass a word is made. Assumes nothing.
+-- `aiff::first_tests::ends_by` meets its contract, without a sum that could overflow. Assumes nothing.
 use borrow.Author.Needs.{needs}
 use mathlib.Core.Path.{_≡_, refl, sym}
 use mathlib.Core.Bool.{Bool, true, false}

@@ -1,4 +1,4 @@
--- `aiff::first_tests::is_inside` meets its contract: what the calls ensure, put together. Assumes nothing.
+-- `aiff::first_tests::is_inside` meets its contract, by the contracts of the functions that it calls. Assumes nothing.
 use borrow.Author.Needs.{needs}
 use Rattle.aiff.proofs.first_tests.is_inside.Statement.{statement}
 use Rattle.aiff.proofs.first_tests.is_inside.Tie as tie

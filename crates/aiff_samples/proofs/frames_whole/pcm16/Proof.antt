@@ -1,14 +1,13 @@
 -- `aiff_samples::frames_whole::pcm16` meets its contract: a list that is written by a rule, and each sample lies in the
 -- part. Assumes nothing.
 use borrow.Author.Needs.{needs}
-use mathlib.Core.Path.{ap, _∙_}
 use Prim.Native.Nat.{ℕ, _+_, _-_, _*_}
 use native.Mathlib.Omega.{arith}
 use lib.Dec.{lit≤}
 use lib.ListN.{length, length-set}
 use Rattle.loop_laws.proofs.Writing.{Written, unwritten, written-more, all-written}
+use Rattle.high_first.specs.High.{bigNumber}
 use Rattle.sample_kind.specs.declared.SampleKind.the-variants.{Pcm16}
-use Rattle.whole_samples.specs.Whole.{unitsOf}
 use Rattle.whole_samples.proofs.Signs.{units-small, kept}
 use Rattle.aiff_samples.specs.Samples.{wholeNumber}
 use Rattle.wav_samples.proofs.Framing.{place}
@@ -27,9 +26,11 @@ pcm16-spec =
     (λ c. omega (arith, place (c .before .loop .k) (c .before .before .before .pre) (omega arith)))
     (λ c. omega (arith, place (c .before .loop .k) (c .before .before .before .pre) (omega arith)))
     (λ c κs. omega (arith, place (c .before .loop .k) (c .before .before .before .pre) (omega arith)))
-    (λ c κs. search needs) (λ c. search needs) (λ c. search needs) (λ c. search needs)
+    (λ c. search needs) (λ c. search needs) (λ c. search needs)
     (λ c. simp length-set (omega arith))
-    (λ c. written-more (c .before .before .before .loop .inv) (omega arith)
-    (kept (c .whole16 .ensures) (units-small 16 (c .before .two-at .result) (lit≤ tt) (lit≤ tt))
-    ∙ ap (unitsOf 16) (c .before .two-at .ensures)))
+    (λ c. let l = c .before .before in
+    let s = l .before .before .args in
+    written-more (l .loop .inv) (omega arith)
+    (kept (c .whole16-at .ensures)
+    (units-small 16 (bigNumber 2 (s .part .now) (l .loop .k * s .frame + s .first)) (lit≤ tt) (lit≤ tt))))
     (λ c. search needs) (λ c. all-written (c .before .loop .inv) (omega arith)))

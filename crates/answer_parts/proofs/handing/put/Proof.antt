@@ -1,4 +1,5 @@
--- `answer_parts::handing::put` meets its contract: what the NaN's test writes is the sample itself. Assumes nothing.
+-- `answer_parts::handing::put` meets its contract: in the logic there is one NaN, so what is written for a NaN is the
+-- sample itself. Assumes nothing.
 use borrow.Author.Needs.{needs}
 use mathlib.Core.Path.{refl}
 use Rattle.answer_parts.proofs.handing.put.Statement.{statement}

@@ -1,4 +1,4 @@
--- `answer_parts::values::value` meets its contract: by the two cases; the literal 0.0 is +0.0. Assumes nothing.
+-- `answer_parts::values::value` meets its contract, by the two cases; the literal 0.0 is +0.0. Assumes nothing.
 use borrow.Author.Needs.{needs}
 use mathlib.Core.Path.{sym, ap}
 use lib.Ieee.{ofBits}

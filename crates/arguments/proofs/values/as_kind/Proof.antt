@@ -1,4 +1,4 @@
--- `arguments::as_kind` meets its contract: each pick, from the last word to the first, is one of the definition's.
+-- `arguments::as_kind` meets its contract: each choice, from the last word to the first, is one of the definition's.
 -- Assumes nothing.
 use borrow.Author.Needs.{needs}
 use Rattle.text.specs.Text.{ascii}

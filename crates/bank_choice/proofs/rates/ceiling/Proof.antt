@@ -1,5 +1,5 @@
--- `bank_choice::rates::ceiling` meets its contract: by the two tests, as `Ceilings` says; what is cast is small.
--- Assumes nothing.
+-- `bank_choice::rates::ceiling` meets its contract, by the two tests and the laws of `Ceilings`; the number that is
+-- cast is small. Assumes nothing.
 use borrow.Author.Needs.{needs}
 use mathlib.Core.Path.{_≡_, sym, _∙_, ap, subst}
 use mathlib.Core.Bool.{Bool, true, false}
@@ -23,7 +23,7 @@ above : (c : tie.Then1) → ceilings.Inside (c .before .args .x)
 unfolding ofBits
 above c = ceilings.inside (c .before .args .x) (c .before .pre) (c .if1 .taken)
 
--- the floor, as the code holds it: the cut, which is small
+-- The floor, as the code holds it: it is the cut, which is small.
 word : (c : tie.After-floor) → toZ w64 (ofZ w64 (c .floor .result)) ≡ pos (toUnsigned 64 (c .before .before .args .x))
 word c =
     toZ-ofZ w64 (c .floor .result) (record { sfits = c .floor .ok })

@@ -1,4 +1,4 @@
--- `bank_choice::rates::rates::rate` meets its contract: its steps are the definition's, one for one. Assumes nothing.
+-- `bank_choice::rates::rate` meets its contract: its steps are those of the definition. Assumes nothing.
 use borrow.Author.Needs.{needs}
 use lib.Ieee.{ofBits}
 use Rattle.bank_choice.specs.Rates.{rateOf}

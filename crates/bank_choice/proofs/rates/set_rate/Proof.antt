@@ -1,5 +1,5 @@
--- `bank_choice::rates::set_rate` meets its contract: below the number of sets, which is 0 out of range, there is a set.
--- Assumes nothing.
+-- `bank_choice::rates::set_rate` meets its contract: there is a set exactly below the number of sets, which is 0 out of
+-- range. Assumes nothing.
 use borrow.Author.Needs.{needs}
 use borrow.Author.Tests.{lt-ltb, le-ltb}
 use mathlib.Core.Path.{_≡_, refl, sym, _∙_, ap}

@@ -1,4 +1,4 @@
--- `bank_choice::rates::steps` meets its contract: by the test of the rate. Assumes nothing.
+-- `bank_choice::rates::steps` meets its contract, by the test of the rate. Assumes nothing.
 use borrow.Author.Needs.{needs}
 use mathlib.Core.Path.{sym, _∙_}
 use lib.Ieee.{ofBits}

@@ -1,5 +1,5 @@
--- `bank_choice::search::among` meets its contract: from wherever the guess is, down and up again end at the partition's
--- place; and where the first set is not slower, that is 0. Assumes nothing.
+-- `bank_choice::search::among` meets its contract: wherever the guess lies, going down and up again ends at the first
+-- set that is not slower; and if the first set is not slower, that is 0. Assumes nothing.
 use borrow.Author.Needs.{needs}
 use mathlib.Core.Path.{sym, _∙_}
 use native.Mathlib.Omega.{arith}

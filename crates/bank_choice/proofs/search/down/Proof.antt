@@ -1,6 +1,5 @@
--- `bank_choice::search::down` meets its contract: where a set is slower, so is every set before it, by `RatesGrow`.
--- The measure is the place.
--- Assumes nothing.
+-- `bank_choice::search::down` meets its contract: if a set is slower, so is every set before it, by `RatesGrow`. The
+-- measure is the place. Assumes nothing.
 use mathlib.Core.Path.{_≡_, sym, _∙_}
 use mathlib.Core.Bool.{true}
 use Prim.Native.Nat.{ℕ, _-_, _≤_, _<_}
@@ -12,7 +11,7 @@ use Rattle.bank_choice.proofs.RatesGrow.{slower-before}
 use Rattle.bank_choice.proofs.search.down.Statement.{statement}
 use Rattle.bank_choice.proofs.search.down.Tie as tie
 
--- the set before e is slower
+-- The set before e is slower.
 stops : (top : Float) (steps : ℕ) (r : Float) (e : ℕ) → bankOk top ≡ true → steps ≡ stepsOf top → 0 < e → e ≤ steps
     → slowerOf top steps r (e - 1) ≡ true → (j : ℕ) → j < e → slowerOf top steps r j ≡ true
 stops top steps r e ok n some l s j h = rw n (slower-before top ok r j (e - 1) (omega arith) (omega arith) (rw n at s))

@@ -1,5 +1,5 @@
--- `bank_choice::search::guess` meets its contract: whatever the floor is, what is handed back is a set.
--- Assumes nothing.
+-- `bank_choice::search::guess` meets its contract: whatever the floor is, the result is the number of a set. Assumes
+-- nothing.
 use borrow.Author.Needs.{needs}
 use Rattle.ring.proofs.RunStartWays.{fits}
 use Rattle.bank_choice.proofs.search.guess.Statement.{statement}

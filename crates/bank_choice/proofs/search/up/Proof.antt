@@ -1,6 +1,5 @@
--- `bank_choice::search::up` meets its contract. The loop's invariant: every set before the place is slower;
--- so where it ends, it is `Partition`'s.
--- The measure is what is left of the sets. Assumes nothing.
+-- `bank_choice::search::up` meets its contract. The loop's invariant is that every set before the place is slower; so
+-- at its end the place is that of `Partition`. The measure is the number of sets that are left. Assumes nothing.
 use borrow.Author.Count.{below-more}
 use mathlib.Core.Path.{_≡_, sym, _∙_}
 use mathlib.Core.Bool.{true}

@@ -1,4 +1,4 @@
--- `decibels::range::differs` meets its contract: by the high half. Assumes nothing.
+-- `decibels::range::differs` meets its contract, by the test of the high half. Assumes nothing.
 use mathlib.Core.Path.{_≡_, sym}
 use Prim.Native.Nat.{_+_, _*_}
 use native.Mathlib.Nat.{zero-add}

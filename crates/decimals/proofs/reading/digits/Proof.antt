@@ -1,5 +1,5 @@
--- `decimals::digits` meets its contract. The loop's invariant: v followed by what is left from i on makes what the
--- whole text makes, and v is not above the limit. Assumes nothing.
+-- `decimals::digits` meets its contract. The loop's invariant: v followed by the rest from i on makes what the whole
+-- text makes, and v is not above the limit. Assumes nothing.
 use borrow.Author.Needs.{needs}
 use mathlib.Core.Path.{_≡_, sym, _∙_}
 use Prim.Native.Nat.{_-_, _≤_}

@@ -1,5 +1,5 @@
--- `elementary::quarters::guess` meets its contract: `QuickGuess` says which whole number the sum is,
--- and what its pattern is. Assumes nothing.
+-- `elementary::quarters::guess` meets its contract: `QuickGuess` shows which whole number the sum is, and what its
+-- pattern is. Assumes nothing.
 use lib.Ieee.{ofBits}
 use Rattle.elementary.proofs.QuickGuess.{guessed}
 use Rattle.elementary.proofs.quarters.guess.Statement.{statement}

@@ -1,5 +1,5 @@
--- `elementary::quarters::rest` meets its contract: `ExactRemainder` says that each of its steps is exact.
--- Assumes nothing.
+-- `elementary::quarters::rest` meets its contract: `ExactRemainder` shows that each of its steps is exact. Assumes
+-- nothing.
 use borrow.Author.Needs.{needs}
 use mathlib.Core.Path.{sym, subst}
 use lib.Dec.{T}

@@ -1,5 +1,5 @@
--- `elementary::quarters::turn` meets its contract: the guess stands, or one turn more or less does (`CorrectedGuess`),
--- and what is left then settles k (`QuarterTurns`). Assumes nothing.
+-- `elementary::quarters::turn` meets its contract: the guess is right, or one turn more or less is (`CorrectedGuess`),
+-- and the rest then determines k (`QuarterTurns`). Assumes nothing.
 use borrow.Author.Needs.{needs}
 use mathlib.Core.Path.{_≡_, subst}
 use Prim.Native.Nat.{ℕ, _+_, _-_, _≤_}
@@ -14,7 +14,7 @@ use Rattle.elementary.proofs.quarters.turn.Tie as tie
 back : (j : ℕ) → 1 ≤ j → j ≡ j - 1 + 1
 back j h = omega arith
 
--- r < -H / 2: one less
+-- If r < -H / 2, one turn less is right.
 lower : (c : tie.Then2) → let b = c .before .before .before in Moved (b .before .args .x) (b .guess .result - 1)
 unfolding neg ofBits
 lower c =
@@ -26,7 +26,7 @@ lower c =
     one-less x (b .before .pre .1) (j - 1) (subst (λ (i : ℕ). Guess x i) e (b .guess .ensures))
     (subst (λ (i : ℕ). Rest x i (r .result)) e (r .ensures)) (c .if2 .taken)
 
--- H / 2 ≤ r: one more
+-- If H / 2 ≤ r, one turn more is right.
 higher : (c : tie.Else1) → let b = c .before .before in Moved (b .before .args .x) (b .guess .result + 1)
 unfolding ofBits
 higher c =

@@ -8,7 +8,7 @@ use Rattle.elementary.specs.Reduction.{pick}
 use Rattle.elementary.proofs.values.choose.Statement.{statement}
 use Rattle.elementary.proofs.values.choose.Tie as tie
 
--- q past 2
+-- The last clause is for every q above 2.
 last : (q : ℕ) (r : Float) → (q ≡ 0 → ⊥) → (q ≡ 1 → ⊥) → (q ≡ 2 → ⊥) → neg (cosineNear r) ≡ pick q r
 unfolding pick
 last zero r a b c = absurd (a refl)

@@ -1,4 +1,4 @@
--- `elementary::values::sine_at` meets its contract: within 1 the polynomial, beyond 1 what the quarter turns pick
+-- `elementary::values::sine_at` meets its contract: up to 1 it is the polynomial, beyond 1 what the quarter turns pick
 -- (`PickedPolynomial`). Assumes nothing.
 use borrow.Author.Needs.{needs}
 use mathlib.Core.Path.{_≡_, sym, _∙_, subst}

@@ -1,4 +1,5 @@
--- `farrow8::steps::over` meets its contract: quickly where that is sure. Assumes nothing.
+-- `farrow8::steps::over` meets its contract: the quick result is right if it is finite, and otherwise the slow way is
+-- taken. Assumes nothing.
 use borrow.Author.Needs.{needs}
 use Rattle.farrow8.proofs.Horner.{sure}
 use Rattle.farrow8.proofs.steps.over.Statement.{statement}

@@ -1,4 +1,4 @@
--- `farrow8::steps::quick` meets its contract: what is finite at the end was sure at every step. Assumes nothing.
+-- `farrow8::steps::quick` meets its contract: if the result is finite, every step was decided. Assumes nothing.
 use borrow.Author.Needs.{needs}
 use mathlib.Core.Path.{_≡_, _∙_, ap}
 use lib.Ieee.{Float}

@@ -13,7 +13,7 @@ use Rattle.integer_part.proofs.IntegerSizes.{sum-fits}
 use Rattle.farrow8.proofs.taps.one_by_one.Statement.{statement}
 use Rattle.farrow8.proofs.taps.one_by_one.Tie as tie
 
--- the index, as the code holds it
+-- The index, as the code holds it.
 word : (c : tie.Start) → toZ w64 (ofZ w64 (c .args .i)) ≡ c .args .i
 word c = toZ-ofZ w64 (c .args .i) (c .fits .i)
 

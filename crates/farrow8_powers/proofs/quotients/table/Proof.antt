@@ -1,4 +1,4 @@
--- `farrow8_powers::quotients::table` meets its contract: the constant's quotients are the table's, as computed.
+-- `farrow8_powers::quotients::table` meets its contract: the constant's quotients are the table's, by computing.
 -- Assumes nothing.
 use mathlib.Core.Path.{refl}
 use lib.Ieee.{div, ofInt, ofBits}

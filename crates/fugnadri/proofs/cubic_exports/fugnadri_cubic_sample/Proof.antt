@@ -1,5 +1,5 @@
--- `fugnadri::cubic_exports::fugnadri_cubic_sample` meets its contract: the answer that the reading gives, handed out.
--- Assumes nothing.
+-- `fugnadri::cubic_exports::fugnadri_cubic_sample` meets its contract: it hands out the answer of the reading. Assumes
+-- nothing.
 use Rattle.answer.specs.Answers.{numberOf, valueOf}
 use Rattle.answer_parts.proofs.LeftByExports.{told}
 use Rattle.fugnadri.proofs.cubic_exports.fugnadri_cubic_sample.Statement.{statement}

@@ -1,4 +1,4 @@
--- `fugnadri::lagrange_exports::fugnadri_lagrange_process` meets its contract: what the reader gives, handed out.
+-- `fugnadri::lagrange_exports::fugnadri_lagrange_process` meets its contract: it hands out what the reader gives.
 -- Assumes nothing.
 use borrow.Author.Needs.{needs}
 use Rattle.answer.specs.Answers.{numberOf, valueOf}

@@ -1,5 +1,5 @@
--- `fugnadri_aiff::samples::fugnadri_aiff_samples` meets its contract: what the calls ensure, one put into the
--- other. Assumes nothing.
+-- `fugnadri_aiff::samples::fugnadri_aiff_samples` meets its contract, by the contracts of the functions that it calls.
+-- Assumes nothing.
 use borrow.Author.Needs.{needs}
 use Rattle.fugnadri_aiff.proofs.samples.fugnadri_aiff_samples.Statement.{statement}
 use Rattle.fugnadri_aiff.proofs.samples.fugnadri_aiff_samples.Tie as tie

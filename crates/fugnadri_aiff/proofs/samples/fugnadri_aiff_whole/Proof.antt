@@ -1,4 +1,4 @@
--- `fugnadri_aiff::samples::fugnadri_aiff_whole` meets its contract: what the calls ensure, one put into the other.
+-- `fugnadri_aiff::samples::fugnadri_aiff_whole` meets its contract, by the contracts of the functions that it calls.
 -- Assumes nothing.
 use borrow.Author.Needs.{needs}
 use Rattle.fugnadri_aiff.proofs.samples.fugnadri_aiff_whole.Statement.{statement}

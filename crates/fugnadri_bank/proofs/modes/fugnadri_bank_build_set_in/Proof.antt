@@ -1,6 +1,5 @@
--- `fugnadri_bank::modes::fugnadri_bank_build_set_in` meets its contract, by its two cases: a number that names a mode,
--- and one that names none.
--- Assumes nothing.
+-- `fugnadri_bank::modes::fugnadri_bank_build_set_in` meets its contract, by its two cases: a number that is a mode, and
+-- one that is not. Assumes nothing.
 use borrow.Author.Needs.{needs}
 use mathlib.Core.Path.{_≡_, refl, sym, _∙_}
 use Rattle.fugnadri_bank.proofs.modes.fugnadri_bank_build_set_in.Statement.{statement}

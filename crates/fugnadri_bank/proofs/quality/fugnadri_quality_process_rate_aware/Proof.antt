@@ -1,4 +1,5 @@
--- `fugnadri_bank::quality::fugnadri_quality_process_rate_aware` meets its contract: it is the call. Assumes nothing.
+-- `fugnadri_bank::quality::fugnadri_quality_process_rate_aware` meets its contract, by that of `call_at_once`. Assumes
+-- nothing.
 use borrow.Author.Needs.{needs}
 use Rattle.fugnadri_bank.proofs.quality.fugnadri_quality_process_rate_aware.Statement.{statement}
 use Rattle.fugnadri_bank.proofs.quality.fugnadri_quality_process_rate_aware.Tie as tie

@@ -1,5 +1,5 @@
--- `fugnadri_bank::quality_bits::fugnadri_quality_process_rate_aware_bits` meets its contract:
--- what the call ensures, its sample as a pattern. Assumes nothing.
+-- `fugnadri_bank::quality_bits::fugnadri_quality_process_rate_aware_bits` meets its contract, by that of the call; the
+-- sample becomes a bit pattern. Assumes nothing.
 use borrow.Author.Needs.{needs}
 use lib.Ieee.{binary32}
 use Rattle.answer_parts.proofs.LeftByExports.{in-bits}

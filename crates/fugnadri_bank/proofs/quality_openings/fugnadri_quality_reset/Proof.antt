@@ -1,4 +1,5 @@
--- `fugnadri_bank::quality_openings::fugnadri_quality_reset` meets its contract: what the reset gives. Assumes nothing.
+-- `fugnadri_bank::quality_openings::fugnadri_quality_reset` meets its contract: it writes what the reset gives. Assumes
+-- nothing.
 use borrow.Author.Needs.{needs}
 use mathlib.Core.Path.{refl}
 use Rattle.answer_parts.proofs.LeftByExports.{renewed}

@@ -1,5 +1,5 @@
--- `fugnadri_numbers::elementary_three::fugnadri_cosine` meets its contract: what the two calls ensure,
--- one put into the other; neither asks anything. Assumes nothing.
+-- `fugnadri_numbers::elementary_three::fugnadri_cosine` meets its contract, by the contracts of the functions that it
+-- calls, which have no premises. Assumes nothing.
 use mathlib.Core.Path.{_∙_, ap}
 use Rattle.elementary.specs.Answers.{refusalOf}
 use Rattle.answer_parts.specs.Values.{valueOf}

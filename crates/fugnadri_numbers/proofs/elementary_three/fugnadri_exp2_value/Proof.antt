@@ -1,5 +1,5 @@
--- `fugnadri_numbers::elementary_three::fugnadri_exp2_value` meets its contract: what the calls ensure,
--- one put into the other; none of them asks anything. Assumes nothing.
+-- `fugnadri_numbers::elementary_three::fugnadri_exp2_value` meets its contract, by the contracts of the functions that
+-- it calls, which have no premises. Assumes nothing.
 use mathlib.Core.Path.{_∙_, ap}
 use Rattle.answer_parts.specs.Values.{valueOf}
 use Rattle.fugnadri_numbers.proofs.elementary_three.fugnadri_exp2_value.Statement.{statement}

@@ -1,5 +1,5 @@
--- `fugnadri_tables::modes::fugnadri_windowed_sinc_f32_for_max_rate_in` meets its contract, by its two cases:
--- a number that names a mode, and one that names none. Assumes nothing.
+-- `fugnadri_tables::modes::fugnadri_windowed_sinc_f32_for_max_rate_in` meets its contract, by its two cases: a number
+-- that is a mode, and one that is not. Assumes nothing.
 use borrow.Author.Needs.{needs}
 use mathlib.Core.Path.{_≡_, refl, sym, _∙_}
 use Rattle.windowed_sinc_f32.specs.Table.{numberOf}

@@ -1,4 +1,4 @@
--- `fugnadri_tables::readers::fugnadri_windowed_sinc_process` meets its contract: what the reader gives, handed out.
+-- `fugnadri_tables::readers::fugnadri_windowed_sinc_process` meets its contract: it hands out what the reader gives.
 -- Assumes nothing.
 use borrow.Author.Needs.{needs}
 use Rattle.answer.specs.Answers.{numberOf, valueOf}

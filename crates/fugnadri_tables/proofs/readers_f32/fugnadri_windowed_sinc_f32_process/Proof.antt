@@ -1,5 +1,5 @@
--- `fugnadri_tables::readers_f32::fugnadri_windowed_sinc_f32_process` meets its contract: what the reader gives,
--- handed out. Assumes nothing.
+-- `fugnadri_tables::readers_f32::fugnadri_windowed_sinc_f32_process` meets its contract: it hands out what the reader
+-- gives. Assumes nothing.
 use borrow.Author.Needs.{needs}
 use Rattle.answer.specs.Answers.{numberF32Of, valueF32Of}
 use Rattle.answer_parts.proofs.LeftByExports.{left}

@@ -1,5 +1,5 @@
--- `fugnadri_tables::tables::fugnadri_windowed_sinc_f32_new` meets its contract: what the calls ensure,
--- one put into the other; none of them asks anything. Assumes nothing.
+-- `fugnadri_tables::tables::fugnadri_windowed_sinc_f32_new` meets its contract, by the contracts of the functions that
+-- it calls, which have no premises. Assumes nothing.
 use borrow.Author.Needs.{needs}
 use Rattle.windowed_sinc_f32.specs.Table.{numberOf}
 use Rattle.fugnadri_tables.proofs.Building.{made}

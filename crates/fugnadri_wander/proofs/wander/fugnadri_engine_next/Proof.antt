@@ -1,5 +1,5 @@
--- `fugnadri_wander::wander::fugnadri_engine_next` meets its contract: what the two calls ensure,
--- one put into the other; neither asks anything. Assumes nothing.
+-- `fugnadri_wander::wander::fugnadri_engine_next` meets its contract, by the contracts of the functions that it calls,
+-- which have no premises. Assumes nothing.
 use Rattle.fugnadri_wander.proofs.wander.fugnadri_engine_next.Statement.{statement}
 use Rattle.fugnadri_wander.proofs.wander.fugnadri_engine_next.Tie as tie
 

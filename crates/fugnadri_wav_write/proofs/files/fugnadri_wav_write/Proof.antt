@@ -9,6 +9,7 @@ returns c =
     let l = c .before in
     let w = l .before .before .before in
     let k = w .before .before in
+    let h = k .before .before .before in
     rw (
       sym (k .before .before .known .ensures) ∙ k .before .if1 .taken,
       c .number .ensures,
@@ -16,13 +17,18 @@ returns c =
       w .write .ensures .0,
       w .write .ensures .1,
       k .of-code .ensures,
+      h .rate-for .ensures,
+      h .before .form-of .ensures,
     )
 
 returns-2 : tie.Need-returns-2
-returns-2 c = rw (sym (c .before .before .known .ensures) ∙ c .before .if1 .left, c .refusal-unlisted .ensures)
+returns-2 c =
+    let k = c .before .before in
+    rw (sym (k .known .ensures) ∙ c .before .if1 .left, c .refusal-unlisted .ensures, k .before .rate-for .ensures)
 
 pub fugnadri-wav-write-spec : {M : Type 1} → statement M
 fugnadri-wav-write-spec =
     tie.close
     (tie.spec (λ c κs. search needs) (λ c κs. search needs) (λ c κs. search needs) (λ c κs. search needs)
-    (λ c κs. search needs) (λ c. search needs) returns (λ c κs. search needs) returns-2)
+    (λ c κs. search needs) (λ c κs. search needs) (λ c κs. search needs) (λ c. search needs) returns
+    (λ c κs. search needs) returns-2)

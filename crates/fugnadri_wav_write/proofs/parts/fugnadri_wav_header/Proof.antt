@@ -8,18 +8,23 @@ returns : tie.Need-returns
 returns c =
     let h = c .before .before in
     let k = h .before .before in
+    let r = k .before .before .before in
     rw (
       sym (k .before .before .known .ensures) ∙ k .before .if1 .taken,
-      h .write-header .ensures .0,
-      h .write-header .ensures .1,
+      h .header-of .ensures .0,
+      h .header-of .ensures .1,
       k .of-code .ensures,
+      r .rate-for .ensures,
+      r .before .form-of .ensures,
     )
 
 returns-2 : tie.Need-returns-2
-returns-2 c = rw (sym (c .before .before .known .ensures) ∙ c .before .if1 .left, c .refusal-unlisted .ensures)
+returns-2 c =
+    let k = c .before .before in
+    rw (sym (k .known .ensures) ∙ c .before .if1 .left, c .refusal-unlisted .ensures, k .before .rate-for .ensures)
 
 pub fugnadri-wav-header-spec : {M : Type 1} → statement M
 fugnadri-wav-header-spec =
     tie.close
-    (tie.spec (λ c κs. search needs) (λ c κs. search needs) (λ c κs. search needs) (λ c. search needs) returns
-    (λ c κs. search needs) returns-2)
+    (tie.spec (λ c κs. search needs) (λ c κs. search needs) (λ c κs. search needs) (λ c κs. search needs)
+    (λ c κs. search needs) (λ c. search needs) returns (λ c κs. search needs) returns-2)

@@ -1,4 +1,4 @@
--- `fused64::quick::quick` meets its contract: by what it knows of its words, the sum at either place is the exact one.
+-- `fused64::quick::quick` meets its contract: the sum at either place is the exact one, by what is known of its words.
 -- Assumes nothing.
 mod Known
 use borrow.Author.Needs.{needs}

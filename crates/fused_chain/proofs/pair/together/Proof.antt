@@ -6,11 +6,9 @@ use native.Mathlib.Omega.{arith}
 use lib.Dec.{T}
 use lib.Ieee.{Float, binary32, fits}
 use denote.Ref.{now}
-use Rattle.loop_laws.proofs.Folds.{none}
-use Rattle.rounding.proofs.RoundsToItself.{narrowed-own}
-use Rattle.fused_chain.specs.Chain.{turnOf, chainOf}
+use Rattle.fused_chain.specs.Chain.{chainOf}
 use Rattle.fused_chain.specs.Blocks.{Carries}
-use Rattle.fused_chain.proofs.ChainParts.{less, on}
+use Rattle.fused_chain.proofs.ChainParts.{less, on, whole}
 use Rattle.fused_chain.proofs.pair.together.Statement.{statement}
 use Rattle.fused_chain.proofs.pair.together.Tie as tie
 
@@ -32,14 +30,14 @@ abbrev begun : tie.After-ahead Inv-loop μ-loop → tie.Start Inv-loop μ-loop
 begun h = h .before .before .before .before .before .before
 
 abbrev entered : tie.At-loop Inv-loop μ-loop → tie.Start Inv-loop μ-loop
-entered l = begun (l .before .before .before .before .before .before)
+entered l = begun (l .before .before .before .before)
 
 -- the middle is no later than the end
 inside : (h : tie.After-ahead Inv-loop μ-loop) → h .ahead .result ≤ begun h .args .n
 inside h = omega arith
 
-plain-runs-requires : tie.Need-plain-runs-requires Inv-loop μ-loop
-plain-runs-requires c κs =
+plainly-requires : tie.Need-plainly-requires Inv-loop μ-loop
+plainly-requires c κs =
     let h = c .before .before in
     let b = begun h in
     let p = b .pre in
@@ -61,53 +59,20 @@ plain-runs-requires c κs =
       },
     )
 
-plainly-requires : tie.Need-plainly-requires Inv-loop μ-loop
-plainly-requires c κs =
-    let r = c .plain-runs .ensures .0 in
-    let h = c .before .before .before in
-    let m = inside h in
-    let p = begun h .pre in
-    record {
-      order = r .last;
-      samples = omega (arith, m, p .0);
-      row = omega (arith, m, p .1);
-      next = omega (arith, m, p .2);
-      held = r .carried .held;
-    }
-
-plainly-requires-2 : tie.Need-plainly-requires-2 Inv-loop μ-loop
-plainly-requires-2 c κs =
-    let r = c .before .plain-runs .ensures .1 in
-    let h = c .before .before .before .before in
-    let m = inside h in
-    let p = begun h .pre in
-    record {
-      order = r .last;
-      samples = omega (arith, m, p .0);
-      row = omega (arith, m, p .3);
-      next = omega (arith, m, p .4);
-      held = r .carried .held;
-    }
-
 loop-holds : tie.Need-loop-holds Inv-loop μ-loop
 loop-holds c =
-    let q = c .before in
-    let r = q .before in
-    let w = r .before in
+    let w = c .before in
     let v = w .before in
     let h = v .before in
-    let a = begun h .args in (
+    let a = begun h .args in
+    let r = c .plainly in (
       inside h,
       subst
           (λ (z : Float). Carries (now (a .xs)) (now (a .a0)) (now (a .a1)) (a .blend) 0 (h .ahead .result) z
-          (q .plainly .result)) (v .f32-to-f64-with-nan .ensures)
-          (on (now (a .xs)) (now (a .a0)) (now (a .a1)) (a .blend) (r .plain-runs .ensures .0 .carried)
-          (q .plainly .ensures)),
+          (r .result .a)) (v .f32-to-f64-with-nan .ensures) (r .ensures .0),
       subst
           (λ (z : Float). Carries (now (a .xs)) (now (a .b0)) (now (a .b1)) (a .blend) 0 (h .ahead .result) z
-          (c .plainly2 .result)) (w .f32-to-f64-with-nan2 .ensures)
-          (on (now (a .xs)) (now (a .b0)) (now (a .b1)) (a .blend) (r .plain-runs .ensures .1 .carried)
-          (c .plainly2 .ensures)),
+          (r .result .b)) (w .f32-to-f64-with-nan2 .ensures) (r .ensures .1),
     )
 
 biased-runs-requires : tie.Need-biased-runs-requires Inv-loop μ-loop
@@ -179,13 +144,9 @@ returns c =
     let a = entered l .args in
     let i = l .loop .inv in
     let e : l .loop .k ≡ a .n = omega (arith, i .0, n .before .loop-test .left) in (
-      n .narrow .ensures
-          ∙ narrowed-own (l .loop .s) (i .1 .held)
-          ∙ i .1 .is (a .a) (none (turnOf (now (a .xs)) (now (a .a0)) (now (a .a1)) (a .blend)) (a .a))
+      whole (now (a .xs)) (now (a .a0)) (now (a .a1)) (a .blend) _ (a .a) (l .loop .s) _ (n .narrow .ensures) (i .1)
           ∙ ap (chainOf (now (a .xs)) (now (a .a0)) (now (a .a1)) (a .blend) (a .a)) e,
-      c .narrow2 .ensures
-          ∙ narrowed-own (l .loop .t) (i .2 .held)
-          ∙ i .2 .is (a .b) (none (turnOf (now (a .xs)) (now (a .b0)) (now (a .b1)) (a .blend)) (a .b))
+      whole (now (a .xs)) (now (a .b0)) (now (a .b1)) (a .blend) _ (a .b) (l .loop .t) _ (c .narrow2 .ensures) (i .2)
           ∙ ap (chainOf (now (a .xs)) (now (a .b0)) (now (a .b1)) (a .blend) (a .b)) e,
     )
 
@@ -198,9 +159,7 @@ together-spec =
     (λ c κs. omega arith)
     (λ c κs. search needs)
     (λ c κs. search needs)
-    plain-runs-requires
     plainly-requires
-    plainly-requires-2
     loop-holds
     biased-runs-requires
     stretch-requires

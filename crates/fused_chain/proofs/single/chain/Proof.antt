@@ -6,11 +6,9 @@ use native.Mathlib.Omega.{arith}
 use lib.Dec.{T}
 use lib.Ieee.{Float, binary32, fits}
 use denote.Ref.{now}
-use Rattle.loop_laws.proofs.Folds.{none}
-use Rattle.rounding.proofs.RoundsToItself.{narrowed-own}
-use Rattle.fused_chain.specs.Chain.{turnOf, chainOf}
+use Rattle.fused_chain.specs.Chain.{chainOf}
 use Rattle.fused_chain.specs.Blocks.{Carries}
-use Rattle.fused_chain.proofs.ChainParts.{less, on}
+use Rattle.fused_chain.proofs.ChainParts.{less, on, whole}
 use Rattle.fused_chain.proofs.single.chain.Statement.{statement}
 use Rattle.fused_chain.proofs.single.chain.Tie as tie
 
@@ -111,10 +109,8 @@ returns : tie.Need-returns Inv-loop μ-loop
 returns c =
     let l = c .before .before in
     let a = l .before .before .before .before .before .before .before .before .before .args in
-    let k = l .loop .inv .1 in
-    c .narrow .ensures
-    ∙ narrowed-own (l .loop .held) (k .held)
-    ∙ k .is (a .sum) (none (turnOf (now (a .xs)) (now (a .row0)) (now (a .row1)) (a .blend)) (a .sum))
+    whole (now (a .xs)) (now (a .row0)) (now (a .row1)) (a .blend) _ (a .sum) (l .loop .held) _ (c .narrow .ensures)
+    (l .loop .inv .1)
     ∙ ap (chainOf (now (a .xs)) (now (a .row0)) (now (a .row1)) (a .blend) (a .sum)) (omega arith)
 
 pub chain-spec : {M : Type 1} → statement M

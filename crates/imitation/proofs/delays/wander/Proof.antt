@@ -1,5 +1,5 @@
--- `imitation::delays::wander` meets its contract: two lists that are written by a rule from the front on,
--- and an engine that has turned as often. Assumes nothing.
+-- `imitation::delays::wander` meets its contract: the loop writes two lists by a rule, and the engine steps as often.
+-- Assumes nothing.
 use borrow.Author.Needs.{needs}
 use mathlib.Core.Path.{_≡_, refl, sym, ap, _∙_}
 use Prim.Native.Nat.{ℕ, _-_, _≤_, min}

@@ -1,5 +1,5 @@
--- `imitation::reading::read_stretch` meets its contract. The loop's invariant is `Half` of crates/stretch:
--- up to the place k the samples are answered. Assumes nothing.
+-- `imitation::reading::read_stretch` meets its contract. The loop's invariant is `Half` of crates/stretch: up to the
+-- place k the samples are answered. Assumes nothing.
 use borrow.Author.Needs.{needs}
 use mathlib.Core.Path.{_≡_, refl, sym, ap, _∙_}
 use Prim.Native.Nat.{_-_, _≤_, min}

@@ -1,4 +1,4 @@
--- `lagrange::lanes::among` meets its contract: each pair gives the weights two factors more. Assumes nothing.
+-- `lagrange::lanes::among` meets its contract: each pair gives the weights two more factors. Assumes nothing.
 use borrow.Author.Needs.{needs}
 use mathlib.Core.Path.{_≡_, refl, _∙_, subst}
 use Prim.Native.Nat.{ℕ, _+_}

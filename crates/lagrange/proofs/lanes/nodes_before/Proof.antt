@@ -1,5 +1,5 @@
--- `lagrange::lanes::nodes_before` meets its contract: after h turns the weights have the factors of 2 * h nodes,
--- none of them their own. Assumes nothing.
+-- `lagrange::lanes::nodes_before` meets its contract: after h turns the weights have the factors of 2 * h nodes, none
+-- of which is their own. Assumes nothing.
 use mathlib.Core.Path.{_≡_, refl, subst}
 use Prim.Native.Nat.{ℕ, _-_, _*_, _≤_}
 use native.Mathlib.Omega.{arith}

@@ -1,5 +1,5 @@
--- `lagrange::lanes::nodes_behind` meets its contract: each turn gives the weights the factors of two nodes more,
--- none of them their own. Assumes nothing.
+-- `lagrange::lanes::nodes_behind` meets its contract: each turn gives the weights the factors of two more nodes, none
+-- of which is their own. Assumes nothing.
 use mathlib.Core.Path.{_≡_, subst}
 use Prim.Native.Nat.{ℕ, _+_, _-_, _*_, _≤_, min}
 use native.Mathlib.Omega.{arith}

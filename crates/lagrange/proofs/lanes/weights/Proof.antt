@@ -1,5 +1,5 @@
--- `lagrange::lanes::weights` meets its contract: the factors before the eight nodes, among them and behind them.
--- Assumes nothing.
+-- `lagrange::lanes::weights` meets its contract: it multiplies the factors before the eight nodes, among them and
+-- behind them. Assumes nothing.
 use borrow.Author.Needs.{needs}
 use mathlib.Core.Path.{_≡_, subst}
 use Prim.Native.Nat.{ℕ, _*_}

@@ -17,7 +17,7 @@ use Rattle.lagrange.proofs.Blocks.{next}
 use Rattle.lagrange.proofs.sums.block.Statement.{statement}
 use Rattle.lagrange.proofs.sums.block.Tie as tie
 
--- where the taps stand side by side
+-- The taps stand side by side.
 beside : (c : tie.Then1) → let a = c .before .before .before .before .args in
     SideBySide (now (a .source)) (a .count) (a .base) (2 * a .pairs) (a .s .place)
 beside c = c .before .before .before .before .pre .3 (c .if1 .taken)

@@ -1,4 +1,4 @@
--- `line_text::put_clock` meets its contract: five texts put one after the other are one. Assumes nothing.
+-- `line_text::put_clock` meets its contract: five texts that are put one after the other are one text. Assumes nothing.
 use borrow.Author.Needs.{needs}
 use mathlib.Core.List.{_++_}
 use denote.Ref.{now}

@@ -1,4 +1,4 @@
--- `line_text::put_time` meets its contract: whole seconds and what is left over are the thousandths. Assumes nothing.
+-- `line_text::put_time` meets its contract: whole seconds and the remainder make the thousandths. Assumes nothing.
 use borrow.Author.Needs.{needs}
 use borrow.Author.Tests.{eq-eqb, ne-eqb}
 use Prim.Native.Nat.{_%_, _<_}

@@ -1,4 +1,4 @@
--- `modulation_engine::ModulationEngine::new` meets its contract: the definition at what the test found.
+-- `modulation_engine::ModulationEngine::new` meets its contract: each branch returns what the definition gives there.
 -- Assumes nothing.
 use borrow.Author.Needs.{needs}
 use Rattle.modulation_engine.proofs.ModulationEngine.new.Statement.{statement}

@@ -1,5 +1,5 @@
--- `modulation_engine::ModulationEngine::phases_ok` meets its contract: test by test it is the definition.
--- Assumes nothing.
+-- `modulation_engine::ModulationEngine::phases_ok` meets its contract: its tests are those of the definition. Assumes
+-- nothing.
 use Rattle.modulation_engine.specs.Engine.{phasesOk}
 use Rattle.modulation_engine.proofs.ModulationEngine.phases_ok.Statement.{statement}
 use Rattle.modulation_engine.proofs.ModulationEngine.phases_ok.Tie as tie

@@ -1,5 +1,5 @@
--- `modulation_engine::ModulationEngine::refusal` meets its contract: the definition at what each test found.
--- Assumes nothing.
+-- `modulation_engine::ModulationEngine::refusal` meets its contract: each branch returns what the definition gives
+-- there. Assumes nothing.
 use borrow.Author.Needs.{needs}
 use Rattle.modulation_engine.specs.Engine.{verdict}
 use Rattle.modulation_engine.proofs.ModulationEngine.refusal.Statement.{statement}

@@ -1,4 +1,5 @@
--- `modulation_engine::ModulationEngine::set_sample_rate` meets its contract: it is the definition. Assumes nothing.
+-- `modulation_engine::ModulationEngine::set_sample_rate` meets its contract: its body is the definition, step by step.
+-- Assumes nothing.
 use Rattle.modulation_engine.proofs.ModulationEngine.set_sample_rate.Statement.{statement}
 use Rattle.modulation_engine.proofs.ModulationEngine.set_sample_rate.Tie as tie
 

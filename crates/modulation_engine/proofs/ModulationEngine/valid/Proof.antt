@@ -1,4 +1,5 @@
--- `modulation_engine::ModulationEngine::valid` meets its contract: test by test it is the definition. Assumes nothing.
+-- `modulation_engine::ModulationEngine::valid` meets its contract: its tests are those of the definition. Assumes
+-- nothing.
 use Rattle.modulation_engine.specs.Engine.{validEngine}
 use Rattle.modulation_engine.proofs.ModulationEngine.valid.Statement.{statement}
 use Rattle.modulation_engine.proofs.ModulationEngine.valid.Tie as tie

@@ -1,5 +1,5 @@
--- `modulation_params::ModulationParams::in_range` meets its contract: test by test it is the definition.
--- Assumes nothing.
+-- `modulation_params::ModulationParams::in_range` meets its contract: its tests are those of the definition. Assumes
+-- nothing.
 use Rattle.modulation_params.specs.Settings.{paramsOk}
 use Rattle.modulation_params.proofs.ModulationParams.in_range.Statement.{statement}
 use Rattle.modulation_params.proofs.ModulationParams.in_range.Tie as tie

@@ -1,4 +1,4 @@
--- `quality_codes::calls::apart` meets its contract: its parts, one after the other. Assumes nothing.
+-- `quality_codes::calls::apart` meets its contract: it takes the parts one after the other. Assumes nothing.
 use Rattle.quality_codes.proofs.calls.apart.Statement.{statement}
 use Rattle.quality_codes.proofs.calls.apart.Tie as tie
 

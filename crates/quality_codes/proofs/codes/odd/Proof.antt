@@ -1,4 +1,4 @@
--- `quality_codes::codes::odd` meets its contract: by its two choices. Assumes nothing.
+-- `quality_codes::codes::odd` meets its contract, by its two choices. Assumes nothing.
 use Rattle.quality_codes.proofs.codes.odd.Statement.{statement}
 use Rattle.quality_codes.proofs.codes.odd.Tie as tie
 

@@ -1,5 +1,5 @@
--- `quality_codes::plainly::filled` meets its contract: a length that is not 0 is that of settings in range.
--- Assumes nothing.
+-- `quality_codes::plainly::filled` meets its contract: a needed length other than 0 means that the settings are in
+-- range. Assumes nothing.
 use borrow.Author.Needs.{needs}
 use mathlib.Core.Bool.{false≢true}
 use borrow.Author.Tests.{eq-eqb}

@@ -1,4 +1,4 @@
--- `quality_codes::plainly::in_range` meets its contract: its tests, one after the other; only a NaN differs from
+-- `quality_codes::plainly::in_range` meets its contract, by its tests one after the other; only a NaN differs from
 -- itself. Assumes nothing.
 use borrow.Author.Needs.{needs}
 use mathlib.Core.Path.{sym, _∙_}

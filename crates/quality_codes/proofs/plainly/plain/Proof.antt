@@ -1,5 +1,5 @@
--- `quality_codes::plainly::plain` meets its contract: where its tests pass nothing is to be refused,
--- by quality_variable_delay's law. Assumes nothing.
+-- `quality_codes::plainly::plain` meets its contract: if its tests pass nothing is refused, by quality_variable_delay's
+-- law. Assumes nothing.
 use borrow.Author.Needs.{needs}
 use borrow.Author.Tests.{le-leb}
 use mathlib.Core.Bool.{false≢true}
@@ -17,15 +17,17 @@ returns c =
     λ h.
     let d = drafts .draft .ensures (ranges .before .if1 .taken) in
     let r = ranges .in-range .ensures (c .before .if2 .taken) in
-    let l = c .filled .ensures h in (
+    let l = c .filled .ensures h in
+    let s =
+    stateOf (a .maximum) (a .margin) (a .accepted) (a .current) (a .target) (a .crossfade-position)
+    (a .crossfade-samples) (a .rule) (a .direction) in (
       d .0,
       d .1,
       d .2,
-      none-due (a .lent) (a .max-rate)
-          (decoded (stateOf (a .maximum) (a .margin) (a .accepted) (a .current) (a .target) (a .crossfade-position)
-          (a .crossfade-samples)))
-          (a .len) (a .input) (a .delay) (a .playback-rate) (r .0) (le-leb _ _ (d .3)) (placed (d .0) (d .1) (d .4))
-          (r .1) (r .2) (r .3) (r .4) (l .0) (l .1) (l .2) (l .3),
+      d .3,
+      d .4,
+      none-due (a .lent) (a .max-rate) (decoded s) (a .len) (a .input) (a .delay) (a .playback-rate) (r .0)
+          (le-leb _ _ (d .5)) (placed s (d .0) (d .1) (d .3) (d .6)) (r .1) (r .2) (r .3) (r .4) (l .0) (l .1) (l .2) (l .3),
     )
 
 pub plain-spec : {M : Type 1} → statement M

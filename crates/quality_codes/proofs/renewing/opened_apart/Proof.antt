@@ -1,5 +1,5 @@
--- `quality_codes::renewing::opened_apart` meets its contract: by the two cases; the literal 0.0 is +0.0.
--- Assumes nothing.
+-- `quality_codes::renewing::opened_apart` meets its contract, by the two cases; the literal 0.0 is +0.0. Assumes
+-- nothing.
 use borrow.Author.Needs.{needs}
 use mathlib.Core.Path.{sym, ap}
 use lib.Ieee.{ofBits}

@@ -1,5 +1,5 @@
--- `quality_codes::renewing::renew` meets its contract: by the test of the numbers: the reader's reset, taken apart,
--- or a refusal that leaves all. Assumes nothing.
+-- `quality_codes::renewing::renew` meets its contract, by the test of the numbers: it is the reader's reset, taken
+-- apart, or a refusal that changes nothing. Assumes nothing.
 use borrow.Author.Needs.{needs}
 use mathlib.Core.Path.{_≡_, sym, _∙_, ap}
 use mathlib.Core.Bool.{Bool, true, false, _&&_}

@@ -1,4 +1,4 @@
--- `quality_codes::through::call_through` meets its contract: what the call gives. Assumes nothing.
+-- `quality_codes::through::call_through` meets its contract: it writes what the call gives. Assumes nothing.
 use borrow.Author.Needs.{needs}
 use mathlib.Core.Path.{refl}
 use Rattle.answer_parts.proofs.LeftByExports.{left}

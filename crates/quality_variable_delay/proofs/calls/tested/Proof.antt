@@ -9,7 +9,7 @@ returns : tie.Need-returns
 returns c = sym (c .before .served .ensures (c .if1 .taken))
 
 returns-2 : tie.Need-returns-2
-returns-2 c = c .due .ensures
+returns-2 c = rw (c .before .again .ensures) at (c .due .ensures)
 
 pub tested-spec : {M : Type 1} → statement M
-tested-spec = tie.close (tie.spec (λ c κs. search needs) returns (λ c κs. search needs) returns-2)
+tested-spec = tie.close (tie.spec (λ c κs. search needs) returns (λ c κs. search needs) (λ c κs. search needs) returns-2)

@@ -7,7 +7,8 @@ use Prim.Native.Nat.{_^_}
 use lib.Dec.{leb}
 use Rattle.answer.specs.Refusals.{lowestOf}
 use Rattle.variable_delay.proofs.Settings.{settled}
-use Rattle.quality_fade.specs.Fade.{lengthOk, placeOk}
+use Rattle.quality_fade.specs.Fade.{lengthOk}
+use Rattle.returning_fade.specs.Rules.{placeOk}
 use Rattle.quality_variable_delay.specs.State.{fadePart}
 use Rattle.quality_variable_delay.proofs.opening.reset_refusal.Statement.{statement}
 use Rattle.quality_variable_delay.proofs.opening.reset_refusal.Tie as tie

@@ -10,7 +10,8 @@ use lib.Ieee.{fin, le, ofBits, isNan}
 use lib.Ieee.Scale.{finite}
 use Rattle.answer.specs.Refusals.{lowestOf}
 use Rattle.variable_delay.proofs.Settings.{settled}
-use Rattle.quality_fade.specs.Fade.{lengthOk, placeOk}
+use Rattle.quality_fade.specs.Fade.{lengthOk}
+use Rattle.returning_fade.specs.Rules.{placeOk}
 use Rattle.quality_variable_delay.specs.State.{fadePart}
 use Rattle.quality_variable_delay.proofs.refusing.refusal.Statement.{statement}
 use Rattle.quality_variable_delay.proofs.refusing.refusal.Tie as tie

@@ -4,7 +4,7 @@ use borrow.Author.Needs.{needs}
 use mathlib.Core.Path.{sym, _∙_, ap}
 use lib.Ieee.{ofBits}
 use Rattle.variable_delay_f32.proofs.CommonCall.{led-away}
-use Rattle.quality_fade.specs.Fade.{placeOk}
+use Rattle.returning_fade.specs.Rules.{placeOk}
 use Rattle.quality_variable_delay.proofs.CommonCall.{none-due}
 use Rattle.quality_variable_delay.proofs.served.served.Statement.{statement}
 use Rattle.quality_variable_delay.proofs.served.served.Tie as tie

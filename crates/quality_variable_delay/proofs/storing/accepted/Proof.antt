@@ -12,8 +12,8 @@ use denote.Ref.{now}
 use Rattle.bank_choice.specs.Rates.{bankOk, stepsOf}
 use Rattle.sinc_bank_f32.specs.Sets.{setLength}
 use Rattle.bank_read.specs.Bank.{bankAt}
-use Rattle.quality_fade.specs.declared.Fade.{Fade}
-use Rattle.quality_fade.specs.Step.{stepOf}
+use Rattle.returning_fade.specs.declared.RuledFade.{RuledFade}
+use Rattle.returning_fade.specs.Step.{stepOf}
 use Rattle.quality_variable_delay.proofs.AcceptedCall.{Taken, taken, room, ring-some, position-in-range}
 use Rattle.quality_variable_delay.proofs.AcceptedCall.{taken-call}
 use Rattle.quality_variable_delay.proofs.storing.accepted.Statement.{statement}
@@ -32,11 +32,11 @@ store-requires c κs = let t = passed (c .before .before .before) in (room t, ri
 
 add-output : tie.Need-add-output
 add-output c =
-    omega (arith, room (passed (c .before .before .before .before .before .before .before .before .before .before)))
+    omega (arith, room (passed (c .before .before .before .before .before .before .before .before .before .before .before)))
 
 output-requires : tie.Need-output-requires
 output-requires c κs =
-    let k = c .before .before .before .before .before .before in
+    let k = c .before .before .before .before .before .before .before in
     let s = k .before .before .before .before in
     let t = passed s in (
       t .banked,
@@ -46,15 +46,15 @@ output-requires c κs =
 
 after-requires : tie.Need-after-requires
 after-requires c κs =
-    room (passed (c .before .before .before .before .before .before .before .before .before .before .before))
+    room (passed (c .before .before .before .before .before .before .before .before .before .before .before .before))
 
 returns : tie.Need-returns
 returns c =
     let o = c .before .before in
-    let t = o .before .before .before in
+    let t = o .before .before .before .before in
     let k = t .before .before .before .before in
     let a = k .before .before .before .before .args in
-    let turned = t .step .ensures ∙ ap (λ (f : Fade). stepOf f (a .quality)) (t .before .fading .ensures) in (
+    let turned = t .step .ensures ∙ ap (λ (f : RuledFade). stepOf f (a .quality)) (t .before .fading .ensures) in (
       taken-call (bankAt (now (a .sets)) (a .max-rate) (a .playback-rate)) (a .state) (now (a .ring)) (a .input)
           (a .delay) (a .quality) (c .before .after .ensures) (c .answered-f32 .ensures) (o .output .ensures) turned
           (k .store .ensures .1) (k .store .ensures .0),

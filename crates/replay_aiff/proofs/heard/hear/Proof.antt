@@ -1,4 +1,5 @@
--- `replay_aiff::heard::hear` keeps within its arrays: the line's rest is no longer than the text. Assumes nothing.
+-- `replay_aiff::heard::hear` stays within its arrays: the rest of the line is not longer than the text. Assumes
+-- nothing.
 use borrow.Author.Needs.{needs}
 use mathlib.Core.Path.{sym}
 use lib.Seq.{length-take-le}

@@ -1,4 +1,5 @@
--- `replay_aiff::heard::put_bytes` keeps within the slice, and ends: the places that are left fall. Assumes nothing.
+-- `replay_aiff::heard::put_bytes` stays within the slice, and ends: the number of places that are left falls. Assumes
+-- nothing.
 use borrow.Author.Needs.{needs}
 use Prim.Native.Nat.{_≤_, _-_}
 use mathlib.Core.Path.{_≡_}

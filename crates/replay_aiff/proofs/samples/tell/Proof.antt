@@ -1,4 +1,5 @@
--- `replay_aiff::samples::tell` keeps within the arrays, and ends: the places that are left fall. Assumes nothing.
+-- `replay_aiff::samples::tell` stays within the arrays, and ends: the number of places that are left falls. Assumes
+-- nothing.
 use borrow.Author.Needs.{needs}
 use Prim.Native.Nat.{_≤_, _-_}
 use Rattle.replay_aiff.proofs.samples.tell.Statement.{statement}

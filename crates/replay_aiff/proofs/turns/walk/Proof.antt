@@ -1,4 +1,4 @@
--- `replay_aiff::turns::walk` ends: the turns that are left fall. Assumes nothing.
+-- `replay_aiff::turns::walk` ends: the number of turns that are left falls at each one. Assumes nothing.
 use borrow.Author.Needs.{needs}
 use Prim.Native.Nat.{_≤_, _-_}
 use Rattle.replay_aiff.proofs.turns.walk.Statement.{statement}

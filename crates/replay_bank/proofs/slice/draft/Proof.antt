@@ -1,5 +1,5 @@
--- `replay_bank::slice::draft` keeps within the slice: the part that is read is no longer than the slice is.
--- Assumes nothing.
+-- `replay_bank::slice::draft` stays within the slice: the part that is read is not longer than the slice. Assumes
+-- nothing.
 use borrow.Author.Needs.{needs}
 use mathlib.Core.Path.{sym}
 use lib.Seq.{length-take-le}

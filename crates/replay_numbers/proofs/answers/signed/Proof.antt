@@ -1,5 +1,5 @@
--- `replay_numbers::answers::signed` is safe: -1 - n is a number of as many digits as n, and not negative where n is.
--- Assumes nothing.
+-- `replay_numbers::answers::signed` is safe: -1 - n has as many digits as n, and is not negative if n is. Assumes
+-- nothing.
 use borrow.Author.Needs.{needs}
 use borrow.Author.Tests.{ltb-true, le-ltb}
 use mathlib.Core.Path.{_≡_, ap}
@@ -15,7 +15,7 @@ use mir.ValLaws.{toZ-ofZ}
 use Rattle.replay_numbers.proofs.answers.signed.Statement.{statement}
 use Rattle.replay_numbers.proofs.answers.signed.Tie as tie
 
--- -1 - n, of n below zero, is not negative and fits; read back from its bits it is the same
+-- For an n below zero -1 - n is not negative and fits; read back from its bits it is the same.
 below : (z : ℤ) → SFits w64 z → ltZ (toZ w64 (ofZ w64 z)) (pos 0) ≡ true
     → (k : ℕ) × ((negsuc 0 -ℤ toZ w64 (ofZ w64 z) ≡ pos k) × (k < 2 ^ 63))
 below (pos n) f h = absurd (omega (arith, ltb-true n 0 (rw (toZ-ofZ w64 (pos n) f) at h)))

@@ -1,4 +1,4 @@
--- `replay_wander::calls::steps` ends: the steps that are left fall. Assumes nothing.
+-- `replay_wander::calls::steps` ends: the number of steps that are left falls at each one. Assumes nothing.
 use borrow.Author.Needs.{needs}
 use mathlib.Core.Path.{_≡_}
 use Rattle.replay_wander.proofs.calls.steps.Statement.{statement}

@@ -1,4 +1,5 @@
--- `report_lines::files::put_kind` meets its contract: the variant that an arm is told gives the text. Assumes nothing.
+-- `report_lines::files::put_kind` meets its contract: each arm of the match gives the text of its variant. Assumes
+-- nothing.
 use borrow.Author.Needs.{needs}
 use mathlib.Core.Path.{_∙_, ap, sym}
 use Rattle.text.specs.Text.{ascii, putAt, placeAfter}

@@ -1,4 +1,4 @@
--- `report_lines::files::put_plural` meets its contract: by whether there is one. Assumes nothing.
+-- `report_lines::files::put_plural` meets its contract, by whether there is one. Assumes nothing.
 use borrow.Author.Needs.{needs}
 use borrow.Author.Tests.{eq-eqb, ne-eqb}
 use Rattle.text.specs.Text.{ascii}

@@ -1,4 +1,4 @@
--- `report_lines::lines::put_figures` meets its contract: by whether something was compared. Assumes nothing.
+-- `report_lines::lines::put_figures` meets its contract, by whether something was compared. Assumes nothing.
 use borrow.Author.Needs.{needs}
 use mathlib.Core.List.{_++_}
 use borrow.Author.Tests.{eq-eqb, ne-eqb}

@@ -1,4 +1,4 @@
--- `report_lines::looked::put_time` meets its contract: by whether there is a rate. Assumes nothing.
+-- `report_lines::looked::put_time` meets its contract, by whether there is a rate. Assumes nothing.
 use borrow.Author.Needs.{needs}
 use borrow.Author.Tests.{eq-eqb, ne-eqb}
 use denote.Ref.{now}

@@ -1,4 +1,4 @@
--- `report_lines::looked::put_wrapped` meets its contract: by whether it is wrapped. Assumes nothing.
+-- `report_lines::looked::put_wrapped` meets its contract, by whether it is wrapped. Assumes nothing.
 use borrow.Author.Needs.{needs}
 use Rattle.text.specs.Text.{ascii}
 use Rattle.report_lines.specs.Looked.{wrappedText}

@@ -1,4 +1,5 @@
--- `report_lines::times::put_length` meets its contract: by whether there is a rate, above the rest. Assumes nothing.
+-- `report_lines::times::put_length` meets its contract, by whether the rate is 0; the remainder is below the rate.
+-- Assumes nothing.
 use borrow.Author.Needs.{needs}
 use native.Mathlib.Nat.{mod-lt, pos-of-ne-zero}
 use native.Mathlib.Omega.{arith}

@@ -1,4 +1,4 @@
--- `report_lines::times::put_three` meets its contract: by whether there are fewer than three digits. Assumes nothing.
+-- `report_lines::times::put_three` meets its contract, by whether there are fewer than three digits. Assumes nothing.
 use borrow.Author.Needs.{needs}
 use borrow.Author.Tests.{lt-ltb, le-ltb}
 use denote.Ref.{now}

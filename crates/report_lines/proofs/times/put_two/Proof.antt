@@ -1,4 +1,4 @@
--- `report_lines::times::put_two` meets its contract: by whether there is one digit. Assumes nothing.
+-- `report_lines::times::put_two` meets its contract, by whether there is one digit. Assumes nothing.
 use borrow.Author.Needs.{needs}
 use borrow.Author.Tests.{lt-ltb, le-ltb}
 use denote.Ref.{now}

@@ -1,4 +1,4 @@
--- `residual::checks::due` meets its contract: what each test ensures, in the order of 01. Assumes nothing.
+-- `residual::checks::due` meets its contract, by the contracts of the tests, in the order of 01. Assumes nothing.
 use mathlib.Core.Path.{_∙_}
 use Rattle.residual.specs.Refusals.{verdict}
 use Rattle.residual.proofs.checks.due.Statement.{statement}

@@ -1,4 +1,4 @@
--- `residual::checks::place_ok` meets its contract: by the place's cases. Assumes nothing.
+-- `residual::checks::place_ok` meets its contract, by the cases of the place. Assumes nothing.
 use borrow.Author.Needs.{needs}
 use Rattle.residual.proofs.checks.place_ok.Statement.{statement}
 use Rattle.residual.proofs.checks.place_ok.Tie as tie

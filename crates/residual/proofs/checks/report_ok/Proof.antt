@@ -1,4 +1,4 @@
--- `residual::checks::report_ok` meets its contract: what the two tests ensure. Assumes nothing.
+-- `residual::checks::report_ok` meets its contract, by those of its two tests. Assumes nothing.
 use mathlib.Core.Path.{_∙_}
 use Rattle.residual.specs.Refusals.{reportOk}
 use Rattle.residual.proofs.checks.report_ok.Statement.{statement}

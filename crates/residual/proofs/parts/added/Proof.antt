@@ -1,4 +1,4 @@
--- `residual::parts::added` meets its contract: the sum by halves. Assumes nothing.
+-- `residual::parts::added` meets its contract, by the sum in two halves. Assumes nothing.
 use borrow.Author.Needs.{needs}
 use Prim.Native.Nat.{_≤_, _<_, _^_}
 use native.Mathlib.Omega.{arith}

@@ -1,4 +1,4 @@
--- `residual::parts::squared` meets its contract: before each turn the differences passed are counted. Assumes nothing.
+-- `residual::parts::squared` meets its contract: before each turn the differences so far are counted. Assumes nothing.
 use borrow.Author.Needs.{needs}
 use Prim.Native.Nat.{_≤_, _-_}
 use mathlib.Core.Path.{_≡_, refl, sym, subst}

@@ -1,4 +1,4 @@
--- `residual::steps::block` meets its contract: added at once, or counted one by one. Assumes nothing.
+-- `residual::steps::block` meets its contract: the block is added at once, or counted one by one. Assumes nothing.
 use borrow.Author.Needs.{needs}
 use mathlib.Core.Path.{_∙_}
 use denote.Ref.{now}

@@ -1,4 +1,4 @@
--- `residual::steps::carry` meets its contract: by the test. Assumes nothing.
+-- `residual::steps::carry` meets its contract, by the test. Assumes nothing.
 use borrow.Author.Tests.{lt-ltb, le-ltb}
 use Rattle.residual.proofs.steps.carry.Statement.{statement}
 use Rattle.residual.proofs.steps.carry.Tie as tie

@@ -1,5 +1,5 @@
 -- `residual::steps::counted` meets its contract: an accepted call has room, and counting on numbers agrees with
--- carrying the report on. Assumes nothing.
+-- extending the report. Assumes nothing.
 use mathlib.Core.Path.{sym, ap, _∙_, subst}
 use mathlib.Core.List.{foldl}
 use Prim.Native.Nat.{_<_, _^_}

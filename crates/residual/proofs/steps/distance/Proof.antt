@@ -1,5 +1,5 @@
--- `residual::steps::distance` meets its contract: the words are read back, and a negative difference is turned round.
--- Assumes nothing.
+-- `residual::steps::distance` meets its contract: the words are read back, and the sign of a negative difference is
+-- changed. Assumes nothing.
 use mathlib.Core.Path.{_≡_, sym, ap, _∙_, subst}
 use Prim.Native.Nat.{ℕ, _<_, _^_}
 use lib.IntN.{ℤ, pos, natAbs, _-ℤ_}
@@ -12,7 +12,7 @@ use Rattle.residual.proofs.Signs.{below-24, small-fits, turned, castabl
 use Rattle.residual.proofs.steps.distance.Statement.{statement}
 use Rattle.residual.proofs.steps.distance.Tie as tie
 
--- the difference as the code works it out, and as it holds it
+-- The difference as the code computes it, and as it holds it.
 abbrev worked : tie.Start → ℤ
 worked c = toZ w32 (ofZ w32 (c .args .x)) -ℤ toZ w32 (ofZ w32 (c .args .y))
 
@@ -31,7 +31,7 @@ sub-d c = small-fits _ (small c (right c))
 whole : (c : tie.Start) → kept c ≡ c .args .x -ℤ c .args .y
 whole c = toZ-ofZ w32 (worked c) (sub-d c) ∙ right c
 
--- turned round, below zero
+-- The difference with its sign changed, if it is below zero.
 round-small : (c : tie.Start) → ltZ (kept c) (pos 0) ≡ true → natAbs (pos 0 -ℤ kept c) < 2 ^ 24
 round-small c h =
     subst (λ (n : ℕ). n < 2 ^ 24) (sym (turned (kept c) (whole c) h .size-of ∙ ap natAbs (sym (whole c))))

@@ -1,4 +1,4 @@
--- `residual::steps::step` meets its contract: the sum by halves, the rest field by field. Assumes nothing.
+-- `residual::steps::step` meets its contract: the sum in two halves, the other fields one by one. Assumes nothing.
 use borrow.Author.Needs.{needs}
 use Prim.Native.Nat.{_*_, _≤_}
 use native.Mathlib.Omega.{arith}

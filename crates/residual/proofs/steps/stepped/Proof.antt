@@ -1,4 +1,4 @@
--- `residual::steps::stepped` meets its contract: before each turn the differences passed are counted. Assumes nothing.
+-- `residual::steps::stepped` meets its contract: before each turn the differences so far are counted. Assumes nothing.
 use borrow.Author.Needs.{needs}
 use Prim.Native.Nat.{_≤_, _-_}
 use mathlib.Core.Path.{_≡_, refl}

@@ -1,5 +1,5 @@
--- `residual::steps::stretched` meets its contract: before each block the differences passed are counted.
--- Assumes nothing.
+-- `residual::steps::stretched` meets its contract: before each block the differences so far are counted. Assumes
+-- nothing.
 use borrow.Author.Needs.{needs}
 use Prim.Native.Nat.{_+_, _-_, _≤_}
 use mathlib.Core.Path.{_≡_, refl}

@@ -1,4 +1,4 @@
--- `residual::tally::taken` meets its contract: field by field. Assumes nothing.
+-- `residual::tally::taken` meets its contract, field by field. Assumes nothing.
 use Rattle.residual.specs.Tallies.{tallyOf}
 use Rattle.residual.proofs.tally.taken.Statement.{statement}
 use Rattle.residual.proofs.tally.taken.Tie as tie

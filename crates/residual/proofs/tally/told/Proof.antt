@@ -1,4 +1,4 @@
--- `residual::tally::told` meets its contract: by the test of the number. Assumes nothing.
+-- `residual::tally::told` meets its contract, by the test of the number. Assumes nothing.
 use borrow.Author.Tests.{eq-eqb, ne-eqb}
 use Rattle.residual.specs.Tallies.{toldOf}
 use Rattle.residual.proofs.tally.told.Statement.{statement}

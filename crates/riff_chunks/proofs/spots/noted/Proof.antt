@@ -1,4 +1,4 @@
--- `riff_chunks::spots::noted` meets its contract: what the calls ensure, put together. Assumes nothing.
+-- `riff_chunks::spots::noted` meets its contract, by the contracts of the functions that it calls. Assumes nothing.
 use borrow.Author.Needs.{needs}
 use Rattle.riff_chunks.proofs.spots.noted.Statement.{statement}
 use Rattle.riff_chunks.proofs.spots.noted.Tie as tie

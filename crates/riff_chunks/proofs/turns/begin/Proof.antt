@@ -1,4 +1,4 @@
--- `riff_chunks::turns::begin` meets its contract: what the calls ensure, put together. Assumes nothing.
+-- `riff_chunks::turns::begin` meets its contract, by the contracts of the functions that it calls. Assumes nothing.
 use borrow.Author.Needs.{needs}
 use Rattle.riff_chunks.proofs.turns.begin.Statement.{statement}
 use Rattle.riff_chunks.proofs.turns.begin.Tie as tie

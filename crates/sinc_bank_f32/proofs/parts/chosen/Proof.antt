@@ -1,4 +1,4 @@
--- `sinc_bank_f32::parts::chosen` meets its contract: the part of the one set or of the other. Assumes nothing.
+-- `sinc_bank_f32::parts::chosen` meets its contract: it is the part of one set or of the other. Assumes nothing.
 use borrow.Author.Needs.{needs}
 use Rattle.sinc_bank_f32.proofs.parts.chosen.Statement.{statement}
 use Rattle.sinc_bank_f32.proofs.parts.chosen.Tie as tie

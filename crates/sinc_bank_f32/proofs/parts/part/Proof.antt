@@ -1,4 +1,4 @@
--- `sinc_bank_f32::parts::part` meets its contract: a quality's part lies within a set, and is the definition's.
+-- `sinc_bank_f32::parts::part` meets its contract: the part of a quality lies within a set, and is the definition's.
 -- Assumes nothing.
 use borrow.Author.Needs.{needs}
 use borrow.Author.Tests.{eq-eqb, ne-eqb}
@@ -28,7 +28,7 @@ part-is Normal xs = refl
 part-is Hq xs = refl
 part-is Ultra xs = refl
 
--- the ends that the code holds
+-- The ends that the code holds.
 record Ends (q : QualityMode) (a e : ℕ) : Type 0 where
   start-is : a ≡ startOf q
   end-is : e ≡ endOf q

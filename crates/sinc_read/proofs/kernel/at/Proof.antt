@@ -1,4 +1,4 @@
--- `sinc_read::kernel::at` meets its contract: each way is the definition's, by `BothWays`. Assumes nothing.
+-- `sinc_read::kernel::at` meets its contract: each way gives the definition's value, by `BothWays`. Assumes nothing.
 use borrow.Author.Needs.{needs}
 use mathlib.Core.Path.{_≡_, sym, _∙_, subst}
 use Prim.Native.Nat.{_^_, _≤_}
@@ -16,14 +16,14 @@ use Rattle.sinc_read.proofs.BothWays as ways
 use Rattle.sinc_read.proofs.kernel.at.Statement.{statement}
 use Rattle.sinc_read.proofs.kernel.at.Tie as tie
 
--- nothing is refused
+-- Nothing is refused.
 ok : (c : tie.After-run-start) → let a = c .before .before .before .before .before .args in
     Readable (a .taps) (a .phases) (length (now (a .table))) (a .position)
 ok c =
     let s = c .before .before .before .before .before in
     readable (s .args .taps) (s .args .phases) (length (now (s .args .table))) (s .args .position) (s .pre)
 
--- the first tap, as the code holds it
+-- The first tap, as the code holds it.
 first : (c : tie.After-run-start) → let a = c .before .before .before .before .before .args in
     toZ w64 (ofZ w64 (c .before .first-tap .result)) ≡ firstTap (a .position) (a .taps)
 first c =

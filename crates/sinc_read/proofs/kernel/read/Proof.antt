@@ -1,4 +1,4 @@
--- `sinc_read::kernel::read` meets its contract, by the refusal that is due. Assumes nothing.
+-- `sinc_read::kernel::read` meets its contract, by the cases of the refusal. Assumes nothing.
 use borrow.Author.Needs.{needs}
 use mathlib.Core.Path.{sym, _∙_}
 use lib.ListN.{length}

@@ -1,4 +1,4 @@
--- `sinc_read::kernel::sample` meets its contract: the refusal that is due, and what `read` gives. Assumes nothing.
+-- `sinc_read::kernel::sample` meets its contract, by the refusal and by what `read` gives. Assumes nothing.
 use borrow.Author.Needs.{needs}
 use Rattle.sinc_read.proofs.kernel.sample.Statement.{statement}
 use Rattle.sinc_read.proofs.kernel.sample.Tie as tie

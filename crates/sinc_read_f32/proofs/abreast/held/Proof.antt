@@ -13,10 +13,10 @@ returns c =
     let s = c .before .before .before .before .before .before in
     let a = s .args in (
       c .over .ensures .0
-          ∙ one-run (now (a .source)) (now (a .one)) (a .blend) (a .taps) (a .phase) (a .place) (s .pre .2) (s .pre .3)
+          ∙ one-run (now (a .source)) (now (a .one)) (a .blend) (a .taps) (a .phase) (a .place) (a .taps) (s .pre .2) (s .pre .3)
           (omega arith),
       c .over .ensures .1
-          ∙ one-run (now (a .source)) (now (a .two)) (a .blend) (a .taps) (a .phase) (a .place) (s .pre .2) (s .pre .3)
+          ∙ one-run (now (a .source)) (now (a .two)) (a .blend) (a .taps) (a .phase) (a .place) (a .taps) (s .pre .2) (s .pre .3)
           (omega arith),
     )
 
@@ -28,17 +28,17 @@ returns-2 c =
     let r = o .over2 in
     let one =
     r .ensures .0
-    ∙ first-run (now (a .source)) (now (a .one)) (a .blend) (a .taps) (a .phase) (a .place) (s .pre .2)
+    ∙ first-run (now (a .source)) (now (a .one)) (a .blend) (a .taps) (a .phase) (a .place) (a .taps) (s .pre .2)
     (s .pre .3) in
     let two =
     r .ensures .1
-    ∙ first-run (now (a .source)) (now (a .two)) (a .blend) (a .taps) (a .phase) (a .place) (s .pre .2)
+    ∙ first-run (now (a .source)) (now (a .two)) (a .blend) (a .taps) (a .phase) (a .place) (a .taps) (s .pre .2)
     (s .pre .3) in (
       c .over3 .ensures .0
-          ∙ second-run (now (a .source)) (now (a .one)) (a .blend) (a .taps) (a .phase) (a .place) (s .pre .2)
+          ∙ second-run (now (a .source)) (now (a .one)) (a .blend) (a .taps) (a .phase) (a .place) (a .taps) (s .pre .2)
           (s .pre .3) (r .result .a) (omega arith) one,
       c .over3 .ensures .1
-          ∙ second-run (now (a .source)) (now (a .two)) (a .blend) (a .taps) (a .phase) (a .place) (s .pre .2)
+          ∙ second-run (now (a .source)) (now (a .two)) (a .blend) (a .taps) (a .phase) (a .place) (a .taps) (s .pre .2)
           (s .pre .3) (r .result .b) (omega arith) two,
     )
 

@@ -2,6 +2,7 @@
 use borrow.Author.Needs.{needs}
 use mathlib.Core.Path.{_≡_, sym, _∙_, subst}
 use Prim.Native.Nat.{_^_, _≤_}
+use native.Mathlib.Nat.{le-refl}
 use lib.IntN.{ℤ}
 use lib.ListN.{length}
 use lib.Signed.{mag}
@@ -40,6 +41,7 @@ held-requires c κs =
     let a = begun r .args in
     let Z = toZ w64 (ofZ w64 (r .before .first-tap .result)) in (
       found.rows-fit (ok r) (r .before .before .before .phase-at .ensures),
+      le-refl (a .taps),
       run.fits (now (a .source)) (a .count) (a .taps) Z (r .run-start .result) (r .run-start .ensures) (c .if1 .taken),
       run.inside (now (a .source)) (a .count) (a .taps) Z (r .run-start .result) (r .run-start .ensures) (c .if1 .taken)
           (found.some (ok r)),

@@ -13,8 +13,8 @@ returns c =
     let s = c .before .before .before .before .before in
     let a = s .args in
     c .over .ensures
-    ∙ one-run (now (a .source)) (now (a .table)) (a .blend) (a .taps) (a .phase) (a .place) (s .pre .1) (s .pre .2)
-    (omega arith)
+    ∙ one-run (now (a .source)) (now (a .table)) (a .blend) (a .taps) (a .phase) (a .place) (a .n) (s .pre .2)
+    (s .pre .3) (omega arith)
 
 returns-2 : tie.Need-returns-2
 returns-2 c =
@@ -23,11 +23,11 @@ returns-2 c =
     let a = s .args in
     let first =
     o .over2 .ensures
-    ∙ first-run (now (a .source)) (now (a .table)) (a .blend) (a .taps) (a .phase) (a .place) (s .pre .1)
-    (s .pre .2) in
+    ∙ first-run (now (a .source)) (now (a .table)) (a .blend) (a .taps) (a .phase) (a .place) (a .n) (s .pre .2)
+    (s .pre .3) in
     c .over3 .ensures
-    ∙ second-run (now (a .source)) (now (a .table)) (a .blend) (a .taps) (a .phase) (a .place) (s .pre .1)
-    (s .pre .2) (o .over2 .result) (omega arith) first
+    ∙ second-run (now (a .source)) (now (a .table)) (a .blend) (a .taps) (a .phase) (a .place) (a .n) (s .pre .2)
+    (s .pre .3) (o .over2 .result) (omega arith) first
 
 pub held-spec : {M : Type 1} → statement M
 held-spec =

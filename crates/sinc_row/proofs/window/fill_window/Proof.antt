@@ -1,4 +1,4 @@
--- `sinc_row::window::fill_window` meets its contract: the window is written up to tap k. Assumes nothing.
+-- `sinc_row::window::fill_window` meets its contract: after k turns the window is written up to tap k. Assumes nothing.
 use borrow.Author.Needs.{needs, scaled-fits}
 use mathlib.Core.Path.{_≡_, ap, _∙_}
 use Prim.Native.Nat.{_-_}

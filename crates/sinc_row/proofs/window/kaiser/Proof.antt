@@ -1,4 +1,4 @@
--- `sinc_row::window::kaiser` meets its contract: the counts are floats exactly, and each step's answer is the
+-- `sinc_row::window::kaiser` meets its contract: the counts are exact as floats, and the result of each step is the
 -- definition's. Assumes nothing.
 use borrow.Author.Needs.{needs}
 use Prim.Native.Nat.{_-_}

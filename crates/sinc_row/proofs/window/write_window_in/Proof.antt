@@ -13,7 +13,6 @@ use Rattle.sinc_row.proofs.window.write_window_in.Tie as tie
 returns : tie.Need-returns
 returns c = rw (← c .before .window-ready .ensures, not-true (c .before .window-ready .result) (c .if1 .taken))
 
--- what the test says
 passed : (c : tie.Else1) → let a = c .before .before .before .args in
     windowReady (a .settings) (length (now (a .window))) ≡ true
 passed c = sym (c .before .window-ready .ensures) ∙ not-false _ (c .if1 .left)

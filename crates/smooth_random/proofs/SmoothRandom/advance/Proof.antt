@@ -1,4 +1,4 @@
--- `smooth_random::SmoothRandom::advance` meets its contract: it is the definition. Assumes nothing.
+-- `smooth_random::SmoothRandom::advance` meets its contract: its body is the definition, step by step. Assumes nothing.
 use mathlib.Core.Path.{refl}
 use Rattle.smooth_random.specs.Drift.{advanced}
 use Rattle.smooth_random.proofs.SmoothRandom.advance.Statement.{statement}

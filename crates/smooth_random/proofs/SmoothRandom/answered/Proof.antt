@@ -1,4 +1,5 @@
--- `smooth_random::SmoothRandom::answered` meets its contract: the definition at what the test found. Assumes nothing.
+-- `smooth_random::SmoothRandom::answered` meets its contract: each branch returns what the definition gives there.
+-- Assumes nothing.
 use borrow.Author.Needs.{needs}
 use Rattle.smooth_random.proofs.SmoothRandom.answered.Statement.{statement}
 use Rattle.smooth_random.proofs.SmoothRandom.answered.Tie as tie

@@ -1,4 +1,4 @@
--- `smooth_random::SmoothRandom::handed_back` meets its contract: the definition at what the test found.
+-- `smooth_random::SmoothRandom::handed_back` meets its contract: each branch returns what the definition gives there.
 -- Assumes nothing.
 use borrow.Author.Needs.{needs}
 use Rattle.smooth_random.proofs.SmoothRandom.handed_back.Statement.{statement}

@@ -1,5 +1,5 @@
--- `smooth_random::SmoothRandom::new` meets its contract: of a state `restarted` keeps the initial seed alone.
--- Assumes nothing.
+-- `smooth_random::SmoothRandom::new` meets its contract: `restarted` keeps only the initial seed of a state. Assumes
+-- nothing.
 use borrow.Author.Needs.{needs}
 use Rattle.smooth_random.proofs.SmoothRandom.new.Statement.{statement}
 use Rattle.smooth_random.proofs.SmoothRandom.new.Tie as tie

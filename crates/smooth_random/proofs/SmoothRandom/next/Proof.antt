@@ -1,5 +1,5 @@
--- `smooth_random::SmoothRandom::next` meets its contract: the definition at the verdict, and of the loop at what its
--- test found. Assumes nothing.
+-- `smooth_random::SmoothRandom::next` meets its contract: each branch returns what the definition gives for that
+-- refusal and that test of the loop. Assumes nothing.
 use mathlib.Core.Path.{_≡_, refl}
 use Prim.Native.Nat.{ℕ, zero, suc}
 use lib.Ieee.{Float}

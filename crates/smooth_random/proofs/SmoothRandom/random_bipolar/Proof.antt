@@ -1,4 +1,5 @@
--- `smooth_random::SmoothRandom::random_bipolar` meets its contract: the draw, as it is answered. Assumes nothing.
+-- `smooth_random::SmoothRandom::random_bipolar` meets its contract: `answered` hands the draw on or refuses. Assumes
+-- nothing.
 use borrow.Author.Needs.{needs}
 use Rattle.smooth_random.proofs.SmoothRandom.random_bipolar.Statement.{statement}
 use Rattle.smooth_random.proofs.SmoothRandom.random_bipolar.Tie as tie

@@ -1,4 +1,4 @@
--- `smooth_random::SmoothRandom::random_segment_rate_scale` meets its contract: the draw, as it is answered.
+-- `smooth_random::SmoothRandom::random_segment_rate_scale` meets its contract: `answered` hands the draw on or refuses.
 -- Assumes nothing.
 use borrow.Author.Needs.{needs}
 use Rattle.smooth_random.proofs.SmoothRandom.random_segment_rate_scale.Statement.{

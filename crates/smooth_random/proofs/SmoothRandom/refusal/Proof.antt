@@ -1,4 +1,5 @@
--- `smooth_random::SmoothRandom::refusal` meets its contract: the definition at what each test found. Assumes nothing.
+-- `smooth_random::SmoothRandom::refusal` meets its contract: each branch returns what the definition gives there.
+-- Assumes nothing.
 use Rattle.smooth_random.specs.Ranges.{verdict}
 use borrow.Author.Needs.{needs}
 use Rattle.smooth_random.proofs.SmoothRandom.refusal.Statement.{statement}

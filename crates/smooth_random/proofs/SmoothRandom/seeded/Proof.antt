@@ -1,4 +1,4 @@
--- `smooth_random::SmoothRandom::seeded` meets its contract: the definition at what the comparison found.
+-- `smooth_random::SmoothRandom::seeded` meets its contract: each branch returns what the definition gives there.
 -- Assumes nothing.
 use borrow.Author.Tests.{eq-eqb, ne-eqb}
 use borrow.Author.Needs.{needs}

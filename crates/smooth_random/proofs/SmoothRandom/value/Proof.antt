@@ -1,4 +1,4 @@
--- `smooth_random::SmoothRandom::value` meets its contract: the definition's operations in the definition's order.
+-- `smooth_random::SmoothRandom::value` meets its contract: its operations are the definition's, in the same order.
 -- Assumes nothing.
 use borrow.Author.Needs.{needs}
 use Rattle.smooth_random.specs.Drift.{quinticOf, valueAt}

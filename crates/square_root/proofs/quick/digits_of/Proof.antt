@@ -1,5 +1,5 @@
--- `square_root::quick::digits_of` meets its contract: what it takes out of the pattern is `evened`,
--- and the patterns it makes are no NaN's. Assumes nothing.
+-- `square_root::quick::digits_of` meets its contract: what it takes out of the pattern is `evened`, and the patterns
+-- that it makes are not a NaN's. Assumes nothing.
 use borrow.Author.Needs.{needs}
 use native.Mathlib.Omega.{arith}
 use mathlib.Core.Path.{_≡_}

@@ -1,5 +1,5 @@
--- `square_root::quick::nearest` meets its contract: a guess below 2 is no NaN, its digits fit,
--- and what the check leaves says which is nearest. Assumes nothing.
+-- `square_root::quick::nearest` meets its contract: a guess below 2 is not a NaN, its digits fit, and what the check
+-- leaves shows which number is nearest. Assumes nothing.
 use borrow.Author.Needs.{needs}
 use native.Mathlib.Omega.{arith}
 use mathlib.Core.Path.{_≡_}

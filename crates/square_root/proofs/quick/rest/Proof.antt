@@ -1,4 +1,4 @@
--- `square_root::quick::rest` meets its contract: products of halves fit, and a difference in reach is exact.
+-- `square_root::quick::rest` meets its contract: the products of halves fit, and a difference that fits is exact.
 -- Assumes nothing.
 use borrow.Author.Needs.{needs}
 use native.Mathlib.Omega.{arith}

@@ -1,4 +1,4 @@
--- `stored_samples::narrow_samples::fits24_f32` meets its contract: no f32 lies between the f64's end and its own.
+-- `stored_samples::narrow_samples::fits24_f32` meets its contract: no f32 lies between the end for an f64 and its own.
 -- Assumes nothing.
 use borrow.Author.Needs.{needs}
 use mathlib.Core.Path.{_∙_}

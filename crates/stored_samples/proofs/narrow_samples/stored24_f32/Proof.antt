@@ -1,5 +1,5 @@
--- `stored_samples::narrow_samples::stored24_f32` meets its contract, by the law over the format and the width: an f32
--- that fits is a number, and an f64 too. Assumes nothing.
+-- `stored_samples::narrow_samples::stored24_f32` meets its contract, by the law for any format and width: an f32 that
+-- fits is a number, and also an f64. Assumes nothing.
 use borrow.Author.Needs.{needs}
 use mathlib.Core.Path.{_≡_}
 use mathlib.Core.Bool.{not}

@@ -1,5 +1,5 @@
--- `variable_delay::reset` meets its contract: by its refusal, or by the ring that `clear` leaves, as in every width.
--- Assumes nothing.
+-- `variable_delay::reset` meets its contract: it is refused, or `clear` leaves the ring, as in either width. Assumes
+-- nothing.
 use borrow.Author.Needs.{needs}
 use denote.Ref.{now}
 use Rattle.variable_delay.proofs.Resets.{not-reset, anew}

@@ -1,4 +1,4 @@
--- `variable_delay::refusal` meets its contract, by the law of `Settings` over the length that the settings need.
+-- `variable_delay::refusal` meets its contract, by the law of `Settings` about the length that the settings need.
 -- Assumes nothing.
 use borrow.Author.Needs.{needs}
 use mathlib.Core.Path.{_∙_}

@@ -1,4 +1,4 @@
--- `variable_delay_f32::served::served` meets its contract: the tests that it makes leave no refusal, by `CommonCall`.
+-- `variable_delay_f32::served::served` meets its contract: if its tests pass nothing is refused, by `CommonCall`.
 -- Assumes nothing.
 use borrow.Author.Needs.{needs}
 use mathlib.Core.Path.{sym, _∙_}

@@ -1,5 +1,5 @@
--- `wav::finding::finish` meets its contract: what the calls ensure, and where no refusal is due the channels are one or
--- two, so they fit a byte. Assumes nothing.
+-- `wav::finding::finish` meets its contract, by the contracts of the functions that it calls; if nothing is refused the
+-- channels are one or two, so they fit a byte. Assumes nothing.
 use borrow.Author.Needs.{needs}
 use mathlib.Core.Path.{_≡_, sym, ap, _∙_}
 use Prim.Native.Nat.{ℕ}

@@ -1,4 +1,4 @@
--- `wav::first_tests::is_wave` meets its contract: what the calls ensure, put together. Assumes nothing.
+-- `wav::first_tests::is_wave` meets its contract, by the contracts of the functions that it calls. Assumes nothing.
 use borrow.Author.Needs.{needs}
 use Rattle.wav.specs.Wave.{isWave}
 use Rattle.wav.proofs.first_tests.is_wave.Statement.{statement}

@@ -1,4 +1,4 @@
--- `wav::first_tests::within` meets its contract: what the calls ensure, put together. Assumes nothing.
+-- `wav::first_tests::within` meets its contract, by the contracts of the functions that it calls. Assumes nothing.
 use borrow.Author.Needs.{needs}
 use Rattle.wav.proofs.first_tests.within.Statement.{statement}
 use Rattle.wav.proofs.first_tests.within.Tie as tie

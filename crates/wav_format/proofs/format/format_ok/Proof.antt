@@ -1,5 +1,5 @@
--- `wav_format::format::format_ok` meets its contract: what the calls ensure, put together; the product of two small
--- numbers fits. Assumes nothing.
+-- `wav_format::format::format_ok` meets its contract, by the contracts of the functions that it calls; the product of
+-- two small numbers fits. Assumes nothing.
 use borrow.Author.Needs.{needs}
 use Prim.Native.Nat.{_/_, _≤_}
 use native.Mathlib.Nat.{mul-le-mul}

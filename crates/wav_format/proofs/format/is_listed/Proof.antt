@@ -1,4 +1,4 @@
--- `wav_format::format::is_listed` meets its contract: what the calls ensure, put together. Assumes nothing.
+-- `wav_format::format::is_listed` meets its contract, by the contracts of the functions that it calls. Assumes nothing.
 use borrow.Author.Needs.{needs}
 use Rattle.wav_format.proofs.format.is_listed.Statement.{statement}
 use Rattle.wav_format.proofs.format.is_listed.Tie as tie

@@ -1,4 +1,4 @@
--- `wav_format::format::kind_of` meets its contract: by its three cases. Assumes nothing.
+-- `wav_format::format::kind_of` meets its contract, by its three cases. Assumes nothing.
 use borrow.Author.Tests.{eq-eqb, ne-eqb}
 use Rattle.wav_format.proofs.format.kind_of.Statement.{statement}
 use Rattle.wav_format.proofs.format.kind_of.Tie as tie

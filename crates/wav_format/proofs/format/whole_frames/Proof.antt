@@ -1,4 +1,4 @@
--- `wav_format::format::whole_frames` meets its contract: by its two cases. Assumes nothing.
+-- `wav_format::format::whole_frames` meets its contract, by its two cases. Assumes nothing.
 use borrow.Author.Needs.{needs}
 use native.Mathlib.Omega.{arith}
 use borrow.Author.Tests.{lt-ltb, le-ltb}

@@ -1,4 +1,4 @@
--- `wav_format::tags::has_tail` meets its contract: what the calls ensure, put together. Assumes nothing.
+-- `wav_format::tags::has_tail` meets its contract, by the contracts of the functions that it calls. Assumes nothing.
 use borrow.Author.Needs.{needs}
 use Rattle.wav_format.proofs.tags.has_tail.Statement.{statement}
 use Rattle.wav_format.proofs.tags.has_tail.Tie as tie

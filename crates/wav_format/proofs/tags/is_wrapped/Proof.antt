@@ -1,4 +1,4 @@
--- `wav_format::tags::is_wrapped` meets its contract: what the calls ensure, put together. Assumes nothing.
+-- `wav_format::tags::is_wrapped` meets its contract, by the contracts of the functions that it calls. Assumes nothing.
 use borrow.Author.Needs.{needs}
 use Rattle.wav_format.specs.Tags.{wraps}
 use Rattle.wav_format.proofs.tags.is_wrapped.Statement.{statement}

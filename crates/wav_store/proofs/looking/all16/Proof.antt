@@ -1,5 +1,5 @@
--- `wav_store::looking::all16` meets its contract: before each turn it is known of the samples passed.
--- Assumes nothing.
+-- `wav_store::looking::all16` meets its contract: before each turn the result is right for the samples so far. Assumes
+-- nothing.
 use borrow.Author.Needs.{needs}
 use mathlib.Core.Path.{ap, _∙_}
 use mathlib.Core.Bool.{Bool, _&&_}

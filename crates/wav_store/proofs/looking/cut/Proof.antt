@@ -1,4 +1,4 @@
--- `wav_store::looking::cut` meets its contract: the laws of `Sight` on one sample. Assumes nothing.
+-- `wav_store::looking::cut` meets its contract, by the laws of `Sight` about one sample. Assumes nothing.
 use borrow.Author.Needs.{needs}
 use denote.Floats.{passes}
 use lib.Ieee.{binary64, fits}

@@ -1,4 +1,4 @@
--- `wav_store::looking::seen` meets its contract, by the three kinds. Assumes nothing.
+-- `wav_store::looking::seen` meets its contract, by the cases of the three kinds. Assumes nothing.
 use borrow.Author.Needs.{needs}
 use Rattle.wav_store.proofs.Looked.{seen-by}
 use Rattle.wav_store.proofs.looking.seen.Statement.{statement}

@@ -1,4 +1,4 @@
--- `wav_store::looking::seen_float` meets its contract: before each turn the digits tell of the samples passed.
+-- `wav_store::looking::seen_float` meets its contract: before each turn the digits are those of the samples so far.
 -- Assumes nothing.
 use borrow.Author.Needs.{needs}
 use mathlib.Core.Path.{refl}

@@ -1,4 +1,4 @@
--- `wav_store::looking_f32::all_fit_f32` meets its contract, by the three kinds. Assumes nothing.
+-- `wav_store::looking_f32::all_fit_f32` meets its contract, by the cases of the three kinds. Assumes nothing.
 use borrow.Author.Needs.{needs}
 use Rattle.wav_store.proofs.looking_f32.all_fit_f32.Statement.{statement}
 use Rattle.wav_store.proofs.looking_f32.all_fit_f32.Tie as tie

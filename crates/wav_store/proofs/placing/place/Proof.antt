@@ -1,4 +1,4 @@
--- `wav_store::placing::place` meets its contract, by the three kinds. Assumes nothing.
+-- `wav_store::placing::place` meets its contract, by the cases of the three kinds. Assumes nothing.
 use borrow.Author.Needs.{needs}
 use Rattle.wav_store.proofs.placing.place.Statement.{statement}
 use Rattle.wav_store.proofs.placing.place.Tie as tie

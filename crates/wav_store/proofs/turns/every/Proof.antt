@@ -1,5 +1,5 @@
--- `wav_store::turns::every` meets its contract: before each turn the digits tell of the samples passed.
--- Assumes nothing.
+-- `wav_store::turns::every` meets its contract: before each turn the digits are those of the samples so far. Assumes
+-- nothing.
 use borrow.Author.Needs.{needs}
 use Prim.Native.Nat.{_+_, _-_, _<_}
 use native.Mathlib.Omega.{arith}

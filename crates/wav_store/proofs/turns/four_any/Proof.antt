@@ -1,4 +1,5 @@
--- `wav_store::turns::four_any` meets its contract: four samples' bytes, one after the other. Assumes nothing.
+-- `wav_store::turns::four_any` meets its contract: it writes the bytes of four samples one after the other. Assumes
+-- nothing.
 use borrow.Author.Needs.{needs}
 use Prim.Native.Nat.{_+_}
 use native.Mathlib.Omega.{arith}

@@ -1,4 +1,5 @@
--- `wav_store::turns::four_plain` meets its contract: four samples' bytes, one after the other. Assumes nothing.
+-- `wav_store::turns::four_plain` meets its contract: it writes the bytes of four samples one after the other. Assumes
+-- nothing.
 use borrow.Author.Needs.{needs}
 use mathlib.Core.Path.{_≡_, subst}
 use Prim.Native.Nat.{ℕ, _+_, _<_}

@@ -1,4 +1,4 @@
--- `wav_store::turns::pattern` meets its contract: what fits is no NaN. Assumes nothing.
+-- `wav_store::turns::pattern` meets its contract: a sample that fits is not a NaN. Assumes nothing.
 use borrow.Author.Needs.{needs}
 use denote.Floats.{passes}
 use lib.Ieee.{binary64, fits}

@@ -1,4 +1,4 @@
--- `wav_store::turns::sixteen` meets its contract, by what the digits tell. Assumes nothing.
+-- `wav_store::turns::sixteen` meets its contract, by what the digits of the samples show. Assumes nothing.
 use borrow.Author.Needs.{needs}
 use Rattle.wav_store.proofs.turns.sixteen.Statement.{statement}
 use Rattle.wav_store.proofs.turns.sixteen.Tie as tie

@@ -1,4 +1,4 @@
--- `wav_store::turns::sixteen_any` meets its contract: four times four samples. Assumes nothing.
+-- `wav_store::turns::sixteen_any` meets its contract: it writes four samples four times. Assumes nothing.
 use borrow.Author.Needs.{needs}
 use native.Mathlib.Omega.{arith}
 use Rattle.wav_store.proofs.Placed.{moved, next-four}

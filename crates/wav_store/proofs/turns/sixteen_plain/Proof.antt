@@ -1,4 +1,4 @@
--- `wav_store::turns::sixteen_plain` meets its contract: four times four samples. Assumes nothing.
+-- `wav_store::turns::sixteen_plain` meets its contract: it writes four samples four times. Assumes nothing.
 use borrow.Author.Needs.{needs}
 use mathlib.Core.Path.{_≡_}
 use mathlib.Core.List.{List}

@@ -5,7 +5,7 @@ use mathlib.Core.List.{List}
 use Prim.Native.Nat.{ℕ}
 use native.Mathlib.Omega.{arith}
 use lib.ListN.{length}
-use Rattle.wav_header.proofs.Again.{length-planned}
+use Rattle.wav_write.proofs.Planned.{length-planned}
 use Rattle.wav_write.specs.Placing.{padded}
 use Rattle.wav_write.proofs.Laid.{length-headed}
 use Rattle.wav_write.proofs.frame.finish.Statement.{statement}
@@ -19,8 +19,8 @@ put-pad-requires c κs =
     let a = s .args in
     let l = length-planned (a .kind) (a .channels) (a .rate) (a .count) (s .pre .planned) in
     let n = ap length (h .put-head .ensures)
-    ∙ length-headed (a .kind) (a .channels) (a .rate) (a .count) (a .out .now) (s .pre) in
-    record { exact = f .file-length .ensures ∙ l; long = omega (arith, n, s .pre .holds) }
+    ∙ length-headed (a .form) (a .kind) (a .channels) (a .rate) (a .count) (a .out .now) (s .pre) in
+    record { exact = f .file-length-for .ensures ∙ l; long = omega (arith, n, s .pre .holds) }
 
 returns : tie.Need-returns
 returns c =
@@ -29,7 +29,7 @@ returns c =
     let f = h .before .before in
     let s = f .before .before in
     let a = s .args in (
-      f .file-length .ensures ∙ length-planned (a .kind) (a .channels) (a .rate) (a .count) (s .pre .planned),
+      f .file-length-for .ensures ∙ length-planned (a .kind) (a .channels) (a .rate) (a .count) (s .pre .planned),
       p .put-pad .ensures ∙ ap (padded (a .kind) (a .count)) (h .put-head .ensures),
     )
 

@@ -3,7 +3,7 @@ use borrow.Author.Needs.{needs}
 use mathlib.Core.Path.{_≡_}
 use Prim.Native.Nat.{_-_}
 use native.Mathlib.Omega.{arith}
-use Rattle.wav_header.specs.Header.{headerLength}
+use Rattle.long_header.specs.LongHeader.{headerLengthFor}
 use Rattle.wav_write.proofs.Laid.{head-is}
 use Rattle.wav_write.proofs.frame.put_head.Statement.{statement}
 use Rattle.wav_write.proofs.frame.put_head.Tie as tie
@@ -14,8 +14,10 @@ returns c =
     let h = w .before .before in
     let s = h .before .before in
     let a = s .args in
-    let e : h .header-length .result - 0 ≡ headerLength (a .kind) = omega (arith, h .header-length .ensures) in
-    head-is (a .kind) (a .channels) (a .rate) (a .count) (a .out .now) _ _ (s .pre) e (w .write-header .ensures .1)
+    let e : h .header-length-for .result - 0
+    ≡ headerLengthFor (a .kind) (a .count) = omega (arith, h .header-length-for .ensures) in
+    head-is (a .form) (a .kind) (a .channels) (a .rate) (a .count) (a .out .now) _ _ (s .pre) e
+    (w .header-of .ensures .1)
 
 pub put-head-spec : {M : Type 1} → statement M
 put-head-spec =

@@ -13,14 +13,14 @@ mul-end c = rw (c .width .ensures) (omega (arith, c .before .before .before .pre
 
 add-end : tie.Need-add-end
 add-end c =
-    rw (c .width .ensures, c .before .header-length .ensures) (omega (arith, c .before .before .before .pre .long))
+    rw (c .width .ensures, c .before .header-length-for .ensures) (omega (arith, c .before .before .before .pre .long))
 
 returns : tie.Need-returns
 returns c =
     let w = c .before in
     let s = w .before .before .before in
     pad-one (s .args .kind) (s .args .count) (s .args .out .now) _
-    (rw (w .width .ensures, w .before .header-length .ensures)) (s .pre .long)
+    (rw (w .width .ensures, w .before .header-length-for .ensures)) (s .pre .long)
     (omega (arith, s .pre .exact, c .if1 .taken))
 
 returns-2 : tie.Need-returns-2
@@ -28,8 +28,8 @@ returns-2 c =
     let w = c .before in
     let s = w .before .before .before in
     pad-none (s .args .kind) (s .args .count) (s .args .out .now)
-    (w .before .header-length .result + s .args .count * w .width .result)
-    (rw (w .width .ensures, w .before .header-length .ensures)) (s .pre .long)
+    (w .before .header-length-for .result + s .args .count * w .width .result)
+    (rw (w .width .ensures, w .before .header-length-for .ensures)) (s .pre .long)
     (omega (arith, s .pre .exact, c .if1 .left))
 
 pub put-pad-spec : {M : Type 1} → statement M

@@ -1,6 +1,5 @@
--- `word_bytes::write_bytes` meets its contract. The loop's invariant: what is written before i,
--- with the bytes that are left of v, are the bytes of n.
--- Assumes nothing.
+-- `word_bytes::write_bytes` meets its contract. The loop's invariant: the bytes written before i, followed by those
+-- that are left of v, are the bytes of n. Assumes nothing.
 use borrow.Author.Needs.{needs}
 use mathlib.Core.Path.{_≡_, sym}
 use mathlib.Core.List.{_++_, append-nil}

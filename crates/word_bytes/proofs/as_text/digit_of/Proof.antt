@@ -1,4 +1,5 @@
--- `word_bytes::digit_of` meets its contract: the code's tests are the definition's, in its order. Assumes nothing.
+-- `word_bytes::digit_of` meets its contract: the tests of the code are the definition's, in the same order. Assumes
+-- nothing.
 use borrow.Author.Needs.{needs}
 use borrow.Author.Tests.{lt-ltb, le-ltb}
 use native.Mathlib.Omega.{arith}

@@ -1,4 +1,4 @@
--- `word_bytes::glyph` meets its contract: the code's test is the definition's. Assumes nothing.
+-- `word_bytes::glyph` meets its contract: the test of the code is the definition's. Assumes nothing.
 use borrow.Author.Needs.{needs}
 use borrow.Author.Tests.{lt-ltb, le-ltb}
 use Rattle.word_bytes.proofs.as_text.glyph.Statement.{statement}

@@ -1,5 +1,5 @@
--- `word_bytes::hex16` meets its contract. The loop's invariant: the k digits that are left of v,
--- with what is written from k on, are the sixteen digits of n. Assumes nothing.
+-- `word_bytes::hex16` meets its contract. The loop's invariant: the k digits that are left of v, followed by those
+-- written from k on, are the sixteen digits of n. Assumes nothing.
 use borrow.Author.Needs.{needs}
 use mathlib.Core.Path.{_≡_, sym}
 use mathlib.Core.List.{_++_, append-nil}

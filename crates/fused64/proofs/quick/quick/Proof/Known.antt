@@ -1,4 +1,4 @@
--- What `fused64::quick::quick` knows of its words: fields in reach say what the heads are, and the columns are the
+-- What `fused64::quick::quick` knows of its words: fields in range show what the heads are, and the columns are the
 -- product. Assumes nothing.
 use borrow.Author.Needs.{needs}
 use native.Mathlib.Omega.{arith}
@@ -11,7 +11,7 @@ use Rattle.fused64.proofs.FieldsInReach.{columns-tell}
 use Rattle.fused64.proofs.QuickPlaces.{reached, high-lt}
 use Rattle.fused64.proofs.quick.quick.Tie as tie
 
--- what a head in reach says
+-- What a head in range shows.
 abbrev pub Read : ℕ → ℕ → Type 0
 Read n f = (f % 2 ^ 11 + 768 ≡ fieldOf n) × (f / 2 ^ 11 ≡ n / 2 ^ 63) × (f < 2 ^ 12)
 
@@ -74,7 +74,7 @@ pub addend : (c : tie.After-digits-of3)
     ≡ digits53 (c .before .before .before .before .before .before .before .before .before .before .args .c) * 2 ^ 8
 addend c = omega (arith, c .digits-of3 .ensures)
 
--- the words that the code makes of the heads
+-- The words that the code makes of the heads.
 pub same-sign : (k : ℕ) → bitAnd (k / 2 ^ 11) 1 * 2 ^ 11 % 2 ^ 64 ≡ k / 2 ^ 11 % 2 * 2 ^ 11
 same-sign k = omega (arith, and-mask (k / 2 ^ 11) 1)
 

@@ -1,0 +1,217 @@
+// `imitate` over open files: each channel read back at its wandering delay, as `render` reads it, block after block.
+// What a channel of a block becomes is proved in heard_channel, its delays in imitation, what is stored in wav_store.
+use crate::hearing::hear;
+use crate::storing::store;
+use asked::Imitation;
+use libc::STDERR_FILENO;
+use modulation_engine::ModulationEngine;
+use outcomes::Outcome;
+use outcomes::broken;
+use outcomes::is_well;
+use outcomes::refused_at;
+use outcomes::well;
+use sample_kind::SampleKind;
+use sinc_settings::Settings;
+use sizes::fewer;
+use sizes::less;
+use sizes::plus;
+use variable_delay::VariableDelay;
+use wave_file::WaveFile;
+
+// Frames of a block.
+const FRAMES: usize = 4096;
+
+// What is read, and as which kind it is written to which descriptor.
+pub(crate) struct Job {
+    pub file: WaveFile,
+    pub kind: SampleKind,
+    pub fd: i32,
+    pub settings: Imitation,
+}
+
+// The engine, and a reader for each channel.
+pub(crate) struct Sides {
+    pub engine: ModulationEngine,
+    pub one: VariableDelay,
+    pub two: VariableDelay,
+}
+
+struct Turn {
+    sides: Sides,
+    outcome: Outcome,
+}
+
+// The readers over their rings of 65536, which hold delays up to 65528, and the table of 65 rows of 32: `render`'s.
+pub(crate) fn imitate(job: Job) -> Outcome {
+    let mut ring = [0.0f32; 65536];
+    let mut second = [0.0f32; 65536];
+    let mut table = [0.0f32; 2080];
+    let file = job.file;
+    let settings = job.settings;
+    let variable_delay::Opened::Reader(one) = variable_delay_f32::open(65528, 0, &mut ring) else {
+        return refused_at(1, 0, 1);
+    };
+    let variable_delay::Opened::Reader(two) = variable_delay_f32::open(65528, 0, &mut second) else {
+        return refused_at(1, 0, 2);
+    };
+    let windowed_sinc_f32::Built::Kernel(_) = windowed_sinc_f32::new(
+        Settings {
+            taps: 32,
+            phases: 64,
+            cutoff: 1.0,
+            beta: 12.0,
+        },
+        &mut table,
+    ) else {
+        return refused_at(1, 0, 1);
+    };
+    let modulation_engine::Opened::Engine(engine) = ModulationEngine::new(
+        file.rate as f64,
+        settings.seed,
+    ) else {
+        return refused_at(1, 0, 1);
+    };
+    run(
+        job,
+        Sides {
+            engine: engine,
+            one: one,
+            two: two,
+        },
+        &mut ring,
+        &mut second,
+        &table,
+    )
+}
+
+// The arrays by their lengths: the readers above were lent them.
+fn run<'a>(
+    job: Job,
+    sides: Sides,
+    ring: &mut [f32; 65536],
+    second: &mut [f32; 65536],
+    table: &'a [f32; 2080],
+) -> Outcome {
+    run_blocks(job, sides, ring, second, table)
+}
+
+// Block after block.
+fn run_blocks<'a>(
+    job: Job,
+    start: Sides,
+    ring: &mut [f32],
+    second: &mut [f32],
+    table: &'a [f32],
+) -> Outcome {
+    let file = job.file;
+    let frames = file.frames;
+    let mut sides = start;
+    let mut done: usize = 0;
+    let mut said: i64 = 0;
+    let mut turns = u64::MAX;
+    while turns > 0 && done < frames {
+        let n = fewer(less(frames, done), FRAMES);
+        let turn = block(job, sides, ring, second, table, done, n);
+        let outcome = turn.outcome;
+        if !is_well(outcome) {
+            return outcome;
+        }
+        sides = turn.sides;
+        done = plus(done, n);
+        said = tell(done, frames, said);
+        turns -= 1;
+    }
+    well()
+}
+
+// How far it is, where there is a terminal.
+fn tell(done: usize, frames: usize, said: i64) -> i64 {
+    let mut now: i64 = 0;
+    let terminal = libc::isatty(STDERR_FILENO) == 1;
+    let second = libc::time(&mut now);
+    progress::tell(b"imitate", done, frames, terminal, said, second)
+}
+
+// One block: the delays of its frames, then what its bytes become.
+fn block<'a>(
+    job: Job,
+    sides: Sides,
+    ring: &mut [f32],
+    second: &mut [f32],
+    table: &'a [f32],
+    done: usize,
+    n: usize,
+) -> Turn {
+    let mut left = [0.0f64; FRAMES];
+    let mut right = [0.0f64; FRAMES];
+    let settings = job.settings;
+    let params = settings.params;
+    let engine = sides.engine;
+    let wandered = imitation::wander(engine, params, settings.delay, &mut left, &mut right);
+    let turned = wandered.engine;
+    let one = sides.one;
+    let two = sides.two;
+    read_block(
+        job,
+        Sides {
+            engine: turned,
+            one: one,
+            two: two,
+        },
+        ring,
+        second,
+        table,
+        &left,
+        &right,
+        done,
+        n,
+    )
+}
+
+// What the bytes of n frames become, behind `done` frames. The same bytes hold what is read and what is written.
+fn read_block<'a>(
+    job: Job,
+    sides: Sides,
+    ring: &mut [f32],
+    second: &mut [f32],
+    table: &'a [f32],
+    left: &[f64],
+    right: &[f64],
+    done: usize,
+    n: usize,
+) -> Turn {
+    let mut bytes = [0u8; 32768];
+    let mut both = [0.0f32; 8192];
+    let file = job.file;
+    let kind = job.kind;
+    let io = wave_file::read_frames(file, done, &mut bytes, n);
+    if io != 0 {
+        return Turn {
+            sides: sides,
+            outcome: broken(io),
+        };
+    }
+    let heard = hear(
+        file,
+        sides,
+        ring,
+        second,
+        table,
+        &bytes,
+        n,
+        left,
+        right,
+        &mut both,
+    );
+    let after = heard.sides;
+    if heard.number != 0 {
+        return Turn {
+            sides: after,
+            outcome: refused_at(heard.number, plus(done, heard.done), heard.channel),
+        };
+    }
+    Turn {
+        sides: after,
+        outcome: store(job.fd, kind, file.channels, &both, &mut bytes, done, n),
+    }
+}

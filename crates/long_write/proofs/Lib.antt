@@ -1,6 +1,0 @@
-pub mod Planned
-pub mod Around
-pub mod Verdicts
-pub mod Laid
-pub mod Calls
-pub mod Order

@@ -1,0 +1,22 @@
+-- How far a command is. Definitions only.
+use Prim.Native.Nat.{ℕ, _*_, _/_, min}
+use mathlib.Core.Bool.{cond}
+use mathlib.Core.List.{List, _++_}
+use lib.Dec.{eqb}
+use Rattle.text.specs.Text.{ascii, decimal}
+use Rattle.sizes.specs.Sizes.{most}
+
+-- How many hundredths of all are done, rounded down; 0 where there is nothing to do.
+unfoldable pub hundredthsOf : ℕ → ℕ → ℕ
+hundredthsOf done all = cond (eqb all 0) 0 (min (done * 100) most / all)
+
+-- The line, which the next is written over.
+unfoldable pub percentText : List ℕ → ℕ → List ℕ
+percentText command n = command ++ (ascii ": " ++ (decimal n ++ ascii " %   \r"))
+
+abbrev pub progressText : List ℕ → ℕ → ℕ → List ℕ
+progressText command done all = percentText command (hundredthsOf done all)
+
+-- What is written over the last of them.
+abbrev pub blankText : List ℕ
+blankText = ascii "                              \r"

@@ -1,0 +1,11 @@
+// Numbers on standard output, each with a blank behind it.
+use libc::STDOUT_FILENO;
+
+pub fn number(n: u64) {
+    io::print_decimal(STDOUT_FILENO, n);
+    io::write_all(STDOUT_FILENO, b" ");
+}
+
+pub fn end_of_line() {
+    io::write_all(STDOUT_FILENO, b"\n");
+}
