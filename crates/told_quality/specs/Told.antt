@@ -1,5 +1,5 @@
--- W7c, W7g. A call of the quality reader that tells: the reader's own answer, with the absent taps of every reading that
--- its turn makes of the sets that its rate reads; none where it is refused. Definitions only.
+-- W7c, W7g. A call of the quality reader that tells: the reader's own answer, with the absent taps of every reading
+-- that its turn makes of the sets that its rate reads; none where it is refused. Definitions only.
 use Prim.Native.Nat.{ℕ, _+_}
 use mathlib.Core.List.{List}
 use lib.ListN.{length}
