@@ -62,15 +62,7 @@ pub fn sinc_f32_told<'a>(
         (length (now (ring .entry))) input delay) state (now (ring .entry)) input ⌝ }
 {
     let len = ring.len();
-    let p = sinc_delay_f32::process_sample(
-        state,
-        &mut ring[..],
-        input,
-        delay,
-        table,
-        taps,
-        phases,
-    );
+    let p = sinc_delay_f32::process_sample(state, &mut ring[..], input, delay, table, taps, phases);
     let after = p.state;
     let answer = p.answer;
     let absent = told_call::of_call(len, state.accepted, after.accepted, delay, taps as u64);

@@ -10,12 +10,11 @@ use Rattle.absent_qualities.proofs.of_turn.Tie as tie
 plus-requires : tie.Need-plus-requires
 plus-requires c κs =
     let o = c .before .before in
-    let a = o .before .args in
-    (
+    let a = o .before .args in (
       subst Few (sym (c .of-quality2 .ensures))
-      (few (a .choice) (zeros (a .len)) (a .count) (a .position) (a .turn .from)),
+          (few (a .choice) (zeros (a .len)) (a .count) (a .position) (a .turn .from)),
       subst Few (sym (o .of-quality .ensures))
-      (few (a .choice) (zeros (a .len)) (a .count) (a .position) (a .turn .to)),
+          (few (a .choice) (zeros (a .len)) (a .count) (a .position) (a .turn .to)),
     )
 
 returns : tie.Need-returns

@@ -11,12 +11,11 @@ returns c =
     let k = c .before in
     let p = k .before .before .before .before in
     let t = p .before .before in
-    let s = t .before .before .before .args in
-    (
+    let s = t .before .before .before .args in (
       told (now (s .sets)) (s .max-rate) (s .state) (now (s .ring)) (s .input) (s .delay) (s .quality)
-      (s .playback-rate)
-      (p .process-sample-rate-aware .result) (k .choice-or-zero .result) (t .turn .result) (c .of-call .result)
-      (p .process-sample-rate-aware .ensures .0) (k .choice-or-zero .ensures) (t .turn .ensures) (c .of-call .ensures),
+          (s .playback-rate)
+          (p .process-sample-rate-aware .result) (k .choice-or-zero .result) (t .turn .result) (c .of-call .result)
+          (p .process-sample-rate-aware .ensures .0) (k .choice-or-zero .ensures) (t .turn .ensures) (c .of-call .ensures),
       p .process-sample-rate-aware .ensures .1,
     )
 

@@ -15,12 +15,11 @@ use Rattle.told_delays.proofs.tables.sinc_f32_told.Tie as tie
 returns : tie.Need-returns
 returns c =
     let p = c .before .before .before .before in
-    let s = p .before .before .before .before .args in
-    (
+    let s = p .before .before .before .before .args in (
       told-f32 (sincF32At (now (s .table)) (s .taps) (s .phases)) (s .taps) (tapsOk (s .taps) && phasesOk (s .phases))
-      (eqb (length (now (s .table))) (tableLength (s .taps) (s .phases)))
-      (s .state) (now (s .ring)) (s .input) (s .delay) (p .process-sample .result) (c .of-call .result)
-      (p .process-sample .ensures .0) (c .of-call .ensures),
+          (eqb (length (now (s .table))) (tableLength (s .taps) (s .phases)))
+          (s .state) (now (s .ring)) (s .input) (s .delay) (p .process-sample .result) (c .of-call .result)
+          (p .process-sample .ensures .0) (c .of-call .ensures),
       p .process-sample .ensures .1,
     )
 
