@@ -2,7 +2,8 @@
 
 use std::{env, path::PathBuf, process::exit};
 
-const LIBRARIES: [&str; 9] = [
+const LIBRARIES: [&str; 10] = [
+    "fugnadri_told",
     "fugnadri_aiff",
     "fugnadri_wav",
     "fugnadri_wav_write",

@@ -1,9 +1,10 @@
 /* fugnadri.h: every function that Fugnadri's static libraries export, for C. Version 0.2.0.
  *
  * The libraries are x86-64 code for Linux (System V calls), and `rt staticlib NAME` makes each: libfugnadri.a,
- * libfugnadri_wander.a, libfugnadri_numbers.a, libfugnadri_tables.a, libfugnadri_bank.a, libfugnadri_wav.a,
- * libfugnadri_wav_write.a, libfugnadri_aiff.a, libfugnadri_residual.a. They want `memset` and nothing else of a C
- * library, allocate nothing, keep nothing between calls, and may be called by any thread that owns what it lends.
+ * libfugnadri_wander.a, libfugnadri_numbers.a, libfugnadri_tables.a, libfugnadri_bank.a, libfugnadri_told.a,
+ * libfugnadri_wav.a, libfugnadri_wav_write.a, libfugnadri_aiff.a, libfugnadri_residual.a. They want `memset` and
+ * nothing else of a C library, allocate nothing, keep nothing between calls, and may be called by any thread that owns
+ * what it lends.
  *
  * Lent memory: a slice is a pointer to its first element and a length in elements. A pointer is never null; that of an
  * empty slice may be any other aligned address. What is written through must not overlap anything else that is lent in
@@ -352,6 +353,25 @@ uint8_t fugnadri_wav_samples_f32(uint8_t kind, uint8_t channels, uint8_t channel
  * 256. A float's kind is refused by 1. */
 uint8_t fugnadri_wav_whole(uint8_t kind, uint8_t channels, uint8_t channel, const uint8_t *part, size_t part_len,
     int32_t *out, size_t out_len);
+
+/* ---- libfugnadri_told.a: which taps were missing --------------------------------------------------------------------
+ *
+ * The calls of the delay readers, of libfugnadri.a and libfugnadri_tables.a, that also tell how many of the taps that
+ * they read were absent: `*unwritten` below the first sample, `*ahead` of the newest, `*overwritten` by newer ones. All
+ * else is as in the call without `_told`; absent taps count as zero there too. A refused call writes three zeros. */
+uint8_t fugnadri_cubic_process_told(size_t maximum, size_t margin, uint64_t *accepted, double *ring, size_t ring_len,
+    double input, double delay, double *sample, uint64_t *unwritten, uint64_t *ahead, uint64_t *overwritten);
+uint8_t fugnadri_farrow8_process_told(size_t maximum, size_t margin, uint64_t *accepted, double *ring, size_t ring_len,
+    double input, double delay, double *sample, uint64_t *unwritten, uint64_t *ahead, uint64_t *overwritten);
+uint8_t fugnadri_lagrange_process_told(size_t maximum, size_t margin, uint64_t *accepted, double *ring,
+    size_t ring_len, double input, double delay, uint64_t taps, double *sample, uint64_t *unwritten, uint64_t *ahead,
+    uint64_t *overwritten);
+uint8_t fugnadri_windowed_sinc_process_told(size_t maximum, size_t margin, uint64_t *accepted, double *ring,
+    size_t ring_len, double input, double delay, const double *table, size_t table_len, size_t taps, size_t phases,
+    double *sample, uint64_t *unwritten, uint64_t *ahead, uint64_t *overwritten);
+uint8_t fugnadri_windowed_sinc_f32_process_told(size_t maximum, size_t margin, uint64_t *accepted, float *ring,
+    size_t ring_len, float input, double delay, const float *table, size_t table_len, size_t taps, size_t phases,
+    float *sample, uint64_t *unwritten, uint64_t *ahead, uint64_t *overwritten);
 
 /* ---- libfugnadri_aiff.a: AIFF files ---------------------------------------------------------------------------------
  *

@@ -19,6 +19,9 @@ pub use residual::*;
 #[path = "boundary/tables.rs"]
 mod tables;
 pub use tables::*;
+#[path = "boundary/told.rs"]
+mod told;
+pub use told::*;
 #[path = "boundary/wav.rs"]
 mod wav;
 pub use wav::*;

@@ -24,6 +24,7 @@ mod hostile {
     pub mod shapes;
     pub mod tables;
     pub mod tally;
+    pub mod told;
     pub mod turn;
     pub mod value;
     pub mod wander;
@@ -33,14 +34,14 @@ mod hostile {
     pub mod wav_write;
 }
 
-use hostile::{aiff, bank, headers, numbers, on_purpose, outside, pool::Memory, readers, residual, tables, tally::Tally, turn::Turn, wander, watch, wav, wav_write};
+use hostile::{aiff, bank, headers, numbers, on_purpose, outside, pool::Memory, readers, residual, tables, tally::Tally, told, turn::Turn, wander, watch, wav, wav_write};
 use std::time::{Duration, Instant};
 
 /// An export, and one hostile call of it, which gives the number that it answered: 0 for none, and where there is none.
 pub type Export = (&'static str, fn(&mut Turn) -> u8);
 
 fn exports() -> Vec<Export> {
-    let readers = [wander::EXPORTS, readers::EXPORTS, tables::EXPORTS, bank::EXPORTS].concat();
+    let readers = [wander::EXPORTS, readers::EXPORTS, tables::EXPORTS, bank::EXPORTS, told::EXPORTS].concat();
     let files = [wav::EXPORTS, headers::EXPORTS, aiff::EXPORTS, residual::EXPORTS, wav_write::EXPORTS].concat();
     [numbers::EXPORTS, outside::EXPORTS, &readers, &files].concat()
 }

@@ -38,6 +38,7 @@ mod subjects {
     pub mod slices;
     pub mod square_root;
     pub mod tables;
+    pub mod told;
     pub mod words;
 }
 
@@ -55,6 +56,7 @@ const SUBJECTS: [fn(&mut Context); 17] = [
     subjects::words::run,
     subjects::slices::run,
     subjects::readers::run,
+    subjects::told::run,
     subjects::tables::run,
     subjects::modes::run,
     subjects::sinc::run,

@@ -80,7 +80,7 @@ fn process<V: Value>(t: &mut Turn, call: impl FnOnce(&mut Reader, f64, f64, u64,
     number
 }
 
-fn taps(random: &mut Random) -> u64 {
+pub fn taps(random: &mut Random) -> u64 {
     let taps = 2 * (1 + random.word() % 8);
     if random.one_in(16) {
         random.whole()

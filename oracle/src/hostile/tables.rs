@@ -31,15 +31,15 @@ pub const EXPORTS: &[Export] = &[
     ("fugnadri_windowed_sinc_f32_process_bits", |t| process(t, t.memory.floats, |x| x as f32, f32::sinc_process_bits)),
 ];
 
-struct Settings {
-    taps: usize,
-    phases: usize,
-    length: usize,
+pub struct Settings {
+    pub taps: usize,
+    pub phases: usize,
+    pub length: usize,
 }
 
 impl Random {
     /// Taps, phases and a length that mostly fit: few phases, seldom many.
-    fn settings(&mut self, few_taps: bool) -> Settings {
+    pub fn settings(&mut self, few_taps: bool) -> Settings {
         let taps = match self.word() % 32 {
             0 => self.count(4, 128),
             1..=3 if !few_taps => 2 * (2 + self.word() % 63),

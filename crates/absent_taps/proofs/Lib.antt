@@ -1,0 +1,4 @@
+pub mod AtOnce
+pub mod Starts
+pub mod Laws
+pub mod Worked

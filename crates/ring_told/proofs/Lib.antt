@@ -1,0 +1,2 @@
+pub mod FourCases
+pub mod Values

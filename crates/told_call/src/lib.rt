@@ -1,0 +1,21 @@
+// The absent taps of one call of a reader, worked out beside it from the count that it found and the count that it left
+// (W7c).
+// A call that was accepted leaves one sample more, and a refused one leaves the count as it was.
+ghost use mathlib.Core.Path.{_≡_};
+ghost use Rattle.told_call.specs.Told.{countedOf};
+use absent_taps::Absent;
+
+// The absent ones of the taps that a call read, three zeros if it was refused. `len` is the length of its ring.
+pub fn of_call(len: usize, before: u64, after: u64, delay: f64, taps: u64) -> Absent
+    ensures { λ r. ⌜ r ≡ countedOf len before after delay taps ⌝ }
+{
+    if before == after {
+        return absent_taps::nothing();
+    }
+    absent_taps::missing(
+        len,
+        after,
+        std::num::nearest_u64_to_f64(before) - delay,
+        taps,
+    )
+}
