@@ -46,7 +46,7 @@ use context::Context;
 use std::time::{Duration, Instant};
 
 /// A file of subjects/ each. `run` compares one batch of every kind of input that it has.
-const SUBJECTS: [fn(&mut Context); 17] = [
+const SUBJECTS: &[fn(&mut Context)] = &[
     subjects::patterns::run,
     subjects::order::run,
     subjects::narrow::run,
