@@ -1,3 +1,9 @@
 pub mod Rings
 pub mod Taps
+pub mod AtCall
 pub mod InStep
+pub mod Delays
+pub mod Answers
+pub mod Readers
+pub mod Endings
+pub mod Sharp

@@ -2,24 +2,23 @@
 -- alone (`Local`), and its absent taps are the same in any case. Assumes nothing.
 use mathlib.Core.Path.{_≡_, refl, sym, _∙_, ap}
 use mathlib.Core.Bool.{Bool, true, false}
-use mathlib.Core.List.{List, [], _∷_, _++_}
-use mathlib.Core.Logic.{⊎-elim}
+use mathlib.Core.List.{List}
 use Prim.Native.Nat.{ℕ, suc, _+_, _%_, _<_, _≤_}
-use native.Mathlib.Nat.{mod-lt, lt-of-not-le, le-antisymm, add-zero}
+use native.Mathlib.Nat.{mod-lt, lt-of-not-le, le-antisymm}
 use native.Mathlib.Omega.{arith}
 use borrow.Author.Tests.{ltb-true, leb-true, lt-ltb, le-leb}
 use lib.Dec.{leb, ltb}
 use lib.IntN.{ℤ, pos, negsuc, _+ℤ_}
-use lib.ListN.{length, getD, length-append}
+use lib.ListN.{length, getD}
 use lib.Ieee.{Float, nan}
 use Rattle.ring.specs.Taps.{held, ahead, overwritten, pick, tapAt, valueOf}
 use Rattle.absent_taps.specs.Absent.{absentAt, firstTap}
 use Rattle.absent_taps.proofs.Laws.{by-length}
 use Rattle.reads.specs.Local.{Alike, Local}
-use Rattle.variable_delay.specs.Reader.{Reading, stored}
+use Rattle.variable_delay.specs.Reader.{Reading}
 use Rattle.runs.specs.Filled.{storedFrom}
 use Rattle.runs.proofs.Filled.{apart}
-use Rattle.aging.specs.Damage.{Same, Held, Avoid, NoneAfter, Aged}
+use Rattle.aging.specs.Damage.{Same, Held, Avoid}
 use Rattle.aging.proofs.Rings as rings
 
 -- Two numbers that are both held stand at different places.
@@ -87,16 +86,3 @@ module _ (before : ℕ) (xs ss : List Float) where
         lt-ltb (before + i) (before + length ss) (omega arith),
         le-leb (before + length ss) (before + i + length xs) (omega arith),
       )
-
--- ---- a call, which stores its sample and then reads
-
-stored-last : (before : ℕ) (xs ss : List Float) (x : Float)
-    → stored (before + length ss) (storedFrom before xs ss) x ≡ storedFrom before xs (ss ++ x ∷ [])
-unfolding storedFrom
-stored-last before xs [] x = ap (λ (n : ℕ). stored n xs x) (add-zero before)
-stored-last before xs (s ∷ ss) x =
-    ap (λ (n : ℕ). stored n (storedFrom (before + 1) (stored before xs s) ss) x) (tick before (length ss))
-    ∙ stored-last (before + 1) (stored before xs s) ss x
-  where
-    tick : (a b : ℕ) → a + suc b ≡ a + 1 + b
-    tick a b = omega arith
