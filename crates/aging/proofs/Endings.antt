@@ -2,7 +2,6 @@
 use mathlib.Core.Path.{_≡_, refl, sym, _∙_, ap}
 use mathlib.Core.Bool.{true}
 use mathlib.Core.List.{List, _∷_, _++_, map}
-use Prim.Native.Nat.{ℕ}
 use lib.ListN.{length}
 use lib.Ieee.{Float}
 use lib.Ieee.Bits.{is-true}
@@ -13,7 +12,7 @@ use Rattle.runs.specs.Runs.{Call, Reader, due, afterBy, run, accepted}
 use Rattle.runs.proofs.Calls.{by-accepted}
 use Rattle.runs.proofs.Counted.{stays}
 use Rattle.runs.proofs.Refused.{refused-anywhere}
-use Rattle.aging.specs.Calls.{Asked, asked, SameCalls, Twins, delays}
+use Rattle.aging.specs.Calls.{Asked, asked, Twins, delays}
 use Rattle.aging.proofs.Delays.{in-step}
 
 -- W8d. A refused call that is inserted anywhere, in the one run or in the other, leaves the same reader, and the runs are
@@ -39,19 +38,16 @@ reset-ends r cs ds h e =
     (rw (l .state, l .long), rw (e, f, l .long))
 
 -- W8f. Nothing is asked of the samples but that their calls were accepted: then the delays alone make the calls the same.
-all-asked : (r : Reader) (cs : List Call)
-    → map asked (accepted r cs)
-    ≡ map (λ (y : Float). record { own = true; lent = true; fine = true; delay = y }) (delays (accepted r cs))
-all-asked =
-    by-accepted due afterBy stays
-    (λ r s cs. map asked cs ≡ map (λ (y : Float). record { own = true; lent = true; fine = true; delay = y }) (delays cs))
+abbrev fineOne : Float → Asked
+fineOne y = record { own = true; lent = true; fine = true; delay = y }
+
+all-fine : (r : Reader) (cs : List Call) → map asked (accepted r cs) ≡ map fineOne (delays (accepted r cs))
+all-fine =
+    by-accepted due afterBy stays (λ r s cs. map asked cs ≡ map fineOne (delays cs))
     (λ r. refl)
     (λ r c s cs e ih.
     let t = taken (c .own) (c .lent) (r .state) (length (r .ring)) (c .input) (c .delay) e in
     rw (is-true (c .own) (t .owned), is-true (c .lent) (t .lasting), is-true (finite (c .input)) (t .input), ih))
 
 pub any-values : (r : Reader) (cs ds : List Call) → delays (accepted r cs) ≡ delays (accepted r ds) → Twins r cs ds
-any-values r cs ds e =
-    all-asked r cs
-    ∙ ap (map (λ (y : Float). record { own = true; lent = true; fine = true; delay = y })) e
-    ∙ sym (all-asked r ds)
+any-values r cs ds e = all-fine r cs ∙ ap (map fineOne) e ∙ sym (all-fine r ds)

@@ -7,3 +7,6 @@ pub mod Answers
 pub mod Readers
 pub mod Endings
 pub mod Sharp
+pub mod Qualities
+pub mod QualityAnswers
+pub mod QualityEndings
