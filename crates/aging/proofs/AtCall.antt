@@ -6,7 +6,7 @@ use Prim.Native.Nat.{ℕ, suc, _+_}
 use native.Mathlib.Nat.{add-zero}
 use native.Mathlib.Omega.{arith}
 use lib.IntN.{ℤ}
-use lib.ListN.{length, length-append, length-set}
+use lib.ListN.{length, length-append}
 use lib.Ieee.{Float}
 use Rattle.reads.specs.Local.{Alike}
 use Rattle.variable_delay.specs.Reader.{stored}

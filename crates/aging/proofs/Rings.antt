@@ -4,7 +4,7 @@ use mathlib.Core.Path.{_≡_, refl, sym, _∙_, ap, subst}
 use mathlib.Core.Bool.{Bool, true, false}
 use mathlib.Core.List.{List, [], _∷_}
 use mathlib.Core.Logic.{⊎-elim}
-use Prim.Native.Nat.{ℕ, zero, suc, _+_, _%_, _<_, _≤_}
+use Prim.Native.Nat.{ℕ, suc, _+_, _%_, _<_, _≤_}
 use native.Mathlib.Nat.{add-zero, add-mod-right, suc-ne-zero, suc-inj, eq-or-lt-of-le}
 use native.Mathlib.Omega.{arith}
 use borrow.Author.Tests.{eqb-true, eqb-false}
@@ -14,7 +14,7 @@ use lib.Seq.{getD-set-same, getD-set-other, ext-getD}
 use lib.Ieee.{Float, nan}
 use Rattle.variable_delay.specs.Reader.{stored}
 use Rattle.runs.specs.Filled.{storedFrom}
-use Rattle.aging.specs.Damage.{Same, Held, Spared, NoneAfter, Aged}
+use Rattle.aging.specs.Damage.{Same, Spared, NoneAfter, Aged}
 
 -- Rings of length len that hold as many samples, of which those with a number in Good are the same.
 record Beside (Good : ℕ → Type 0) (len count : ℕ) (xs ys : List Float) : Type 0 where

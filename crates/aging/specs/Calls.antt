@@ -1,5 +1,5 @@
--- W8. Two runs of a delay reader's calls that differ only in finite values of some accepted samples, whatever the kernel
--- reads. Definitions only.
+-- W8. Two runs of a delay reader's calls that differ only in finite values of some accepted samples, whatever its
+-- kernel reads. Definitions only.
 use mathlib.Core.Path.{_≡_}
 use Prim.Native.Nat.{ℕ}
 use mathlib.Core.Bool.{Bool}

@@ -1,5 +1,5 @@
--- W8. Two runs of a quality reader's calls that differ only in finite values of some accepted samples, by either rule of
--- the fade, whatever its qualities read. Definitions only.
+-- W8. Two runs of a quality reader's calls that differ only in finite values of some accepted samples, by either rule
+-- of the fade, whatever its qualities read. Definitions only.
 use Prim.Native.Nat.{ℕ, _+_}
 use mathlib.Core.Path.{_≡_}
 use mathlib.Core.Bool.{Bool, true}
@@ -84,7 +84,8 @@ QualityAvoids r cs ds c d q =
     Avoid (r .state .accepted) (length (r .ring)) (upTo r cs c) (upTo r ds d)
     (firstTap (positionOf (run r cs .state .accepted) (c .delay)) (readBy q)) (readBy q)
 
--- Of every reading that the call makes: of both qualities where it is mixed, else of the one. A refused call makes none.
+-- So it is of every reading that the call makes: of both qualities where it is mixed, else of the one. A refused call
+-- makes none.
 pub record CallAvoids (r : Reader) (cs ds : List Call) (c d : Call) : Type 0 where
   pub one : due (run r cs) c ≡ 0 → QualityAvoids r cs ds c d (turnIn (run r cs) c .to)
   pub both : due (run r cs) c ≡ 0 → turnIn (run r cs) c .mixed ≡ true
@@ -96,7 +97,8 @@ SameBits read =
     (r : Reader) (cs ds : List Call) (c d : Call) → Twins r cs ds → asked c ≡ asked d → CallAvoids r cs ds c d
     → answered read (run r cs) c ≡ answered read (run r ds) d
 
--- W8c. The same at every call from the len-th accepted sample on, len the ring's length, after m, the last that differs.
+-- W8c. The same at every call from the len-th accepted sample on, len the ring's length, after m, the last that
+-- differs.
 abbrev pub AgesOut : (Float → QualityMode → Reading) → Type 0
 AgesOut read =
     (r : Reader) (cs ds : List Call) (c d : Call) (m : ℕ) → Twins r cs ds → asked c ≡ asked d

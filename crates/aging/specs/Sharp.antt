@@ -1,7 +1,7 @@
 -- W8c at its end: a ring of length 8, in which only sample 0 differs, and a delay of 7. Definitions only.
 use Prim.Native.Nat.{ℕ}
 use mathlib.Core.Bool.{false}
-use mathlib.Core.List.{List, [], _∷_, _++_}
+use mathlib.Core.List.{List, _∷_}
 use lib.IntN.{pos}
 use lib.ListN.{replicate}
 use lib.Ieee.{Float, fin}
@@ -19,6 +19,9 @@ smallest = opened 0 0 8
 abbrev pub first : Float → ℕ → List Call
 first x k = bareCall x zero-f ∷ replicate k (bareCall zero-f zero-f)
 
--- What the call after them answers, whose sample is a zero and whose delay is 7.
-abbrev pub then-asked : List Call → Answer
-then-asked cs = answered cubicAt (run smallest cs) (bareCall zero-f (fin false 7 (pos 0)))
+-- The call after them, whose sample is a zero and whose delay is 7, and what it answers.
+abbrev pub next : Call
+next = bareCall zero-f (fin false 7 (pos 0))
+
+abbrev pub answeredNext : List Call → Answer
+answeredNext cs = answered cubicAt (run smallest cs) next
