@@ -2,7 +2,7 @@
 use mathlib.Core.Path.{_≡_, refl, sym, _∙_, ap}
 use mathlib.Core.List.{List}
 use Prim.Native.Nat.{ℕ, zero, suc, _+_, _%_, _<_}
-use lib.ListN.{length, getD, length-map, length-set}
+use lib.ListN.{length, getD, take, length-map, length-set}
 use lib.Ieee.{nan}
 use lib.Ieee.Scale.{finite}
 use Rattle.variable_delay.specs.declared.VariableDelay.{VariableDelay}
@@ -43,6 +43,10 @@ here r = record { state = refl; long = refl }
 
 pub accepts : (r : Reader) (cs ds : List Call) → SameCalls cs ds → Twins r cs ds
 accepts r cs ds e = steps.accepts due afterBy asked InStep same-due kept r r cs ds (here r) e
+
+pub after-each : (r : Reader) (cs ds : List Call) → SameCalls cs ds → (k : ℕ)
+    → InStep (run r (take k cs)) (run r (take k ds))
+after-each r cs ds e k = steps.after-each due afterBy asked InStep same-due kept r r cs ds (here r) e k
 
 module _ (r : Reader) (cs ds : List Call) (h : Twins r cs ds) where
   pub in-step : InStep (run r cs) (run r ds)

@@ -1,11 +1,11 @@
 -- W8a. Two runs of anything that has a state, whose calls are the same as far as `ask` looks: if then both states give
 -- the same verdict and stay `Like` each other, the runs accept the same calls and leave states that are like each other.
 -- By induction over the calls. Assumes nothing.
-use mathlib.Core.Path.{_≡_, refl, sym, ap}
+use mathlib.Core.Path.{_≡_, refl, sym, _∙_, ap}
 use mathlib.Core.List.{List, [], _∷_, map}
 use Prim.Native.Nat.{ℕ, zero, suc}
 use native.Mathlib.Nat.{suc-ne-zero}
-use lib.ListN.{length, getD, drop}
+use lib.ListN.{length, getD, take, drop}
 use Rattle.runs.specs.Calls.{keep, runOf, acceptedOf}
 
 module _ {S C K : Type 0} (due : S → C → ℕ) (afterBy : ℕ → S → C → S) (ask : C → K) (Like : S → S → Type 0)
@@ -29,6 +29,17 @@ module _ {S C K : Type 0} (due : S → C → ℕ) (afterBy : ℕ → S → C →
       let h = head c d cs ds e in
       rw (← same-due s t c d l h)
       (in-step (afterBy (due s c) s c) (afterBy (due s c) t d) cs ds (kept (due s c) s t c d l h) (tail c d cs ds e))
+
+  -- So it is after every call: the first k calls are the same too.
+  first : (k : ℕ) (cs : List C) → map ask (take k cs) ≡ take k (map ask cs)
+  first zero [] = refl
+  first zero (c ∷ cs) = refl
+  first (suc k) [] = refl
+  first (suc k) (c ∷ cs) = ap (λ (l : List K). ask c ∷ l) (first k cs)
+
+  pub after-each : (s t : S) (cs ds : List C) → Like s t → map ask cs ≡ map ask ds → (k : ℕ)
+      → Like (runOf due afterBy s (take k cs)) (runOf due afterBy t (take k ds))
+  after-each s t cs ds l e k = in-step s t (take k cs) (take k ds) l (first k cs ∙ ap (take k) e ∙ sym (first k ds))
 
   keeps : (v : ℕ) (c d : C) (cs ds : List C) → ask c ≡ ask d → map ask cs ≡ map ask ds
       → map ask (keep v c cs) ≡ map ask (keep v d ds)

@@ -2,7 +2,7 @@
 use mathlib.Core.Path.{_≡_, refl, sym, _∙_, ap}
 use mathlib.Core.List.{List, map}
 use Prim.Native.Nat.{ℕ, zero, suc, _+_, _%_, _<_}
-use lib.ListN.{length, getD, length-map, length-set}
+use lib.ListN.{length, getD, take, length-map, length-set}
 use lib.Ieee.{nan}
 use lib.Ieee.Scale.{finite}
 use Rattle.variable_delay.specs.declared.VariableDelay.{VariableDelay}
@@ -50,6 +50,10 @@ accepts r cs ds e = steps.accepts due afterBy asked InStep same-due kept r r cs 
 as-many-as : (r : Reader) (cs : List Call) → length (samplesOf r cs) ≡ length (accepted r cs)
 as-many-as r cs =
     length-map (map plainCall (accepted r cs)) (λ (c : plain.Call). c .input) ∙ length-map (accepted r cs) plainCall
+
+pub after-each : (r : Reader) (cs ds : List Call) → SameCalls cs ds → (k : ℕ)
+    → InStep (run r (take k cs)) (run r (take k ds))
+after-each r cs ds e k = steps.after-each due afterBy asked InStep same-due kept r r cs ds (here r) e k
 
 module _ (r : Reader) (cs ds : List Call) (h : Twins r cs ds) where
   pub in-step : InStep (run r cs) (run r ds)
