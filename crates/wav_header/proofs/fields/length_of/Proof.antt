@@ -1,5 +1,4 @@
--- `wav_header::fields::length_of` meets its contract: what the calls ensure, put together; few samples are few bytes.
--- Assumes nothing.
+-- `wav_header::fields::length_of` meets its contract by those of its calls; few samples are few bytes. Assumes nothing.
 use borrow.Author.Needs.{needs}
 use native.Mathlib.Omega.{arith}
 use Rattle.wav_header.proofs.Sizes.{few-bytes, short-header}
