@@ -1,4 +1,5 @@
--- `wav_header::fields::length_of` meets its contract by those of its calls; few samples are few bytes. Assumes nothing.
+-- `wav_header::fields::length_of` meets its contract: fewer than 2^32 samples have few enough bytes for every sum.
+-- Assumes nothing.
 use borrow.Author.Needs.{needs}
 use native.Mathlib.Omega.{arith}
 use Rattle.wav_header.proofs.Sizes.{few-bytes, short-header}
