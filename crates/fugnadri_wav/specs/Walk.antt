@@ -1,5 +1,5 @@
--- W10c. What stands in the contracts of the exports that read by turns: a walk on its way as six numbers. A chunk that
--- was seen has a place above 0, as every file begins with other bytes. Definitions only.
+-- W10c. What the contracts of the exports that read step by step name: the state of a walk as six numbers. The place of
+-- a chunk that was seen is above 0, because no file begins with a chunk. Definitions only.
 use Prim.Native.Nat.{ℕ}
 use mathlib.Core.Bool.{Bool, true, false, not}
 use mathlib.Core.List.{List}
@@ -71,6 +71,6 @@ walkOf w =
     walk (w .left) (flag (seen .overruns)) (seen .format .body) (seen .format .size) (seen .samples .body)
     (seen .samples .size)
 
--- One chunk more.
+-- The walk after one more chunk.
 abbrev pub walkAfter : List ℕ → ℕ → List ℕ → Walk → Walk
 walkAfter opening end head w = walkOf (turnedBy opening (walkingFrom w) end head)

@@ -80,7 +80,7 @@ module _ (kind : SampleKind) (channels rate count : ℕ) (p : Planned kind chann
       ∙ ap (λ (b : List ℕ). headerBy told b (length file)) (sym front)
       ∙ prefix-decides told file (length file) (waveFor kind channels rate count) whole
 
--- ---- what the tests tell
+-- ---- what follows from the tests
 between : (channels : ℕ) → oneOrTwo channels ≡ true → (1 ≤ channels) × (channels ≤ 2)
 between channels h = by (eqb channels 1) (eqb channels 2) refl refl h
   where

@@ -156,7 +156,7 @@ module _ (form : Form) (kind : SampleKind) (channels rate' count : ℕ) (rest : 
     bits-read : bits f ≡ 8 * widthOf kind
     bits-read = in-fmt 2 14 (lit≤ tt) ∙ bits-are kind channels rate' 0 tail (omega (arith, narrow kind))
 
-    -- ---- by any reading that tells the tag as it stands
+    -- ---- by any reading that takes the tag as it stands
     module _ (told : List ℕ → ℕ → ℕ) (plain : told f (formatSize kind) ≡ tag f) where
       tag-told : told f (formatSize kind) ≡ tagOf kind
       tag-told = plain ∙ tag-read

@@ -29,7 +29,7 @@ walkIn b size = walkTo riffSought (chunkIn b) (endOf b size)
 abbrev pub fmtIn : List ℕ → ℕ → List ℕ
 fmtIn b size = partOf b (walkIn b size .format .body) (walkIn b size .format .size)
 
--- ---- what must be at hand
+-- ---- how many bytes must be lent
 -- The place behind the first head that is not lent, or 0 if all are.
 unfoldable pub missing : ℕ → List Chunk → ℕ
 missing n [] = 0

@@ -55,7 +55,7 @@ entriesFrom b (suc n) at = entryAt b at ∷ entriesFrom b n (at + 12)
 abbrev pub tableOf : List ℕ → List Entry
 tableOf b = entriesFrom b (entryCount b) 48
 
--- ---- what they tell
+-- ---- the sizes in the table
 -- The size in the first entry with the identifier. If there is none, the 32-bit size is the true one.
 unfoldable pub sizeIn : ℕ → List Entry → ℕ
 sizeIn id [] = full

@@ -1,4 +1,4 @@
--- One sample turned round where it stands, and one sample more. By the bytes before it and those from it on. Assumes
+-- One sample is reversed in place, and then one more. By the bytes before the sample and those from it on. Assumes
 -- nothing.
 use mathlib.Core.Path.{_≡_, refl, sym, ap, _∙_}
 use mathlib.Core.List.{List, [], _∷_, _++_, reverse, append-assoc}

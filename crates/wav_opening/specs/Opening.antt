@@ -48,7 +48,7 @@ sizesSmall b size = cond (usesDs64 b size) (smallSizes b) true
 abbrev pub riffHeld : List ℕ → ℕ → Bool
 riffHeld b size = leb (endOf b size) size
 
--- ---- what must be at hand
+-- ---- how many bytes must be lent
 -- How many bytes must be lent, or 0 if the n lent ones are enough. A step that is taken needs the first `reach` bytes;
 -- if they are lent, the later steps decide.
 abbrev pub asks : ℕ → Bool → ℕ → ℕ → ℕ
@@ -63,7 +63,7 @@ openingNeeds b size =
     (asks (length b) (hasDs64 b size) 48
     (asks (length b) (leb 4 (trueRiff b size)) (48 + 12 * entryCount b) 0)))
 
--- ---- the refusals that the opening tells
+-- ---- the refusals that the opening decides
 -- 1: more bytes are lent than the file has. 2: fewer are lent than the opening needs.
 abbrev pub handTests : List ℕ → ℕ → List Test
 handTests b size = 1 unless leb (length b) size ∷ 2 unless eqb (openingNeeds b size) 0 ∷ []

@@ -34,7 +34,7 @@ none-enough = refl
 pub none-short : verdict Float32 2 48000 [] 57 ≡ 14
 none-short = refl
 
--- ---- two due
+-- ---- two refusals are possible
 pub short-and-nan : verdict Pcm16 1 48000 (nan ∷ []) 45 ≡ 14
 short-and-nan = refl
 

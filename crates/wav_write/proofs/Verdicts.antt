@@ -61,7 +61,7 @@ verdict-is kind channels rate samples room =
     (oneOrTwo channels)
     (leb (fileLengthFor kind (length samples)) room) (allFit kind samples)
 
--- ---- what is due by the calls of a write
+-- ---- the refusal, from the calls of a write
 module _ (kind : SampleKind) (channels rate : ℕ) (samples : List Float) (room r : ℕ)
     (e : r ≡ earlyVerdict kind channels rate (length samples) room) where
   pub refused-early : (r ≡ 0 → ⊥) → r ≡ verdict kind channels rate samples room
