@@ -2,7 +2,7 @@
 // RF64 or BW64, as the caller chooses.
 mod long; // the header past RIFF
 mod opening; // its first 48 bytes
-mod tests; // what is refused
+mod tests; // the tests of each refusal
 
 ghost use mathlib.Core.Path.{_≡_};
 ghost use lib.ListN.{length};

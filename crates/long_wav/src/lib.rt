@@ -4,7 +4,7 @@ ghost use mathlib.Core.Path.{_≡_};
 ghost use Rattle.wav_format.specs.Tags.{tagBy};
 ghost use Rattle.long_wav.specs.Reading.{needsOf, headerBy, headerIn, headerWrapped};
 
-mod heads; // the walk over the heads that are at hand
+mod heads; // the walk over the lent heads
 
 use heads::heads_of;
 use wav::Found;

@@ -7,7 +7,7 @@
 // last line is ignored.
 mod heard; // a header from standard input
 mod said; // numbers on standard output
-mod turns; // a header by turns
+mod turns; // a header step by step
 
 use heard::hear;
 use long_wav::needs;

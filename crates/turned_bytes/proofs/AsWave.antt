@@ -22,7 +22,7 @@ use Rattle.aiff_samples.specs.Samples as aiff
 use Rattle.aiff_samples.proofs.AsWave.{same-floats, same-numbers}
 use Rattle.turned_bytes.specs.Turned.{turnedFirst, turnedRound}
 
--- ---- the first sample is turned, the others behind it
+-- ---- the first sample is reversed, then the others behind it
 module _ (w : ℕ) (b : List ℕ) (n : ℕ) (h : suc n * w ≤ length b) where
   fits : n * w + w ≤ length b
   fits = rw suc-mul at h

@@ -1,6 +1,6 @@
 // W2. The bytes of a RIFF WAVE file before its samples, 44 for PCM and 58 for float, and whether a file fits RIFF.
 mod fields; // the header, field by field
-mod tests; // what is refused
+mod tests; // the tests of each refusal
 
 ghost use mathlib.Core.Path.{_≡_};
 ghost use lib.ListN.{length};

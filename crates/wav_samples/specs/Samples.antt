@@ -1,5 +1,4 @@
--- W1. What the bytes of a stored sample mean: as a value of the format that it is handed out in, and as a whole number.
--- Definitions only.
+-- W1. What the bytes of a stored sample mean: as a value of a float format, and as a whole number. Definitions only.
 use Prim.Native.Nat.{ℕ, _*_}
 use mathlib.Core.Bool.{Bool, true, false}
 use mathlib.Core.List.{List}

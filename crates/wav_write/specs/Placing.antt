@@ -29,7 +29,7 @@ pub record Room (kind : SampleKind) (channels rate count room : ℕ) : Type 0 wh
   pub planned : fileVerdictFor kind channels rate count ≡ 0
   pub holds : fileLengthFor kind count ≤ room
 
--- n is the length of the file, and the buffer is at least as long.
+-- The number n is the length of the file, and the buffer is at least as long.
 pub record Held (file n : ℕ) (buffer : List ℕ) : Type 0 where
   pub exact : n ≡ file
   pub long : file ≤ length buffer

@@ -36,7 +36,7 @@ pub enum Turned {
     Broken(u8),
 }
 
-// `pread` fails on a folder, which `lseek` could not tell from an empty file, so `pread` comes first.
+// `pread` fails on a folder, whose length may be reported as 0 like that of an empty file, so `pread` comes first.
 pub(crate) fn look_into(fd: i32) -> Opened
     ensures { λ r. ⌜ Opens r ⌝ }
 {

@@ -5,7 +5,7 @@
 ghost use Rattle.wave_file.specs.Opening.{Opens};
 ghost use Rattle.wave_file.specs.Reads.{Reads};
 
-mod header; // the header, by turns
+mod header; // the header, step by step
 mod reading; // bytes from a place on
 
 use file_layout::Layout;
