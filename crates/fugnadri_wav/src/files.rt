@@ -41,7 +41,8 @@ pub extern "C" fn fugnadri_wav_read_wrapped(
     hand_out(wav::read_wrapped(file), kind, channels, rate, start, size)
 }
 
-// Writes what `fmt ` says. Nothing is refused: the numbers are zeros if there is no `fmt ` or no `data`.
+// Writes what `fmt ` says, and the size of `data`. Nothing is refused: the numbers of a chunk that is missing are
+// zeros.
 #[no_mangle]
 pub extern "C" fn fugnadri_wav_told(
     file: &[u8],

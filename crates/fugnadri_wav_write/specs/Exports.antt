@@ -39,7 +39,6 @@ abbrev pub numberOf : Written → ℕ
 numberOf (answers.Length n) = 0
 numberOf (answers.Refused k) = k
 
--- The length is 0 if no file is written.
 abbrev pub sizeOf : Written → ℕ
 sizeOf (answers.Length n) = n
 sizeOf (answers.Refused k) = 0

@@ -36,7 +36,6 @@ some-bytes Float32 = omega arith
 
 module _ (f : Format) (form : Form) (kind : SampleKind) (channels rate : ℕ) (samples : List Float) (room : ℕ)
     (v : verdict kind channels rate samples room ≡ 0) (behind : List ℕ) where
-  -- The samples that are read from the file.
   abbrev again : List Float
   again =
       samplesIn f (fileOf form kind channels rate samples ++ behind) (waveOfAny kind channels rate (length samples))

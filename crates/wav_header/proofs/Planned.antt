@@ -10,7 +10,6 @@ use Rattle.wav_header.specs.Header.{fileLength}
 use Rattle.wav_header.specs.Refusals.{fitsRiff, countOk}
 use Rattle.wav_settings.specs.Settings.{rateOk, oneOrTwo, wholeFrames}
 
--- If a conjunction holds, both of its tests hold.
 pub both-hold : (a b : Bool) → a && b ≡ true → (a ≡ true) × (b ≡ true)
 both-hold true b h = (refl, h)
 both-hold false b h = absurd (true≢false (sym h))

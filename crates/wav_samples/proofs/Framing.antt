@@ -18,7 +18,6 @@ pub place : {size n frame first width : ℕ} (k : ℕ) → Whole size n frame fi
     → k * frame + first + width ≤ size
 place {frame = frame} k w h = omega (arith, w .all, w .inside, mul-le-mul-right frame h, suc-mul k frame)
 
--- From `Framed` to `Whole` for one kind and number of channels.
 pub whole-of : {kind k : SampleKind} {channels first size n : ℕ} (c : ℕ) → Framed kind channels first size n → kind ≡ k
     → channels ≡ c
     → Whole size n (frameOf k c) first (widthOf k)

@@ -21,7 +21,6 @@ use Rattle.wav_write.specs.declared.Written.the-variants as answers
 use Rattle.wav_write.specs.Writing.{verdict, answerBy}
 use Rattle.wav_write.specs.Placing.{earlyVerdict, Room}
 
--- The first number, or the second if the first is 0.
 abbrev pub orLater : ℕ → ℕ → ℕ
 orLater zero m = m
 orLater (suc n) m = suc n

@@ -40,7 +40,6 @@ tests kind channels rate samples room =
 abbrev pub verdict : SampleKind → ℕ → ℕ → List Float → ℕ → ℕ
 verdict kind channels rate samples room = firstOf (tests kind channels rate samples room)
 
--- The length of the file, or the refusal.
 abbrev pub answerBy : ℕ → ℕ → Written
 answerBy zero n = answers.Length n
 answerBy (suc k) n = answers.Refused (suc k)
