@@ -83,7 +83,7 @@ abbrev pub AllHeads : Pieces → Type 0
 AllHeads p =
     startOf p .refusal ≡ 0 → walkedBy (layoutOf (p .opening)) (p .opening) (startOf p .end) (p .heads) .left < 8
 
--- ---- all possible answers: a C call failed, the file is empty, or what follows from the pieces
+-- ---- all possible answers: a C call failed, the file is empty or became shorter, or what follows from the pieces
 pub data Opens (r : Opened) : Type 0 where
   unread : r ≡ opened.Unread → Opens r
   empty : r ≡ opened.Empty → Opens r
