@@ -1,5 +1,5 @@
--- W12f. A WAV and an AIFF of the same stored numbers give the same floats, in either format, and the same whole
--- numbers: what a number means is said once. Assumes nothing.
+-- W12f. A WAV and an AIFF with the same stored numbers give the same floats, in either format, and the same whole
+-- numbers, because both use one definition of what a number means. Assumes nothing.
 use mathlib.Core.Path.{_≡_, sym, ap, _∙_}
 use mathlib.Core.Bool.{Bool, true, true≢false}
 use mathlib.Core.List.{List}
@@ -19,14 +19,14 @@ use Rattle.wav_samples.specs.Filling.{refusedBy, framesOf, filledBy}
 use Rattle.wav_samples.specs.Filling as wave
 use Rattle.aiff_samples.specs.Samples.{sampleOf, wholeNumber, filled, filledWhole}
 
--- the sample at a place, of the same number
+-- Equal numbers at a place are equal samples.
 same-sample : (f : Format) (kind : SampleKind) → wav.isPcm kind ≡ true → (a b : List ℕ) (at : ℕ)
     → bigNumber (widthOf kind) a at ≡ number (widthOf kind) b at → sampleOf f kind a at ≡ wav.sampleOf f kind b at
 same-sample f Pcm16 p a b at e = ap (wholeOf f 16) e
 same-sample f Pcm24 p a b at e = ap (wholeOf f 24) e
 same-sample f Float32 p a b at e = absurd (true≢false (sym p))
 
--- An AIFF's part a and a WAV's part b of n frames.
+-- Let a be an AIFF's part and b a WAV's part, both of n frames with the same numbers.
 module _ (kind : SampleKind) (pcm : wav.isPcm kind ≡ true) (channels channel n : ℕ) (a b : List ℕ)
     (long : length a ≡ length b)
     (same : (k : ℕ) → k < n

@@ -1,4 +1,4 @@
--- The bytes of a number at a place, one by one, where all of them are there. Assumes nothing.
+-- The bytes of a number at a place, one by one, if all of them lie in the slice. Assumes nothing.
 use mathlib.Core.Path.{_≡_, refl, ap, _∙_}
 use mathlib.Core.List.{List, [], _∷_}
 use Prim.Native.Nat.{ℕ, zero, suc, _+_, _≤_}

@@ -1,5 +1,5 @@
--- W12c at the file: where samples were found the part can be filled from, with a channel that is there and an element
--- for each frame. Assumes nothing.
+-- W12c for a whole file: if reading found samples, its part can be filled from, for each channel that exists and a
+-- slice with one place for each frame. Assumes nothing.
 use mathlib.Core.Path.{_≡_, refl, _∙_}
 use mathlib.Core.Bool.{Bool, true, false, cond}
 use mathlib.Core.List.{List}
@@ -17,7 +17,7 @@ use Rattle.wav_samples.specs.Filling.{wholeVerdict}
 use Rattle.wav_samples.proofs.Framing.{frames-are}
 use Rattle.wav_samples.proofs.Fillable.{whole-fillable}
 
--- the part of a sound, and how many frames it has
+-- The part of a file that holds the samples, and its number of frames.
 abbrev pub partIn : List ℕ → Sound → List ℕ
 partIn b f = take (f .length) (drop (f .start) b)
 
@@ -32,7 +32,7 @@ listed-pcm n = by (eqb n 16)
     by false = refl
 
 module _ (b : List ℕ) (f : Sound) (e : foundIn b ≡ found.Sound f) where
-  -- An AIFF has PCM alone.
+  -- An AIFF holds only PCM, so `isPcm` holds.
   pub is-pcm : isPcm (f .kind) ≡ true
   is-pcm = rw (accepted b f e .kind) (listed-pcm (bits (commOf b)))
 

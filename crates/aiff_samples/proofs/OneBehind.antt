@@ -1,4 +1,4 @@
--- Behind every sample of three bytes but that of the last frame there is a byte more in the part. Assumes nothing.
+-- Every sample of three bytes but that of the last frame is followed by another byte of the part. Assumes nothing.
 use Prim.Native.Nat.{ℕ, suc, _+_, _*_, _≤_, _<_}
 use native.Mathlib.Nat.{suc-mul, mul-le-mul-right}
 use native.Mathlib.Omega.{arith}

@@ -1,5 +1,5 @@
--- W12d. What the bytes of an AIFF's sample mean: Wish 1's meaning of a stored number, whose high byte comes first. PCM
--- alone has one. Definitions only.
+-- W12d. What the bytes of an AIFF's sample mean: the meaning of a stored number in Wish 1, with the high byte first.
+-- Only PCM has one. Definitions only.
 use Prim.Native.Nat.{ℕ, _*_}
 use mathlib.Core.List.{List}
 use lib.IntN.{ℤ}
@@ -18,7 +18,7 @@ sampleOf f kind b at = wholeOf f (widthOf kind * 8) (bigNumber (widthOf kind) b 
 abbrev pub wholeNumber : SampleKind → List ℕ → ℕ → ℤ
 wholeNumber kind b at = unitsOf (widthOf kind * 8) (bigNumber (widthOf kind) b at)
 
--- What the lent slice holds afterwards: a refusal leaves it as it was.
+-- What the lent slice holds afterwards. A refusal leaves it as it was.
 abbrev pub filled : Format → SampleKind → ℕ → ℕ → List ℕ → ℕ → List Float → List Float
 filled f kind channels channel b n old =
     filledBy (wholeVerdict kind channels channel (length b) n)

@@ -1,5 +1,5 @@
-// W12. One channel's samples, frame by frame, into a lent slice of as many places as the part has frames. A float kind,
-// which no AIFF has, is refused by 1.
+// W12. One channel's samples, frame by frame, written to a lent slice with one place for each frame of the part. A
+// float kind, which no AIFF has, is refused by 1.
 ghost use mathlib.Core.Path.{_≡_};
 ghost use lib.ListN.{length};
 ghost use lib.Ieee.{binary32, binary64};
@@ -54,7 +54,8 @@ pub fn fill_f32(kind: SampleKind, channels: u8, channel: u8, part: &[u8], out: &
     0
 }
 
-// In units of 2^-23, which the residual and demand 3 speak of: 24 bits as they are, 16 bits times 256.
+// Samples in units of 2^-23, the unit of the residual and of demand 3: 24 bits are stored as they are, 16 bits are
+// multiplied by 256.
 pub fn fill_whole(kind: SampleKind, channels: u8, channel: u8, part: &[u8], out: &mut [i32]) -> u8
     ensures { λ r. ⌜ r ≡ wholeVerdict kind channels channel (length (now (part .entry))) (length (now (out .entry))) ⌝ }
     ensures { λ _. ⌜

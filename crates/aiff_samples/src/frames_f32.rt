@@ -1,5 +1,5 @@
-// W12. One channel's samples into f32: a loop for each kind, and the bytes of a frame told to it as a constant, so that
-// a compiler takes several samples at a time.
+// W12. One channel's samples into f32. There is a loop for each kind, and each call passes the bytes of a frame as a
+// constant, so that a compiler can convert several samples at a time.
 ghost use mathlib.Core.Path.{_≡_};
 ghost use mathlib.Core.Bool.{true};
 ghost use lib.ListN.{length};
@@ -55,7 +55,7 @@ fn pcm16(frame: usize, first: usize, part: &[u8], out: &mut [f32])
     }
 }
 
-// Behind every sample but the last there is a byte more.
+// Every sample but the last is followed by a byte of the part, so one load of four bytes can read it.
 fn pcm24(frame: usize, first: usize, part: &[u8], out: &mut [f32])
     requires { ⌜ Whole (length (now part)) (length (now out)) frame first 3 ⌝ }
     ensures { λ _. ⌜

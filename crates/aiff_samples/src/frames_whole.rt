@@ -1,5 +1,5 @@
-// W12. One channel's samples into i32: a loop for each kind, and the bytes of a frame told to it as a constant, so that
-// a compiler takes several samples at a time.
+// W12. One channel's samples into i32. There is a loop for each kind, and each call passes the bytes of a frame as a
+// constant, so that a compiler can convert several samples at a time.
 ghost use mathlib.Core.Path.{_≡_};
 ghost use mathlib.Core.Bool.{true};
 ghost use Prim.Native.Nat.{_+_, _≤_};
@@ -55,8 +55,8 @@ fn pcm16(frame: usize, first: usize, part: &[u8], out: &mut [i32])
     }
 }
 
-// As `whole_samples::whole16`, but that a compiler sees the two bytes before the product: then it extends their sign
-// while it exchanges them.
+// The same as `whole_samples::whole16`, written so that a compiler sees the two bytes before the product: it can then
+// swap them and extend their sign in one step.
 fn whole16_at(part: &[u8], at: usize) -> i32
     requires { ⌜ at + 2 ≤ length (now part) ⌝ }
     ensures { λ r. ⌜ r ≡ wholeNumber Pcm16 (now (part .entry)) at ⌝ }
@@ -64,7 +64,7 @@ fn whole16_at(part: &[u8], at: usize) -> i32
     signed16(two_at(part, at)) * 256
 }
 
-// Behind every sample but the last there is a byte more.
+// Every sample but the last is followed by a byte of the part, so one load of four bytes can read it.
 fn pcm24(frame: usize, first: usize, part: &[u8], out: &mut [i32])
     requires { ⌜ Whole (length (now part)) (length (now out)) frame first 3 ⌝ }
     ensures { λ _. ⌜

@@ -1,5 +1,5 @@
-// The number of two or three bytes at a place of the part, the high byte first, where all of them are there: no length
-// is tested, so that a loop over the frames is taken several samples at a time.
+// The number of two or three bytes at a place of the part, high byte first, all of which are known to lie in it. No
+// length is tested, so that a compiler can take several samples of a loop at a time.
 ghost use mathlib.Core.Path.{_≡_};
 ghost use mathlib.Core.List.{[], _∷_};
 ghost use Prim.Native.Nat.{_+_, _*_, _/_, _%_, _≤_, _<_};
@@ -24,7 +24,7 @@ pub(crate) fn three_at(part: &[u8], at: usize) -> u32
     of_three(part[at + 2], part[at + 1], part[at])
 }
 
-// The same where a byte more is there, so that one load reads them.
+// Three bytes where a fourth follows them, so that one load reads all four.
 pub(crate) fn three_of_four_at(part: &[u8], at: usize) -> u32
     requires { ⌜ at + 4 ≤ length (now part) ⌝ }
     ensures { λ r. ⌜ r ≡ bigNumber 3 (now (part .entry)) at ⌝ }
@@ -32,8 +32,8 @@ pub(crate) fn three_of_four_at(part: &[u8], at: usize) -> u32
     first_three(low_four_at(part, at))
 }
 
-// Bytes as if the low one came first: of these a compiler makes one load, and of others it does not. It makes it in a
-// function by itself, before the caller takes the bytes in their order.
+// Bytes read low byte first, because a compiler makes one load of these and not of the other order. It does so only in
+// a function of its own, before the caller reorders the bytes.
 fn low_two_at(part: &[u8], at: usize) -> u32
     requires { ⌜ at + 2 ≤ length (now part) ⌝ }
     ensures { λ r. ⌜ r ≡ bytesValue (getD (now (part .entry)) at 0 ∷ getD (now (part .entry)) (at + 1) 0 ∷ []) ⌝ }
@@ -51,8 +51,8 @@ fn low_four_at(part: &[u8], at: usize) -> u32
     of_four(part[at], part[at + 1], part[at + 2], part[at + 3])
 }
 
-// The two bytes of a number exchanged, and the first three of four the other way round: a compiler knows both for what
-// they are.
+// `exchanged` swaps the two bytes of a number, and `first_three` reverses the first three of four. A compiler
+// recognises both as byte swaps.
 fn exchanged(n: u32) -> u32
     requires { ⌜ n < 0x1_0000 ⌝ }
     ensures { λ r. ⌜ r ≡ n % 256 * 256 + n / 256 ⌝ }

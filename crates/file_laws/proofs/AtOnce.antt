@@ -1,5 +1,5 @@
--- By turns a recording gives the answer of the whole file, in any layout, from any opening that is enough. By the laws
--- of long_turns and aiff_turns. Assumes nothing.
+-- A recording in any layout, read step by step from any opening that is long enough, gives the answer of the whole file
+-- at once. By the laws of long_turns and aiff_turns. Assumes nothing.
 use mathlib.Core.Path.{_≡_, refl, sym, ap, _∙_}
 use mathlib.Core.Bool.{Bool, true, false, cond}
 use mathlib.Core.List.{List}
@@ -24,7 +24,7 @@ use Rattle.file_layout.specs.Layouts.{isAiff}
 use Rattle.file_turns.specs.Turns.{startedAs, asWave}
 use Rattle.file_laws.specs.Whole.{byTurns, foundByTurns, foundAtOnce}
 
--- the first of a body's first 40 bytes
+-- Two ways to take the first 40 bytes of a body are equal.
 first-of : (n : ℕ) (l : List ℕ) → take (min n 40) l ≡ take 40 (take n l)
 first-of n l = by (leb 40 n) refl
   where
@@ -67,7 +67,7 @@ module _ (o b : List ℕ) where
       ∙ as-aiff (aiff.startedOf (take 12 b) (length b) .refusal) (aiff.startedOf (take 12 b) (length b) .end)
       ∙ ap asWave (aiff-laws.by-turns b)
 
--- The opening is a beginning of the file, and holds what its letters ask for.
+-- The opening is a prefix of the file, and as long as its letters require.
 pub record Enough (o b : List ℕ) : Type 0 where
   pub shorter : length o ≤ length b
   pub same : take (length o) o ≡ take (length o) b

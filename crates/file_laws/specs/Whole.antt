@@ -1,5 +1,5 @@
--- A whole file by turns, in any layout: each turn is lent the opening and the 8 bytes at its place, and at the end the
--- first bytes of the two chunks that are sought. Definitions only.
+-- A whole file in any layout, read step by step: each step is lent the opening and the 8 bytes at its place, and at the
+-- end the first bytes of the chunk that describes the samples and of the one that holds them. Definitions only.
 use Prim.Native.Nat.{ℕ, zero, suc, _-_, min}
 use mathlib.Core.Bool.{cond}
 use mathlib.Core.List.{List}
@@ -19,7 +19,7 @@ abbrev pub turnsOf : Layout → List ℕ → List ℕ → ℕ → ℕ → Walkin
 turnsOf layout opening b end =
     turnsBy (λ (w : Walking). turnedIn layout opening w end (take 8 (drop (end - w .left) b)))
 
--- As many of a body's first bytes as are looked at, fewer where it has fewer.
+-- The first `most` bytes of a body, or all if it has fewer.
 abbrev pub headIn : ℕ → List ℕ → Spot → List ℕ
 headIn most b s = take (min (s .size) most) (drop (s .body) b)
 
@@ -33,6 +33,6 @@ abbrev pub foundByTurns : Layout → List ℕ → List ℕ → ℕ → Found
 foundByTurns layout opening b size =
     byTurns (begunIn layout opening size .refusal) layout opening (begunIn layout opening size .end) b
 
--- The answer of the whole file at once: Wish 12's, or Wish 10's, which is Wish 1's of a RIFF.
+-- The answer of the whole file at once: that of Wish 12, or that of Wish 10, which for a RIFF is that of Wish 1.
 abbrev pub foundAtOnce : Layout → List ℕ → Found
 foundAtOnce layout b = cond (isAiff layout) (asWave (foundIn b)) (headerWrapped b (length b))

@@ -1,2 +1,2 @@
-// W10c, W12. Laws over file_turns, no code: a recording read by turns, whichever layout it has, gives the answer of the
+// W10c, W12. Laws over file_turns, no code: a recording in any layout, read step by step, gives the same answer as the
 // whole file at once.

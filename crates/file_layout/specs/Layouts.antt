@@ -1,4 +1,4 @@
--- Which layout a recording has, by its first four letters. Definitions only.
+-- The layout of a recording, from its first four letters. Definitions only.
 use Prim.Native.Nat.{ℕ}
 use mathlib.Core.Bool.{Bool, true, false, cond}
 use mathlib.Core.List.{List}
@@ -9,7 +9,7 @@ use Rattle.aiff.specs.Aiff.{formId}
 use Rattle.file_layout.specs.declared.Layout.{Layout}
 use Rattle.file_layout.specs.declared.Layout.the-variants.{Riff, Rf64, Bw64, Aiff}
 
--- `FORM`, `RF64`, `BW64`; whatever else is read as RIFF, which refuses by 9 what is none.
+-- `FORM`, `RF64` and `BW64` are known here. Every other file is read as RIFF, where 9 refuses what is none.
 abbrev pub layoutBy : ℕ → Layout
 layoutBy id = cond (eqb id formId) Aiff (cond (eqb id rf64Id) Rf64 (cond (eqb id bw64Id) Bw64 Riff))
 
@@ -22,7 +22,7 @@ isAiff Rf64 = false
 isAiff Bw64 = false
 isAiff Aiff = true
 
--- How many bytes are looked at of the chunk that describes the samples, and of the one that holds them.
+-- How many bytes are read of the chunk that describes the samples, and of the one that holds them.
 abbrev pub formatBytes : Layout → ℕ
 formatBytes layout = cond (isAiff layout) 18 40
 

@@ -1,4 +1,4 @@
-// Which layout a recording has, by its first four letters. What has none of these letters counts as RIFF, whose reading
+// The layout of a recording, from its first four letters. A file with other letters counts as RIFF, whose reading
 // refuses it.
 ghost use mathlib.Core.Path.{_≡_};
 ghost use Rattle.file_layout.specs.Layouts.{layoutBy, layoutOf, isAiff, formatBytes, samplesBytes};
@@ -33,7 +33,7 @@ fn layout_by(id: u32) -> Layout
     Layout::Riff
 }
 
-// The one layout whose samples have their high byte first.
+// Whether the samples have their high byte first, which is so in AIFF only.
 pub fn is_aiff(layout: Layout) -> bool
     ensures { λ r. ⌜ r ≡ isAiff layout ⌝ }
 {
@@ -45,7 +45,7 @@ pub fn is_aiff(layout: Layout) -> bool
     }
 }
 
-// How many of the first bytes of `fmt ` or `COMM` are looked at, and of `data` or `SSND`.
+// How many of the first bytes of `fmt ` or `COMM` are read, and how many of `data` or `SSND`.
 pub fn format_bytes(layout: Layout) -> usize
     ensures { λ r. ⌜ r ≡ formatBytes layout ⌝ }
 {

@@ -1,4 +1,4 @@
--- Fewer bytes are left after a turn, in any layout, so that a walk ends. Assumes nothing.
+-- In any layout fewer bytes are left after each step, so a walk ends. Assumes nothing.
 use mathlib.Core.Bool.{Bool, true, false, cond}
 use mathlib.Core.List.{List}
 use Prim.Native.Nat.{ℕ, _≤_, _<_}

@@ -1,5 +1,5 @@
--- W10c, W12. The header of a recording by turns, whichever layout it has: an AIFF's as W12 reads it, every other's as
--- W10 does. Definitions only.
+-- W10c, W12. The header of a recording in any layout, read step by step: an AIFF's as in W12, every other as in W10.
+-- Definitions only.
 use Prim.Native.Nat.{ℕ}
 use mathlib.Core.Bool.{cond}
 use mathlib.Core.List.{List}
@@ -23,7 +23,7 @@ use Rattle.file_layout.specs.declared.Layout.{Layout}
 use Rattle.file_layout.specs.Layouts.{isAiff}
 use Rattle.file_turns.specs.declared.Told.{Told}
 
--- What the first bytes and the file's length tell.
+-- The beginning of the walk, from the first bytes and the length of the file.
 abbrev pub startedAs : List ℕ → ℕ → Begun
 startedAs b size =
     record { refusal = aiff.startedOf (take 12 b) size .refusal; end = aiff.startedOf (take 12 b) size .end }
@@ -31,11 +31,11 @@ startedAs b size =
 abbrev pub begunIn : Layout → List ℕ → ℕ → Begun
 begunIn layout b size = cond (isAiff layout) (startedAs b size) (begunOf b size)
 
--- One chunk more, by its first 8 bytes.
+-- One more chunk, from its first 8 bytes.
 abbrev pub turnedIn : Layout → List ℕ → Walking → ℕ → List ℕ → Walking
 turnedIn layout b w end head = cond (isAiff layout) (aiff.turnedBy w end head) (long.turnedBy b w end head)
 
--- The answer. An AIFF's part is described as a WAV's is.
+-- The answer. The part of an AIFF is described in the same way as that of a WAV.
 abbrev pub waveOf : Sound → Wave
 waveOf f =
     record { kind = f .kind; channels = f .channels; rate = f .rate; start = f .start; length = f .length }
@@ -48,7 +48,7 @@ abbrev pub finishedIn : Layout → Walked → ℕ → List ℕ → List ℕ → 
 finishedIn layout w end format samples =
     cond (isAiff layout) (asWave (aiff.finishedOf w end format samples)) (wav.finishedOf w format)
 
--- For who explains a refusal: a `COMM` says no tag and no bytes of a frame, and 0 stands there.
+-- What a message about a refusal needs. A `COMM` has no tag and no frame width, so these are 0.
 abbrev pub commTold : List ℕ → Told
 commTold c = record { tag = 0; channels = bigNumber 2 c 0; block = 0; bits = bigNumber 2 c 6 }
 

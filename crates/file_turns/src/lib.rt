@@ -1,6 +1,6 @@
-// W10c, W12. The header of a recording by turns, whichever layout it has: an AIFF's by aiff_turns, every other by
-// long_turns. The file's first bytes are lent at each turn, then the 8 at the head of each chunk, then the first of the
-// two chunks that are sought.
+// W10c, W12. The header of a recording in any layout, read step by step: an AIFF's by aiff_turns, every other by
+// long_turns. The first bytes of the file are lent at each step, then the 8 bytes at the head of each chunk, then the
+// first bytes of the chunk that describes the samples and of the one that holds them.
 ghost use mathlib.Core.Path.{_≡_};
 ghost use Rattle.file_turns.specs.Turns.{begunIn, turnedIn, finishedIn, waveOf, asWave};
 ghost use Rattle.file_turns.specs.Turns.{commTold, fmtTold, toldBy};
@@ -15,7 +15,7 @@ use wav::Found;
 use wav::Wave;
 use wav_opening::Begun;
 
-// What `fmt ` or `COMM` says of the samples. A `COMM` says no tag and no bytes of a frame: 0 stands there.
+// What `fmt ` or `COMM` says of the samples. A `COMM` has no tag and no frame width, so these are 0.
 pub struct Told {
     pub tag: u32,
     pub channels: u32,
@@ -23,7 +23,8 @@ pub struct Told {
     pub bits: u32,
 }
 
-// A refusal, 0 for none, and where the walk over the chunks ends, which then begins by `riff_chunks::begin(end)`.
+// The refusal, 0 for none, and the place where the walk over the chunks ends. The walk then begins with
+// `riff_chunks::begin(end)`.
 pub fn begin(layout: Layout, opening: &[u8], length: usize) -> Begun
     ensures { λ r. ⌜ r ≡ begunIn layout (now (opening .entry)) length ⌝ }
 {
@@ -37,7 +38,7 @@ pub fn begin(layout: Layout, opening: &[u8], length: usize) -> Begun
     wav_opening::begin(opening, length)
 }
 
-// One chunk more: `head` is the 8 bytes at the place `end` less what is left.
+// One more chunk; `head` is the 8 bytes at the place `end` less what is left.
 pub fn turn(layout: Layout, opening: &[u8], walking: Walking, end: usize, head: &[u8]) -> Walking
     ensures { λ r. ⌜ r ≡ turnedIn layout (now (opening .entry)) walking end (now (head .entry)) ⌝ }
 {
@@ -47,7 +48,8 @@ pub fn turn(layout: Layout, opening: &[u8], walking: Walking, end: usize, head: 
     long_turns::turn(opening, walking, end, head)
 }
 
-// What the walk and the first bytes of both chunks tell: a refusal, or the part that holds samples and what they are.
+// The answer, from the walk and the first bytes of both chunks: a refusal, or the part that holds the samples and what
+// they are.
 pub fn finish(layout: Layout, walked: Walked, end: usize, format: &[u8], samples: &[u8]) -> Found
     ensures { λ r. ⌜ r ≡ finishedIn layout walked end (now (format .entry)) (now (samples .entry)) ⌝ }
 {
@@ -79,7 +81,7 @@ fn wave_of(sound: Sound) -> Wave
     }
 }
 
-// For who explains a refusal; zeros where the chunk's bytes are missing.
+// What a message about a refusal needs. The numbers are zeros if the bytes of the chunk are missing.
 pub fn told_of(layout: Layout, format: &[u8]) -> Told
     ensures { λ r. ⌜ r ≡ toldBy layout (now (format .entry)) ⌝ }
 {

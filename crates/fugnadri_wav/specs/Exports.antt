@@ -1,5 +1,5 @@
--- W1. What stands in the exports' contracts: an answer as a number and plain numbers, zeros where it is a refusal, and
--- a kind by its code. A record has all that its export may write, so that one equation gives it. Definitions only.
+-- W1. What the contracts of the exports name: an answer as plain numbers, zeros for a refusal, and a kind by its code.
+-- A record holds everything that its export may write, so that one equation states it. Definitions only.
 use Prim.Native.Nat.{ℕ}
 use mathlib.Core.Bool.{cond}
 use lib.Dec.{leb}
@@ -18,7 +18,7 @@ abbrev pub waveOf : Found → Wave
 waveOf (found.Wave w) = w
 waveOf (found.Refused k) = record { kind = Pcm16; channels = 0; rate = 0; start = 0; length = 0 }
 
--- What a reading leaves: the refusal's number, which it returns, 0 for none, and what was found.
+-- What a reading leaves: the refusal number that it returns, 0 for none, and what was found.
 pub record Left : Type 0 where
   pub refusal : ℕ
   pub kind : ℕ
@@ -36,11 +36,11 @@ leftBy f =
     let w = waveOf f in
     leaves (numberOf f) (codeOf (w .kind)) (w .channels) (w .rate) (w .start) (w .length)
 
--- What a `fmt ` tells.
+-- The numbers of a `fmt `.
 abbrev pub tells : ℕ → ℕ → ℕ → ℕ → ℕ → ℕ → Told
 tells size tag channels block bits samples =
     record { size = size; tag = tag; channels = channels; block = block; bits = bits; samples = samples }
 
--- A code that is none of the three has no channels, so that it is refused by 1.
+-- A code that is none of the three counts as having no channels, so that 1 refuses it.
 abbrev pub channelsOf : ℕ → ℕ → ℕ
 channelsOf n channels = cond (leb n 2) channels 0

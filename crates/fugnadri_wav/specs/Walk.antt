@@ -1,5 +1,5 @@
--- W10c. What stands in the contracts of the exports that read by turns: a walk on its way as six numbers. A chunk that
--- was seen has a place above 0, as every file begins with other bytes. Definitions only.
+-- W10c. What the contracts of the exports that read step by step name: the state of a walk as six numbers. The place of
+-- a chunk that was seen is above 0, because every file begins with its letters. Definitions only.
 use Prim.Native.Nat.{ℕ}
 use mathlib.Core.Bool.{Bool, true, false, not}
 use mathlib.Core.List.{List}
@@ -11,7 +11,7 @@ use Rattle.riff_chunks.specs.Walk.{begun}
 use Rattle.wav_opening.specs.declared.Begun.{Begun}
 use Rattle.long_turns.specs.Turns.{turnedBy}
 
--- ---- the beginning: the refusal's number, which is returned, the walk's end, and what is left before it
+-- ---- the beginning: the refusal number that is returned, the end of the walk, and the bytes left before it
 pub record Begins : Type 0 where
   pub refusal : ℕ
   pub end : ℕ
@@ -23,7 +23,7 @@ begins refusal end left = record { refusal = refusal; end = end; left = left }
 abbrev pub beginsBy : Begun → Begins
 beginsBy b = begins (b .refusal) (b .end) (begun (b .end) .left)
 
--- ---- a walk on its way
+-- ---- the state of a walk
 pub record Walk : Type 0 where
   pub left : ℕ
   pub overruns : ℕ
@@ -71,6 +71,6 @@ walkOf w =
     walk (w .left) (flag (seen .overruns)) (seen .format .body) (seen .format .size) (seen .samples .body)
     (seen .samples .size)
 
--- One chunk more.
+-- The walk after one more chunk.
 abbrev pub walkAfter : List ℕ → ℕ → List ℕ → Walk → Walk
 walkAfter opening end head w = walkOf (turnedBy opening (walkingFrom w) end head)

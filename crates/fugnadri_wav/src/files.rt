@@ -1,5 +1,5 @@
-// W1. A file read: the refusal's number, 0 for none, and what was found, zeros where it is refused. What its `fmt `
-// tells, refused or not, is for who explains a refusal.
+// W1. Reading a whole file: returns the refusal number, 0 for none, and writes what was found, zeros if refused. What
+// its `fmt ` says is handed out even if the file is refused, so that a caller can explain the refusal.
 ghost use mathlib.Core.Path.{_≡_};
 ghost use Rattle.wav.specs.Wave.{foundIn, foundWrapped, toldIn};
 ghost use Rattle.fugnadri_wav.specs.Exports.{numberOf, waveOf, leaves, leftBy, tells};
@@ -24,7 +24,7 @@ pub extern "C" fn fugnadri_wav_read(
     hand_out(wav::read(file), kind, channels, rate, start, size)
 }
 
-// A kind that is wrapped, tag FFFE, is read by what is inside.
+// The same, except that a kind inside WAVE_FORMAT_EXTENSIBLE, tag FFFE, is read by the tag inside.
 #[no_mangle]
 pub extern "C" fn fugnadri_wav_read_wrapped(
     file: &[u8],
@@ -41,7 +41,8 @@ pub extern "C" fn fugnadri_wav_read_wrapped(
     hand_out(wav::read_wrapped(file), kind, channels, rate, start, size)
 }
 
-// It refuses nothing: zeros where there is no `fmt ` or no `data`.
+// Writes what `fmt ` says, and the size of `data`. Nothing is refused: the numbers of a chunk that is missing are
+// zeros.
 #[no_mangle]
 pub extern "C" fn fugnadri_wav_told(
     file: &[u8],

@@ -1,5 +1,5 @@
-// W10. A file of any length, RIFF, RF64 or BW64, by its first bytes: the refusal's number, 0 for none, and what was
-// found, zeros where it is refused. The file's length is a number that is handed in.
+// W10. Reading a file of any length, RIFF, RF64 or BW64, from its first bytes: returns the refusal number, 0 for none,
+// and writes what was found, zeros if refused. The caller passes the file's length as a number.
 ghost use mathlib.Core.Path.{_≡_};
 ghost use Rattle.long_wav.specs.Reading.{needsOf, headerIn, headerWrapped};
 ghost use Rattle.fugnadri_wav.specs.Exports.{leaves, leftBy};
@@ -23,7 +23,7 @@ pub extern "C" fn fugnadri_wav_read_header(
     hand_out(found, kind, channels, rate, start, size)
 }
 
-// A kind that is wrapped, tag FFFE, is read by what is inside.
+// The same, except that a kind inside WAVE_FORMAT_EXTENSIBLE, tag FFFE, is read by the tag inside.
 #[no_mangle]
 pub extern "C" fn fugnadri_wav_read_header_wrapped(
     prefix: &[u8],
@@ -42,7 +42,7 @@ pub extern "C" fn fugnadri_wav_read_header_wrapped(
     hand_out(found, kind, channels, rate, start, size)
 }
 
-// How many of the file's first bytes are to be handed in where 2 is due, 0 where enough are at hand.
+// How many of the file's first bytes the caller must lend after a refusal by 2, or 0 if enough are lent.
 #[no_mangle]
 pub extern "C" fn fugnadri_wav_needs(prefix: &[u8], length: usize) -> usize
     ensures { λ r. ⌜ r ≡ needsOf (now (prefix .entry)) length ⌝ }

@@ -1,4 +1,4 @@
-// W1. One channel's samples into a lent slice: the refusal's number, 0 for none.
+// W1. One channel's samples written to a lent slice. Each function returns the refusal number, 0 for none.
 ghost use mathlib.Core.Path.{_≡_};
 ghost use lib.ListN.{length};
 ghost use lib.Ieee.{binary32, binary64};
@@ -44,7 +44,7 @@ pub extern "C" fn fugnadri_wav_samples_f32(
     filling::fill_f32(k, n, channel, part, &mut out[..])
 }
 
-// In units of 2^-23, as the residual takes them. A float kind is refused by 1.
+// The unit is 2^-23, which the residual takes. A float kind is refused by 1.
 #[no_mangle]
 pub extern "C" fn fugnadri_wav_whole(
     kind: u8,

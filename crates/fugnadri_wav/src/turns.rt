@@ -1,6 +1,6 @@
-// W10c. The same by turns, where a file is too long to be held. A walk on its way is six numbers: how many bytes are
-// left before its end, whether a chunk ran past that, and place and size of the first `fmt ` and of the first `data`,
-// zeros where none was seen. Before the first turn the last five are 0.
+// W10c. Reading step by step, for files that are too long to be held. The state of a walk is six numbers: the bytes
+// that are left before its end, whether a chunk ran past the end, and the place and the size of the first `fmt ` and of
+// the first `data`, zeros if none was seen. Before the first step the last five are 0.
 ghost use mathlib.Core.Path.{_≡_};
 ghost use Rattle.wav_opening.specs.Opening.{begunOf};
 ghost use Rattle.wav_turns.specs.Turns.{finishedOf};
@@ -12,7 +12,8 @@ use riff_chunks::Spot;
 use riff_chunks::Walked;
 use riff_chunks::Walking;
 
-// Refused by what the opening tells: 1, 2, 9, 18, 19, or 10 of the RIFF. Else the walk's end and what is left.
+// Refuses by 1, 2, 9, 18, 19, or 10 for the RIFF's size; otherwise writes the end of the walk and the bytes that are
+// left before it.
 #[no_mangle]
 pub extern "C" fn fugnadri_wav_begin(
     opening: &[u8],
@@ -30,7 +31,7 @@ pub extern "C" fn fugnadri_wav_begin(
     begun.refusal
 }
 
-// One chunk more, by the 8 bytes at the place `end` less what is left. Where fewer than 8 are left the walk is over.
+// One more chunk, from the 8 bytes at the place `end` less what is left. If fewer than 8 are left the walk is over.
 #[no_mangle]
 pub extern "C" fn fugnadri_wav_turn(
     opening: &[u8],
@@ -66,7 +67,7 @@ pub extern "C" fn fugnadri_wav_turn(
     *samples_size = s.size;
 }
 
-// Refused by 10 to 13, or what was found. `fmt` is the first 40 bytes of `fmt `, or all of it.
+// Refuses by 10 to 13, or writes what was found. `fmt` is the first 40 bytes of `fmt `, or all of it if it is shorter.
 #[no_mangle]
 pub extern "C" fn fugnadri_wav_finish(
     overruns: u8,

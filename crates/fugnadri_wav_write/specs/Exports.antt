@@ -1,6 +1,6 @@
--- W2, W10. What the exports' contracts name: a kind and a form by their codes, an answer as plain numbers, and all that
--- an export may write as one record, so that one equation gives it. A code above 2 is no kind's: it is refused by 13,
--- or by 1 if that is due for the rate or for broken frames, since its samples have no width. Definitions only.
+-- W2, W10. What the contracts of the exports name: a kind and a form by their codes, an answer as plain numbers, and
+-- everything that an export may write as one record, so that one equation states it. A code above 2 is no kind's: it is
+-- refused by 13, or by 1 for the rate or for broken frames, since its samples have no width. Definitions only.
 use Prim.Native.Nat.{ℕ}
 use mathlib.Core.Bool.{cond}
 use mathlib.Core.List.{List}
@@ -18,7 +18,7 @@ use Rattle.wav_write.specs.declared.Written.{Written}
 use Rattle.wav_write.specs.declared.Written.the-variants as answers
 use Rattle.wav_write.specs.Writing.{answerOf, written}
 
--- 0 is RF64, 1 BW64. A code above 1 is no form's: it has no rate, so that 1 is due.
+-- 0 is RF64 and 1 is BW64. For a code above 1 the rate counts as 0, so that 1 refuses it.
 abbrev pub formOf : ℕ → Form
 formOf form = cond (eqb form 0) Rf64 Bw64
 
@@ -39,7 +39,6 @@ abbrev pub numberOf : Written → ℕ
 numberOf (answers.Length n) = 0
 numberOf (answers.Refused k) = k
 
--- 0 where none is written.
 abbrev pub sizeOf : Written → ℕ
 sizeOf (answers.Length n) = n
 sizeOf (answers.Refused k) = 0
@@ -52,7 +51,7 @@ fileLeft form code channels rate samples old =
     (written (formOf form) (kindOf code) channels (rateFor form rate) samples old))
     (leaves (unlistedVerdict channels (rateFor form rate) (length samples)) 0 old)
 
--- ---- its parts, which tell no length
+-- ---- its parts, which answer no length
 pub record Block : Type 0 where
   pub refusal : ℕ
   pub bytes : List ℕ
@@ -70,7 +69,7 @@ headerLeft form code channels rate count old =
 abbrev pub headerLengthOf : ℕ → ℕ → ℕ
 headerLengthOf code count = cond (leb code 2) (headerLengthFor (kindOf code) count) 0
 
--- A block of samples of an unknown kind has no length that could be wrong: 13.
+-- A block of samples of an unknown kind is refused by 13, because no length of it could be tested.
 abbrev pub blockLeft : ℕ → List Float → List ℕ → Block
 blockLeft code samples old =
     cond (leb code 2)

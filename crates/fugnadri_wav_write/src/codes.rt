@@ -1,4 +1,4 @@
-// W2f, W10f. A kind's code above 2 is no kind's, and a form's above 1 is no form's.
+// W2f, W10f. Which codes are known: a kind's are 0 to 2, and a form's are 0 and 1.
 ghost use mathlib.Core.Path.{_≡_};
 ghost use lib.Dec.{leb};
 ghost use Rattle.fugnadri_wav_write.specs.Exports.{formOf, rateFor};
@@ -16,7 +16,7 @@ pub(crate) fn form_of(form: u8) -> Form
     if form == 0 { Form::Rf64 } else { Form::Bw64 }
 }
 
-// A code that is no form's has no rate, so that 1 is due whatever else is.
+// The rate counts as 0 if the form's code is unknown, so that 1 refuses the call before any other test.
 pub(crate) fn rate_for(form: u8, rate: u32) -> u32
     ensures { λ r. ⌜ r ≡ rateFor form rate ⌝ }
 {

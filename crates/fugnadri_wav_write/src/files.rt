@@ -1,5 +1,5 @@
-// W2, W10e. A whole file into a lent buffer: the refusal's number, 0 for none, and the file's length, 0 where it is
-// refused.
+// W2, W10e. Writing a whole file into a lent buffer: returns the refusal number, 0 for none, and writes the file's
+// length, 0 if refused.
 ghost use mathlib.Core.Path.{_≡_};
 ghost use Rattle.fugnadri_wav_write.specs.Exports.{leaves, fileLeft, numberOf, sizeOf, lengthOf};
 use crate::codes::form_of;
@@ -59,8 +59,7 @@ pub extern "C" fn fugnadri_wav_write_f32(
     refusal_unlisted(channels, hertz, samples.len())
 }
 
-// How long a file of `count` samples is, over all channels; 0 where it would be refused by 1, 19 or 13 whatever the
-// rate.
+// The length of a file of `count` samples over all channels, or 0 if 1, 19 or 13 refuses it at every rate.
 #[no_mangle]
 pub extern "C" fn fugnadri_wav_file_length(kind: u8, channels: u8, count: usize) -> usize
     ensures { λ r. ⌜ r ≡ lengthOf kind channels count ⌝ }

@@ -1,5 +1,5 @@
-// W2, W10. A file's header and its samples apart, for who writes a file piece by piece: the refusal's number, 0 for
-// none.
+// W2, W10. The header and the samples of a file apart, for callers that write a file piece by piece. Each function that
+// writes returns the refusal number, 0 for none.
 ghost use mathlib.Core.Path.{_≡_};
 ghost use Rattle.fugnadri_wav_write.specs.Exports.{holds, headerLeft, headerLengthOf, blockLeft};
 use crate::codes::form_of;
@@ -8,7 +8,8 @@ use crate::codes::rate_for;
 use sample_kind::of_code;
 use wav_header::refusal_unlisted;
 
-// How many bytes stand before `count` samples: 44 for PCM, 58 for float, 36 more past RIFF; 0 for an unknown kind.
+// The length of the header before `count` samples: 44 for PCM, 58 for float, 36 more past RIFF, or 0 for an unknown
+// kind.
 #[no_mangle]
 pub extern "C" fn fugnadri_wav_header_length(kind: u8, count: usize) -> usize
     ensures { λ r. ⌜ r ≡ headerLengthOf kind count ⌝ }
@@ -19,7 +20,7 @@ pub extern "C" fn fugnadri_wav_header_length(kind: u8, count: usize) -> usize
     0
 }
 
-// The bytes before the samples, `count` of them over all channels.
+// Writes the header. `count` is the number of samples over all channels.
 #[no_mangle]
 pub extern "C" fn fugnadri_wav_header(
     form: u8,
@@ -40,7 +41,7 @@ pub extern "C" fn fugnadri_wav_header(
     refusal_unlisted(channels, hertz, count)
 }
 
-// A block of samples as they are stored.
+// Writes a block of samples as they are stored in a file.
 #[no_mangle]
 pub extern "C" fn fugnadri_wav_store(kind: u8, samples: &[f64], out: &mut [u8]) -> u8
     ensures { λ r. ⌜ holds r (now (out .exit)) ≡ blockLeft kind (now (samples .entry)) (now (out .entry)) ⌝ }

@@ -1,4 +1,4 @@
--- One byte more behind a number whose high byte comes first. Assumes nothing.
+-- Appending a byte to a number whose high byte comes first multiplies it by 256 and adds the byte. Assumes nothing.
 use mathlib.Core.Path.{_≡_, ap, _∙_}
 use mathlib.Core.List.{List, [], _∷_, _++_, reverse-append}
 use Prim.Native.Nat.{ℕ, suc, _+_, _*_, _<_}

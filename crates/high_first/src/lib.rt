@@ -1,5 +1,5 @@
-// W12. Numbers of two, four and eight bytes, the high byte first, at a place of a slice: fewer bytes where it ends
-// before.
+// W12. Numbers of two, four and eight bytes, high byte first, read at a place of a slice. If the slice ends earlier,
+// only the bytes before its end are read.
 ghost use mathlib.Core.Path.{_≡_};
 ghost use Prim.Native.Nat.{_^_, _<_, _≤_};
 ghost use lib.ListN.{length};

@@ -1,6 +1,6 @@
--- W10d, W10e. What `header_of` writes is read back by `read_header`, RIFF or past it, with sizes up to 2^40; and a
--- file that fits RIFF has Wish 2's header. RIFF's case is Wish 2's own law, Wish 1's reading and the bytes before the
--- samples. Assumes nothing.
+-- W10d, W10e. What `header_of` writes is read back by `read_header`, in RIFF or past it, with sizes up to 2^40; and a
+-- file that fits RIFF has the header of Wish 2. The case of RIFF follows from the law of Wish 2, since only the bytes
+-- before the samples are read. Assumes nothing.
 use mathlib.Core.Path.{_≡_, refl, sym, ap, _∙_}
 use mathlib.Core.Bool.{Bool, true, false, true≢false, cond, _&&_, _||_}
 use mathlib.Core.List.{List, [], _∷_, _++_, append-nil}
@@ -39,7 +39,7 @@ use Rattle.long_header.specs.Refusals.{sizeOk, fileTests, fileVerdictFor}
 use Rattle.wav_write.proofs.Planned.{length-long}
 use Rattle.long_back.proofs.Read.{Fits, longWave, read-plain, read-wrapped}
 
--- W10e. A file that fits RIFF has Wish 2's header and length.
+-- W10e. A file that fits RIFF has the header and the length of Wish 2.
 pub riff-header : (form : Form) (kind : SampleKind) (channels rate count : ℕ) → fitsRiff kind count ≡ true
     → headerFor form kind channels rate count ≡ headerOf kind channels rate count
 riff-header form kind channels rate count f = rw f
@@ -48,7 +48,7 @@ pub riff-length : (kind : SampleKind) (count : ℕ) → fitsRiff kind count ≡ 
     → fileLengthFor kind count ≡ fileLength kind count
 riff-length kind count f = rw f
 
--- RIFF's letters are not RF64's
+-- A header that begins with `RIFF` is not read as RF64 or BW64.
 not-long : (kind : SampleKind) (channels rate count : ℕ) (rest : List ℕ)
     → isLong (headerOf kind channels rate count ++ rest) ≡ false
 unfolding lowBytes bytesValue headerOf
@@ -67,7 +67,7 @@ module _ (kind : SampleKind) (channels rate count : ℕ) (p : Planned kind chann
   unfolding file behind
   file-long = simp (length-append, length-replicate, length-header kind channels rate count) (omega arith)
 
-  -- the header alone, by a reading that finds the file as Wish 1 does
+  -- Reading the header alone, for any reading that finds the file as Wish 1 does.
   riff-read : (told : List ℕ → ℕ → ℕ) → foundBy told file ≡ found.Wave (waveFor kind channels rate count)
       → headerBy told (headerOf kind channels rate count) (fileLength kind count)
       ≡ found.Wave (waveFor kind channels rate count)
@@ -80,7 +80,7 @@ module _ (kind : SampleKind) (channels rate count : ℕ) (p : Planned kind chann
       ∙ ap (λ (b : List ℕ). headerBy told b (length file)) (sym front)
       ∙ prefix-decides told file (length file) (waveFor kind channels rate count) whole
 
--- ---- what the tests tell
+-- ---- what follows from the tests
 between : (channels : ℕ) → oneOrTwo channels ≡ true → (1 ≤ channels) × (channels ≤ 2)
 between channels h = by (eqb channels 1) (eqb channels 2) refl refl h
   where
@@ -115,7 +115,7 @@ module _ (form : Form) (kind : SampleKind) (channels rate count : ℕ) (z : file
         small = leb-true (sizeOf kind count) (2 ^ 40) (test 1);
       }
 
-  -- by either reading
+  -- For either reading.
   either : (told : List ℕ → ℕ → ℕ)
       → ((p : Planned kind channels rate count)
       → foundBy told (file kind channels rate count p) ≡ found.Wave (waveFor kind channels rate count))
@@ -143,7 +143,7 @@ module _ (form : Form) (kind : SampleKind) (channels rate count : ℕ) (z : file
   room : length (longHeaderOf form kind channels rate count ++ []) ≡ longHeaderLength kind
   room = ap length (append-nil (longHeaderOf form kind channels rate count)) ∙ length-long form kind channels rate count
 
-  -- W10d. What is written is read back.
+  -- W10d. What was written is read back.
   pub back-plain : headerIn (headerFor form kind channels rate count) (fileLengthFor kind count)
       ≡ found.Wave (waveOfAny kind channels rate count)
   unfolding file

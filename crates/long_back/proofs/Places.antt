@@ -1,5 +1,5 @@
--- W10d. The chunks of a written RF64 or BW64 at their places: `ds64` at 12, `fmt ` at 48, for float `fact` at 74, then
--- `data`, whatever stands behind. Kind by kind, by computing. Assumes nothing.
+-- W10d. The chunks of a written RF64 or BW64 are at their places, whatever bytes follow: `ds64` at 12, `fmt ` at 48,
+-- for float `fact` at 74, then `data`. Kind by kind, by computing. Assumes nothing.
 use mathlib.Core.Path.{_≡_, refl, ap, _∙_}
 use mathlib.Core.Bool.{true}
 use mathlib.Core.List.{List, _++_}
@@ -43,7 +43,7 @@ module _ (channels rate count : ℕ) (rest : List ℕ) where
   abbrev pub bytes : Form → SampleKind → List ℕ
   bytes form kind = longHeaderOf form kind channels rate count ++ rest
 
-  -- the RIFF's true size
+  -- The true size of the RIFF.
   abbrev pub riffOf : SampleKind → ℕ
   riffOf kind = longHeaderLength kind + sizeOf kind count + padOf kind count - 8
 
@@ -153,7 +153,7 @@ module _ (channels rate count : ℕ) (rest : List ℕ) where
   data-at Bw64 Pcm24 h = chunk-is _ dataId 80 _ (sizeOf Pcm24 count) refl (bytes-back 8 (sizeOf Pcm24 count) h)
   data-at Bw64 Float32 h = chunk-is _ dataId 94 _ (sizeOf Float32 count) refl (bytes-back 8 (sizeOf Float32 count) h)
 
-  -- the body of `fmt ` is the one of Wish 2
+  -- The body of `fmt ` is that of Wish 2.
   pub body-same : (form : Form) (kind : SampleKind)
       → drop 56 (bytes form kind)
       ≡ drop 20 (startFor kind channels rate 0 ++ (middle kind full ++ (dataFor full ++ rest)))

@@ -1,6 +1,6 @@
--- W10d. A written RF64 or BW64 is read back by its header: the same kind, channels and rate, the samples behind the
--- header and as many bytes of them, by both readings and whatever stands behind. From the walk and the fields.
--- Assumes nothing.
+-- W10d. A written RF64 or BW64 is read back from its header by both readings, whatever bytes follow it: the same kind,
+-- channels and rate, and the place and the number of bytes of its samples. From the walk and the fields. Assumes
+-- nothing.
 use mathlib.Core.Path.{_≡_, refl, sym, ap, _∙_}
 use mathlib.Core.Bool.{Bool, true, false, not, cond, _&&_}
 use mathlib.Core.List.{List, [], _∷_, _++_}
@@ -39,12 +39,12 @@ use Rattle.long_back.proofs.Places.{bytes, riffOf, is-long, letters, ri
 use Rattle.long_back.proofs.Places.{no-entries, true-riff, true-data, body-same}
 use Rattle.long_back.proofs.Walk.{seen, walked, walked-is, seen-is, heads-there}
 
--- What is read of a file of so many samples past RIFF.
+-- The answer for a file of `count` samples past RIFF.
 abbrev pub longWave : SampleKind → ℕ → ℕ → ℕ → Wave
 longWave kind channels rate count =
     record { kind = kind; channels = channels; rate = rate; start = longHeaderLength kind; length = sizeOf kind count }
 
--- what is known of a file that is not refused
+-- What follows if the file is not refused.
 pub record Fits (kind : SampleKind) (channels rate count : ℕ) : Type 0 where
   pub slow : rate ≤ 768000
   pub some : 1 ≤ channels
@@ -156,7 +156,7 @@ module _ (form : Form) (kind : SampleKind) (channels rate' count : ℕ) (rest : 
     bits-read : bits f ≡ 8 * widthOf kind
     bits-read = in-fmt 2 14 (lit≤ tt) ∙ bits-are kind channels rate' 0 tail (omega (arith, narrow kind))
 
-    -- ---- by any reading that tells the tag as it stands
+    -- ---- by any reading that takes the tag as it stands
     module _ (told : List ℕ → ℕ → ℕ) (plain : told f (formatSize kind) ≡ tag f) where
       tag-told : told f (formatSize kind) ≡ tagOf kind
       tag-told = plain ∙ tag-read
@@ -180,7 +180,7 @@ module _ (form : Form) (kind : SampleKind) (channels rate' count : ℕ) (rest : 
     pub read-plain : headerIn b size ≡ found.Wave (longWave kind channels rate' count)
     read-plain = read-by plainTag refl
 
-    -- a plain tag is not the wrapper's
+    -- The written tag is not that of WAVE_FORMAT_EXTENSIBLE.
     not-wrapped : wraps f (formatSize kind) ≡ false
     unfolding wraps
     not-wrapped = rw (ne-eqb (tag f) wrapper (λ z. omega (arith, tag-read, small-tag kind)))

@@ -1,6 +1,6 @@
--- W10e. A file that fits RIFF is written with Wish 2's bytes: the same refusal or length, and the same buffer. Wish 2's
--- file and tests stand here in its own words. By the tests, of which the one for 19 holds and the one for 32 bits too.
--- Assumes nothing.
+-- W10e. A file that fits RIFF is written with the bytes of Wish 2: the same refusal or length, and the same buffer. The
+-- file and the tests of Wish 2 are stated here as that wish has them. If the file fits RIFF, the test of 19 and that of
+-- 32 bits both hold. Assumes nothing.
 use mathlib.Core.Path.{_≡_, refl}
 use mathlib.Core.Bool.{Bool, true, false, _&&_}
 use mathlib.Core.List.{List, [], _∷_, _++_}

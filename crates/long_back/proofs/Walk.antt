@@ -1,5 +1,5 @@
--- W10d. The walk over a written RF64 or BW64: `ds64`, `fmt `, for float `fact`, then `data`, none of which runs past
--- the end. Chunk after chunk, kind by kind. Assumes nothing.
+-- W10d. The walk over a written RF64 or BW64 sees `ds64`, `fmt `, for float `fact`, then `data`, and none of them runs
+-- past the end. Chunk after chunk, kind by kind. Assumes nothing.
 use mathlib.Core.Path.{_≡_, refl, ap, _∙_}
 use mathlib.Core.Bool.{true, false, cond}
 use mathlib.Core.List.{List, [], _∷_}
@@ -35,7 +35,7 @@ walked Pcm16 count = ds64Chunk ∷ fmtChunk Pcm16 ∷ dataChunk Pcm16 count ∷ 
 walked Pcm24 count = ds64Chunk ∷ fmtChunk Pcm24 ∷ dataChunk Pcm24 count ∷ []
 walked Float32 count = ds64Chunk ∷ fmtChunk Float32 ∷ factChunk ∷ dataChunk Float32 count ∷ []
 
--- the chunk at a place of any bytes, and the chunks behind it
+-- One step of a walk over any bytes: the chunk at the place, then the chunks behind it.
 step : (b : List ℕ) (end at : ℕ) (c : Chunk) → chunkIn b at ≡ c → at + 8 ≤ end
     → walkedFrom riffSought (chunkIn b) end at
     ≡ c ∷ cond (isLast riffSought c) [] (walkedFrom riffSought (chunkIn b) end (after c))
@@ -72,7 +72,7 @@ module _ (channels rate count : ℕ) (rest : List ℕ) (form : Form) (end : ℕ)
       (step (b Float32) end 86 (dataChunk Float32 count) (data-at channels rate count rest form Float32 h)
       (omega arith))))
 
--- none of them runs past an end that holds the samples
+-- None of them runs past an end that lies behind the samples.
 pub seen-is : (kind : SampleKind) (count end : ℕ) → longHeaderLength kind + sizeOf kind count ≤ end
     → seenOf riffSought end (walked kind count) ≡ seen kind count
 unfolding walked overrun first
@@ -88,7 +88,7 @@ seen-is Float32 count end l =
       le-ltb end (94 + sizeOf Float32 count) l,
     )
 
--- their heads are at hand where the header is
+-- A prefix that holds the header holds the heads of all its chunks.
 pub heads-there : (kind : SampleKind) (count n : ℕ) → longHeaderLength kind ≤ n → missing n (walked kind count) ≡ 0
 unfolding walked missing
 heads-there Pcm16 count n l = rw (le-leb 20 n (omega arith), le-leb 56 n (omega arith), le-leb 80 n (omega arith))

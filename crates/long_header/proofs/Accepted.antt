@@ -1,4 +1,4 @@
--- W10. What is known of a header that is not refused, and the header in its place. Assumes nothing.
+-- W10. What follows if a header is not refused, and the header in its place. Assumes nothing.
 use mathlib.Core.Path.{_≡_, refl, sym, ap, _∙_}
 use mathlib.Core.Bool.{Bool, true, false, _&&_}
 use mathlib.Core.List.{List, _++_}
@@ -35,7 +35,7 @@ module _ (kind : SampleKind) (channels rate count room : ℕ) (z : headerVerdict
         mono-or-stereo = test 2;
       }
 
--- the header in a block of its length, by whether the file fits RIFF
+-- The header in a block of its length, by whether the file fits RIFF.
 module _ (form : Form) (kind : SampleKind) (channels rate count : ℕ) (old : List ℕ)
     (r : Room kind channels rate count (headerLengthFor kind count) (length old)) where
   pub riff-is : fitsRiff kind count ≡ true
@@ -56,7 +56,7 @@ module _ (form : Form) (kind : SampleKind) (channels rate count : ℕ) (old : Li
         mono-or-stereo = r .mono-or-stereo;
       }
 
--- the block once ys came back in the place of its first k bytes
+-- The block after ys is handed back for its first k bytes.
 pub in-place : (form : Form) (kind : SampleKind) (channels rate count : ℕ) (old ys : List ℕ) (k : ℕ)
     → headerVerdictFor kind channels rate count (length old) ≡ 0 → k ≡ headerLengthFor kind count
     → ys ≡ headerFor form kind channels rate count → ys ++ drop k old ≡ headerAfter form kind channels rate count old

@@ -1,5 +1,5 @@
--- W10. The parts that are written make the header that is defined, kind by kind: the header of an empty file behind the
--- opening, with its sizes written over. By computing. Assumes nothing.
+-- W10. The written parts together are the defined header, kind by kind: the header of an empty file behind the opening,
+-- with its sizes overwritten. By computing. Assumes nothing.
 use mathlib.Core.Path.{_≡_, refl, sym, ap, _∙_}
 use mathlib.Core.List.{List, _++_}
 use Prim.Native.Nat.{ℕ, _+_, _-_, _/_, _≤_}

@@ -1,4 +1,4 @@
--- W10. How many bytes a file has, by the kinds: up to 2^40 bytes of samples no sum passes a word. Assumes nothing.
+-- W10. Up to 2^40 bytes of samples no sum of a file's lengths overflows a word. By the kinds. Assumes nothing.
 use mathlib.Core.Path.{_≡_, sym}
 use mathlib.Core.Bool.{Bool, true, false, true≢false, cond, _&&_}
 use Prim.Native.Nat.{ℕ, zero, suc, _+_, _*_, _^_, _≤_, _<_}

@@ -1,4 +1,5 @@
--- W10e, W10f. Ends of ranges of a header, and one past RIFF byte by byte. By computing. Assumes nothing.
+-- W10e, W10f. The refusals and lengths of a header at the ends of their ranges, and one header past RIFF byte by byte.
+-- By computing. Assumes nothing.
 use mathlib.Core.Path.{_≡_, refl}
 use mathlib.Core.List.{[], _∷_}
 use Prim.Native.Nat.{_-_, _+_, _^_}

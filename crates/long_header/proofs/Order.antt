@@ -1,5 +1,5 @@
--- W10f. The refusals of a header, each exactly when its test is the first that fails, none exactly when all hold, and a
--- refused call leaves the block. From the laws over any table. Assumes nothing.
+-- W10f. Each refusal of a header is given exactly when its test is the first that fails, none exactly when all tests
+-- hold, and a refused call leaves the block as it was. From the laws over any table. Assumes nothing.
 use mathlib.Core.Path.{_≡_, refl, sym}
 use mathlib.Core.Logic.{_↔_}
 use mathlib.Core.Bool.{true}

@@ -1,4 +1,4 @@
--- W10. What a lent part of a block holds once its bytes came back: four bytes written over, the opening in front, and a
+-- W10. What a block holds after a lent part is handed back: four bytes overwritten, the opening at the front, and a
 -- header behind 36 bytes. Assumes nothing.
 use mathlib.Core.Path.{_≡_, refl, sym, ap, _∙_}
 use mathlib.Core.Bool.{Bool, true, false, true≢false, _||_}
@@ -35,7 +35,7 @@ front-is o xs ys n e l h w =
     let new : ys ≡ o = w ∙ rw (none, all) (append-nil o) in
     ap (λ (zs : List ℕ). zs ++ drop 48 xs) new
 
--- no samples are whole frames of one or two channels, and fit a RIFF
+-- No samples are whole frames of one or two channels, and their file fits RIFF.
 empty-fits : (kind : SampleKind) (channels : ℕ) → oneOrTwo channels ≡ true → countOk kind channels 0 ≡ true
 empty-fits kind channels h = by (eqb channels 1) (eqb channels 2) refl refl h
   where
@@ -67,7 +67,7 @@ tail-is kind channels rate xs ys k e t w =
     w ∙ sym (given _ _ (headerOf kind channels rate 0) (take k (drop 36 xs)) refl due) in
     ap (λ (zs : List ℕ). take 36 xs ++ zs) (rw (new, none) (append-nil (headerOf kind channels rate 0)))
 
--- the sizes that a kind has
+-- The 32-bit sizes that each kind has.
 pub sized-pcm : (kind : SampleKind) (xs : List ℕ) → headerLength kind ≡ 44 → over xs 76 ≡ sized kind xs
 sized-pcm Pcm16 xs h = refl
 sized-pcm Pcm24 xs h = refl
@@ -79,7 +79,7 @@ sized-float Pcm16 xs h = absurd (h refl)
 sized-float Pcm24 xs h = absurd (h refl)
 sized-float Float32 xs h = refl
 
--- how long the block then is
+-- The length of the block afterwards.
 pub tail-long : (kind : SampleKind) (channels rate : ℕ) (xs ys : List ℕ) → 36 ≤ length xs
     → ys ≡ take 36 xs ++ headerOf kind channels rate 0 → length ys ≡ longHeaderLength kind
 tail-long kind channels rate xs ys h e =

@@ -1,4 +1,4 @@
--- W10. What the writing of a header's parts asks and gives, inside the crate. Definitions only.
+-- W10. What the functions that write the parts of a header require and promise inside the crate. Definitions only.
 use Prim.Native.Nat.{ℕ, _+_}
 use mathlib.Core.Path.{_≡_}
 use mathlib.Core.Bool.{true}
@@ -10,11 +10,11 @@ use Rattle.sample_kind.specs.declared.SampleKind.the-variants.{Pcm16, Pcm24, Fl
 use Rattle.wav_settings.specs.Settings.{rateOk, oneOrTwo}
 use Rattle.long_header.specs.LongHeader.{full, longHeaderLength}
 
--- FFFFFFFF written over four bytes at a place.
+-- FFFFFFFF written over the four bytes at a place.
 abbrev pub over : List ℕ → ℕ → List ℕ
 over xs at = take at xs ++ (lowBytes 4 full ++ drop 4 (drop at xs))
 
--- The size of `data` is the last field; that of `fact` stands 8 bytes before it.
+-- The size of `data` is the last field, and the number of frames in `fact` stands 8 bytes before it.
 abbrev pub sized : SampleKind → List ℕ → List ℕ
 sized Pcm16 xs = over xs 76
 sized Pcm24 xs = over xs 76

@@ -1,5 +1,4 @@
--- W10. Which refusal is due where a header of any length is written, and what the lent block then holds. Definitions
--- only.
+-- W10. The refusal of a header of any length, and what the lent block holds afterwards. Definitions only.
 use Prim.Native.Nat.{ℕ, _+_, _^_, _≤_}
 use mathlib.Core.Path.{_≡_}
 use mathlib.Core.Bool.{Bool, true, cond, _&&_}
@@ -18,7 +17,8 @@ use Rattle.long_header.specs.LongHeader.{headerLengthFor, fileLengthFor,
 abbrev pub sizeOk : SampleKind → ℕ → Bool
 sizeOk kind count = leb (sizeOf kind count) (2 ^ 40)
 
--- W10f. 1 the rate or a count of broken frames, 19 more than 2^40 bytes of samples, 13 not one or two channels.
+-- W10f. 1: the rate is out of range, or the count is not whole frames. 19: the samples have more than 2^40 bytes. 13:
+-- the channels are not one or two.
 abbrev pub fileTests : SampleKind → ℕ → ℕ → ℕ → List Test
 fileTests kind channels rate count =
     1 unless (rateOk rate && wholeFrames channels count)
@@ -29,7 +29,7 @@ fileTests kind channels rate count =
 abbrev pub fileVerdictFor : SampleKind → ℕ → ℕ → ℕ → ℕ
 fileVerdictFor kind channels rate count = firstOf (fileTests kind channels rate count)
 
--- W10f. The same for a header alone, and 14 a block that is shorter than it.
+-- W10f. The same for a header alone. 14: the block is shorter than the header.
 abbrev pub headerTestsFor : SampleKind → ℕ → ℕ → ℕ → ℕ → List Test
 headerTestsFor kind channels rate count room =
     1 unless (rateOk rate && wholeFrames channels count)
@@ -41,18 +41,18 @@ headerTestsFor kind channels rate count room =
 abbrev pub headerVerdictFor : SampleKind → ℕ → ℕ → ℕ → ℕ → ℕ
 headerVerdictFor kind channels rate count room = firstOf (headerTestsFor kind channels rate count room)
 
--- The header, then the bytes of the block as they were; a refusal leaves all of them.
+-- The header, then the rest of the block as it was. A refusal leaves the whole block as it was.
 abbrev pub headerAfter : Form → SampleKind → ℕ → ℕ → ℕ → List ℕ → List ℕ
 headerAfter form kind channels rate count old =
     writtenBy (headerVerdictFor kind channels rate count (length old))
     (headerFor form kind channels rate count ++ drop (headerLengthFor kind count) old) old
 
--- How long a file is, 0 where 1, 19 or 13 is due whatever the rate.
+-- The length of a file, or 0 if 1, 19 or 13 refuses it at every rate.
 abbrev pub lengthFor64 : SampleKind → ℕ → ℕ → ℕ
 lengthFor64 kind channels count =
     cond (wholeFrames channels count && (sizeOk kind count && oneOrTwo channels)) (fileLengthFor kind count) 0
 
--- What the writing of a header asks of its block, inside the crate.
+-- What the functions that write a header require of their block, inside the crate.
 pub record Room (kind : SampleKind) (channels rate count length room : ℕ) : Type 0 where
   pub exact : room ≡ length
   pub rate-fits : rateOk rate ≡ true

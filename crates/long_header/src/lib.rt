@@ -1,8 +1,8 @@
-// W10. The bytes of a WAV file before its samples, for any number of them up to 2^40 bytes: RIFF where the file fits
-// it, and past that RF64 or BW64, as the caller chooses.
+// W10. The bytes of a WAV file before its samples, for up to 2^40 bytes of samples: RIFF if the file fits it, otherwise
+// RF64 or BW64, as the caller chooses.
 mod long; // the header past RIFF
 mod opening; // its first 48 bytes
-mod tests; // what is refused
+mod tests; // the tests of each refusal
 
 ghost use mathlib.Core.Path.{_≡_};
 ghost use lib.ListN.{length};
@@ -20,13 +20,13 @@ use wav_header::header_length;
 use wav_settings::one_or_two;
 use wav_settings::whole_frames;
 
-// The identifier of a file past RIFF.
+// The identifier of a file that is too long for RIFF.
 pub enum Form {
     Rf64,
     Bw64,
 }
 
-// How many bytes stand before so many samples: 36 more past RIFF.
+// The length of the header of a file of `count` samples, which is 36 bytes longer past RIFF.
 pub fn header_length_for(kind: SampleKind, count: usize) -> usize
     ensures { λ r. ⌜ r ≡ headerLengthFor kind count ⌝ }
 {
@@ -36,14 +36,14 @@ pub fn header_length_for(kind: SampleKind, count: usize) -> usize
     36 + header_length(kind)
 }
 
-// 1, 19 or 13, whatever holds the file; 0 for none.
+// The refusal that does not depend on a buffer: 1, 19, 13, or 0 for none.
 pub fn refusal_for(kind: SampleKind, channels: u8, rate: u32, count: usize) -> u8
     ensures { λ r. ⌜ r ≡ fileVerdictFor kind channels rate count ⌝ }
 {
     file_refusal(kind, channels, rate, count)
 }
 
-// How long a file of `count` samples is, over all channels; 0 where 1, 19 or 13 is due whatever the rate.
+// The length of a file of `count` samples over all channels, or 0 if 1, 19 or 13 refuses it at every rate.
 pub fn file_length_for(kind: SampleKind, channels: u8, count: usize) -> usize
     ensures { λ r. ⌜ r ≡ lengthFor64 kind channels count ⌝ }
 {
@@ -58,7 +58,7 @@ pub fn file_length_for(kind: SampleKind, channels: u8, count: usize) -> usize
     }
 }
 
-// Refuses by 1, 19, 13 or 14, or writes the header; the bytes behind it stay as they were.
+// Refuses by 1, 19, 13 or 14, or writes the header. The bytes behind it stay as they were.
 pub fn header_of(
     form: Form,
     kind: SampleKind,
@@ -79,7 +79,7 @@ pub fn header_of(
     0
 }
 
-// The header, into a block of exactly its length.
+// Writes the header into a block of exactly its length.
 fn put(form: Form, kind: SampleKind, channels: u8, rate: u32, count: usize, out: &mut [u8])
     requires { ⌜ Room kind channels rate count (headerLengthFor kind count) (length (now out)) ⌝ }
     ensures { λ _. ⌜ now (out .exit) ≡ headerFor form kind channels rate count ⌝ }

@@ -1,5 +1,5 @@
-// W10. The header past RIFF. The header of an empty file gives the chunks behind `ds64`; the opening is put before
-// them, and their sizes are written over.
+// W10. The header of a file past RIFF. It is the header of an empty file with `ds64` before its chunks, and with its
+// 32-bit sizes overwritten.
 ghost use mathlib.Core.Path.{_≡_};
 ghost use mathlib.Core.List.{_++_};
 ghost use Prim.Native.Nat.{_+_, _≤_};
@@ -14,7 +14,7 @@ use sample_kind::SampleKind;
 use sample_kind::width;
 use wav_header::header_length;
 
-// Into a block of exactly its length.
+// Writes the header into a block of exactly its length.
 pub(crate) fn put_long(
     form: Form,
     kind: SampleKind,
@@ -35,7 +35,8 @@ pub(crate) fn put_long(
     put_sizes(kind, &mut out[..]);
 }
 
-// The header of an empty file, behind 36 bytes.
+// Writes the header of an empty file behind the first 36 bytes. Its first 12 bytes are overwritten by the opening
+// later.
 fn put_rest(kind: SampleKind, channels: u8, rate: u32, out: &mut [u8])
     requires { ⌜ Tail kind channels rate (length (now out)) ⌝ }
     ensures { λ _. ⌜ now (out .exit) ≡ take 36 (now (out .entry)) ++ headerOf kind channels rate 0 ⌝ }
@@ -51,7 +52,7 @@ fn put_front(form: Form, riff: usize, size: usize, frames: usize, out: &mut [u8]
     bytes::copy(&first, &mut out[0..48]);
 }
 
-// FFFFFFFF for the sizes of `data` and, where there is one, of `fact`.
+// Writes FFFFFFFF for the size of `data` and, if there is one, for the number of frames in `fact`.
 fn put_sizes(kind: SampleKind, out: &mut [u8])
     requires { ⌜ length (now out) ≡ longHeaderLength kind ⌝ }
     ensures { λ _. ⌜ now (out .exit) ≡ sized kind (now (out .entry)) ⌝ }

@@ -1,4 +1,4 @@
-// W10. The first 48 bytes of a file past RIFF: its letters and a whole `ds64`.
+// W10. The first 48 bytes of a file past RIFF: its letters and the whole `ds64`.
 ghost use mathlib.Core.Path.{_≡_};
 ghost use Rattle.long_header.specs.LongHeader.{formName, openingOf};
 use crate::Form;

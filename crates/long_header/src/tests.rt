@@ -1,4 +1,4 @@
-// W10. The tests of what is to be written, each for every input.
+// W10. The tests of the header that is to be written, defined for every input.
 ghost use mathlib.Core.Path.{_≡_};
 ghost use mathlib.Core.List.{[], _∷_};
 ghost use Rattle.refusal_order.specs.Order.{_unless_, firstOf};
@@ -11,7 +11,7 @@ use wav_settings::one_or_two;
 use wav_settings::rate_ok;
 use wav_settings::whole_frames;
 
-// A count above 2^40 is out before it is multiplied, so that no product passes a word.
+// A count above 2^40 is rejected before it is multiplied, so that no product overflows.
 pub(crate) fn size_ok(kind: SampleKind, count: usize) -> bool
     ensures { λ r. ⌜ r ≡ sizeOk kind count ⌝ }
 {
@@ -21,7 +21,7 @@ pub(crate) fn size_ok(kind: SampleKind, count: usize) -> bool
     count * width(kind) <= 0x100_0000_0000
 }
 
-// The number of the first test that fails; 0 where all pass.
+// The number of the first test that fails, or 0 if all pass.
 fn first(t1: bool, t19: bool, t13: bool) -> u8
     ensures { λ r. ⌜ r ≡ firstOf (1 unless t1 ∷ 19 unless t19 ∷ 13 unless t13 ∷ []) ⌝ }
 {

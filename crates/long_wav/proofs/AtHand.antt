@@ -1,5 +1,5 @@
--- W10. The walk over the heads that are at hand, by its turns: the first that is not is the first missing of those that
--- are left. By the laws of a walk's turns in riff_chunks. Assumes nothing.
+-- W10. The walk over the heads, turn by turn: the first head that is not lent is the first missing one of the remaining
+-- heads. By the laws of a walk's turns in riff_chunks. Assumes nothing.
 use mathlib.Core.Path.{_≡_, refl, ap, _∙_}
 use mathlib.Core.List.{List, _∷_}
 use Prim.Native.Nat.{ℕ, _+_, _-_, _≤_, _<_}

@@ -1,5 +1,5 @@
--- W10f. The refusals in their order, by the steps of a reading: what the opening tells, a head that is not at hand, and
--- what the walk tells. Assumes nothing.
+-- W10f. The refusals in their order, by the steps of a reading: the opening, a head that is not lent, and the walk.
+-- Assumes nothing.
 use mathlib.Core.Path.{_≡_, refl, sym, ap, _∙_}
 use mathlib.Core.Bool.{Bool, true, false, true≢false, not, cond, _&&_}
 use mathlib.Core.List.{List, [], _∷_}
@@ -46,7 +46,7 @@ by-opening true true true false fits more h = refl
 by-opening true true true true fits more h = absurd (h refl)
 
 module _ (b : List ℕ) (size : ℕ) where
-  -- what begins a reading, by its fields
+  -- The fields of the answer that begins a reading.
   pub opened : (k : Begun) → k ≡ begunOf b size → k .refusal ≡ 0
       → (firstOf (handTests b size) ≡ 0) × ((firstOf (openingTests b size) ≡ 0) × (k .end ≡ endOf b size))
   opened k e z = by (eqb (firstOf (handTests b size)) 0) refl
@@ -61,7 +61,7 @@ module _ (b : List ℕ) (size : ℕ) where
           let is : k ≡ record { refusal = firstOf (handTests b size); end = 0 } = e ∙ rw h in
           absurd (eqb-false _ _ h (sym (ap (λ (g : Begun). g .refusal) is) ∙ z))
 
-  -- what is asked for, by the steps
+  -- How many bytes are needed, by the steps of a reading.
   pub asked-first : (openingNeeds b size ≡ 0 → ⊥) → needsOf b size ≡ openingNeeds b size
   unfolding needsOf
   asked-first h = rw (ne-eqb (openingNeeds b size) 0 h)
@@ -116,7 +116,7 @@ module _ (b : List ℕ) (size : ℕ) where
         due : k .refusal ≡ verdict tagOf b size
         due = by (eqb (firstOf (handTests b size)) 0) refl
 
-    -- the opening passes
+    -- Let the opening not be refused.
     module _ (z : firstOf (handTests b size) ≡ 0) (o : firstOf (openingTests b size) ≡ 0) where
       passed : (t2 : Bool) → eqb (needsOf b size) 0 ≡ t2
           → verdict tagOf b size ≡ cond t2 (firstOf (10 unless not (walkIn b size .overruns) ∷ behind)) 2

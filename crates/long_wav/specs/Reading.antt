@@ -1,6 +1,5 @@
--- W10. A WAV file of any length by its first bytes: which refusal is due, and where none is, the part that holds
--- samples and what they are. Definitions only. How the tag is told from the body of a `fmt ` and its size is a
--- parameter.
+-- W10. A WAV file of any length read from its first bytes: the refusal, or the part that holds the samples and what
+-- they are. How the tag follows from the body of `fmt ` and its size is a parameter. Definitions only.
 use Prim.Native.Nat.{ℕ, _+_}
 use mathlib.Core.Bool.{Bool, true, false, not, cond, _&&_}
 use mathlib.Core.List.{List, [], _∷_}
@@ -30,20 +29,20 @@ walkIn b size = walkTo riffSought (chunkIn b) (endOf b size)
 abbrev pub fmtIn : List ℕ → ℕ → List ℕ
 fmtIn b size = partOf b (walkIn b size .format .body) (walkIn b size .format .size)
 
--- ---- what must be at hand
--- The place behind the first of the heads that is not at hand, 0 where all are.
+-- ---- how many bytes must be lent
+-- The place behind the first head that is not lent, or 0 if all are.
 unfoldable pub missing : ℕ → List Chunk → ℕ
 missing n [] = 0
 missing n (c ∷ cs) = cond (leb (c .body) n) (missing n cs) (c .body)
 
--- The chunks are walked where the opening is not refused. Where 13 looks at a `fmt ` it stands before a `data` that was
--- walked, so that its body is at hand where the heads are.
+-- The chunks are walked only if the opening is not refused. A `fmt ` that 13 tests stands before a `data` that was
+-- walked, so its body is lent if the heads are.
 abbrev pub headsNeed : List ℕ → ℕ → ℕ
 headsNeed b size =
     cond (eqb (firstOf (openingTests b size)) 0)
     (missing (length b) (walkedFrom riffSought (chunkIn b) (endOf b size) 12)) 0
 
--- How many of the file's first bytes are to be handed in for the reading to go on; 0 where enough are at hand.
+-- How many of the file's first bytes the caller must lend to continue, or 0 if enough are lent.
 unfoldable pub needsOf : List ℕ → ℕ → ℕ
 needsOf b size = cond (eqb (openingNeeds b size) 0) (headsNeed b size) (openingNeeds b size)
 
@@ -51,8 +50,8 @@ needsOf b size = cond (eqb (openingNeeds b size) 0) (headsNeed b size) (openingN
 abbrev pub tagIn : (List ℕ → ℕ → ℕ) → List ℕ → ℕ → ℕ
 tagIn tagOf b size = tagOf (fmtIn b size) (walkIn b size .format .size)
 
--- W10f. 1 more bytes at hand than the file has, 2 a byte that the reading must look at is not at hand, then 9, 18, 19,
--- and 10 to 13 as in Wish 1.
+-- W10f. 1: more bytes are lent than the file has. 2: a byte that must be read is not lent. Then 9, 18, 19, and 10 to 13
+-- as in Wish 1.
 abbrev pub tests : (List ℕ → ℕ → ℕ) → List ℕ → ℕ → List Test
 tests tagOf b size =
     1 unless leb (length b) size
@@ -76,7 +75,7 @@ waveIn tagOf b size = waveOf (tagIn tagOf b size) (fmtIn b size) (walkIn b size)
 abbrev pub headerBy : (List ℕ → ℕ → ℕ) → List ℕ → ℕ → Found
 headerBy tagOf b size = answered (verdict tagOf b size) (waveIn tagOf b size)
 
--- The two readings: the tag as it stands, and a wrapped kind by what is inside.
+-- The two readings: by the tag as it stands, and by the tag inside WAVE_FORMAT_EXTENSIBLE.
 abbrev pub headerIn : List ℕ → ℕ → Found
 headerIn = headerBy plainTag
 

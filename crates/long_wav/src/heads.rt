@@ -1,4 +1,4 @@
-// W10. The walk over the chunks by their heads, as far as these are at hand.
+// W10. The walk over the chunks by their heads, as far as these lie in the lent bytes.
 ghost use mathlib.Core.Path.{_≡_};
 ghost use Prim.Native.Nat.{_+_, _<_};
 ghost use lib.ListN.{length};
@@ -10,7 +10,7 @@ use riff_chunks::riff_sought;
 use true_sizes::true_size;
 use word_bytes::low_first_u32;
 
-// The place behind a head that is not at hand, 0 for none, and what was seen before it.
+// The place behind the first head that is not lent, 0 for none, and what was seen before it.
 pub(crate) struct Reached {
     pub asked: usize,
     pub seen: Walked,

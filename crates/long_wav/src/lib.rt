@@ -1,10 +1,10 @@
-// W10. WAV of any length, RIFF or past four gigabytes as RF64 and BW64, read by its first bytes: the file's length is a
-// number that is handed in, and of its bytes only those up to the first byte of `data` are looked at.
+// W10. A WAV file of any length, RIFF, RF64 or BW64, read from its first bytes. The caller passes the file's length as
+// a number, and only the bytes up to the first one of `data` are read.
 ghost use mathlib.Core.Path.{_≡_};
 ghost use Rattle.wav_format.specs.Tags.{tagBy};
 ghost use Rattle.long_wav.specs.Reading.{needsOf, headerBy, headerIn, headerWrapped};
 
-mod heads; // the walk over the heads that are at hand
+mod heads; // the walk over the lent heads
 
 use heads::heads_of;
 use wav::Found;
@@ -13,21 +13,21 @@ use wav_opening::begin;
 use wav_opening::opening_needs;
 use wav_opening::told;
 
-// A file of `length` bytes by its first ones. 2: more of them are needed, and `needs` says how many.
+// Reads a file of `length` bytes from its first ones. 2 means that more of them are needed, and `needs` says how many.
 pub fn read_header(prefix: &[u8], length: usize) -> Found
     ensures { λ r. ⌜ r ≡ headerIn (now (prefix .entry)) length ⌝ }
 {
     read_by(false, prefix, length)
 }
 
-// The same, but that a kind wrapped as WAVE_FORMAT_EXTENSIBLE, tag FFFE, is read by the tag inside.
+// The same, except that a kind inside WAVE_FORMAT_EXTENSIBLE, tag FFFE, is read by the tag inside.
 pub fn read_header_wrapped(prefix: &[u8], length: usize) -> Found
     ensures { λ r. ⌜ r ≡ headerWrapped (now (prefix .entry)) length ⌝ }
 {
     read_by(true, prefix, length)
 }
 
-// How many of the file's first bytes are to be handed in for the reading to go on; 0 where enough are at hand.
+// How many of the file's first bytes the caller must lend to continue, or 0 if enough are lent.
 pub fn needs(prefix: &[u8], length: usize) -> usize
     ensures { λ r. ⌜ r ≡ needsOf (now (prefix .entry)) length ⌝ }
 {

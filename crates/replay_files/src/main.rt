@@ -1,9 +1,9 @@
-// The program that replays a stored list of small and damaged WAV files (W1).
-// A line of standard input is a file: the number of its bytes in four hex digits, a blank, and two digits for each
-// byte. A line of 18 numbers is written for each: what `wav::read` answers (the refusal's number, 0 for none; the
-// kind's code, channels, rate, start and length, zeros where it is refused), what `wav::read_wrapped` answers, and what
-// `wav::fmt_told` tells. Where `read_wrapped` refuses nothing a line follows for each channel, with its samples
-// (samples.rt). oracle/lists/files.py makes the list, from document 02's text. A trailing part of a line is ignored.
+// The program that replays a stored list of small and damaged WAV files (W1). A line of standard input is a file: the
+// number of its bytes in four hex digits, a blank, and two digits for each byte. For each the program writes a line of
+// 18 numbers: the answer of `wav::read` (the refusal number, 0 for none; the code of the kind, channels, rate, start
+// and length, zeros if refused), the answer of `wav::read_wrapped`, and that of `wav::fmt_told`. If `read_wrapped`
+// refuses nothing, a line with the samples follows for each channel (samples.rt). oracle/lists/files.py makes the list
+// from the text of document 02. An incomplete last line is ignored.
 mod heard; // a file from standard input
 mod samples; // a channel's samples
 mod said; // numbers on standard output
@@ -76,7 +76,7 @@ fn replay(file: &[u8]) {
     }
 }
 
-// Line after line: as many as a u64 counts, which no input outlasts.
+// Handles line after line. The bound is the largest u64, which no input exceeds.
 fn run(file: &mut [u8]) {
     let mut heard = hear(&mut file[..]);
     let mut more = heard.whole;

@@ -1,4 +1,4 @@
-// Numbers on standard output, each with a blank behind it.
+// Numbers on standard output, each followed by a blank.
 use libc::STDOUT_FILENO;
 
 pub fn number(n: u64) {
@@ -6,7 +6,7 @@ pub fn number(n: u64) {
     io::write_all(STDOUT_FILENO, b" ");
 }
 
-// In so many hex digits at least.
+// Writes n in at least `digits` hex digits.
 pub fn pattern(n: u64, digits: usize) {
     io::print_hex(STDOUT_FILENO, n, digits);
     io::write_all(STDOUT_FILENO, b" ");

@@ -1,5 +1,5 @@
-// One channel's samples as f64, as f32 and as whole numbers of 2^-23: the three refusals' numbers, 0 for none, then for
-// each frame the three as patterns.
+// The samples of one channel as f64, as f32 and as whole numbers of 2^-23: three refusal numbers, 0 for none, then for
+// each frame the three samples as patterns.
 use crate::said::end_of_line;
 use crate::said::number;
 use crate::said::pattern;
@@ -10,7 +10,7 @@ use sample_kind::SampleKind;
 use sample_kind::frame_width;
 use wav_samples::filling;
 
-// No file of the list has more frames.
+// No file of the list has more frames than this.
 const MOST: usize = 128;
 
 fn frames(kind: SampleKind, channels: u8, size: usize) -> usize {

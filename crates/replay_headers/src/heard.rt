@@ -1,26 +1,26 @@
-// A header from standard input: the file's length in sixteen hex digits, a blank, the number of the bytes at hand in
-// four, a blank, two digits a byte, a line's end.
+// A header from standard input: the length of the file in sixteen hex digits, a blank, the number of lent bytes in
+// four, a blank, two digits for each byte, and the end of the line.
 use libc::STDIN_FILENO;
 use replay_lines::within;
 use word_bytes::word_at;
 
-// Whether there was a line, the file's length, and the number of the bytes at hand.
+// Whether a whole line was read, the length of the file, and the number of lent bytes.
 pub struct Heard {
     pub whole: bool,
     pub length: usize,
     pub bytes: usize,
 }
 
-// No header of the list is longer.
+// No header of the list is longer than this.
 const LONGEST: usize = 512;
 
-// The next line's header, put into a lent slice.
+// Reads the header of the next line into a lent slice.
 pub fn hear(prefix: &mut [u8]) -> Heard {
     let mut head = [0u8; 21];
     let told = io::read_full(STDIN_FILENO, &mut head);
     let bytes = within(word_at(&head, 17) as usize, LONGEST);
     let rest = 2 * bytes + 2;
-    // Sixteen more, so that a word can be read at every place.
+    // This is sixteen bytes more than the longest rest of a line, so that a word can be read at every place.
     let mut text = [0u8; 1042];
     let got = io::read_full(STDIN_FILENO, &mut text[..rest]);
     put_bytes(&text, &mut prefix[..]);
@@ -31,7 +31,7 @@ pub fn hear(prefix: &mut [u8]) -> Heard {
     }
 }
 
-// A byte is the first two of the sixteen digits that a word has.
+// A word of sixteen digits is read at the place of each byte, and its first two digits are the byte.
 fn put_bytes(text: &[u8; 1042], prefix: &mut [u8]) {
     let mut k: usize = 0;
     while k < LONGEST {

@@ -1,12 +1,13 @@
-// W10. Replays a stored list of headers of RIFF, RF64 and BW64 files, whole and damaged. A line of standard input is a
-// header: the file's length in sixteen hex digits, a blank, the number of the bytes at hand in four, a blank, and two
-// digits for each byte. A line is written for each, of 19 numbers: what `long_wav::needs` says, what
-// `long_wav::read_header` answers (the refusal's number, 0 for none; the kind's code, channels, rate, start and length,
-// zeros where it is refused), what `read_header_wrapped` answers, and the same by turns (turns.rt), zeros where 1 or 2
-// is due. oracle/lists/headers.py makes the list, from document 02's text. A trailing part of a line is ignored.
+// W10. The program that replays a stored list of headers of RIFF, RF64 and BW64 files, whole and damaged. A line of
+// standard input is a header: the length of the file in sixteen hex digits, a blank, the number of lent bytes in four,
+// a blank, and two digits for each byte. For each the program writes a line of 19 numbers: the answer of
+// `long_wav::needs`, that of `long_wav::read_header` (the refusal number, 0 for none; the code of the kind, channels,
+// rate, start and length, zeros if refused), that of `read_header_wrapped`, and the same read step by step (turns.rt),
+// zeros after a refusal by 1 or 2. oracle/lists/headers.py makes the list from the text of document 02. An incomplete
+// last line is ignored.
 mod heard; // a header from standard input
 mod said; // numbers on standard output
-mod turns; // a header by turns
+mod turns; // a header step by step
 
 use heard::hear;
 use long_wav::needs;
@@ -65,12 +66,13 @@ fn replay(prefix: &[u8], length: usize) {
     end_of_line();
 }
 
-// Neither more bytes than the file has, which only who has them all can tell, nor too few.
+// Whether the header is refused neither by 1 nor by 2. Step by step it cannot be seen that more bytes are lent than the
+// file has, and bytes that are missing would count as zeros.
 fn at_hand(no: u8) -> bool {
     if no == 1 { false } else { no != 2 }
 }
 
-// Line after line: as many as a u64 counts, which no input outlasts.
+// Handles line after line. The bound is the largest u64, which no input exceeds.
 fn run(prefix: &mut [u8]) {
     let mut heard = hear(&mut prefix[..]);
     let mut more = heard.whole;

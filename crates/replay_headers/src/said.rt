@@ -1,4 +1,4 @@
-// Numbers on standard output, each with a blank behind it.
+// Numbers on standard output, each followed by a blank.
 use libc::STDOUT_FILENO;
 
 pub fn number(n: u64) {

@@ -1,5 +1,5 @@
-// A header by turns, as a program reads one that is too long to be held: the opening, and never more than a few bytes
-// besides.
+// A header read step by step, as a program reads a file that is too long to be held: the opening, and only a few bytes
+// at each step.
 use riff_chunks::Walked;
 use riff_chunks::Walking;
 use true_sizes::entry_count;
@@ -8,7 +8,7 @@ use wav::Found;
 use wav_opening::begin;
 use word_bytes::part;
 
-// No header of the list has more chunks: a turn behind the last changes nothing.
+// No header of the list has more chunks than this. A step behind the last chunk changes nothing.
 const MOST: usize = 64;
 
 pub fn by_turns(prefix: &[u8], length: usize) -> Found {
@@ -22,7 +22,7 @@ pub fn by_turns(prefix: &[u8], length: usize) -> Found {
     finish(prefix, walked)
 }
 
-// 12 bytes, and of RF64 and BW64 a `ds64` with its table.
+// The opening is the first 12 bytes, and for RF64 and BW64 also the `ds64` with its table.
 fn opening_of(prefix: &[u8]) -> &[u8] {
     if is_long(prefix) {
         return part(prefix, 0, 48 + 12 * entry_count(prefix));

@@ -1,11 +1,11 @@
-// A call from standard input: six words of sixteen hex digits, then one for each sample, none for a header, a blank
-// behind each, and the line's end.
+// A call from standard input: six words of sixteen hex digits, then a word for each sample, none for a header, with a
+// blank behind each, and the end of the line.
 ghost use Prim.Native.Nat.{_≤_};
 use libc::STDIN_FILENO;
 use replay_lines::within;
 use word_bytes::word_at;
 
-// Whether there was a line, and what it asks for.
+// Whether a whole line was read, and the call that it describes.
 pub struct Heard {
     pub whole: bool,
     pub kind: u8,
@@ -16,10 +16,10 @@ pub struct Heard {
     pub count: usize,
 }
 
-// No call of the list has more samples.
+// No call of the list has more samples than this.
 const MOST: usize = 64;
 
-// The next line's call, its samples' patterns put into a lent array.
+// Reads the call of the next line; the patterns of its samples go into a lent array.
 pub fn hear(words: &mut [u64; 64]) -> Heard {
     let mut head = [0u8; 102];
     let told = io::read_full(STDIN_FILENO, &mut head);
@@ -40,7 +40,7 @@ pub fn hear(words: &mut [u64; 64]) -> Heard {
     }
 }
 
-// How many follow the six words.
+// The number of sample words that follow the first six words.
 fn samples(what: u8, count: usize) -> usize
     ensures { λ r. ⌜ r ≤ 64 ⌝ }
 {

@@ -1,10 +1,10 @@
-// The program that replays a stored list of WAV files and headers to be written (W2, W10).
-// A line of standard input is a call: the kind's code, channels, rate, the buffer's length, what is written (0 a file
-// of f64s, 1 one of f32s, 2 the header of an RF64 file, 3 of a BW64 file) and the number of samples, then of a file
-// each sample's pattern, all in sixteen hex digits with a blank behind them. A line is written for each: the refusal's
-// number, 0 for none, the length that is answered, 0 where it is refused, of a header what `header_length_for` says,
-// what `long_header::file_length_for` says, and the buffer's bytes, which were A5 before, two hex digits each.
-// oracle/lists/written.py makes the list, from document 02's text. A trailing part of a line is ignored.
+// The program that replays a stored list of WAV files and headers to be written (W2, W10). A line of standard input is
+// a call: the code of the kind, channels, rate, the length of the buffer, what to write (0: a file of f64 samples, 1:
+// one of f32 samples, 2: the header of an RF64 file, 3: that of a BW64 file) and the number of samples, then for a file
+// the pattern of each sample, all in sixteen hex digits followed by a blank. For each the program writes a line: the
+// refusal number, 0 for none; the length of the file, 0 if refused, or for a header the answer of `header_length_for`;
+// the answer of `long_header::file_length_for`; and the bytes of the buffer, which were A5 before, in two hex digits
+// each. oracle/lists/written.py makes the list from the text of document 02. An incomplete last line is ignored.
 mod heard; // a call from standard input
 mod said; // what is written to standard output
 
@@ -139,7 +139,7 @@ fn replay_one(heard: Heard, words: &[u64; 64]) {
     replay_header(heard);
 }
 
-// Line after line: as many as a u64 counts, which no input outlasts.
+// Handles line after line. The bound is the largest u64, which no input exceeds.
 fn main() {
     let mut words = [0u64; 64];
     let mut heard = hear(&mut words);

@@ -1,5 +1,5 @@
--- W10. Entries behind the lent bytes are zeros, and of several zeros one behind the other the first tells all: so a loop
--- over the table looks at no more than two entries behind the last whole one. Assumes nothing.
+-- W10. Entries behind the lent bytes are zeros, and the first of several such entries gives the same answer as all of
+-- them. So a loop over the table reads at most two entries behind the last whole one. Assumes nothing.
 use mathlib.Core.Path.{_≡_, refl, sym, ap, _∙_}
 use mathlib.Core.Bool.{Bool, true, false, cond, _&&_}
 use mathlib.Core.List.{List, [], _∷_}
@@ -14,7 +14,7 @@ use Rattle.wav_format.specs.Format.{number}
 use Rattle.true_sizes.specs.declared.Entry.{Entry}
 use Rattle.true_sizes.specs.Sizes.{full, largest, entryAt, entriesFrom, sizeIn, allSmall}
 
--- an entry of which no byte is lent
+-- An entry of which no byte is lent.
 abbrev blank : Entry
 blank = record { id = 0; size = 0 }
 
@@ -30,7 +30,7 @@ module _ (b : List ℕ) where
   entry-blank : (at : ℕ) → length b ≤ at → entryAt b at ≡ blank
   entry-blank at h = rw (nothing 4 at h, nothing 8 (at + 4) (omega arith))
 
-  -- what is asked of the entries is a fold: the first and what is asked of the others
+  -- Let `ask` be a fold over the entries, for which a second blank entry changes nothing.
   module _ {T : Type 0} (ask : List Entry → T) (put : Entry → T → T)
       (folds : (e : Entry) (es : List Entry) → ask (e ∷ es) ≡ put e (ask es))
       (once : (t : T) → put blank (put blank t) ≡ put blank t) where
@@ -53,7 +53,7 @@ module _ (b : List ℕ) where
         ∙ ap (put (entryAt b at)) (cut m n (at + 12) (omega arith) (omega arith))
         ∙ sym (folds (entryAt b at) (entriesFrom b (suc m) (at + 12)))
 
-    -- the entries that are looked at
+    -- The entries that the loop reads give the same answer as all entries.
     pub cut-same : (n : ℕ) → ask (entriesFrom b (min n ((length b - 48) / 12 + 2)) 48) ≡ ask (entriesFrom b n 48)
     cut-same n = by n (leb n ((length b - 48) / 12 + 2)) refl
       where
@@ -69,7 +69,7 @@ module _ (b : List ℕ) where
             ap (λ (m : ℕ). ask (entriesFrom b m 48)) (min-eq-right (omega (arith, l)) ∙ two)
             ∙ sym (cut (q + 1) n 48 (omega (arith, l)) (omega arith))
 
--- of the two questions that are asked
+-- The same for the two functions of the table.
 pub size-cut : (b : List ℕ) (id n : ℕ) → sizeIn id (entriesFrom b (min n ((length b - 48) / 12 + 2)) 48)
     ≡ sizeIn id (entriesFrom b n 48)
 unfolding sizeIn

@@ -1,5 +1,5 @@
--- W10. Files whose first bytes are the same have the same sizes: every field that is looked at lies in the fixed part
--- of `ds64` or in its table. Assumes nothing.
+-- W10. Files with the same first bytes have the same sizes, because every field that is read lies in the fixed part of
+-- `ds64` or in its table. Assumes nothing.
 use mathlib.Core.Path.{_≡_, refl, sym, ap, _∙_}
 use mathlib.Core.Bool.{Bool, true, false, cond, _&&_}
 use mathlib.Core.List.{List, [], _∷_}

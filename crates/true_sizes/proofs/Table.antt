@@ -1,5 +1,5 @@
--- W10. What is asked of the table, by its entries: before the first, at the next, behind it, and behind the last. A
--- loop over the entries cites these laws, whatever it asks. Assumes nothing.
+-- W10. A loop over the table, for any function of the entries: what holds before the first entry, at the next, behind
+-- it, and behind the last. Assumes nothing.
 use mathlib.Core.Path.{_≡_, refl, ap, _∙_}
 use mathlib.Core.List.{List, [], _∷_}
 use Prim.Native.Nat.{ℕ, suc, _+_, _-_, _*_, _≤_, _<_}
@@ -7,12 +7,12 @@ use native.Mathlib.Omega.{arith}
 use Rattle.true_sizes.specs.declared.Entry.{Entry}
 use Rattle.true_sizes.specs.Sizes.{entryAt, entriesFrom}
 
--- k of n entries are passed, and the next stands at a place
+-- The loop has passed k of n entries, and the next stands at `at`.
 pub record Passed (n k at : ℕ) : Type 0 where
   pub some : k ≤ n
   pub place : at ≡ 48 + 12 * k
 
--- what is asked of the entries that are left is what is asked of all
+-- The remaining entries give the same answer as all entries.
 abbrev pub Left : {T : Type 0} → (List Entry → T) → List ℕ → ℕ → ℕ → ℕ → Type 0
 Left ask b n k at = Passed n k at × (ask (entriesFrom b n 48) ≡ ask (entriesFrom b (n - k) at))
 

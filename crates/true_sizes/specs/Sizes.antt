@@ -1,7 +1,7 @@
--- W10. The true sizes of a file past four gigabytes: EBU Tech 3306, section 3, with the identifier RF64, and ITU-R
--- BS.2088 with BW64. A 32-bit size at FFFFFFFF says that the true one stands in `ds64`, the first chunk, whose body
--- starts at place 20: the RIFF's size, `data`'s, a number of samples (8 bytes each), the number of entries of a table
--- (4), and the entries: an identifier (4) and a size (8). Definitions only. Bytes that are missing count as 0.
+-- W10. The true sizes of a file past four gigabytes, in RF64 (EBU Tech 3306, section 3) and BW64 (ITU-R BS.2088). A
+-- 32-bit size of FFFFFFFF says that the true one stands in `ds64`, the first chunk, whose body starts at place 20. It
+-- holds the RIFF's size, that of `data` and a number of samples (8 bytes each), the number of entries of a table (4),
+-- and the entries, each an identifier (4) and a size (8). Bytes that are missing count as 0. Definitions only.
 use Prim.Native.Nat.{ℕ, zero, suc, _+_, _-_, _/_, _^_, min}
 use mathlib.Core.Bool.{Bool, true, cond, _&&_, _||_}
 use mathlib.Core.List.{List, [], _∷_}
@@ -10,7 +10,7 @@ use Rattle.wav_format.specs.Format.{number}
 use Rattle.riff_chunks.specs.Walk.{dataId}
 use Rattle.true_sizes.specs.declared.Entry.{Entry}
 
--- `RF64`, `BW64` and `ds64`
+-- The names `RF64`, `BW64` and `ds64`.
 abbrev pub rf64Id : ℕ
 rf64Id = 0x3436_4652
 
@@ -20,11 +20,11 @@ bw64Id = 0x3436_5742
 abbrev pub ds64Id : ℕ
 ds64Id = 0x3436_7364
 
--- Whether a file's sizes may stand in a `ds64`. In a RIFF that is an unknown chunk.
+-- Whether the sizes of a file may stand in a `ds64`. In a RIFF file `ds64` is an unknown chunk.
 abbrev pub isLong : List ℕ → Bool
 isLong b = eqb (number 4 b 0) rf64Id || eqb (number 4 b 0) bw64Id
 
--- What a 32-bit size says where the true one stands elsewhere, and the largest size that is taken.
+-- The value of a 32-bit size whose true value stands elsewhere, and the largest size that is accepted.
 abbrev pub full : ℕ
 full = 0xffff_ffff
 
@@ -41,7 +41,7 @@ riffSize64 b = number 8 b 20
 abbrev pub dataSize64 : List ℕ → ℕ
 dataSize64 b = number 8 b 28
 
--- As many entries as the table is said to have, but no more than the body holds.
+-- The number of entries that the table claims, but no more than the body holds.
 abbrev pub entryCount : List ℕ → ℕ
 entryCount b = min (number 4 b 44) ((ds64Size b - 28) / 12)
 
@@ -55,13 +55,13 @@ entriesFrom b (suc n) at = entryAt b at ∷ entriesFrom b n (at + 12)
 abbrev pub tableOf : List ℕ → List Entry
 tableOf b = entriesFrom b (entryCount b) 48
 
--- ---- what they tell
--- The first entry of an identifier; with none the 32-bit size stands.
+-- ---- the sizes in the table
+-- The size in the first entry with the identifier. If there is none, the 32-bit size is the true one.
 unfoldable pub sizeIn : ℕ → List Entry → ℕ
 sizeIn id [] = full
 sizeIn id (e ∷ es) = cond (eqb (e .id) id) (e .size) (sizeIn id es)
 
--- 19 looks at every entry, used or not.
+-- 19 tests every entry, whether it is used or not.
 unfoldable pub allSmall : List Entry → Bool
 allSmall [] = true
 allSmall (e ∷ es) = leb (e .size) largest && allSmall es
@@ -69,7 +69,7 @@ allSmall (e ∷ es) = leb (e .size) largest && allSmall es
 abbrev pub smallSizes : List ℕ → Bool
 smallSizes b = leb (dataSize64 b) largest && allSmall (tableOf b)
 
--- A chunk's size from its identifier and its 32-bit size. `ds64` itself stands before the table, and has none there.
+-- The size of a chunk whose 32-bit size is FFFFFFFF. `ds64` itself has no entry, because it stands before the table.
 abbrev pub size64 : List ℕ → ℕ → ℕ
 size64 b id = cond (eqb id dataId) (dataSize64 b) (cond (eqb id ds64Id) full (sizeIn id (tableOf b)))
 

@@ -1,5 +1,5 @@
-// W10. The true sizes of a file past four gigabytes, from its first bytes: RF64 or BW64, then `ds64`, whose body starts
-// at place 20. Bytes that are missing count as 0, so that any slice is taken.
+// W10. The true sizes of a file past four gigabytes, read from its first bytes: RF64 or BW64, then `ds64`, whose body
+// starts at place 20. Bytes that are missing count as 0, so that every slice is accepted.
 ghost use mathlib.Core.Path.{_≡_};
 ghost use mathlib.Core.Bool.{_||_};
 ghost use Prim.Native.Nat.{_+_, _-_, _/_, _≤_, min};
@@ -10,13 +10,13 @@ use refusal_order::both;
 use word_bytes::low_first;
 use word_bytes::low_first_u32;
 
-// A line of the table: a chunk's identifier and its size.
+// An entry of the table: a chunk's identifier and its size.
 pub struct Entry {
     pub id: u32,
     pub size: u64,
 }
 
-// RF64 or BW64.
+// Whether the file begins with `RF64` or `BW64`.
 pub fn is_long(opening: &[u8]) -> bool
     ensures { λ r. ⌜ r ≡ isLong (now (opening .entry)) ⌝ }
 {
@@ -30,7 +30,7 @@ fn either(a: bool, b: bool) -> bool
     if a { true } else { b }
 }
 
-// A chunk's size, from its identifier and its 32-bit size.
+// The true size of a chunk, from its identifier and its 32-bit size.
 pub fn true_size(opening: &[u8], id: u32, field: u32) -> usize
     ensures { λ r. ⌜ r ≡ trueSize (now (opening .entry)) id field ⌝ }
 {
@@ -52,7 +52,7 @@ fn size_64(opening: &[u8], id: u32) -> usize
     size_in(opening, looked_at(opening), id)
 }
 
-// 19: neither `data`'s size nor an entry's is above 2^40.
+// 19. Whether neither the size of `data` nor that of an entry is above 2^40.
 pub fn small_sizes(opening: &[u8]) -> bool
     ensures { λ r. ⌜ r ≡ smallSizes (now (opening .entry)) ⌝ }
 {
@@ -62,7 +62,8 @@ pub fn small_sizes(opening: &[u8]) -> bool
     )
 }
 
-// How many entries the table has. The body's size bounds them, so that no place of an entry passes a word.
+// The number of entries in the table. It is bounded by the size of the body, so that the place of an entry cannot
+// overflow.
 pub fn entry_count(opening: &[u8]) -> usize
     ensures { λ r. ⌜ r ≡ entryCount (now (opening .entry)) ⌝ }
     ensures { λ r. ⌜ r ≤ 0xffff_ffff ⌝ }
@@ -72,8 +73,8 @@ pub fn entry_count(opening: &[u8]) -> usize
     if told < held { told } else { held }
 }
 
-// As many of them as tell what all do: those behind the lent bytes are zeros, and the first of these stands for the
-// others.
+// The number of entries that a loop needs to read. Entries behind the lent bytes are all zeros, and the first of them
+// gives the same answer as all.
 fn looked_at(opening: &[u8]) -> usize
     ensures { λ r. ⌜ r ≡ min (entryCount (now (opening .entry))) ((length (now (opening .entry)) - 48) / 12 + 2) ⌝ }
     ensures { λ r. ⌜ r ≤ 0xffff_ffff ⌝ }

@@ -1,5 +1,5 @@
--- W12f at a block: an AIFF's part, turned round and filled from as a WAV's is, gives what filling from it as an AIFF's
--- gives. By the sample at a place, which is turned where it stands. Assumes nothing.
+-- W12f for a block: filling from an AIFF's part gives the same as reversing its samples and filling from it as a WAV's
+-- part. By the sample at each place, which is reversed in place. Assumes nothing.
 use mathlib.Core.Path.{_≡_, refl, sym, ap, _∙_}
 use mathlib.Core.Bool.{true, true≢false}
 use mathlib.Core.List.{List, _++_, reverse}
@@ -22,7 +22,7 @@ use Rattle.aiff_samples.specs.Samples as aiff
 use Rattle.aiff_samples.proofs.AsWave.{same-floats, same-numbers}
 use Rattle.turned_bytes.specs.Turned.{turnedFirst, turnedRound}
 
--- ---- the first sample is turned, the others behind it
+-- ---- the first sample is reversed, then the others behind it
 module _ (w : ℕ) (b : List ℕ) (n : ℕ) (h : suc n * w ≤ length b) where
   fits : n * w + w ≤ length b
   fits = rw suc-mul at h

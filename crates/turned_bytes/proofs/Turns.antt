@@ -1,4 +1,4 @@
--- One sample turned round where it stands, and one sample more. By the bytes before it and those from it on. Assumes
+-- One sample is reversed in place, and then one more. By the bytes before the sample and those from it on. Assumes
 -- nothing.
 use mathlib.Core.Path.{_≡_, refl, sym, ap, _∙_}
 use mathlib.Core.List.{List, [], _∷_, _++_, reverse, append-assoc}
@@ -11,7 +11,7 @@ use lib.ListN.{length-append, length-take, length-drop, length-reverse, take-app
 use lib.Seq.{length-take-le, getD-append-seam, getD-append-add, set-append-seam, take-append-add, drop-append-add}
 use Rattle.turned_bytes.specs.Turned.{turnedFirst, turnedAt}
 
--- ---- two bytes change their places
+-- ---- two bytes are swapped
 set-behind : (p ys : List ℕ) (k a : ℕ) → set (p ++ ys) (length p + k) a ≡ p ++ set ys k a
 set-behind [] ys k a = rw zero-add
 set-behind (x ∷ p) ys k a = rw suc-add (ap (λ (l : List ℕ). x ∷ l) (set-behind p ys k a))
@@ -69,7 +69,7 @@ one-more w (suc k) b h =
     (behind w (k * w) r (turnedFirst w k (drop w b))
     ∙ ap (λ (l : List ℕ). r ++ l) (one-more w k (drop w b) (simp length-drop (omega arith))))
 
--- ---- a loop over n samples of w bytes, which has turned the first k of them
+-- ---- a loop over n samples of w bytes that has reversed the first k of them
 pub record Turning (w n : ℕ) (old now : List ℕ) (k : ℕ) : Type 0 where
   pub few : k ≤ n
   pub long : length now ≡ length old

@@ -1,16 +1,16 @@
--- W12. The bytes of each sample the other way round. Definitions only.
+-- W12. The bytes of each sample reversed. Definitions only.
 use Prim.Native.Nat.{ℕ, zero, suc, _/_}
 use mathlib.Core.List.{List, _++_, reverse}
 use lib.ListN.{length, take, drop}
 use Rattle.sample_kind.specs.declared.SampleKind.{SampleKind}
 use Rattle.sample_kind.specs.declared.SampleKind.the-variants.{Pcm16, Pcm24, Float32}
 
--- The first n samples of w bytes each; what stands behind them stays.
+-- The first n samples of w bytes each are reversed, and the bytes behind them stay.
 unfoldable pub turnedFirst : ℕ → ℕ → List ℕ → List ℕ
 turnedFirst w zero b = b
 turnedFirst w (suc n) b = reverse (take w b) ++ turnedFirst w n (drop w b)
 
--- All that are whole. No AIFF has floats, and they stay.
+-- All whole samples are reversed. Floats stay, because no AIFF has them.
 abbrev pub turnedRound : SampleKind → List ℕ → List ℕ
 turnedRound Pcm16 b = turnedFirst 2 (length b / 2) b
 turnedRound Pcm24 b = turnedFirst 3 (length b / 3) b

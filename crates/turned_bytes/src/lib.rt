@@ -1,12 +1,12 @@
-// W12. The bytes of each sample the other way round, so that an AIFF's samples, whose high byte comes first, stand as
-// a WAV's do. A program turns each block that it reads: behind that every file is a WAV's.
+// W12. The bytes of each sample reversed, so that an AIFF's samples, which have their high byte first, stand as a WAV's
+// do. A program reverses each block that it reads, and from then on handles every file as a WAV.
 ghost use mathlib.Core.Path.{_≡_};
 ghost use Prim.Native.Nat.{_+_, _/_, _≤_};
 ghost use lib.ListN.{length};
 ghost use Rattle.turned_bytes.specs.Turned.{turnedAt, turnedFirst, turnedRound};
 use sample_kind::SampleKind;
 
-// A last part that is shorter than a sample stays as it is, and so do floats, which no AIFF has.
+// An incomplete last sample stays as it is, and so do floats, which no AIFF has.
 pub fn turn_round(kind: SampleKind, bytes: &mut [u8])
     ensures { λ _. ⌜ now (bytes .exit) ≡ turnedRound kind (now (bytes .entry)) ⌝ }
 {

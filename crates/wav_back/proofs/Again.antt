@@ -1,5 +1,5 @@
--- W2c. A file that `write` made, of any length, read and written again, is the same file: storing what is read from its
--- samples' bytes gives them again. Assumes nothing.
+-- W2c. A file of any length that `write` made gives the same file when it is read and written again, because storing
+-- the samples that are read gives their bytes. Assumes nothing.
 use mathlib.Core.Path.{_≡_, ap, _∙_}
 use mathlib.Core.Bool.{true}
 use mathlib.Core.List.{List, _++_}
@@ -25,7 +25,7 @@ use Rattle.wav_write.proofs.Order.{write-none}
 use Rattle.wav_back.proofs.Written.{waveOfAny, part-read}
 use Rattle.wav_back.proofs.Stored.{stored-bytes, stored-finite}
 
--- The samples of a file, as it is read: in f64 or in f32.
+-- The samples of a file as they are read, in f64 or in f32.
 abbrev pub samplesIn : Format → List ℕ → Wave → List Float
 samplesIn f b w = samplesOf f (w .kind) (partOf b (w .start) (w .length)) (w .length / widthOf (w .kind))
 
@@ -36,7 +36,6 @@ some-bytes Float32 = omega arith
 
 module _ (f : Format) (form : Form) (kind : SampleKind) (channels rate : ℕ) (samples : List Float) (room : ℕ)
     (v : verdict kind channels rate samples room ≡ 0) (behind : List ℕ) where
-  -- the file, and its samples read again
   abbrev again : List Float
   again =
       samplesIn f (fileOf form kind channels rate samples ++ behind) (waveOfAny kind channels rate (length samples))
@@ -57,7 +56,7 @@ module _ (f : Format) (form : Form) (kind : SampleKind) (channels rate : ℕ) (s
       (length-bytes kind samples) (stored-finite f kind samples fit) in
       (ap (allFit kind) again-is ∙ r .0, ap (bytesOf kind) again-is ∙ r .1)
 
-  -- W2c. Written again, it is the same file, and nothing is refused.
+  -- W2c. Written again the samples give the same file, and nothing is refused.
   pub same-file : fileOf form kind channels rate again ≡ fileOf form kind channels rate samples
   unfolding fileOf
   same-file = rw (length-again, stored-again .1)

@@ -1,5 +1,5 @@
--- W2b. A written header as it is read: every number of it at its place, whatever stands behind. By computing the place,
--- and by the law that a number is the number of its bytes. Assumes nothing.
+-- W2b. Reading a written header gives each number at its place, whatever bytes follow. The place is computed, and a
+-- number is the number of its bytes. Assumes nothing.
 use mathlib.Core.Path.{_≡_, refl, ap}
 use mathlib.Core.List.{List, [], _∷_, _++_}
 use Prim.Native.Nat.{ℕ, zero, suc, _+_, _*_, _^_, _≤_, _<_}
@@ -16,7 +16,7 @@ use Rattle.riff_chunks.specs.Walk.{fmtId}
 use Rattle.wav_header.specs.Header.{tagOf}
 use Rattle.wav_header.specs.Fields.{formatSize, riffFor, formatStart, formatEnd, startFor}
 
--- a header's first 36 bytes, and what follows
+-- Let a file be the first 36 bytes of a header, and any bytes behind them.
 module _ (kind : SampleKind) (channels rate size : ℕ) (rest : List ℕ) where
   abbrev pub file : List ℕ
   file = startFor kind channels rate size ++ rest
@@ -41,7 +41,7 @@ module _ (kind : SampleKind) (channels rate size : ℕ) (rest : List ℕ) where
   unfolding lowBytes riffFor formatStart formatEnd
   fmt-size h = bytes-back 4 (formatSize kind) h
 
-  -- in the body of `fmt `
+  -- The numbers in the body of `fmt `.
   abbrev pub body : List ℕ
   body = drop 20 file
 
@@ -65,7 +65,7 @@ module _ (kind : SampleKind) (channels rate size : ℕ) (rest : List ℕ) where
   unfolding lowBytes riffFor formatStart formatEnd
   bits-are h = bytes-back 2 (8 * widthOf kind) h
 
--- a part that is cut behind a number reads the same number
+-- A number that ends before a cut is read the same from the part before the cut.
 inside : (k at n : ℕ) (xs : List ℕ) → at + k ≤ n → take k (drop at (take n xs)) ≡ take k (drop at xs)
 inside k zero n xs h = take-take k n xs (omega arith)
 inside k (suc at) zero xs h = absurd (omega arith)

@@ -1,5 +1,5 @@
--- W2b. What is written for a kind is a kind that is read: the tag and the bits are listed and tell it again, and whole
--- frames of one or two channels are whole frames of bytes. Kind by kind. Assumes nothing.
+-- W2b. The tag and the bits written for a kind are read as that kind, and whole frames of one or two channels are whole
+-- frames of bytes. Kind by kind. Assumes nothing.
 use mathlib.Core.Path.{_≡_, refl}
 use mathlib.Core.Bool.{true, _&&_, _||_}
 use mathlib.Core.List.{List}
@@ -41,7 +41,7 @@ frames-ok Pcm24 (suc (suc zero)) count s f h = eq-eqb (count * 3 % 6) 0 (omega a
 frames-ok Float32 (suc (suc zero)) count s f h = eq-eqb (count * 4 % 8) 0 (omega arith)
 frames-ok kind (suc (suc (suc n))) count s f h = absurd (omega arith)
 
--- 13 is not due for the fields that are written
+-- The fields that are written are not refused by 13.
 pub fields-ok : (kind : SampleKind) (channels count t : ℕ) (f : List ℕ)
     → 1 ≤ channels → channels ≤ 2 → count % channels ≡ 0
     → t ≡ tagOf kind → bits f ≡ 8 * widthOf kind → channelsOf f ≡ channels → block f ≡ frameOf kind channels

@@ -1,5 +1,5 @@
--- W2b. The chunks of a written file at their places: `fmt ` at 12, for float `fact` at 38, then `data`, whatever stands
--- behind. Kind by kind. Assumes nothing.
+-- W2b. The chunks of a written file are at their places, whatever bytes follow: `fmt ` at 12, for float `fact` at 38,
+-- then `data`. Kind by kind. Assumes nothing.
 use mathlib.Core.Path.{_≡_, refl, ap, _∙_}
 use mathlib.Core.List.{List, [], _++_}
 use Prim.Native.Nat.{ℕ, _+_, _-_, _/_, _^_, _<_}
@@ -14,7 +14,7 @@ use Rattle.wav_header.specs.Header.{headerLength, sizeOf, fileLength, headerOf}
 use Rattle.wav_header.specs.Fields.{formatSize, riffFor, formatStart, formatEnd, startFor, factFor, dataFor}
 use Rattle.wav_back.proofs.Fields.{fmt-id, fmt-size}
 
--- what stands between a header's first 36 bytes and `data`
+-- The bytes between the first 36 of a header and `data`.
 abbrev pub middle : SampleKind → ℕ → List ℕ
 middle Pcm16 frames = []
 middle Pcm24 frames = []

@@ -1,5 +1,5 @@
--- W2b. A written file is read back: the same kind, channels and rate, the samples behind the header and as many bytes
--- of them, by both readings and whatever stands behind the file. From the walk and the fields. Assumes nothing.
+-- W2b. A written file is read back by both readings, whatever bytes follow it: the same kind, channels and rate, and
+-- the place and the number of bytes of its samples. From the walk and the fields. Assumes nothing.
 use mathlib.Core.Path.{_≡_, refl, ap, _∙_}
 use mathlib.Core.Bool.{true, false, not}
 use mathlib.Core.List.{List, [], _∷_, _++_}
@@ -30,7 +30,7 @@ use Rattle.wav_back.proofs.Fields.{number-inside}
 use Rattle.wav_back.proofs.Places.{middle, header-is, bytes}
 use Rattle.wav_back.proofs.Walk.{seen, riff-size-is, whole-length, walk-is}
 
--- What is read of a file of so many samples.
+-- The answer for a file of `count` samples.
 abbrev pub waveFor : SampleKind → ℕ → ℕ → ℕ → Wave
 waveFor kind channels rate count =
     record { kind = kind; channels = channels; rate = rate; start = headerLength kind; length = sizeOf kind count }
@@ -49,7 +49,7 @@ module _ (kind : SampleKind) (channels rate' count : ℕ) (rest : List ℕ)
   walk : walkIn b ≡ seen kind count
   walk = walk-is channels rate' count rest kind (p .short) held
 
-  -- the body of `fmt `, and a number in it
+  -- The body of `fmt `, and a number in it.
   fmt-is : fmtOf b ≡ take (formatSize kind) (drop 20 b)
   fmt-is = ap (λ (v : Walked). partOf b (v .format .body) (v .format .size)) walk
 
@@ -89,7 +89,7 @@ module _ (kind : SampleKind) (channels rate' count : ℕ) (rest : List ℕ)
       rw (r, w, le-leb 12 (length b) (omega (arith, whole-length channels rate' count rest kind (p .short) held)))
       (le-leb 4 (riffSize b) (omega arith))
 
-  -- by any reading that tells the tag as it stands
+  -- For any reading that takes the tag as it stands.
   module _ (told : List ℕ → ℕ → ℕ) (plain : tagIn told b ≡ tag (fmtOf b)) where
     tag-told : tagIn told b ≡ tagOf kind
     tag-told = plain ∙ tag-read
@@ -129,7 +129,7 @@ module _ (kind : SampleKind) (channels rate' count : ℕ) (rest : List ℕ)
   pub read-plain : foundIn b ≡ found.Wave (waveFor kind channels rate' count)
   read-plain = read-by plainTag refl
 
-  -- a plain tag is not the wrapper's
+  -- The written tag is not that of WAVE_FORMAT_EXTENSIBLE.
   not-wrapped : wraps (fmtOf b) (walkIn b .format .size) ≡ false
   unfolding wraps
   not-wrapped = rw (ne-eqb (tag (fmtOf b)) wrapper (λ z. omega (arith, tag-read, small-tag kind)))

@@ -1,5 +1,5 @@
--- W2c. What is stored is bytes, and a float that fits is stored as a finite one: what storing again asks of a part.
--- Assumes nothing.
+-- W2c. Stored samples are bytes, and a float that fits is stored as a finite one. Storing the samples again requires
+-- both. Assumes nothing.
 use mathlib.Core.Path.{_≡_, ap, _∙_, subst⁻¹}
 use mathlib.Core.Bool.{true}
 use mathlib.Core.List.{List, [], _∷_, _++_}
@@ -61,7 +61,7 @@ word-finite x h =
     let f = narrow-fits x t in
     rw h (toBits-lt binary32 (narrowed x) f, rw (ofBits-toBits binary32 (narrowed x) f) t)
 
--- the first sample's bytes, and those behind it
+-- The bytes of the first sample, and those of the others.
 first-number : (w : ℕ) (rest : List ℕ) → w < 256 ^ 4 → number 4 (lowBytes 4 w ++ rest) 0 ≡ w
 unfolding lowBytes
 first-number w rest h = bytes-back 4 w h

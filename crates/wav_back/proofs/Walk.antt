@@ -1,5 +1,5 @@
--- W2b. The walk over a written file: `fmt `, for float `fact`, then `data`, none of which runs past the end. Chunk
--- after chunk, kind by kind. Assumes nothing.
+-- W2b. The walk over a written file sees `fmt `, for float `fact`, then `data`, and none of them runs past the end.
+-- Chunk after chunk, kind by kind. Assumes nothing.
 use mathlib.Core.Path.{_≡_, refl, ap, _∙_}
 use mathlib.Core.Bool.{true, false, cond}
 use mathlib.Core.List.{List, [], _∷_, _++_}
@@ -35,7 +35,7 @@ seen kind count =
       samples = record { found = true; body = headerLength kind; size = sizeOf kind count };
     }
 
--- the chunk at a place of any bytes, and the chunks behind it
+-- One step of a walk over any bytes: the chunk at the place, then the chunks behind it.
 step : (b : List ℕ) (end at : ℕ) (c : Chunk) → chunkAt bytesValue b at ≡ c → at + 8 ≤ end
     → walkedFrom riffSought (chunkAt bytesValue b) end at
     ≡ c ∷ cond (isLast riffSought c) [] (walkedFrom riffSought (chunkAt bytesValue b) end (after c))
@@ -49,7 +49,7 @@ module _ (channels rate count : ℕ) (rest : List ℕ) where
   abbrev b : SampleKind → List ℕ
   b = bytes channels rate count rest
 
-  -- the chunks walked, before an end that holds them
+  -- The chunks of the walk, if the end lies behind them.
   walked : SampleKind → List Chunk
   walked Pcm16 = fmtChunk Pcm16 ∷ dataChunk Pcm16 count ∷ []
   walked Pcm24 = fmtChunk Pcm24 ∷ dataChunk Pcm24 count ∷ []
@@ -77,7 +77,7 @@ module _ (channels rate count : ℕ) (rest : List ℕ) where
         ∙ ap (λ (cs : List Chunk). factChunk ∷ cs)
         (step (b Float32) end 50 (dataChunk Float32 count) (data-at channels rate count rest Float32 h) (omega arith)))
 
-    -- none of them runs past an end that holds the samples
+    -- None of them runs past an end that lies behind the samples.
     seen-is : (kind : SampleKind) → headerLength kind + sizeOf kind count ≤ end
         → seenOf riffSought end (walked kind) ≡ seen kind count
     unfolding walked overrun first

@@ -1,6 +1,6 @@
--- W2b. What `write` made is read back, whatever the buffer holds behind it: as the part that holds samples their bytes,
--- and by Wish 1's readings, where the file fits RIFF, the same kind, channels and rate. From the law over a header and
--- any bytes behind it. Assumes nothing.
+-- W2b. What `write` made is read back, whatever the buffer holds behind it: the part for the samples is their bytes,
+-- and if the file fits RIFF, the readings of Wish 1 give the same kind, channels and rate. From the law over a header
+-- and any bytes behind it. Assumes nothing.
 use mathlib.Core.Path.{_≡_, refl, sym, ap, _∙_}
 use mathlib.Core.Bool.{true}
 use mathlib.Core.List.{List, _++_, append-assoc}
@@ -29,7 +29,7 @@ use Rattle.wav_write.proofs.Order.{write-none}
 use Rattle.wav_write.proofs.Planned.{length-header}
 use Rattle.wav_back.proofs.Read.{waveFor, read-plain, read-wrapped}
 
--- What is read of a file of so many samples, whether it fits RIFF or not.
+-- The answer for a file of `count` samples, whether it fits RIFF or not.
 abbrev pub waveOfAny : SampleKind → ℕ → ℕ → ℕ → Wave
 waveOfAny kind channels rate count =
     record {
@@ -50,7 +50,7 @@ module _ (form : Form) (kind : SampleKind) (channels rate : ℕ) (samples : List
       append-assoc (headerFor form kind channels rate (length samples))
       (bytesOf kind samples ++ lowBytes (padOf kind (length samples)) 0) behind
 
-  -- the part that holds samples
+  -- The part that holds the samples is their bytes.
   pub part-read : partOf (fileOf form kind channels rate samples ++ behind) (headerLengthFor kind (length samples))
       (sizeOf kind (length samples))
       ≡ bytesOf kind samples
@@ -68,7 +68,7 @@ module _ (form : Form) (kind : SampleKind) (channels rate : ℕ) (samples : List
   unfolding rest
   held = simp (length-append, length-bytes kind samples, length-low (padOf kind (length samples)) 0) (omega arith)
 
-  -- a file that is not refused and fits RIFF, by both readings
+  -- Let the file not be refused and fit RIFF; then both readings find it.
   module _ (room : ℕ) (v : verdict kind channels rate samples room ≡ 0)
       (f : fitsRiff kind (length samples) ≡ true) where
     plan : Planned kind channels rate (length samples)
@@ -88,7 +88,7 @@ module _ (form : Form) (kind : SampleKind) (channels rate : ℕ) (samples : List
         ≡ found.Wave (waveFor kind channels rate (length samples))
     read-file-wrapped = ap foundWrapped riff-is ∙ read-wrapped kind channels rate (length samples) rest plan held
 
--- a buffer that a file was written into
+-- Reading the buffer that a file was written into.
 pub read-buffer : (form : Form) (kind : SampleKind) (channels rate : ℕ) (samples : List Float) (old : List ℕ)
     → verdict kind channels rate samples (length old) ≡ 0 → fitsRiff kind (length samples) ≡ true
     → foundIn (written form kind channels rate samples old) ≡ found.Wave (waveFor kind channels rate (length samples))

@@ -1,1 +1,1 @@
-// Laws only: what is written as a WAV file is read back, whatever bytes stand behind it (W2b, W2c).
+// Laws only: a WAV file that was written is read back, whatever bytes follow it (W2b, W2c).

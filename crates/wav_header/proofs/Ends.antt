@@ -31,7 +31,7 @@ last-float = refl
 pub past-float : fitsRiff Float32 1_073_741_812 ≡ false
 past-float = refl
 
--- the largest count of a word: its bytes pass the word, and it is refused
+-- The largest count of a word is refused, although its number of bytes overflows a word.
 pub every-count : headerVerdict Float32 1 48000 (2 ^ 64 - 1) 58 ≡ 1
 every-count = refl
 
@@ -54,14 +54,14 @@ broken-frame = refl
 pub no-channel : headerVerdict Float32 0 48000 3 58 ≡ 13
 no-channel = refl
 
--- frames are counted for one or two channels only
+-- Whole frames are tested only for one or two channels.
 pub three-channels : headerVerdict Float32 3 48000 4 58 ≡ 13
 three-channels = refl
 
 pub rate-before-channels : headerVerdict Float32 3 768001 3 58 ≡ 1
 rate-before-channels = refl
 
--- a kind that is none of the three
+-- A kind that is none of the three is refused by 13, or by 1 before it.
 pub unlisted : unlistedVerdict 3 48000 1 ≡ 13
 unlisted = refl
 

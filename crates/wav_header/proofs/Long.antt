@@ -1,4 +1,4 @@
--- W2. A header is as long as it is said to be: by counting its bytes, kind by kind. Assumes nothing.
+-- W2. A header has the length that `headerLength` gives, shown by counting its bytes kind by kind. Assumes nothing.
 use mathlib.Core.Path.{_≡_, refl}
 use Prim.Native.Nat.{ℕ}
 use lib.ListN.{length}

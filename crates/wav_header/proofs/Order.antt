@@ -1,4 +1,4 @@
--- W2f. A header's refusals, each exactly when its test is the first that fails, and what a refused call leaves: the
+-- W2f. Each refusal of a header is given exactly when its test is the first that fails, and a refused call leaves the
 -- block as it was. From the laws over any table. Assumes nothing.
 use mathlib.Core.Path.{_≡_, refl, sym}
 use mathlib.Core.Logic.{_↔_}
@@ -16,7 +16,7 @@ use Rattle.wav_settings.specs.Settings.{rateOk, oneOrTwo}
 use Rattle.wav_header.proofs.Taken.{kept}
 
 module _ (kind : SampleKind) (channels rate count : ℕ) where
-  -- 1, 2 and 13, from the first that is tested to the last
+  -- The tests of 1, 2 and 13 in their order.
   abbrev pub headerTests : ℕ → List Test
   headerTests room =
       1 unless (rateOk rate && countOk kind channels count)

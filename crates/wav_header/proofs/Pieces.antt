@@ -1,5 +1,5 @@
--- W2. A field written into a lent part of a block: the block stays as long as it was, and what stood before the field
--- is followed by it. Assumes nothing.
+-- W2. A field written into a lent part of a block: the block keeps its length, and the field follows the bytes before
+-- it. Assumes nothing.
 use mathlib.Core.Path.{_≡_, refl, sym, ap, _∙_}
 use mathlib.Core.List.{List, _++_, append-assoc}
 use Prim.Native.Nat.{ℕ, zero, suc, _+_, _/_, _≤_}
@@ -13,7 +13,7 @@ unfolding lowBytes
 length-low zero n = refl
 length-low (suc k) n = ap suc (length-low k (n / 256))
 
--- the block once ys came back in the place of the part that was lent; k is how the code counts the field's size
+-- The block after ys is handed back for the lent part; k is the size of the field as the code computes it.
 module _ (xs ys : List ℕ) (at k size n : ℕ) (e : k ≡ size) (fits : at + size ≤ length xs)
     (w : ys ≡ lowBytes (length (take k (drop at xs))) n) where
   abbrev after : List ℕ

@@ -1,4 +1,4 @@
--- W2. What is known of a file that fits RIFF and that neither 1 nor 13 refuses, test by test. Assumes nothing.
+-- W2. What each test says of a file that fits RIFF and that neither 1 nor 13 refuses. Assumes nothing.
 use mathlib.Core.Path.{_≡_, refl, sym}
 use mathlib.Core.Bool.{Bool, true, false, true≢false, _&&_, _||_}
 use Prim.Native.Nat.{ℕ, _-_, _%_, _^_, _≤_}
@@ -10,7 +10,6 @@ use Rattle.wav_header.specs.Header.{fileLength}
 use Rattle.wav_header.specs.Refusals.{fitsRiff, countOk}
 use Rattle.wav_settings.specs.Settings.{rateOk, oneOrTwo, wholeFrames}
 
--- both tests of a conjunction
 pub both-hold : (a b : Bool) → a && b ≡ true → (a ≡ true) × (b ≡ true)
 both-hold true b h = (refl, h)
 both-hold false b h = absurd (true≢false (sym h))

@@ -1,5 +1,5 @@
--- W2. How long a file is: fewer than 2^32 samples make a length that fits a word, and more do not fit 32 bits. By the
--- kinds. Assumes nothing.
+-- W2. The length of a file of fewer than 2^32 samples fits a word, and that of a longer one does not fit 32 bits. By
+-- the kinds. Assumes nothing.
 use mathlib.Core.Path.{_≡_, refl}
 use mathlib.Core.Bool.{true, _&&_}
 use Prim.Native.Nat.{ℕ, _-_, _^_, _≤_, _<_}
@@ -43,7 +43,7 @@ longer-header Pcm16 h = absurd (h refl)
 longer-header Pcm24 h = absurd (h refl)
 longer-header Float32 h = refl
 
--- What fits 32 bits comes from fewer samples than that.
+-- A file that fits RIFF has fewer than 2^32 samples.
 pub fits-few : (kind : SampleKind) (count : ℕ) → fitsRiff kind count ≡ true → count < 2 ^ 32
 fits-few Pcm16 count h = omega (arith, leb-true (fileLength Pcm16 count - 8) (2 ^ 32 - 1) h)
 fits-few Pcm24 count h = omega (arith, leb-true (fileLength Pcm24 count - 8) (2 ^ 32 - 1) h)

@@ -1,4 +1,4 @@
--- W2. What an accepted header knows, and what a lent block holds by the number that is given. Assumes nothing.
+-- W2. What follows if a header is accepted, and what the lent block holds for each returned number. Assumes nothing.
 use mathlib.Core.Path.{_≡_, refl, sym, _∙_}
 use mathlib.Core.Bool.{Bool, true, false, true≢false, _&&_}
 use mathlib.Core.List.{List, [], _∷_}
@@ -38,7 +38,7 @@ accepted kind channels rate count room h =
     by true false c d e p q r z = absurd (omega arith)
     by false b c d e p q r z = absurd (omega arith)
 
--- what a refused call leaves, and what an accepted one
+-- A refused call leaves the block as it was, and an accepted one writes the header.
 pub kept : (r v : ℕ) (new old : List ℕ) → r ≡ v → (r ≡ 0 → ⊥) → old ≡ writtenBy v new old
 kept r zero new old e h = absurd (h e)
 kept r (suc v) new old e h = refl

@@ -1,4 +1,4 @@
--- W2. The parts that are written make the header that is defined, kind by kind. Assumes nothing.
+-- W2. The written parts together are the defined header, kind by kind. Assumes nothing.
 use mathlib.Core.Path.{_≡_, refl}
 use mathlib.Core.List.{List, _++_}
 use Prim.Native.Nat.{ℕ, _-_, _/_}

@@ -1,4 +1,4 @@
--- W2. What the writing of a header's fields asks and gives, inside the crate. Definitions only.
+-- W2. What the functions that write the fields of a header require and promise inside the crate. Definitions only.
 use Prim.Native.Nat.{ℕ, _*_, _^_, _≤_, _<_}
 use mathlib.Core.Path.{_≡_}
 use mathlib.Core.List.{List, _++_}
@@ -8,13 +8,14 @@ use Rattle.sample_kind.specs.declared.SampleKind.the-variants.{Pcm16, Pcm24, Fl
 use Rattle.sample_kind.specs.Kinds.{widthOf, frameOf}
 use Rattle.wav_header.specs.Header.{headerLength, riffName, waveName, fmtName, factName, dataName, tagOf}
 
--- A block of the header's length, some channels, and few enough samples that no number of them passes a word.
+-- The block has the header's length, there is at least one channel, and the samples are few enough that no number
+-- overflows a word.
 pub record Room (kind : SampleKind) (channels count room : ℕ) : Type 0 where
   pub exact : room ≡ headerLength kind
   pub some : 1 ≤ channels
   pub few : count < 2 ^ 32
 
--- The size of a `fmt `.
+-- The size of the body of `fmt `.
 abbrev pub formatSize : SampleKind → ℕ
 formatSize Pcm16 = 16
 formatSize Pcm24 = 16
@@ -32,7 +33,7 @@ unfoldable pub formatEnd : SampleKind → ℕ → ℕ → List ℕ
 formatEnd kind channels rate =
     lowBytes 4 (rate * frameOf kind channels) ++ lowBytes 2 (frameOf kind channels) ++ lowBytes 2 (8 * widthOf kind)
 
--- The first 36 bytes.
+-- The first 36 bytes, which are laid out alike for all kinds.
 abbrev pub startFor : SampleKind → ℕ → ℕ → ℕ → List ℕ
 startFor kind channels rate size = riffFor size ++ formatStart kind channels rate ++ formatEnd kind channels rate
 

@@ -1,4 +1,5 @@
-// W2. The header field by field, each at its place. Names are written as numbers, low byte first, as all numbers are.
+// W2. The header written field by field, each at its place. The names of chunks are written as numbers, low byte first
+// like all others.
 ghost use mathlib.Core.Path.{_≡_};
 ghost use mathlib.Core.List.{_++_};
 ghost use Prim.Native.Nat.{_+_, _^_, _≤_, _<_};
@@ -12,7 +13,7 @@ use sample_kind::SampleKind;
 use sample_kind::frame_width;
 use sample_kind::width;
 
-// How long a file is. What fits 32 bits comes from fewer than 2^32 samples.
+// The length of a file. A file that fits RIFF has fewer than 2^32 samples, so the sum cannot overflow.
 pub(crate) fn length_of(kind: SampleKind, count: usize) -> usize
     requires { ⌜ count < 2 ^ 32 ⌝ }
     ensures { λ r. ⌜ r ≡ fileLength kind count ⌝ }
@@ -21,7 +22,7 @@ pub(crate) fn length_of(kind: SampleKind, count: usize) -> usize
     header_length(kind) + size + size % 2
 }
 
-// The header, into a block of exactly its length.
+// Writes the header into a block of exactly its length.
 pub(crate) fn put_header(kind: SampleKind, channels: u8, rate: u32, count: usize, out: &mut [u8])
     requires { ⌜ Room kind channels count (length (now out)) ⌝ }
     ensures { λ _. ⌜ now (out .exit) ≡ headerOf kind channels rate count ⌝ }
@@ -37,7 +38,7 @@ pub(crate) fn put_header(kind: SampleKind, channels: u8, rate: u32, count: usize
     put_data(size, &mut out[..], 50);
 }
 
-// The first 36 bytes, which all kinds have.
+// Writes the first 36 bytes, which are laid out alike for all kinds.
 fn put_start(kind: SampleKind, channels: u8, rate: u32, riff: usize, out: &mut [u8])
     requires { ⌜ 36 ≤ length (now out) ⌝ }
     ensures { λ _. ⌜ length (now (out .exit)) ≡ length (now (out .entry)) ⌝ }
@@ -48,7 +49,7 @@ fn put_start(kind: SampleKind, channels: u8, rate: u32, riff: usize, out: &mut [
     put_block(kind, channels, rate, &mut out[..]);
 }
 
-// The first 12: a RIFF of so many bytes from place 8 on, and what it holds.
+// Writes the first 12 bytes: `RIFF`, the number of bytes from place 8 on, and `WAVE`.
 fn put_riff(size: usize, out: &mut [u8])
     requires { ⌜ 12 ≤ length (now out) ⌝ }
     ensures { λ _. ⌜ length (now (out .exit)) ≡ length (now (out .entry)) ⌝ }
@@ -59,7 +60,7 @@ fn put_riff(size: usize, out: &mut [u8])
     put(0x4556_4157, &mut out[..], 8, 4); // WAVE
 }
 
-// The next 16: `fmt `, its size, the tag, the channels and the rate.
+// Writes the next 16 bytes: `fmt `, its size, the tag, the channels and the rate.
 fn put_format(kind: SampleKind, channels: u8, rate: u32, out: &mut [u8])
     requires { ⌜ 28 ≤ length (now out) ⌝ }
     ensures { λ _. ⌜ length (now (out .exit)) ≡ length (now (out .entry)) ⌝ }
@@ -72,7 +73,7 @@ fn put_format(kind: SampleKind, channels: u8, rate: u32, out: &mut [u8])
     put(rate as usize, &mut out[..], 24, 4);
 }
 
-// The next 8: bytes a second, bytes a frame, bits a sample.
+// Writes the next 8 bytes: bytes per second, bytes per frame and bits per sample.
 fn put_block(kind: SampleKind, channels: u8, rate: u32, out: &mut [u8])
     requires { ⌜ 36 ≤ length (now out) ⌝ }
     ensures { λ _. ⌜ length (now (out .exit)) ≡ length (now (out .entry)) ⌝ }
@@ -84,7 +85,7 @@ fn put_block(kind: SampleKind, channels: u8, rate: u32, out: &mut [u8])
     put(8 * width(kind), &mut out[..], 34, 2);
 }
 
-// What only a float's header has: the size of an extension, and a `fact` of so many frames.
+// Writes what only a float header has: an extension size of 0, and a `fact` chunk with the number of frames.
 fn put_fact(frames: usize, out: &mut [u8])
     requires { ⌜ 50 ≤ length (now out) ⌝ }
     ensures { λ _. ⌜ length (now (out .exit)) ≡ length (now (out .entry)) ⌝ }
@@ -96,7 +97,7 @@ fn put_fact(frames: usize, out: &mut [u8])
     put(frames, &mut out[..], 46, 4);
 }
 
-// The last 8, at a place: `data` and how many bytes follow.
+// Writes the last 8 bytes, from place `at` on: `data` and the number of bytes that follow.
 fn put_data(size: usize, out: &mut [u8], at: usize)
     requires { ⌜ length (now out) ≡ at + 8 ⌝ }
     ensures { λ _. ⌜ now (out .exit) ≡ take at (now (out .entry)) ++ dataFor size ⌝ }
@@ -125,7 +126,7 @@ fn tag(kind: SampleKind) -> usize
     }
 }
 
-// One field: the low `size` bytes of n from a place on.
+// Writes one field: the low `size` bytes of n, from place `at` on.
 fn put(n: usize, out: &mut [u8], at: usize, size: usize)
     requires { ⌜ at + size ≤ length (now out) ⌝ }
     ensures { λ _. ⌜ length (now (out .exit)) ≡ length (now (out .entry)) ⌝ }

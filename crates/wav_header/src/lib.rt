@@ -1,6 +1,6 @@
 // W2. The bytes of a RIFF WAVE file before its samples, 44 for PCM and 58 for float, and whether a file fits RIFF.
 mod fields; // the header, field by field
-mod tests; // what is refused
+mod tests; // the tests of each refusal
 
 ghost use mathlib.Core.Path.{_≡_};
 ghost use lib.ListN.{length};
@@ -25,7 +25,8 @@ pub fn header_length(kind: SampleKind) -> usize
     }
 }
 
-// The refusal of a kind that is none of the three: 1 for the rate or broken frames, else 13.
+// The refusal for a kind that is none of the three: 1 if the rate is out of range or the count is not whole frames,
+// otherwise 13.
 pub fn refusal_unlisted(channels: u8, rate: u32, count: usize) -> u8
     ensures { λ r. ⌜ r ≡ unlistedVerdict channels rate count ⌝ }
 {
@@ -33,7 +34,7 @@ pub fn refusal_unlisted(channels: u8, rate: u32, count: usize) -> u8
     first_of_file(t1, false)
 }
 
-// Refuses by 1, 2 or 13, or writes the header into a block of exactly its length.
+// Refuses by 1, 2 or 13, or writes the header. The block must have exactly the header's length.
 pub fn write_header(kind: SampleKind, channels: u8, rate: u32, count: usize, out: &mut [u8]) -> u8
     ensures { λ r. ⌜ r ≡ headerVerdict kind channels rate count (length (now (out .entry))) ⌝ }
     ensures { λ _. ⌜ now (out .exit) ≡ headerIn kind channels rate count (now (out .entry)) ⌝ }

@@ -1,4 +1,4 @@
-// W2. The tests of what is to be written, each for every input.
+// W2. The tests of the header that is to be written, defined for every input.
 ghost use mathlib.Core.Path.{_≡_};
 ghost use mathlib.Core.List.{[], _∷_};
 ghost use Rattle.refusal_order.specs.Order.{_unless_, firstOf};
@@ -17,7 +17,7 @@ fn count_ok(kind: SampleKind, channels: u8, count: usize) -> bool
     both(whole_frames(channels, count), fits_riff(kind, count))
 }
 
-// A count of 2^32 or more is out before it is multiplied, so that no product passes a word.
+// A count of 2^32 or more is rejected before it is multiplied, so that no product overflows.
 pub fn fits_riff(kind: SampleKind, count: usize) -> bool
     ensures { λ r. ⌜ r ≡ fitsRiff kind count ⌝ }
 {
@@ -27,7 +27,7 @@ pub fn fits_riff(kind: SampleKind, count: usize) -> bool
     length_of(kind, count) - 8 <= 0xffff_ffff
 }
 
-// The number of the first test that fails; 0 where all pass.
+// The number of the first test that fails, or 0 if all pass.
 pub(crate) fn first_of_file(t1: bool, t13: bool) -> u8
     ensures { λ r. ⌜ r ≡ firstOf (1 unless t1 ∷ 13 unless t13 ∷ []) ⌝ }
 {

@@ -1,5 +1,5 @@
-// W10. The first bytes of a WAV file of any length: letters and `ds64`, what they tell, and how many of them are
-// needed. Bytes that are missing count as 0, so that any slice is taken.
+// W10. The first bytes of a WAV file of any length, its letters and its `ds64`: what they say, and how many bytes they
+// are. Bytes that are missing count as 0, so that every slice is accepted.
 ghost use mathlib.Core.Path.{_≡_};
 ghost use mathlib.Core.Bool.{_||_};
 ghost use mathlib.Core.List.{[], _∷_};
@@ -22,13 +22,13 @@ use true_sizes::small_sizes;
 use word_bytes::low_first;
 use word_bytes::low_first_u32;
 
-// A refusal, 0 for none, and the place where the walk over the chunks ends.
+// The refusal, 0 for none, and the place where the walk over the chunks ends.
 pub struct Begun {
     pub refusal: u8,
     pub end: usize,
 }
 
-// What the opening tells by itself, from as many of the first bytes as it needs: 1, 2, 9, 18, 19, and 10 of the RIFF.
+// The refusal that the opening alone decides: 1, 2, 9, 18, 19, or 10 for the RIFF's size.
 pub fn begin(opening: &[u8], length: usize) -> Begun
     ensures { λ r. ⌜ r ≡ begunOf (now (opening .entry)) length ⌝ }
 {
@@ -42,7 +42,7 @@ pub fn begin(opening: &[u8], length: usize) -> Begun
     told(opening, length)
 }
 
-// The same where enough is at hand: 9, 18, 19, and 10 of the RIFF.
+// The same if enough bytes are lent, so that 1 and 2 need no test: 9, 18, 19, or 10 for the RIFF's size.
 pub fn told(opening: &[u8], length: usize) -> Begun
     ensures { λ r. ⌜ r ≡ toldOf (now (opening .entry)) length ⌝ }
 {
@@ -96,7 +96,8 @@ fn first(t9: bool, t18: bool, t19: bool, t10: bool) -> u8
     }
 }
 
-// The letters; of a file with RF64 or BW64 the head of its first chunk; of a `ds64` its fixed part, and its table.
+// How many first bytes the opening has: the letters, for RF64 and BW64 also the head of the first chunk, and for a
+// `ds64` also its fixed part and its table. Each is known only from the bytes before it.
 pub fn opening_needs(opening: &[u8], length: usize) -> usize
     ensures { λ r. ⌜ r ≡ openingNeeds (now (opening .entry)) length ⌝ }
 {
@@ -128,7 +129,7 @@ fn is_wave(opening: &[u8], length: usize) -> bool
     )
 }
 
-// RIFF, RF64 or BW64, with WAVE.
+// The file begins with `RIFF`, `RF64` or `BW64`, and `WAVE` follows.
 fn has_letters(opening: &[u8]) -> bool
     ensures { λ r. ⌜ r ≡ hasLetters (now (opening .entry)) ⌝ }
 {
@@ -177,7 +178,7 @@ fn sizes_there(opening: &[u8], length: usize) -> bool
     either(!is_long(opening), has_ds64(opening, length))
 }
 
-// The table is looked at only where there is one: of other files it would be any bytes.
+// The table is read only if there is a `ds64`, because in other files these bytes mean something else.
 fn sizes_small(opening: &[u8], length: usize) -> bool
     ensures { λ r. ⌜ r ≡ sizesSmall (now (opening .entry)) length ⌝ }
 {
@@ -187,7 +188,7 @@ fn sizes_small(opening: &[u8], length: usize) -> bool
     true
 }
 
-// The RIFF's size may be any word, so that 8 is taken from the length, and not added to it.
+// The RIFF's size may be any word, so 8 is subtracted from the length instead of added to the size.
 fn riff_held(opening: &[u8], length: usize) -> bool
     ensures { λ r. ⌜ r ≡ riffHeld (now (opening .entry)) length ⌝ }
 {

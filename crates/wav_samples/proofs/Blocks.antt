@@ -1,5 +1,5 @@
--- Samples of floats by blocks: patterns that are put together tell that none of them is a NaN's, and a block that is
--- lent and written is that many samples more. Assumes nothing.
+-- Float samples by blocks. The bitwise or of patterns is no smaller than any of them, so it can show that none is a
+-- NaN's; and a block that is lent and written extends the list of samples by its length. Assumes nothing.
 use mathlib.Core.Path.{_≡_, sym, ap, _∙_, subst}
 use mathlib.Core.List.{List, [], _∷_, _++_, append-assoc, append-nil}
 use mathlib.Core.Logic.{⊎-elim}

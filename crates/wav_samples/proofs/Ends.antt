@@ -18,7 +18,8 @@ pub of-24-bits : wholeNumber Pcm24 (255 ∷ 255 ∷ 127 ∷ []) 0 ∷ wholeNumbe
 unfolding bytesValue
 of-24-bits = refl
 
--- a float kind; two frames; a part that is not two frames, of a channel that is there and of one that is not
+-- The cases are a float kind, two whole frames, a part that is not two frames, and the same part with a channel that
+-- does not exist.
 pub whole-order : wholeVerdict Float32 1 0 8 2 ∷ wholeVerdict Pcm16 1 0 4 2 ∷ wholeVerdict Pcm24 2 1 11 2
     ∷ wholeVerdict Pcm24 2 2 11 2 ∷ [] ≡ 1 ∷ 0 ∷ 2 ∷ 1 ∷ []
 whole-order = refl

@@ -1,5 +1,5 @@
--- W1c at the file: whatever reading found samples, the part can be filled from, with a channel that is there and an
--- element for each frame. Assumes nothing.
+-- W1c for a whole file: if reading found samples, its part can be filled from, for each channel that exists and a slice
+-- with one place for each frame. Assumes nothing.
 use mathlib.Core.Path.{_≡_, refl, _∙_}
 use mathlib.Core.Bool.{true}
 use mathlib.Core.List.{List}
@@ -15,7 +15,7 @@ use Rattle.wav_samples.specs.Filling.{verdict, wholeVerdict}
 use Rattle.wav_samples.proofs.Framing.{frames-are}
 use Rattle.wav_samples.proofs.Fillable.{fillable, whole-fillable}
 
--- the part of a wave, and how many frames it has
+-- The part of a file that holds the samples, and its number of frames.
 abbrev pub partIn : List ℕ → Wave → List ℕ
 partIn b w = partOf b (w .start) (w .length)
 

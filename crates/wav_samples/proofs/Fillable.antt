@@ -1,5 +1,5 @@
--- W1c. What is read can be filled: with one or two channels, one of them named, and an element for each frame nothing
--- is refused; and a refusal of 1 or 2 is given exactly when its test is the first that fails. Assumes nothing.
+-- W1c. With one or two channels, an existing channel and a place for each frame nothing is refused; and 1 or 2 is
+-- returned exactly when its test is the first that fails. Assumes nothing.
 use mathlib.Core.Path.{_≡_, refl}
 use mathlib.Core.Logic.{_↔_}
 use mathlib.Core.Bool.{Bool, true, _&&_}
@@ -15,7 +15,7 @@ use Rattle.wav_samples.specs.Samples.{isPcm}
 use Rattle.wav_samples.specs.Filling.{refusedBy, verdict, wholeVerdict}
 
 module _ (kind : SampleKind) (channels channel size n : ℕ) where
-  -- the table of refusals, as `refusedBy` has it
+  -- The table of refusals, in the order of `refusedBy`.
   abbrev pub tests : Bool → List Test
   tests asked = 1 unless (asked && (leb channels 2 && ltb channel channels)) ∷ 2 unless eqb size
       (n * frameOf kind channels) ∷ []

@@ -1,5 +1,4 @@
--- Frames and their places: a sample of one of n frames lies in the part, and what a call that is not refused knows.
--- Assumes nothing.
+-- The sample of each of n frames lies in the part; and what follows if a call is not refused. Assumes nothing.
 use mathlib.Core.Path.{_≡_, refl, sym, ap, _∙_}
 use mathlib.Core.Bool.{Bool, true, false, not, true≢false, _&&_}
 use mathlib.Core.List.{List, [], _∷_}
@@ -19,7 +18,6 @@ pub place : {size n frame first width : ℕ} (k : ℕ) → Whole size n frame fi
     → k * frame + first + width ≤ size
 place {frame = frame} k w h = omega (arith, w .all, w .inside, mul-le-mul-right frame h, suc-mul k frame)
 
--- the frames of one kind, and of one or two channels
 pub whole-of : {kind k : SampleKind} {channels first size n : ℕ} (c : ℕ) → Framed kind channels first size n → kind ≡ k
     → channels ≡ c
     → Whole size n (frameOf k c) first (widthOf k)
@@ -29,7 +27,7 @@ pub two-channels : {kind : SampleKind} {channels first size n : ℕ} → Framed 
     → (channels ≡ 1 → ⊥) → channels ≡ 2
 two-channels f h = omega (arith, f .some, f .few)
 
--- what a call that is not refused knows
+-- What follows if a call is not refused.
 pub framed : (asked : Bool) (kind : SampleKind) (channels channel size n : ℕ)
     → refusedBy asked kind channels channel size n ≡ 0
     → Framed kind channels (frameOf kind channel) size n
@@ -62,7 +60,7 @@ pub is-not-asked : (asked : Bool) → not asked ≡ true → asked ≡ false
 is-not-asked true h = absurd (true≢false (sym h))
 is-not-asked false h = refl
 
--- n whole frames, by a remainder and a quotient
+-- A size is n whole frames exactly if its remainder is 0 and its quotient is n.
 pub some-bytes : (kind : SampleKind) (channel channels : ℕ) → channel < channels → 0 < frameOf kind channels
 some-bytes kind channel channels h = omega (arith, fewer-bytes kind channel channels h)
 
@@ -80,7 +78,7 @@ pub asked-is : (asked : Bool) (kind : SampleKind) (channels channel size n : ℕ
 asked-is true kind channels channel size n h = refl
 asked-is false kind channels channel size n h = absurd (omega arith)
 
--- what a refused call leaves, and what an accepted one
+-- A refused call leaves the slice as it was, and an accepted one writes the new list.
 pub kept : {A : Type 0} (r v : ℕ) (new old : List A) → r ≡ v → (r ≡ 0 → ⊥) → old ≡ filledBy v new old
 kept r zero new old e h = absurd (h e)
 kept r (suc v) new old e h = refl

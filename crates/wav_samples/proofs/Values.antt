@@ -1,6 +1,5 @@
--- W1k. What a sample is: of PCM its number n over 2^15 or 2^23, once over the width, nothing rounded off in either
--- format;
--- of float 32 the very pattern that is stored, in either format, but that there is one NaN. Assumes nothing.
+-- W1k. What a sample is. Of PCM it is the stored number over 2^15 or 2^23, without rounding in either format. Of float
+-- 32 it is the value of the stored pattern in either format, where all NaN patterns are the one NaN. Assumes nothing.
 use mathlib.Core.Path.{_≡_, refl, sym}
 use mathlib.Core.Bool.{true, true≢false, cond}
 use mathlib.Core.List.{List}
@@ -17,7 +16,7 @@ use Rattle.whole_samples.specs.Whole.{negative, size}
 use Rattle.whole_samples.proofs.Exact.{exact}
 use Rattle.wav_samples.specs.Samples.{sampleOf, isPcm}
 
--- the digits that are stored, and how many
+-- The stored number, and how many digits it has.
 abbrev pub digits : SampleKind → List ℕ → ℕ → ℕ
 digits kind b at = number (widthOf kind) b at
 

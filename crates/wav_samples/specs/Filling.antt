@@ -12,8 +12,8 @@ use Rattle.sample_kind.specs.declared.SampleKind.{SampleKind}
 use Rattle.sample_kind.specs.Kinds.{frameOf}
 use Rattle.wav_samples.specs.Samples.{sampleOf, isPcm, wholeNumber}
 
--- 1: not one or two channels, no channel of that number, or a kind that is not asked for. 2: a part of `size` bytes
--- that is not n whole frames.
+-- The refusals. 1: the channels are not one or two, there is no channel of that number, or samples of this kind cannot
+-- be made. 2: a part of `size` bytes is not exactly n frames.
 abbrev pub refusedBy : Bool → SampleKind → ℕ → ℕ → ℕ → ℕ → ℕ
 refusedBy asked kind channels channel size n =
     firstOf
@@ -21,19 +21,19 @@ refusedBy asked kind channels channel size n =
     ∷ 2 unless eqb size (n * frameOf kind channels)
     ∷ [])
 
--- Floats are made of every kind, whole numbers of PCM.
+-- Floats can be made from every kind, whole numbers only from PCM.
 abbrev pub verdict : SampleKind → ℕ → ℕ → ℕ → ℕ → ℕ
 verdict kind = refusedBy true kind
 
 abbrev pub wholeVerdict : SampleKind → ℕ → ℕ → ℕ → ℕ → ℕ
 wholeVerdict kind = refusedBy (isPcm kind) kind
 
--- The samples of n frames of `frame` bytes, each `first` bytes behind its frame's beginning. What stands at a place is
--- a function, so that any layout's samples are such a list.
+-- The samples of n frames of `frame` bytes, each sample `first` bytes behind the beginning of its frame. What stands at
+-- a place is given as a function, so that this definition serves every layout.
 abbrev pub framesOf : {A : Type 0} → (ℕ → A) → ℕ → ℕ → ℕ → List A
 framesOf sample frame first n = listOf (λ (k : ℕ). sample (k * frame + first)) n
 
--- What the lent slice holds afterwards: a refusal leaves it as it was.
+-- What the lent slice holds afterwards. A refusal leaves it as it was.
 abbrev pub filledBy : {A : Type 0} → ℕ → List A → List A → List A
 filledBy zero new old = new
 filledBy (suc k) new old = old

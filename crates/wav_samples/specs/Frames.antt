@@ -1,4 +1,5 @@
--- What the loops over the frames ask of their callers. Definitions only, and no part of a promise.
+-- What the loops over the frames require of their callers inside this crate. It is no part of a promise to other
+-- crates. Definitions only.
 use Prim.Native.Nat.{ℕ, _+_, _*_, _%_, _≤_, _<_}
 use mathlib.Core.Path.{_≡_}
 use mathlib.Core.List.{List}
@@ -6,22 +7,22 @@ use Rattle.sample_kind.specs.declared.SampleKind.{SampleKind}
 use Rattle.sample_kind.specs.Kinds.{widthOf, frameOf}
 use Rattle.wav_format.specs.Format.{number}
 
--- The part is all of n frames, and the sample lies in its frame.
+-- The part is exactly n frames, and the sample lies inside its frame.
 pub record Whole (size n frame first width : ℕ) : Type 0 where
   pub all : size ≡ n * frame
   pub inside : first + width ≤ frame
 
--- The same of a kind, in one or two channels.
+-- The same for a kind of sample, in one or two channels.
 pub record Framed (kind : SampleKind) (channels first size n : ℕ) : Type 0 where
   pub some : 0 < channels
   pub few : channels ≤ 2
   pub whole : Whole size n (frameOf kind channels) first (widthOf kind)
 
--- Of n samples of four bytes, one in each frame from `first` on, all lie in the part.
+-- One sample of four bytes in each of n frames, at place `first` of the first frame: all of them lie in the part.
 abbrev pub Inside : ℕ → ℕ → ℕ → ℕ → Type 0
 Inside size n frame first = (k : ℕ) → k < n → k * frame + first + 4 ≤ size
 
--- A sample's pattern, and that of n patterns none is above m without its sign.
+-- The pattern of sample k, and that none of n patterns is above m without its sign bit.
 abbrev pub patterns : List ℕ → ℕ → ℕ → ℕ → ℕ
 patterns b frame first k = number 4 b (k * frame + first)
 

@@ -1,5 +1,4 @@
--- W1. What the bytes of a stored sample mean: as a value of the format that it is handed out in, and as a whole number.
--- Definitions only.
+-- W1. What the bytes of a stored sample mean: as a value of a float format, and as a whole number. Definitions only.
 use Prim.Native.Nat.{ℕ, _*_}
 use mathlib.Core.Bool.{Bool, true, false}
 use mathlib.Core.List.{List}
@@ -11,15 +10,14 @@ use Rattle.sample_kind.specs.Kinds.{widthOf}
 use Rattle.wav_format.specs.Format.{number}
 use Rattle.whole_samples.specs.Whole.{wholeOf, unitsOf}
 
--- W1k. The sample whose first byte stands at a place; bytes that are missing count as 0, so past the end it is +0.0. An
--- f32 is a value of both formats.
+-- W1k. The sample whose first byte stands at a place. Bytes that are missing count as 0, so a sample past the end is
+-- +0.0. A stored f32 is a value of both formats.
 abbrev pub sampleOf : Format → SampleKind → List ℕ → ℕ → Float
 sampleOf f Pcm16 b at = wholeOf f 16 (number 2 b at)
 sampleOf f Pcm24 b at = wholeOf f 24 (number 3 b at)
 sampleOf f Float32 b at = ofBits binary32 (number 4 b at)
 
--- W1e. The same as a whole number in units of 2^-23, once over the width: 24 bits as they are, 16 bits times 256. PCM
--- alone has one.
+-- W1e. The same as a whole number in units of 2^-23: 24 bits as they are, 16 bits times 256. Only PCM has one.
 abbrev pub isPcm : SampleKind → Bool
 isPcm Pcm16 = true
 isPcm Pcm24 = true

@@ -1,4 +1,4 @@
-// W1. One channel's samples, frame by frame, into a lent slice of as many places as the part has frames.
+// W1. One channel's samples, frame by frame, written to a lent slice with one place for each frame of the part.
 ghost use mathlib.Core.Path.{_≡_};
 ghost use lib.ListN.{length};
 ghost use lib.Ieee.{binary32, binary64};
@@ -52,7 +52,8 @@ pub fn fill_f32(kind: SampleKind, channels: u8, channel: u8, part: &[u8], out: &
     0
 }
 
-// In units of 2^-23, which the residual and demand 3 speak of: 24 bits as they are, 16 bits times 256. No float kind.
+// W1e. Samples in units of 2^-23, the unit of the residual and of demand 3: 24 bits are stored as they are, 16 bits are
+// multiplied by 256. Float samples are refused, because they are no whole numbers.
 pub fn fill_whole(kind: SampleKind, channels: u8, channel: u8, part: &[u8], out: &mut [i32]) -> u8
     ensures { λ r. ⌜ r ≡ wholeVerdict kind channels channel (length (now (part .entry))) (length (now (out .entry))) ⌝ }
     ensures { λ _. ⌜
@@ -74,7 +75,7 @@ pub fn fill_whole(kind: SampleKind, channels: u8, channel: u8, part: &[u8], out:
     0
 }
 
-// What is refused where whole numbers are made, or floats of a layout that has PCM alone.
+// The refusal when whole numbers are wanted, or floats from a layout that stores only PCM.
 pub fn whole_refusal(kind: SampleKind, channels: u8, channel: u8, size: usize, n: usize) -> u8
     ensures { λ r. ⌜ r ≡ wholeVerdict kind channels channel size n ⌝ }
 {

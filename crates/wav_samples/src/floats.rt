@@ -1,6 +1,6 @@
-// W1. Samples of floats into f64, a block at a time. A NaN leaves with one pattern, so that no pattern is handed on
-// before it is known to be a number's: of a block this is told by operations that a compiler makes on four patterns at
-// once, and most blocks are then handed on without a test of each.
+// W1. Float samples into f64, a block at a time. Every NaN must leave as one pattern, so each pattern would need a
+// test. One test for a whole block, made of operations that a compiler applies to four patterns at once, shows for most
+// blocks that they hold no NaN; these are then converted without a test for each sample.
 ghost use mathlib.Core.Path.{_≡_};
 ghost use Prim.Native.Nat.{ℕ, _%_, _≤_};
 ghost use lib.ListN.{length, getD};
@@ -16,7 +16,7 @@ use crate::no_nan::together;
 use crate::places::four_at;
 use crate::widened;
 
-// One channel of one. A block is short enough for a compiler to make one line of vectors of it, without a loop.
+// A file of one channel. A block is short enough for a compiler to unroll it into vector instructions without a loop.
 pub(crate) fn of_one(first: usize, part: &[u8], out: &mut [f64])
     requires { ⌜ Whole (length (now part)) (length (now out)) 4 first 4 ⌝ }
     ensures { λ _. ⌜
@@ -31,8 +31,8 @@ pub(crate) fn of_one(first: usize, part: &[u8], out: &mut [f64])
     tested(4, k * 4 + first, part, &mut out[k..]);
 }
 
-// One channel of two. A block's patterns fill twelve registers of plain x86-64 but for one: a compiler that reads every
-// second pattern by vectors leaves the last by itself.
+// One channel of a file of two. 48 patterns fill twelve vector registers of plain x86-64. A block has one more, because
+// a compiler that reads every second pattern by vectors reads the last one by itself.
 pub(crate) fn of_two(first: usize, part: &[u8], out: &mut [f64])
     requires { ⌜ Whole (length (now part)) (length (now out)) 8 first 4 ⌝ }
     ensures { λ _. ⌜
@@ -61,7 +61,7 @@ fn block_of_one(first: usize, part: &[u8], out: &mut [f64])
     }
 }
 
-// The patterns are kept, since every second one costs more to read than to keep.
+// The patterns are kept in an array, since reading every second one again costs more than keeping it.
 fn block_of_two(first: usize, part: &[u8], out: &mut [f64])
     requires { ⌜ Inside (length (now part)) (length (now out)) 8 first × (length (now out) ≡ 49) ⌝ }
     ensures { λ _. ⌜
@@ -123,7 +123,7 @@ fn handed(kept: &[u32], out: &mut [f64])
     }
 }
 
-// The f64 of a number's pattern.
+// The f64 of a pattern that is known not to be a NaN's, so that no test is needed.
 fn of_number(n: u32) -> f64
     requires { ⌜ n % 0x8000_0000 ≤ 0x7f80_0000 ⌝ }
     ensures { λ r. ⌜ r ≡ ofBits binary32 n ⌝ }

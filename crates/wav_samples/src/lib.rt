@@ -1,4 +1,4 @@
-// W1. The samples of a WAVE file's part: one by its place, or one channel's, frame by frame, into a lent slice.
+// W1. The samples in the data of a WAVE file: one at a given place, or all of one channel written to a lent slice.
 ghost use mathlib.Core.Path.{_≡_};
 ghost use lib.Ieee.{binary32, binary64, ofBits};
 ghost use Rattle.wav_samples.specs.Samples.{sampleOf};
@@ -16,7 +16,7 @@ use little_endian::two;
 use sample_kind::SampleKind;
 use word_bytes::low_first_u32;
 
-// The sample whose first byte stands at a place of the part.
+// W1k. The sample whose first byte stands at `at`. Bytes past the end count as 0.
 pub fn sample(kind: SampleKind, part: &[u8], at: usize) -> f64
     ensures { λ r. ⌜ r ≡ sampleOf binary64 kind (now (part .entry)) at ⌝ }
 {
@@ -37,7 +37,7 @@ pub fn sample_f32(kind: SampleKind, part: &[u8], at: usize) -> f32
     }
 }
 
-// The f64 of an f32's pattern: the same number, or the NaN.
+// The f64 of an f32's pattern: the same number, or the one NaN.
 pub(crate) fn widened(n: u32) -> f64
     ensures { λ r. ⌜ r ≡ ofBits binary32 n ⌝ }
 {

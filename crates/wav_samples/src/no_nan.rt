@@ -1,5 +1,5 @@
-// W1. Whether a block of float samples holds no NaN, by all of its patterns at once. With the sign taken off, a NaN's
-// pattern lies above an infinity's.
+// W1. Whether a block of float samples holds no NaN, found from all of its patterns at once. Without its sign bit, the
+// pattern of a NaN is larger than that of an infinity.
 ghost use mathlib.Core.Path.{_≡_};
 ghost use mathlib.Core.Bool.{true};
 ghost use Prim.Native.Nat.{_%_, _≤_};
@@ -8,7 +8,7 @@ ghost use Rattle.loop_laws.specs.Loops.{listOf};
 ghost use Rattle.wav_samples.specs.Frames.{Inside, patterns, NoneAbove};
 use crate::places::four_at;
 
-// All patterns put together, of which none is larger without its sign.
+// All patterns combined by a bitwise or. Without its sign bit no pattern is larger than the result.
 pub(crate) fn together(frame: usize, first: usize, part: &[u8], count: usize) -> u32
     requires { ⌜ Inside (length (now part)) count frame first ⌝ }
     ensures { λ r. ⌜ NoneAbove (patterns (now (part .entry)) frame first) count (r % 0x8000_0000) ⌝ }
@@ -22,7 +22,7 @@ pub(crate) fn together(frame: usize, first: usize, part: &[u8], count: usize) ->
     all
 }
 
-// The same, and the patterns.
+// The same, and each pattern is kept for the caller.
 pub(crate) fn gathered(frame: usize, first: usize, part: &[u8], kept: &mut [u32]) -> u32
     requires { ⌜ Inside (length (now part)) (length (now kept)) frame first ⌝ }
     ensures { λ r. ⌜
@@ -43,7 +43,7 @@ pub(crate) fn gathered(frame: usize, first: usize, part: &[u8], kept: &mut [u32]
     all
 }
 
-// How many of them are a NaN's.
+// How many patterns are a NaN's. The loop does not stop at the first, so that a compiler can use vectors.
 fn nans(frame: usize, first: usize, part: &[u8], count: usize) -> u32
     requires { ⌜ Inside (length (now part)) count frame first × (count ≤ 96) ⌝ }
     ensures { λ r. ⌜ (r ≡ 0 → NoneAbove (patterns (now (part .entry)) frame first) count 0x7f80_0000) ⌝ }
@@ -67,7 +67,8 @@ fn one_if_nan(n: u32) -> u32
     0
 }
 
-// Whether all are known to be numbers: at once where each is below 2 in size.
+// Whether no pattern is a NaN's. If the combined pattern is below that of 2.0, so is every pattern, and the count is
+// not needed.
 pub(crate) fn numbers(all: u32, frame: usize, first: usize, part: &[u8], count: usize) -> bool
     requires { ⌜
         Inside (length (now part)) count frame first × (count ≤ 96)

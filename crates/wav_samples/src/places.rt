@@ -1,6 +1,6 @@
-// The number of two, three or four bytes at a place of the part, where all of them are there: no length is tested, so
-// that a loop over the frames is taken several samples at a time. A function each: what reads the bytes becomes one
-// load.
+// The number of two, three or four bytes at a place of the part, all of which are known to lie in it. No length is
+// tested, so that a compiler can take several samples of a loop at a time. Each width has a function of its own, which
+// a compiler turns into one load.
 ghost use mathlib.Core.Path.{_≡_};
 ghost use Prim.Native.Nat.{_+_, _≤_};
 ghost use lib.ListN.{length};

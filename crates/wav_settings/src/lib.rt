@@ -1,4 +1,5 @@
-// W2. The tests of a rate, of channels and of whole frames, of a WAV file that is to be written, each for every input.
+// W2. The tests of the rate, the channels and the number of samples of a WAV file that is to be written, for every
+// input.
 ghost use mathlib.Core.Path.{_≡_};
 ghost use Rattle.wav_settings.specs.Settings.{rateOk, oneOrTwo, wholeFrames};
 use refusal_order::both;
@@ -15,7 +16,7 @@ pub fn one_or_two(channels: u8) -> bool
     if channels == 1 { true } else { channels == 2 }
 }
 
-// One channel's samples are always whole frames.
+// One channel needs no test, because any number of samples is whole frames.
 pub fn whole_frames(channels: u8, count: usize) -> bool
     ensures { λ r. ⌜ r ≡ wholeFrames channels count ⌝ }
 {

@@ -1,5 +1,5 @@
--- W2a. A file put together in a lent buffer: the samples first, then the header before them and the pad byte behind,
--- and the rest of the buffer as it was. Laws on lists. Assumes nothing.
+-- W2a. Laws on lists for a file that is put together in a lent buffer: first the samples, then the header before them
+-- and the pad byte behind, with the rest of the buffer as it was. Assumes nothing.
 use mathlib.Core.Path.{_≡_, sym, ap, _∙_}
 use mathlib.Core.List.{List, _++_, append-assoc}
 use Prim.Native.Nat.{ℕ, suc, _+_, _≤_, _<_}
@@ -12,12 +12,12 @@ use Rattle.wav_header.specs.Header.{sizeOf, padOf}
 use Rattle.long_header.specs.LongHeader.{headerLengthFor, fileLengthFor}
 use Rattle.wav_write.specs.Placing.{padded}
 
--- a part that came back as it was lent leaves the list as it was
+-- A lent part that comes back unchanged leaves the list as it was.
 pub same-part : (xs ys : List ℕ) (a k : ℕ) → ys ≡ take k (drop a xs) → take a xs ++ (ys ++ drop k (drop a xs)) ≡ xs
 same-part xs ys a k e =
     rw e (ap (λ (l : List ℕ). take a xs ++ l) (take-append-drop k (drop a xs)) ∙ take-append-drop a xs)
 
--- the pad byte, where there is one and where there is none
+-- The pad byte, if there is one and if there is none.
 one : (xs : List ℕ) (end pad file : ℕ) → pad ≡ 1 → file ≡ suc end → end < length xs
     → set xs end 0 ≡ take end xs ++ (lowBytes pad 0 ++ drop file xs)
 unfolding lowBytes
@@ -43,7 +43,7 @@ module _ (kind : SampleKind) (count : ℕ) (xs : List ℕ) (end : ℕ) (e : end
       (omega arith)
       (omega arith)
 
--- samples of s bytes behind h bytes, a head of h bytes before them, a pad of p bytes behind them
+-- Samples of s bytes, a header of h bytes before them, and a pad of p bytes behind.
 module _ (xs head samples pad : List ℕ) (h s p k : ℕ) (held : h + s + p ≤ length xs) (e : k ≡ s)
     (lh : length head ≡ h) (ls : length samples ≡ s) (lp : length pad ≡ p) where
   abbrev stored : List ℕ

@@ -1,5 +1,5 @@
--- W2a, W2f. A write by what its calls ensure, for samples of either format: refused early, refused by the store, or
--- laid out whole. Assumes nothing.
+-- W2a, W2f. What a write does, from what its calls ensure, for samples of either format: it is refused early, refused
+-- by the store, or writes the whole file. Assumes nothing.
 use mathlib.Core.Path.{_≡_, refl, sym, ap, _∙_}
 use mathlib.Core.List.{List, _++_}
 use Prim.Native.Nat.{ℕ, _+_, _-_, _*_, _^_, _≤_, _<_}
@@ -33,7 +33,7 @@ module _ (form : Form) (kind : SampleKind) (channels rate : ℕ) (samples : List
       let v = refused-early kind channels rate samples (length xs) r early h in
       (refused _ _ _ v h, kept _ _ _ _ v h)
 
-  -- a header of a bytes, and samples of w bytes each behind it
+  -- Let the header have a bytes, and each sample behind it w bytes.
   module _ (z : r ≡ 0) (a w : ℕ) (h : a ≡ headerLengthFor kind (length samples)) (d : w ≡ widthOf kind) where
     pub room : Room kind channels rate (length samples) (length xs)
     room = roomy kind channels rate (length samples) (length xs) (sym early ∙ z)
@@ -49,7 +49,7 @@ module _ (form : Form) (kind : SampleKind) (channels rate : ℕ) (samples : List
         let q = small kind channels rate (length samples) (room .planned) in
         rw (h, d) (omega (arith, q, longest-header kind (length samples)))
 
-    -- u by the store, whose part came back as ys
+    -- Let u be the refusal of the store, and ys the part that it hands back.
     module _ (u : ℕ) (ys : List ℕ)
         (s : u ≡ storeVerdict kind samples (length (take (a + length samples * w - a) (drop a xs))))
         (p : ys ≡ stored kind samples (take (a + length samples * w - a) (drop a xs))) where

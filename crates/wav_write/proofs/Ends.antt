@@ -1,5 +1,5 @@
--- W2. A write at the ends of its ranges: a buffer of exactly the file's length and one byte less, which of two refusals
--- is given, and a whole file with its pad byte in a longer buffer. By computing. Assumes nothing.
+-- W2. A write at the ends of its ranges: a buffer of exactly the file's length and one a byte shorter, which of two
+-- refusals is given, and a whole file with its pad byte in a longer buffer. By computing. Assumes nothing.
 use mathlib.Core.Path.{_≡_, refl}
 use mathlib.Core.Bool.{false}
 use mathlib.Core.List.{[], _∷_}
@@ -34,7 +34,7 @@ none-enough = refl
 pub none-short : verdict Float32 2 48000 [] 57 ≡ 14
 none-short = refl
 
--- ---- two due
+-- ---- two refusals are possible
 pub short-and-nan : verdict Pcm16 1 48000 (nan ∷ []) 45 ≡ 14
 short-and-nan = refl
 

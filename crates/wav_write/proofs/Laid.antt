@@ -1,5 +1,5 @@
 -- W2a. The steps of a write, each as a law over what its calls ensure: the header in its place, the samples in theirs,
--- and all together the file that is defined. Assumes nothing.
+-- and both together as the defined file. Assumes nothing.
 use mathlib.Core.Path.{_≡_, refl, sym, ap, _∙_}
 use mathlib.Core.List.{List, [], _++_, append-nil}
 use Prim.Native.Nat.{ℕ, zero, suc, _+_, _≤_}
@@ -21,7 +21,7 @@ use Rattle.wav_write.specs.Writing.{fileOf}
 use Rattle.wav_write.specs.Placing.{Room, headed, padded}
 use Rattle.wav_write.proofs.Around.{put-together}
 
--- the header: ys came back in the place of the first k bytes
+-- The header ys is handed back for the first k bytes.
 module _ (form : Form) (kind : SampleKind) (channels rate count : ℕ) (old : List ℕ) where
   pub head-is : (ys : List ℕ) (k : ℕ) → Room kind channels rate count (length old) → k ≡ headerLengthFor kind count
       → ys ≡ headerAfter form kind channels rate count (take k old)
@@ -44,7 +44,7 @@ module _ (form : Form) (kind : SampleKind) (channels rate count : ℕ) (old : Li
       let h = r .holds in
       simp (length-append, length-drop, length-header form kind channels rate count) (omega arith)
 
--- the samples: ys came back in the place of k bytes behind a
+-- The samples ys are handed back for k bytes behind the first a.
 pub length-stored : (xs ys : List ℕ) (a k : ℕ) → length ys ≡ k → a + k ≤ length xs
     → length (take a xs ++ (ys ++ drop k (drop a xs))) ≡ length xs
 length-stored xs ys a k l h = simp (length-append, length-take, length-drop) (omega arith)
@@ -59,7 +59,7 @@ unstored r (suc v) new old e h = refl
 pub in-place : (r v : ℕ) (new old : List ℕ) → r ≡ v → r ≡ 0 → storedBy v new old ≡ new
 in-place r v new old e h = rw (sym e ∙ h)
 
--- all together
+-- Header, samples and pad together are the file.
 pub laid : (form : Form) (kind : SampleKind) (channels rate : ℕ) (samples : List Float) (xs ys : List ℕ) (a k : ℕ)
     → a ≡ headerLengthFor kind (length samples) → k ≡ sizeOf kind (length samples) → ys ≡ bytesOf kind samples
     → fileLengthFor kind (length samples) ≤ length xs

@@ -1,5 +1,5 @@
--- W2f, W10f. The refusals of a write, each exactly when its test is the first that fails, none exactly when all tests
--- hold, and a refused call writes nothing. From the laws over any table. Assumes nothing.
+-- W2f, W10f. Each refusal of a write is given exactly when its test is the first that fails, none exactly when all
+-- tests hold, and a refused call writes nothing. From the laws over any table. Assumes nothing.
 use mathlib.Core.Path.{_≡_, refl, sym}
 use mathlib.Core.Logic.{_↔_}
 use mathlib.Core.Bool.{true}

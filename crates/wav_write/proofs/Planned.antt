@@ -1,5 +1,5 @@
--- W10. A file that none of 1, 19 and 13 refuses has a length, and its header is written into a block of that header's
--- length. Assumes nothing.
+-- W10. A file that none of 1, 19 and 13 refuses has a length, and its header fits a block of the header's length.
+-- Assumes nothing.
 use mathlib.Core.Path.{_≡_, refl, sym, _∙_}
 use mathlib.Core.Bool.{Bool, true, false, cond, _&&_}
 use Prim.Native.Nat.{ℕ, _+_, _^_, _≤_}

@@ -1,5 +1,5 @@
--- W2f. The refusals that are due before a sample is looked at, and 15 behind them, are those of the table; an answer by
--- its number. Assumes nothing.
+-- W2f. The refusals that are known before any sample is read, followed by 15, are those of the table; and the answer
+-- that belongs to a refusal's number. Assumes nothing.
 use mathlib.Core.Path.{_≡_, refl, sym, ap, _∙_}
 use mathlib.Core.Bool.{Bool, true, false, cond, _&&_}
 use mathlib.Core.List.{List, [], _∷_}
@@ -21,7 +21,6 @@ use Rattle.wav_write.specs.declared.Written.the-variants as answers
 use Rattle.wav_write.specs.Writing.{verdict, answerBy}
 use Rattle.wav_write.specs.Placing.{earlyVerdict, Room}
 
--- a number, or where there is none a later one
 abbrev pub orLater : ℕ → ℕ → ℕ
 orLater zero m = m
 orLater (suc n) m = suc n
@@ -61,13 +60,13 @@ verdict-is kind channels rate samples room =
     (oneOrTwo channels)
     (leb (fileLengthFor kind (length samples)) room) (allFit kind samples)
 
--- ---- what is due by the calls of a write
+-- ---- the refusal, from the calls of a write
 module _ (kind : SampleKind) (channels rate : ℕ) (samples : List Float) (room r : ℕ)
     (e : r ≡ earlyVerdict kind channels rate (length samples) room) where
   pub refused-early : (r ≡ 0 → ⊥) → r ≡ verdict kind channels rate samples room
   refused-early h = refused-first r _ _ e h ∙ sym (verdict-is kind channels rate samples room)
 
-  -- what a store of exactly the samples' bytes refuses is 15
+  -- A store into exactly the bytes of the samples can refuse only by 15.
   pub refused-late : r ≡ 0 → (n u : ℕ) → n ≡ sizeOf kind (length samples) → u ≡ storeVerdict kind samples n
       → u ≡ verdict kind channels rate samples room
   unfolding storeVerdict
@@ -79,7 +78,7 @@ module _ (kind : SampleKind) (channels rate : ℕ) (samples : List Float) (room 
       (verdict-is kind channels rate samples room
       ∙ ap (λ (v : ℕ). orLater v (cond (allFit kind samples) 0 15)) (sym e ∙ z))
 
--- a call that is not refused early has room
+-- If a call is not refused early, the buffer has room for the file.
 pub roomy : (kind : SampleKind) (channels rate count room : ℕ) → earlyVerdict kind channels rate count room ≡ 0
     → Room kind channels rate count room
 roomy kind channels rate count room h =
@@ -92,7 +91,7 @@ roomy kind channels rate count room h =
     by zero false p q z = absurd (omega arith)
     by (suc v) t p q z = absurd (omega arith)
 
--- an answer by its number
+-- The answer that belongs to a refusal's number.
 pub refused : (r v n : ℕ) → r ≡ v → (r ≡ 0 → ⊥) → answers.Refused r ≡ answerBy v n
 refused r zero n e h = absurd (h e)
 refused r (suc v) n e h = ap answers.Refused e

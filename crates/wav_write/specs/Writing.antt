@@ -1,5 +1,5 @@
--- W2, W10e. Samples as a whole WAV file of any length in a lent buffer: which refusal is due, what is answered, and
--- what the buffer then holds. The samples are those of all channels, frame by frame. Definitions only.
+-- W2, W10e. Samples as a whole WAV file of any length in a lent buffer: the refusal, the answer, and what the buffer
+-- holds afterwards. The samples are those of all channels, frame by frame. Definitions only.
 use Prim.Native.Nat.{ℕ, zero, suc}
 use mathlib.Core.Bool.{_&&_}
 use mathlib.Core.List.{List, [], _∷_, _++_}
@@ -19,14 +19,15 @@ use Rattle.long_header.specs.Refusals.{sizeOk}
 use Rattle.wav_write.specs.declared.Written.{Written}
 use Rattle.wav_write.specs.declared.Written.the-variants as answers
 
--- The header, the stored samples, and a pad byte of 0 behind an odd number of their bytes.
+-- The header, the stored samples, and a pad byte of 0 if they have an odd number of bytes.
 unfoldable pub fileOf : Form → SampleKind → ℕ → ℕ → List Float → List ℕ
 fileOf form kind channels rate samples =
     headerFor form kind channels rate (length samples)
     ++ (bytesOf kind samples ++ lowBytes (padOf kind (length samples)) 0)
 
--- W2f, W10f. 1 the rate or a count of broken frames; 19 more than 2^40 bytes of samples; 13 not one or two channels;
--- 14 a buffer of `room` bytes that is shorter than the file; 15 a sample that is out of range or a NaN.
+-- W2f, W10f. 1: the rate is out of range, or the count is not whole frames. 19: the samples have more than 2^40 bytes.
+-- 13: the channels are not one or two. 14: the buffer of `room` bytes is shorter than the file. 15: a sample is out of
+-- range or a NaN.
 abbrev pub tests : SampleKind → ℕ → ℕ → List Float → ℕ → List Test
 tests kind channels rate samples room =
     1 unless (rateOk rate && wholeFrames channels (length samples))
@@ -39,7 +40,6 @@ tests kind channels rate samples room =
 abbrev pub verdict : SampleKind → ℕ → ℕ → List Float → ℕ → ℕ
 verdict kind channels rate samples room = firstOf (tests kind channels rate samples room)
 
--- The file's length, or the refusal.
 abbrev pub answerBy : ℕ → ℕ → Written
 answerBy zero n = answers.Length n
 answerBy (suc k) n = answers.Refused (suc k)
@@ -48,7 +48,7 @@ abbrev pub answerOf : SampleKind → ℕ → ℕ → List Float → ℕ → Writ
 answerOf kind channels rate samples room =
     answerBy (verdict kind channels rate samples room) (fileLengthFor kind (length samples))
 
--- W2a. The file's bytes, then the bytes of the buffer as they were; a refusal leaves all of them.
+-- W2a. The bytes of the file, then the rest of the buffer as it was. A refusal leaves the whole buffer as it was.
 abbrev pub written : Form → SampleKind → ℕ → ℕ → List Float → List ℕ → List ℕ
 written form kind channels rate samples old =
     writtenBy (verdict kind channels rate samples (length old))

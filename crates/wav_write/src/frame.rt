@@ -1,4 +1,4 @@
-// W2, W10e. What stands around the samples of a file: the header before them and a pad byte behind an odd number of
+// W2, W10e. The bytes around the samples of a file: the header, and a pad byte if the samples have an odd number of
 // bytes.
 ghost use mathlib.Core.Path.{_≡_};
 ghost use lib.ListN.{length};
@@ -11,7 +11,7 @@ use long_header::header_of;
 use sample_kind::SampleKind;
 use sample_kind::width;
 
-// 1, 19, 13 or 14: what is due before a sample is looked at; 0 for none.
+// The refusal that is known before any sample is read: 1, 19, 13, 14, or 0 for none.
 pub(crate) fn early(kind: SampleKind, channels: u8, rate: u32, count: usize, room: usize) -> u8
     ensures { λ r. ⌜ r ≡ earlyVerdict kind channels rate count room ⌝ }
 {
@@ -26,7 +26,7 @@ pub(crate) fn early(kind: SampleKind, channels: u8, rate: u32, count: usize, roo
     }
 }
 
-// The header and the pad byte, around samples that stand in their place already; hands back the file's length.
+// Writes the header and the pad byte around samples that are already in place, and returns the length of the file.
 pub(crate) fn finish(
     form: Form,
     kind: SampleKind,

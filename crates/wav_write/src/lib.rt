@@ -1,5 +1,5 @@
-// W2, W10e. Samples written as a WAV file into a lent buffer, RIFF where that holds it and past that RF64 or BW64, up
-// to 2^40 bytes of samples, or a refusal by number that leaves the buffer as it was.
+// W2, W10e. Samples written as a WAV file into a lent buffer: RIFF if the file fits it, otherwise RF64 or BW64, up to
+// 2^40 bytes of samples. A refusal has a number and leaves the buffer as it was.
 ghost use mathlib.Core.Path.{_≡_};
 ghost use lib.ListN.{length};
 ghost use Rattle.wav_write.specs.Writing.{answerOf, written};
@@ -15,14 +15,14 @@ pub use narrow_samples::write_f32;
 use sample_kind::SampleKind;
 use sample_kind::width;
 
-// The length of the file that was written, or why none was.
+// The length of the written file, or the number of the refusal.
 pub enum Written {
     Length(usize),
     Refused(u8),
 }
 
-// Refuses by 1, 19, 13, 14 or 15, or writes the file. The samples go first, as only they can still be refused: so one
-// look at them is enough, and a refusal finds nothing written.
+// Refuses by 1, 19, 13, 14 or 15, or writes the file. The samples are written first, because only they can still be
+// refused: so each is read once, and a refusal comes before anything is written.
 pub fn write(
     form: Form,
     kind: SampleKind,

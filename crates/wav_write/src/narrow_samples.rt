@@ -10,7 +10,7 @@ use long_header::header_length_for;
 use sample_kind::SampleKind;
 use sample_kind::width;
 
-// Refuses by 1, 19, 13, 14 or 15, or writes the file: as `write` does for f64s.
+// Does for f32 samples what `write` does for f64: refuses by 1, 19, 13, 14 or 15, or writes the file.
 pub fn write_f32(
     form: Form,
     kind: SampleKind,

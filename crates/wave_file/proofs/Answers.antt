@@ -1,4 +1,4 @@
--- What is answered, from what the opening, the walk and the readings behind it gave. Assumes nothing.
+-- The answer of `open`, from those of the opening, of the walk and of the readings behind it. Assumes nothing.
 use mathlib.Core.Path.{_≡_, refl, sym, ap, _∙_}
 use mathlib.Core.List.{List, []}
 use Prim.Native.Nat.{ℕ, zero, suc, _<_}
@@ -29,7 +29,7 @@ module _ (opening : List ℕ) (size : ℕ) {layout : Layout} (is : layout ≡ la
   pieces heads format samples =
       record { opening = opening; size = size; heads = heads; format = format; samples = samples }
 
-  -- the opening refuses
+  -- The opening is refused.
   pub at-once : (fd : ℤ) (n : ℕ) {r : Opened} → begunIn layout opening size .refusal ≡ n → (n ≡ 0 → ⊥)
       → r ≡ opened.Refused (refusedBy n (toldBy layout [])) → Opens r
   at-once fd zero e h f = absurd (h refl)
@@ -38,7 +38,7 @@ module _ (opening : List ℕ) (size : ℕ) {layout : Layout} (is : layout ≡ la
       (f ∙ sym (rw (sym is)
       (ap (λ (m : ℕ). answeredBy m fd layout (begunIn layout opening size .end) (pieces [] [] [])) e)))
 
-  -- the walk came to its end, and so did what is read behind it
+  -- The walk reached its end, and the readings behind it gave their answer.
   module _ (begins : begunIn layout opening size .refusal ≡ 0) {end : ℕ}
       (ends : begunIn layout opening size .end ≡ end) where
     told-by : {w : Walked} {r : Opened} (heads : List (List ℕ)) → walkedBy layout opening end heads .left < 8

@@ -1,5 +1,4 @@
--- A walk whose heads are read one after the other: it ends, and what it has seen is what the heads tell. Assumes
--- nothing.
+-- A walk whose heads are read one after the other ends, and what it has seen follows from the heads. Assumes nothing.
 use mathlib.Core.Path.{_≡_, refl, ap, _∙_}
 use mathlib.Core.List.{List, [], _∷_}
 use Prim.Native.Nat.{ℕ, _≤_, _<_}

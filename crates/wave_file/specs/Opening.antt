@@ -1,5 +1,5 @@
--- What `open` answers: that C's calls failed, that the file is empty or became shorter, or what the pieces that were
--- read tell, and nothing else. Which pieces a file has no contract can say. Definitions only.
+-- What `open` answers: that a C call failed, that the file is empty or became shorter, or what follows from the pieces
+-- that were read, and nothing else. No contract can say which pieces a file has. Definitions only.
 use Prim.Native.Nat.{ℕ, zero, suc, _<_, _/_}
 use mathlib.Core.Path.{_≡_}
 use mathlib.Core.Bool.{cond}
@@ -28,7 +28,7 @@ abbrev pub refusedBy : ℕ → Told → Refused
 refusedBy n t =
     record { number = n; tag = t .tag; channels = t .channels; block = t .block; bits = t .bits }
 
--- The frames are as many as the part holds; tag FFFE says that the kind is wrapped.
+-- There are as many frames as fit the part. A tag of FFFE says that the kind is wrapped.
 abbrev pub framesOf : ℕ → ℕ → ℕ
 framesOf size frame = cond (eqb frame 0) 0 (size / frame)
 
@@ -50,8 +50,9 @@ abbrev pub openedAs : ℤ → Layout → Told → Found → Opened
 openedAs fd layout t (found.Wave w) = opened.File (fileOf fd layout t w)
 openedAs fd layout t (found.Refused n) = opened.Refused (refusedBy n t)
 
--- ---- the pieces of a file that are read: its first bytes, and its length; the heads of its chunks, the last one
--- first; the first bytes of the chunk that describes the samples, and of the one that holds them
+-- ---- the pieces of a file that are read
+-- They are its first bytes and its length, the heads of its chunks with the last one first, and the first bytes of the
+-- chunk that describes the samples and of the one that holds them.
 pub record Pieces : Type 0 where
   pub opening : List ℕ
   pub size : ℕ
@@ -59,12 +60,12 @@ pub record Pieces : Type 0 where
   pub format : List ℕ
   pub samples : List ℕ
 
--- The walk after so many heads.
+-- The walk after these heads.
 unfoldable pub walkedBy : Layout → List ℕ → ℕ → List (List ℕ) → Walking
 walkedBy layout opening end [] = begun end
 walkedBy layout opening end (h ∷ hs) = turnedIn layout opening (walkedBy layout opening end hs) end h
 
--- What they tell, by what the opening refuses.
+-- The answer from the pieces, by the refusal of the opening.
 abbrev pub answeredBy : ℕ → ℤ → Layout → ℕ → Pieces → Opened
 answeredBy zero fd layout end p =
     openedAs fd layout (toldBy layout (p .format))
@@ -77,12 +78,12 @@ startOf p = begunIn (layoutOf (p .opening)) (p .opening) (p .size)
 abbrev pub openedBy : ℤ → Pieces → Opened
 openedBy fd p = answeredBy (startOf p .refusal) fd (layoutOf (p .opening)) (startOf p .end) p
 
--- Where the opening refuses nothing all heads are read, up to the walk's end.
+-- If the opening refuses nothing, all heads up to the end of the walk are read.
 abbrev pub AllHeads : Pieces → Type 0
 AllHeads p =
     startOf p .refusal ≡ 0 → walkedBy (layoutOf (p .opening)) (p .opening) (startOf p .end) (p .heads) .left < 8
 
--- ---- all that can be answered: what the calls of C's tell, or what the pieces tell
+-- ---- all possible answers: a C call failed, the file is empty or became shorter, or what follows from the pieces
 pub data Opens (r : Opened) : Type 0 where
   unread : r ≡ opened.Unread → Opens r
   empty : r ≡ opened.Empty → Opens r

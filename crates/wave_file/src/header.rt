@@ -1,4 +1,5 @@
-// The header of an open file, by turns: what file_turns tells of the bytes that were read, or that they were not.
+// The header of an open file, read step by step: what file_turns says of the bytes that were read, or that reading
+// failed.
 ghost use mathlib.Core.Path.{_≡_};
 ghost use Prim.Native.Nat.{_≤_};
 ghost use Rattle.wave_file.specs.Opening.{Opens, openedAs, refusedBy, fileOf};
@@ -20,11 +21,11 @@ use sizes::quotient;
 use wav::Found;
 use wav::Wave;
 
-// How many of the file's first bytes are at hand: a `ds64` with a table of up to 337 sizes. One that has more is
-// refused by 2.
+// How many of the file's first bytes are read as its opening. This is enough for a `ds64` with a table of 337 sizes; a
+// longer table is refused by 2.
 const OPENING: usize = 4096;
 
-// A walk over the chunks that came to its end, or broke off by what `read_at` answered.
+// A walk over the chunks that reached its end, or that failed with this answer of `read_at`.
 pub enum Walk {
     Done(Walked),
     Broken(u8),
@@ -35,7 +36,7 @@ pub enum Turned {
     Broken(u8),
 }
 
-// A folder is told from an empty file by `pread`, so that comes first.
+// `pread` fails on a folder, whose length may be reported as 0 like that of an empty file, so `pread` comes first.
 pub(crate) fn look_into(fd: i32) -> Opened
     ensures { λ r. ⌜ Opens r ⌝ }
 {
@@ -99,7 +100,7 @@ fn refusal(number: u8, told: Told) -> Refused
     }
 }
 
-// Chunk after chunk: each turn passes 8 bytes or more.
+// Walks chunk after chunk. The loop ends because each step passes at least 8 bytes.
 fn walk_all(fd: i32, layout: Layout, opening: &[u8], end: usize) -> Walk
     ensures { λ r. ⌜ Walks layout (now (opening .entry)) end r ⌝ }
 {
@@ -141,7 +142,7 @@ fn turn_by(layout: Layout, opening: &[u8], walking: Walking, end: usize, head: &
     Turned::Walking(file_turns::turn(layout, opening, walking, end, head))
 }
 
-// The first bytes of the chunk that describes the samples, then of the one that holds them.
+// Reads the first bytes of the chunk that describes the samples, then those of the one that holds them.
 fn find(fd: i32, layout: Layout, end: usize, walked: Walked) -> Opened
     ensures { λ r. ⌜ Finds layout end walked r ⌝ }
 {

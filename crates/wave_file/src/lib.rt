@@ -1,11 +1,11 @@
-// A recording opened by its name: what its samples are and where they stand, or why not; and its frames from a place
-// on. This is the one place where a program opens a recording, be it RIFF, RF64, BW64 or AIFF. The header is read by
-// turns, since the file may be too long to be held. No contract can say which bytes a call of C's reads: what they tell
-// is said in file_turns, and `Opens` says that nothing else is answered.
+// A recording opened by its name: what its samples are and where they stand, or why it cannot be used; and its frames,
+// read from any place on. Every program opens its recordings here, be they RIFF, RF64, BW64 or AIFF. The header is read
+// step by step, since the file may be too long to be held. No contract can say which bytes a C call reads: file_turns
+// says what follows from them, and `Opens` says that there is no other answer.
 ghost use Rattle.wave_file.specs.Opening.{Opens};
 ghost use Rattle.wave_file.specs.Reads.{Reads};
 
-mod header; // the header, by turns
+mod header; // the header, step by step
 mod reading; // bytes from a place on
 
 use file_layout::Layout;
@@ -15,7 +15,7 @@ use sample_kind::SampleKind;
 use sizes::plus;
 use sizes::times;
 
-// An open file: frames of `frame` bytes from `start` on. `wrapped` tells that the kind stood inside
+// An open file: frames of `frame` bytes from `start` on. `wrapped` says that the kind stood inside
 // WAVE_FORMAT_EXTENSIBLE.
 pub struct WaveFile {
     pub fd: i32,
@@ -29,7 +29,8 @@ pub struct WaveFile {
     pub wrapped: bool,
 }
 
-// A refusal by its number, and what `fmt ` or `COMM` says; zeros where none was come to, and for what it does not say.
+// A refusal number, and what `fmt ` or `COMM` says. The numbers are zeros if that chunk was not reached, or does not
+// say them.
 pub struct Refused {
     pub number: u8,
     pub tag: u32,
@@ -38,7 +39,7 @@ pub struct Refused {
     pub bits: u32,
 }
 
-// Of `Unread` errno tells why; `Shorter` became so while it was read.
+// For `Unread`, errno has the reason. `Shorter` is a file that became shorter while it was read.
 pub enum Opened {
     File(WaveFile),
     Unread,
@@ -47,7 +48,7 @@ pub enum Opened {
     Refused(Refused),
 }
 
-// Opens a file. One that cannot be used is closed again.
+// Opens a file. A file that cannot be used is closed again.
 pub fn open(name: &[u8]) -> Opened
     ensures { λ r. ⌜ Opens r ⌝ }
 {
@@ -65,8 +66,8 @@ pub fn open(name: &[u8]) -> Opened
     }
 }
 
-// Fills the beginning of a slice with n frames, from a frame on, each sample with its low byte first: 0. 1 where the
-// call failed, as errno tells; 2 where the file has ended.
+// Reads n frames, from frame number `frame` on, into the beginning of a slice, each sample with its low byte first.
+// Returns 0, 1 if the call failed (errno has the reason), or 2 if the file ended.
 pub fn read_frames(file: WaveFile, frame: usize, bytes: &mut [u8], n: usize) -> u8
     ensures { λ r. ⌜ Reads r ⌝ }
 {

@@ -1,5 +1,5 @@
-// A WAV file's header and its last byte, written to an open file: RIFF where the file fits it, else RF64 (W10e). What
-// goes wrong is said on standard error.
+// The header and the pad byte of a WAV file, written to an open file: RIFF if the file fits it, otherwise RF64 (W10e).
+// Failures are reported on standard error.
 ghost use mathlib.Core.Path.{_≡_};
 ghost use mathlib.Core.Bool.{true, false};
 ghost use Prim.Native.Nat.{_%_};
@@ -14,7 +14,7 @@ use sample_kind::SampleKind;
 use sizes::begun;
 use text::put;
 
-// Whether so many samples can be written as a file, or why not (1, 19).
+// Whether so many samples can be written as a file; a refusal, 1 or 19, is reported.
 pub fn can_be_written(
     command: &[u8],
     name: &[u8],
@@ -33,7 +33,8 @@ pub fn can_be_written(
     false
 }
 
-// A file that is read has one or two channels and whole frames: what is left of 1 is the rate.
+// Only two refusals are possible, because a file that was read has one or two channels and whole frames: 19, and 1 for
+// the rate.
 fn say_refused(command: &[u8], name: &[u8], refused: u8, rate: u32) {
     if refused == 19 {
         say_of(
@@ -58,7 +59,7 @@ fn say_rate(command: &[u8], name: &[u8], rate: u32) {
     say_of(command, name, begun(&line, at));
 }
 
-// Writes the header. No contract can say what reaches a file: where it is refused nothing is written.
+// Writes the header, or nothing if it is refused. No contract can say what reaches a file.
 pub fn write_header(
     command: &[u8],
     name: &[u8],
@@ -89,7 +90,7 @@ fn put_header(kind: SampleKind, channels: u8, rate: u32, count: usize, head: &mu
     long_header::header_of(Form::Rf64, kind, channels, rate, count, &mut head[..])
 }
 
-// The pad byte behind an odd number of bytes; behind an even one there is nothing that could fail.
+// Writes the pad byte behind an odd number of bytes. Behind an even number nothing is written, so nothing can fail.
 pub fn write_pad(command: &[u8], name: &[u8], fd: i32, size: usize) -> bool
     ensures { λ r. ⌜ (size % 2 ≡ 0 → r ≡ true) ⌝ }
 {

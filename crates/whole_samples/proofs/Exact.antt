@@ -1,5 +1,5 @@
--- W1, D3. The law once over the width: up to 24 digits a sample is signed w n / 2^(w-1) with nothing rounded off, in
--- both formats. Assumes nothing.
+-- W1, D3. For every width up to 24 digits a sample is signed w n / 2^(w-1) without rounding, in both formats. Assumes
+-- nothing.
 use mathlib.Core.Path.{_≡_, refl, sym, ap, _∙_}
 use mathlib.Core.Bool.{Bool, true, false, cond}
 use Prim.Native.Nat.{ℕ, suc, _+_, _-_, _*_, _%_, _^_, _≤_, _<_}
@@ -12,7 +12,7 @@ use lib.Ieee.{Format, binary32, binary64, prec, emax, low}
 use lib.Ieee.Exact.{HasValue, round-exact}
 use Rattle.whole_samples.specs.Whole.{negative, size, wholeOf}
 
--- a size of w digits
+-- The magnitude of a number of w digits is at most 2 ^ (w - 1).
 pub small : (w n : ℕ) → 0 < w → size w n ≤ 2 ^ (w - 1)
 small w n p = by (leb (2 ^ (w - 1)) (n % 2 ^ w)) refl
   where

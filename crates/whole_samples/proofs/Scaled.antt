@@ -1,5 +1,5 @@
--- A whole number times a power of two is rounded once, over the format and the width: so the code's product is what a
--- sample means. Assumes nothing.
+-- For every format and width, a whole number times a power of two is rounded once, so the product in the code is what
+-- the sample means. Assumes nothing.
 use mathlib.Core.Path.{_≡_, refl, sym, ap, _∙_}
 use mathlib.Core.Bool.{Bool, true, false, true≢false, cond}
 use Prim.Native.Nat.{ℕ, zero, suc, _-_, _*_, _%_, _^_, _≤_, _<_}
@@ -17,7 +17,7 @@ use lib.Ieee.Scale.{round-same}
 use Rattle.whole_samples.specs.Whole.{negative, size, signed, wholeOf}
 use Rattle.whole_samples.proofs.Exact.{small, wide}
 
--- what the cast asks of a whole number: the format's digits hold it
+-- The format holds a whole number below 2 ^ 23 exactly, as the cast requires.
 pub held : (f : Format) (z : ℤ) → mag z < 2 ^ 23 → T (inFloat f z)
 unfolding inFloat
 held f (pos n) h = le→leb n (2 ^ prec f) (omega (arith, wide f))
@@ -38,7 +38,7 @@ times f (fin t m e) s d k h =
     (pow-pos (suc k))
     (ap (λ (a : ℕ). a * 2 ^ suc k) (h .1) ∙ mul-assoc d (down e) (2 ^ suc k))
 
--- a whole number by its sign and its size
+-- The value of a whole number, from its sign and its magnitude.
 as-float : (f : Format) (t : Bool) (a : ℕ) → a ≤ 2 ^ prec f → (t ≡ true → 0 < a)
     → HasValue (ofInt f (cond t (negℤ (pos a)) (pos a))) t a 1
 unfolding ofInt

@@ -1,5 +1,5 @@
--- Two's complement over the width: by one sum, one remainder and one difference it is what `signed` says, and how large
--- it can be, as it is and in units of 2^-23. Assumes nothing.
+-- Two's complement for every width: one sum, one remainder and one difference give `signed`; and bounds on its
+-- magnitude, as it is and in units of 2^-23. Assumes nothing.
 use mathlib.Core.Path.{_≡_, refl, sym, ap, _∙_}
 use mathlib.Core.Bool.{Bool, true, false, cond}
 use Prim.Native.Nat.{ℕ, zero, suc, _+_, _-_, _*_, _%_, _^_, _≤_, _<_}
@@ -15,7 +15,7 @@ use mir.Val.{SFits, toZ, ofZ}
 use mir.ValLaws.{toZ-ofZ}
 use Rattle.whole_samples.specs.Whole.{signed, unitsOf}
 
--- A number of two halves h: half of them is added, what is above the range cut off, and the half taken off again.
+-- Let m be the range and h half of it. Adding h, taking the remainder by m and subtracting h gives the signed number.
 module _ (h m d : ℕ) (two : m ≡ h + h) (l : d < m) where
   abbrev size : Bool → ℕ
   size t = cond t (m - d) d
@@ -36,7 +36,7 @@ module _ (h m d : ℕ) (two : m ≡ h + h) (l : d < m) where
           let back : d + h - h ≡ d = omega arith in
           rw (cut, le-ltb (d + h) h (omega arith), back)
 
--- what a sign and a size are at most
+-- Bounds on a number, from its sign and its magnitude.
 mag-negative : (k : ℕ) → 0 < k → mag (negℤ (pos k)) ≡ k - 1
 mag-negative zero h = absurd (omega arith)
 mag-negative (suc k) h = omega arith
@@ -58,7 +58,7 @@ signed-small w n p = by (leb (2 ^ (w - 1)) (n % 2 ^ w)) refl
         (omega (arith, leb-true (2 ^ (w - 1)) (n % 2 ^ w) e, twice, below))
     by false e = omega (arith, leb-false (2 ^ (w - 1)) (n % 2 ^ w) e)
 
--- at most 24 digits
+-- The magnitude of a number of at most 24 digits is below 2 ^ 23.
 pub signed-few : (w n : ℕ) → 0 < w → w ≤ 24 → mag (signed w n) < 2 ^ 23
 signed-few w n p h =
     let l : w - 1 ≤ 23 = omega arith in
@@ -70,7 +70,7 @@ scaled-small (pos a) b m p h = omega (arith, mul-le-mul-right m h, suc-mul a m)
 scaled-small (negsuc a) b m p h = rw (mag-negative (suc a * m) (omega (arith, suc-mul a m)))
     (omega (arith, mul-le-mul-right m h, suc-mul a m))
 
--- W1e. Up to 24 digits the number in units of 2^-23 is one of 24 bits.
+-- W1e. The same bound holds in units of 2^-23.
 pub units-small : (w n : ℕ) → 0 < w → w ≤ 24 → mag (unitsOf w n) < 2 ^ 23
 units-small w n p h =
     let k : w - 1 + (24 - w) ≡ 23 = omega arith in

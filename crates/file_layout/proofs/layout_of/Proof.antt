@@ -1,4 +1,4 @@
--- `file_layout::layout_of` meets its contract, by what it calls. Assumes nothing.
+-- `file_layout::layout_of` meets its contract by those of its calls. Assumes nothing.
 use borrow.Author.Needs.{needs}
 use mathlib.Core.Path.{ap, _∙_}
 use Rattle.file_layout.specs.Layouts.{layoutBy}

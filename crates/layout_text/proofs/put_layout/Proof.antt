@@ -1,4 +1,4 @@
--- `layout_text::put_layout` meets its contract: the variant that an arm is told gives the text. Assumes nothing.
+-- `layout_text::put_layout` meets its contract: the layout of each match arm gives the text. Assumes nothing.
 use borrow.Author.Needs.{needs}
 use mathlib.Core.Path.{_∙_, ap, sym}
 use Rattle.text.specs.Text.{ascii, putAt, placeAfter}

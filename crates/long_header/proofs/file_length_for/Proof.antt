@@ -1,4 +1,5 @@
--- `long_header::file_length_for` meets its contract: up to 2^40 bytes of samples no sum passes a word. Assumes nothing.
+-- `long_header::file_length_for` meets its contract: up to 2^40 bytes of samples no sum overflows a word. Assumes
+-- nothing.
 use borrow.Author.Needs.{needs}
 use mathlib.Core.Path.{_≡_, sym, _∙_}
 use mathlib.Core.Bool.{true, false, _&&_}

@@ -1,5 +1,5 @@
--- `long_header::header_of` meets its contract: a refused call leaves the block, and an accepted one has room. Assumes
--- nothing.
+-- `long_header::header_of` meets its contract: a refused call leaves the block, and an accepted one has room for the
+-- header. Assumes nothing.
 use borrow.Author.Needs.{needs}
 use mathlib.Core.Path.{_≡_, sym, _∙_}
 use Prim.Native.Nat.{_-_}

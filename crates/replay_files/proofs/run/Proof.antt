@@ -1,4 +1,4 @@
--- `replay_files::run` ends: the turns that are left fall. Assumes nothing.
+-- `replay_files::run` ends, because the number of remaining turns falls. Assumes nothing.
 use borrow.Author.Needs.{needs}
 use mathlib.Core.Path.{_≡_, sym}
 use lib.ListN.{length}

@@ -1,4 +1,4 @@
--- `replay_written::main` ends: the turns that are left fall. Assumes nothing.
+-- `replay_written::main` ends, because the number of remaining turns falls. Assumes nothing.
 use borrow.Author.Needs.{needs}
 use Rattle.replay_written.proofs.main.Statement.{statement}
 use Rattle.replay_written.proofs.main.Tie as tie

@@ -1,4 +1,5 @@
--- `replay_written::put_all` keeps within its slices, and ends: the places that are left fall. Assumes nothing.
+-- `replay_written::put_all` keeps within its slices, and ends, because the number of remaining places falls. Assumes
+-- nothing.
 use borrow.Author.Needs.{needs}
 use Prim.Native.Nat.{_≤_, _-_}
 use mathlib.Core.Path.{_≡_}

@@ -1,4 +1,4 @@
--- `replay_written::replay_header` keeps within its array: no more is lent than it has. Assumes nothing.
+-- `replay_written::replay_header` keeps within its array, because it lends no more than it has. Assumes nothing.
 use borrow.Author.Needs.{needs}
 use mathlib.Core.Path.{sym}
 use lib.Seq.{length-take-le}

@@ -1,4 +1,4 @@
--- `true_sizes::entry_at` meets its contract: what the calls ensure, put together. Assumes nothing.
+-- `true_sizes::entry_at` meets its contract by those of its calls. Assumes nothing.
 use borrow.Author.Needs.{needs}
 use Rattle.true_sizes.proofs.entry_at.Statement.{statement}
 use Rattle.true_sizes.proofs.entry_at.Tie as tie

@@ -1,4 +1,4 @@
--- `true_sizes::is_long` meets its contract: what the calls ensure, put together. Assumes nothing.
+-- `true_sizes::is_long` meets its contract by those of its calls. Assumes nothing.
 use borrow.Author.Needs.{needs}
 use Rattle.true_sizes.proofs.is_long.Statement.{statement}
 use Rattle.true_sizes.proofs.is_long.Tie as tie

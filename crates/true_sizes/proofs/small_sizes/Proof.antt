@@ -1,4 +1,4 @@
--- `true_sizes::small_sizes` meets its contract: what the calls ensure, put together. Assumes nothing.
+-- `true_sizes::small_sizes` meets its contract by those of its calls. Assumes nothing.
 use borrow.Author.Needs.{needs}
 use Rattle.true_sizes.specs.Sizes.{entryCount}
 use Rattle.true_sizes.proofs.Lent.{small-cut}

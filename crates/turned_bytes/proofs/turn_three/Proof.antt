@@ -1,4 +1,4 @@
--- `turned_bytes::turn_three` meets its contract: two bytes change their places. Assumes nothing.
+-- `turned_bytes::turn_three` meets its contract: it swaps the first and the last byte. Assumes nothing.
 use borrow.Author.Needs.{needs}
 use denote.Ref.{now}
 use native.Mathlib.Omega.{arith}

@@ -1,4 +1,4 @@
--- `wav_header::refusal_unlisted` meets its contract: what the calls ensure, put together. Assumes nothing.
+-- `wav_header::refusal_unlisted` meets its contract by those of its calls. Assumes nothing.
 use borrow.Author.Needs.{needs}
 use Rattle.wav_header.proofs.refusal_unlisted.Statement.{statement}
 use Rattle.wav_header.proofs.refusal_unlisted.Tie as tie

@@ -1,5 +1,5 @@
--- `wav_header::write_header` meets its contract: a refused call leaves the block, and an accepted one has room and few
--- samples. Assumes nothing.
+-- `wav_header::write_header` meets its contract: a refused call leaves the block, and an accepted one has room for the
+-- header and few enough samples. Assumes nothing.
 use borrow.Author.Needs.{needs}
 use mathlib.Core.Path.{_≡_, sym, _∙_}
 use Rattle.wav_header.proofs.Taken.{accepted, kept, given}

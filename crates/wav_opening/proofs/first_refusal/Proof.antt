@@ -1,4 +1,4 @@
--- `wav_opening::first_refusal` meets its contract: what the calls ensure, put together. Assumes nothing.
+-- `wav_opening::first_refusal` meets its contract by those of its calls. Assumes nothing.
 use borrow.Author.Needs.{needs}
 use Rattle.wav_opening.proofs.first_refusal.Statement.{statement}
 use Rattle.wav_opening.proofs.first_refusal.Tie as tie

@@ -1,4 +1,4 @@
--- `wav_opening::has_letters` meets its contract: what the calls ensure, put together. Assumes nothing.
+-- `wav_opening::has_letters` meets its contract by those of its calls. Assumes nothing.
 use borrow.Author.Needs.{needs}
 use Rattle.wav_opening.proofs.has_letters.Statement.{statement}
 use Rattle.wav_opening.proofs.has_letters.Tie as tie

@@ -1,4 +1,4 @@
--- `wav_opening::is_wave` meets its contract: what the calls ensure, put together. Assumes nothing.
+-- `wav_opening::is_wave` meets its contract by those of its calls. Assumes nothing.
 use borrow.Author.Needs.{needs}
 use Rattle.wav_opening.proofs.is_wave.Statement.{statement}
 use Rattle.wav_opening.proofs.is_wave.Tie as tie

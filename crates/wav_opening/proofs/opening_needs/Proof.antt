@@ -1,4 +1,4 @@
--- `wav_opening::opening_needs` meets its contract: what the calls ensure, put together. Assumes nothing.
+-- `wav_opening::opening_needs` meets its contract by those of its calls. Assumes nothing.
 use borrow.Author.Needs.{needs}
 use Rattle.wav_opening.proofs.opening_needs.Statement.{statement}
 use Rattle.wav_opening.proofs.opening_needs.Tie as tie

@@ -1,5 +1,5 @@
--- `wav_opening::riff_held` meets its contract: a RIFF that ends in the file leaves 8 bytes of its length. Assumes
--- nothing.
+-- `wav_opening::riff_held` meets its contract: a RIFF that ends in the file is at least 8 bytes shorter than it.
+-- Assumes nothing.
 use borrow.Author.Needs.{needs}
 use mathlib.Core.Path.{_≡_, refl, sym, _∙_}
 use mathlib.Core.Bool.{Bool, true, false}

@@ -1,4 +1,4 @@
--- `wav_opening::sizes_there` meets its contract: what the calls ensure, put together. Assumes nothing.
+-- `wav_opening::sizes_there` meets its contract by those of its calls. Assumes nothing.
 use borrow.Author.Needs.{needs}
 use Rattle.wav_opening.proofs.sizes_there.Statement.{statement}
 use Rattle.wav_opening.proofs.sizes_there.Tie as tie

@@ -1,5 +1,5 @@
--- `wav_opening::told` meets its contract, by its two cases: where nothing is refused the RIFF ends in the file.
--- Assumes nothing.
+-- `wav_opening::told` meets its contract, by its two cases: if nothing is refused, the RIFF ends in the file. Assumes
+-- nothing.
 use borrow.Author.Needs.{needs}
 use mathlib.Core.Path.{_≡_, refl, sym, ap, _∙_}
 use mathlib.Core.Bool.{Bool, true}

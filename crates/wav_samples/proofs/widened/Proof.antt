@@ -1,5 +1,5 @@
--- `wav_samples::widened` meets its contract: which patterns are read as the NaN, and any other f32 is an f64 too.
--- Assumes nothing.
+-- `wav_samples::widened` meets its contract: patterns above an infinity's are the NaN, and every other f32 is an f64
+-- too. Assumes nothing.
 use borrow.Author.Needs.{needs}
 use mathlib.Core.Path.{_≡_, refl, _∙_}
 use native.Mathlib.Omega.{arith}
@@ -11,7 +11,7 @@ use Rattle.bit_patterns.proofs.Quiet.{reads-nan, reads-number}
 use Rattle.wav_samples.proofs.widened.Statement.{statement}
 use Rattle.wav_samples.proofs.widened.Tie as tie
 
--- the f64's 0.0 / 0.0 is the f32's
+-- 0.0 / 0.0 is the same NaN in both formats.
 one-nan : div binary64 (ofBits binary64 0) (ofBits binary64 0) ≡ div binary32 (ofBits binary32 0) (ofBits binary32 0)
 unfolding div ofBits
 one-nan = refl

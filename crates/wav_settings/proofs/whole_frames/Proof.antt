@@ -1,4 +1,4 @@
--- `wav_settings::whole_frames` meets its contract: two channels ask for an even count, and one channel's
+-- `wav_settings::whole_frames` meets its contract: for two channels the count must be even, and for one channel any
 -- count is a multiple of 1. Assumes nothing.
 use mathlib.Core.Path.{_≡_, refl}
 use mathlib.Core.Bool.{Bool, true, false, cond, _||_}

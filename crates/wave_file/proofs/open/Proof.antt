@@ -1,4 +1,5 @@
--- `wave_file::open` meets its contract: what looking into the file gave. Assumes nothing.
+-- `wave_file::open` meets its contract: the answer is that of `look_into`, or that the file cannot be opened. Assumes
+-- nothing.
 use borrow.Author.Needs.{needs}
 use mathlib.Core.Path.{refl}
 use Rattle.wave_file.specs.Opening.Opens.{unread}

@@ -1,4 +1,4 @@
--- `wave_output::can_be_written` meets its contract, by whether a refusal is due. Assumes nothing.
+-- `wave_output::can_be_written` meets its contract, by whether the file is refused. Assumes nothing.
 use borrow.Author.Needs.{needs}
 use borrow.Author.Tests.{eq-eqb, ne-eqb}
 use mathlib.Core.Path.{sym, _∙_}

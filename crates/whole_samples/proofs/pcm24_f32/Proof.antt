@@ -11,7 +11,7 @@ use Rattle.whole_samples.proofs.Scaled.{product, held}
 use Rattle.whole_samples.proofs.pcm24_f32.Statement.{statement}
 use Rattle.whole_samples.proofs.pcm24_f32.Tie as tie
 
--- what the call handed back, as it is read again
+-- The result of the call, read back from the word that holds it.
 again : (c : tie.After-signed24) → toZ w32 (ofZ w32 (c .signed24 .result)) ≡ signed 24 (c .before .args .n)
 again c = kept (c .signed24 .ensures) (signed-few 24 (c .before .args .n) (lit≤ tt) (lit≤ tt))
 

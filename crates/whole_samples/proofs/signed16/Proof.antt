@@ -17,7 +17,7 @@ use Rattle.whole_samples.proofs.signed16.Tie as tie
 few : (n : ℕ) → (n % 65536 + 32768) % 65536 < 2 ^ 31
 few n = let l = mod-lt (n % 65536 + 32768) {m = 65536} (lit≤ tt) in omega arith
 
--- what the code works out
+-- What the code computes is the signed number.
 worked : (n : ℕ) → toZ w32 ((n % 65536 + 32768) % 65536) -ℤ pos 32768 ≡ signed 16 n
 worked n =
     ap (λ (z : ℤ). z -ℤ pos 32768) (toZ-pos w32 ((n % 65536 + 32768) % 65536) (few n))

@@ -17,7 +17,7 @@ use Rattle.whole_samples.proofs.signed24.Tie as tie
 few : (n : ℕ) → (n % 16777216 + 8388608) % 16777216 < 2 ^ 31
 few n = let l = mod-lt (n % 16777216 + 8388608) {m = 16777216} (lit≤ tt) in omega arith
 
--- what the code works out
+-- What the code computes is the signed number.
 worked : (n : ℕ) → toZ w32 ((n % 16777216 + 8388608) % 16777216) -ℤ pos 8388608 ≡ signed 24 n
 worked n =
     ap (λ (z : ℤ). z -ℤ pos 8388608) (toZ-pos w32 ((n % 16777216 + 8388608) % 16777216) (few n))

@@ -1,5 +1,4 @@
--- `whole_samples::whole16` meets its contract: the number handed back, times 256, is still one of 24 bits. Assumes
--- nothing.
+-- `whole_samples::whole16` meets its contract: the signed number times 256 still has 24 bits. Assumes nothing.
 use borrow.Author.Needs.{needs}
 use mathlib.Core.Path.{_≡_, ap}
 use lib.Dec.{lit≤}

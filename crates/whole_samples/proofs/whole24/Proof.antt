@@ -1,4 +1,4 @@
--- `whole_samples::whole24` meets its contract: 24 bits are in units of 2^-23 as they are. Assumes nothing.
+-- `whole_samples::whole24` meets its contract: 24 bits are already in units of 2^-23. Assumes nothing.
 use borrow.Author.Needs.{needs}
 use mathlib.Core.Path.{sym, _∙_}
 use lib.Dec.{lit≤}

@@ -1,5 +1,5 @@
--- `aiff_samples::frames_whole::whole16_at` meets its contract: the number handed back, times 256, is still one of 24
--- bits. Assumes nothing.
+-- `aiff_samples::frames_whole::whole16_at` meets its contract: the signed number times 256 still has 24 bits. Assumes
+-- nothing.
 use borrow.Author.Needs.{needs}
 use mathlib.Core.Path.{_≡_, ap, _∙_}
 use lib.Dec.{lit≤}

@@ -1,5 +1,5 @@
--- `aiff_samples::places::three_of_four_at` meets its contract: of the four bytes as they are joined the first three,
--- the other way round. Assumes nothing.
+-- `aiff_samples::places::three_of_four_at` meets its contract: of four bytes read low byte first, the first three are
+-- reversed. Assumes nothing.
 use borrow.Author.Needs.{needs}
 use mathlib.Core.Path.{_≡_, ap, _∙_}
 use Prim.Native.Nat.{ℕ, _+_, _*_, _/_, _%_, _<_}
@@ -10,14 +10,14 @@ use Rattle.aiff_samples.proofs.Bytes.{three-bytes}
 use Rattle.aiff_samples.proofs.places.three_of_four_at.Statement.{statement}
 use Rattle.aiff_samples.proofs.places.three_of_four_at.Tie as tie
 
--- a number without its last byte, and without its last two
+-- Dividing by 256 or by 65536 removes the lowest byte or the lowest two.
 but-one : (x a w : ℕ) → a < 256 → w ≡ x * 256 + a → w / 256 ≡ x
 but-one x a w h e = omega arith
 
 but-two : (x r w : ℕ) → r < 65536 → w ≡ x * 65536 + r → w / 65536 ≡ x
 but-two x r w h e = omega arith
 
--- what is turned round, by its bytes
+-- The reversed number, from its bytes.
 turned : (a b c d v w : ℕ) → a < 256 → b < 256 → c < 256 → w ≡ ((d * 256 + c) * 256 + b) * 256 + a
     → v ≡ (w % 256 * 256 + w / 256 % 256) * 256 + w / 65536 % 256 → v ≡ (a * 256 + b) * 256 + c
 turned a b c d v w h i j e k =

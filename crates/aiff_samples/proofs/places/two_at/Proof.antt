@@ -1,4 +1,4 @@
--- `aiff_samples::places::two_at` meets its contract: the two bytes as they are joined, and exchanged. Assumes nothing.
+-- `aiff_samples::places::two_at` meets its contract: two bytes read low byte first are exchanged. Assumes nothing.
 use borrow.Author.Needs.{needs}
 use mathlib.Core.Path.{_≡_, ap, _∙_}
 use Prim.Native.Nat.{ℕ, _+_, _*_, _/_, _%_, _<_}
@@ -9,7 +9,7 @@ use Rattle.aiff_samples.proofs.Bytes.{two-bytes}
 use Rattle.aiff_samples.proofs.places.two_at.Statement.{statement}
 use Rattle.aiff_samples.proofs.places.two_at.Tie as tie
 
--- what is exchanged, by its two bytes
+-- The exchanged number, from its two bytes.
 joined : (a b v w : ℕ) → a < 256 → w ≡ b * 256 + a → v ≡ w % 256 * 256 + w / 256 → v ≡ a * 256 + b
 joined a b v w h e k =
     let p : w % 256 ≡ a = omega arith in

@@ -1,4 +1,4 @@
--- `fugnadri_wav::files::hand_out` meets its contract: what the calls ensure, one put into the other. Assumes nothing.
+-- `fugnadri_wav::files::hand_out` meets its contract by those of its calls. Assumes nothing.
 use borrow.Author.Needs.{needs}
 use Rattle.fugnadri_wav.proofs.files.hand_out.Statement.{statement}
 use Rattle.fugnadri_wav.proofs.files.hand_out.Tie as tie

@@ -1,5 +1,4 @@
--- `fugnadri_wav::headers::fugnadri_wav_read_header` meets its contract: what is handed out was found.
--- Assumes nothing.
+-- `fugnadri_wav::headers::fugnadri_wav_read_header` meets its contract: it writes what was found. Assumes nothing.
 use borrow.Author.Needs.{needs}
 use mathlib.Core.Path.{_∙_, ap}
 use Rattle.fugnadri_wav.specs.Exports.{leftBy}

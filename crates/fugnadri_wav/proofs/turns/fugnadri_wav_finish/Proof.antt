@@ -1,4 +1,4 @@
--- `fugnadri_wav::turns::fugnadri_wav_finish` meets its contract: what is handed out was found. Assumes nothing.
+-- `fugnadri_wav::turns::fugnadri_wav_finish` meets its contract: it writes what was found. Assumes nothing.
 use borrow.Author.Needs.{needs}
 use mathlib.Core.Path.{_∙_, ap}
 use denote.Ref.{now}

@@ -1,4 +1,4 @@
--- `fugnadri_wav::turns::seen_from` meets its contract: what the calls ensure, put together. Assumes nothing.
+-- `fugnadri_wav::turns::seen_from` meets its contract by those of its calls. Assumes nothing.
 use borrow.Author.Needs.{needs}
 use Rattle.fugnadri_wav.proofs.turns.seen_from.Statement.{statement}
 use Rattle.fugnadri_wav.proofs.turns.seen_from.Tie as tie

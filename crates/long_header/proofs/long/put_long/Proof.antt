@@ -1,4 +1,4 @@
--- `long_header::long::put_long` meets its contract: the parts one after the other make the header. Assumes nothing.
+-- `long_header::long::put_long` meets its contract: its parts together are the header. Assumes nothing.
 use borrow.Author.Needs.{needs}
 use mathlib.Core.Path.{_≡_, refl, sym, ap, _∙_}
 use mathlib.Core.List.{List, _++_}

@@ -1,4 +1,4 @@
--- `long_wav::heads::chunk_at` meets its contract: what the calls ensure, put together. Assumes nothing.
+-- `long_wav::heads::chunk_at` meets its contract by those of its calls. Assumes nothing.
 use borrow.Author.Needs.{needs}
 use mathlib.Core.Path.{_∙_}
 use Rattle.long_wav.proofs.heads.chunk_at.Statement.{statement}

@@ -1,4 +1,4 @@
--- `long_wav::heads::heads_of` meets its contract: the laws of a walk over the heads that are at hand. Assumes nothing.
+-- `long_wav::heads::heads_of` meets its contract, by the laws of a walk over the lent heads. Assumes nothing.
 use borrow.Author.Needs.{needs}
 use mathlib.Core.Path.{_≡_, refl, sym}
 use native.Mathlib.Omega.{arith}

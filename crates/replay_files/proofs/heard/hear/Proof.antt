@@ -1,4 +1,5 @@
--- `replay_files::heard::hear` keeps within its arrays: the line's rest is no longer than the text. Assumes nothing.
+-- `replay_files::heard::hear` keeps within its arrays, because the rest of a line is no longer than the text. Assumes
+-- nothing.
 use borrow.Author.Needs.{needs}
 use mathlib.Core.Path.{sym}
 use lib.Seq.{length-take-le}

@@ -1,4 +1,5 @@
--- `replay_files::samples::tell` keeps within the arrays, and ends: the places that are left fall. Assumes nothing.
+-- `replay_files::samples::tell` keeps within the arrays, and ends, because the number of remaining places falls.
+-- Assumes nothing.
 use borrow.Author.Needs.{needs}
 use Prim.Native.Nat.{_≤_, _-_}
 use Rattle.replay_files.proofs.samples.tell.Statement.{statement}

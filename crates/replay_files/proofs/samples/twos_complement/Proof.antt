@@ -1,5 +1,5 @@
--- `replay_files::samples::twos_complement` is safe: -1 - n is a number of as many digits as n, and not negative where n
--- is. Assumes nothing.
+-- `replay_files::samples::twos_complement` is safe: for a negative n, -1 - n is not negative and has as many digits.
+-- Assumes nothing.
 use borrow.Author.Needs.{needs}
 use borrow.Author.Tests.{ltb-true, le-ltb}
 use mathlib.Core.Path.{_≡_, ap}
@@ -15,7 +15,7 @@ use mir.ValLaws.{toZ-ofZ}
 use Rattle.replay_files.proofs.samples.twos_complement.Statement.{statement}
 use Rattle.replay_files.proofs.samples.twos_complement.Tie as tie
 
--- -1 - n, of n below zero, is not negative and fits; read back from its bits it is the same
+-- For n below zero, -1 - n is not negative and fits the type, so it is read back from its bits unchanged.
 below : (z : ℤ) → SFits w32 z → ltZ (toZ w32 (ofZ w32 z)) (pos 0) ≡ true
     → (k : ℕ) × ((negsuc 0 -ℤ toZ w32 (ofZ w32 z) ≡ pos k) × (k < 2 ^ 31))
 below (pos n) f h = absurd (omega (arith, ltb-true n 0 (rw (toZ-ofZ w32 (pos n) f) at h)))

@@ -1,4 +1,4 @@
--- `replay_headers::turns::walk` ends: the turns that are left fall. Assumes nothing.
+-- `replay_headers::turns::walk` ends, because the number of remaining turns falls. Assumes nothing.
 use borrow.Author.Needs.{needs}
 use Prim.Native.Nat.{_≤_, _-_}
 use Rattle.replay_headers.proofs.turns.walk.Statement.{statement}

@@ -1,4 +1,5 @@
--- `replay_written::heard::put_words` keeps within its arrays, and ends: the places that are left fall. Assumes nothing.
+-- `replay_written::heard::put_words` keeps within its arrays, and ends, because the number of remaining places falls.
+-- Assumes nothing.
 use borrow.Author.Needs.{needs}
 use Prim.Native.Nat.{_≤_, _-_}
 use Rattle.replay_written.proofs.heard.put_words.Statement.{statement}

@@ -1,4 +1,5 @@
--- `replay_written::said::tell` keeps within the array, and ends: the places that are left fall. Assumes nothing.
+-- `replay_written::said::tell` keeps within the array, and ends, because the number of remaining places falls. Assumes
+-- nothing.
 use borrow.Author.Needs.{needs}
 use Prim.Native.Nat.{_≤_, _-_}
 use Rattle.replay_written.proofs.said.tell.Statement.{statement}

@@ -1,4 +1,4 @@
--- `wav_header::fields::length_of` meets its contract: what the calls ensure, put together; few samples are few bytes.
+-- `wav_header::fields::length_of` meets its contract: fewer than 2^32 samples have few enough bytes for every sum.
 -- Assumes nothing.
 use borrow.Author.Needs.{needs}
 use native.Mathlib.Omega.{arith}

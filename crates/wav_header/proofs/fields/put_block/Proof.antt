@@ -1,5 +1,5 @@
--- `wav_header::fields::put_block` meets its contract: field after field; the products of small numbers fit. Assumes
--- nothing.
+-- `wav_header::fields::put_block` meets its contract, field after field: its products are of small numbers and fit a
+-- word. Assumes nothing.
 use borrow.Author.Needs.{needs}
 use Prim.Native.Nat.{_*_, _≤_}
 use native.Mathlib.Nat.{mul-le-mul}

@@ -1,4 +1,4 @@
--- `wav_header::fields::put_data` meets its contract: two fields, behind which the block ends. Assumes nothing.
+-- `wav_header::fields::put_data` meets its contract: the block ends behind its two fields. Assumes nothing.
 use borrow.Author.Needs.{needs}
 use mathlib.Core.Path.{_≡_, sym, _∙_}
 use Prim.Native.Nat.{_+_}

@@ -1,5 +1,5 @@
--- `wav_header::tests::fits_riff` meets its contract: 2^32 samples or more do not fit, and of fewer the length is at
--- hand. Assumes nothing.
+-- `wav_header::tests::fits_riff` meets its contract: 2^32 samples or more do not fit, and the length of fewer can be
+-- computed. Assumes nothing.
 use borrow.Author.Needs.{needs}
 use borrow.Author.Tests.{lt-leb}
 use mathlib.Core.Path.{sym}

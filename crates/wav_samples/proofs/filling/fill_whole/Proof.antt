@@ -1,4 +1,4 @@
--- `wav_samples::filling::fill_whole` meets its contract: what the calls ensure, put together. Assumes nothing.
+-- `wav_samples::filling::fill_whole` meets its contract by those of its calls. Assumes nothing.
 use borrow.Author.Needs.{needs}
 use mathlib.Core.Path.{_≡_, sym, ap, _∙_}
 use mathlib.Core.Bool.{Bool}
@@ -9,7 +9,7 @@ use Rattle.wav_samples.proofs.Framing.{asked-is, framed, kept, given}
 use Rattle.wav_samples.proofs.filling.fill_whole.Statement.{statement}
 use Rattle.wav_samples.proofs.filling.fill_whole.Tie as tie
 
--- the verdict, with what is asked put in
+-- The refusal of the call, with its test for PCM put in.
 abbrev started : tie.After-refusal → tie.Start
 started c = c .before .before .before
 

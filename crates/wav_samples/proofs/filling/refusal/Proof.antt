@@ -1,5 +1,5 @@
--- `wav_samples::filling::refusal` meets its contract: by its tests in order. That a part is n whole frames is told by a
--- remainder and a quotient, since the product may not fit. Assumes nothing.
+-- `wav_samples::filling::refusal` meets its contract, test by test in their order. A remainder and a quotient show that
+-- a part is n whole frames, since the product might overflow. Assumes nothing.
 use borrow.Author.Needs.{needs}
 use native.Mathlib.Omega.{arith}
 use mathlib.Core.Path.{_≡_, ap, _∙_}
@@ -31,14 +31,14 @@ returns-3 c =
       le-ltb _ _ (c .if3 .taken),
     )
 
--- a frame has bytes, as soon as there is a channel
+-- A frame has at least one byte if there is a channel, so the code may divide by its width.
 some : (c : tie.After-frame-width) → 0 < c .frame-width .result
 some c =
     let s = c .before .before .before .before in
     rw (c .frame-width .ensures) (some-bytes (s .args .kind) (s .args .channel) (s .args .channels)
     (c .before .if3 .left))
 
--- the tests of 1 are passed: what is due is 2 unless the part is n frames
+-- Once the tests of 1 pass, the refusal is 2 unless the part is n frames.
 passed : (c : tie.After-frame-width) (v : ℕ)
     → v ≡ firstOf (2 unless eqb (started c .args .size) (started c .args .n * c .frame-width .result) ∷ [])
     → v ≡ refusedBy (started c .args .asked) (started c .args .kind) (started c .args .channels)

@@ -1,5 +1,4 @@
--- `wav_samples::filling::whole_refusal` meets its contract: what the calls ensure, one put into the other. Assumes
--- nothing.
+-- `wav_samples::filling::whole_refusal` meets its contract by those of its calls. Assumes nothing.
 use borrow.Author.Needs.{needs}
 use Rattle.wav_samples.proofs.filling.whole_refusal.Statement.{statement}
 use Rattle.wav_samples.proofs.filling.whole_refusal.Tie as tie

@@ -1,5 +1,5 @@
--- `wav_samples::floats::handed` meets its contract: a list that is written by a rule, and none is a NaN. Assumes
--- nothing.
+-- `wav_samples::floats::handed` meets its contract: the loop writes a list by a rule, and no pattern is a NaN's.
+-- Assumes nothing.
 use borrow.Author.Needs.{needs}
 use Prim.Native.Nat.{ℕ, _-_}
 use native.Mathlib.Omega.{arith}

@@ -1,4 +1,4 @@
--- `wav_samples::floats::of_number` meets its contract: the pattern is a number's, and any f32 is an f64 too. Assumes
+-- `wav_samples::floats::of_number` meets its contract: the pattern is not a NaN's, and every f32 is an f64 too. Assumes
 -- nothing.
 use borrow.Author.Needs.{needs}
 use mathlib.Core.Bool.{not}

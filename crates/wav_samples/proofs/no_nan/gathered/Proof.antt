@@ -1,5 +1,5 @@
--- `wav_samples::no_nan::gathered` meets its contract: a list that is written by a rule, and one pattern more. Assumes
--- nothing.
+-- `wav_samples::no_nan::gathered` meets its contract: the loop writes a list by a rule, and each turn adds one pattern
+-- to the bitwise or. Assumes nothing.
 use borrow.Author.Needs.{needs}
 use Prim.Native.Nat.{_+_, _-_, _*_, _%_, _≤_}
 use native.Mathlib.Omega.{arith}
@@ -18,7 +18,7 @@ Inv-loop frame first part kept₀ all₀ k₀ kept all k =
 abbrev μ-loop : tie.MeasureT-loop
 μ-loop frame first part kept₀ all₀ k₀ kept all k = length kept - k
 
--- the sample lies in the part
+-- Sample k lies in the part.
 sample : (c : tie.In-loop Inv-loop μ-loop)
     → let s = c .before .before .before .before .args in
     c .before .loop .k * s .frame + s .first + 4 ≤ length (now (s .part))

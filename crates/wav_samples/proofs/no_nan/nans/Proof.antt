@@ -1,4 +1,5 @@
--- `wav_samples::no_nan::nans` meets its contract: one pattern more. Assumes nothing.
+-- `wav_samples::no_nan::nans` meets its contract: a count of 0 after each turn covers one pattern more. Assumes
+-- nothing.
 use borrow.Author.Needs.{needs}
 use mathlib.Core.Path.{_≡_}
 use Prim.Native.Nat.{_-_, _≤_}

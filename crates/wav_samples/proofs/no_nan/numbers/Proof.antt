@@ -1,4 +1,5 @@
--- `wav_samples::no_nan::numbers` meets its contract, by two bounds. Assumes nothing.
+-- `wav_samples::no_nan::numbers` meets its contract: a bound below 2.0's pattern, or a count of 0, bounds all patterns.
+-- Assumes nothing.
 use borrow.Author.Tests.{eqb-true}
 use native.Mathlib.Omega.{arith}
 use Rattle.wav_samples.proofs.Blocks.{lower}

@@ -1,4 +1,4 @@
--- `wav_samples::no_nan::together` meets its contract: one pattern more. Assumes nothing.
+-- `wav_samples::no_nan::together` meets its contract: each turn adds one pattern to the bitwise or. Assumes nothing.
 use borrow.Author.Needs.{needs}
 use Prim.Native.Nat.{_-_, _%_}
 use native.Mathlib.Omega.{arith}

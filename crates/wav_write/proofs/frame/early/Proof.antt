@@ -1,4 +1,5 @@
--- `wav_write::frame::early` meets its contract: 1 and 13 by the call, then 14. Assumes nothing.
+-- `wav_write::frame::early` meets its contract: the call tests 1, 19 and 13, then the room is tested for 14. Assumes
+-- nothing.
 use borrow.Author.Needs.{needs}
 use borrow.Author.Tests.{le-leb, lt-leb}
 use mathlib.Core.Path.{_≡_, sym, ap, _∙_}

@@ -1,4 +1,5 @@
--- `wav_write::frame::put_head` meets its contract: with room for a file its header is not refused. Assumes nothing.
+-- `wav_write::frame::put_head` meets its contract: if there is room for a file, its header is not refused. Assumes
+-- nothing.
 use borrow.Author.Needs.{needs}
 use mathlib.Core.Path.{_≡_}
 use Prim.Native.Nat.{_-_}

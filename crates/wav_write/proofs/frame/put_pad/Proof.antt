@@ -1,5 +1,5 @@
--- `wav_write::frame::put_pad` meets its contract: a file is longer than its samples' end by the pad byte, or ends
--- there. Assumes nothing.
+-- `wav_write::frame::put_pad` meets its contract: a file ends where its samples end, or one pad byte later. Assumes
+-- nothing.
 use borrow.Author.Needs.{needs}
 use mathlib.Core.Path.{_≡_}
 use Prim.Native.Nat.{_+_, _*_}

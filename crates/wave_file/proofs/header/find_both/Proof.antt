@@ -1,4 +1,4 @@
--- `wave_file::header::find_both` meets its contract: what the pieces tell. Assumes nothing.
+-- `wave_file::header::find_both` meets its contract: the answer follows from the pieces. Assumes nothing.
 use borrow.Author.Needs.{needs}
 use denote.Ref.{now}
 use Rattle.wave_file.specs.Inside.Finds.{told}

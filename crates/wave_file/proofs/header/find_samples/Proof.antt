@@ -1,4 +1,4 @@
--- `wave_file::header::find_samples` meets its contract: a reading that failed, or what is found behind it. Assumes nothing.
+-- `wave_file::header::find_samples` meets its contract: a reading fails, or the next function answers. Assumes nothing.
 use borrow.Author.Needs.{needs}
 use Rattle.wave_file.specs.Inside.Finds.{broke}
 use Rattle.wave_file.proofs.header.find_samples.Statement.{statement}

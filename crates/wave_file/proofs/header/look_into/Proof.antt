@@ -1,4 +1,4 @@
--- `wave_file::header::look_into` meets its contract: each way out has its answer. Assumes nothing.
+-- `wave_file::header::look_into` meets its contract, return by return. Assumes nothing.
 use borrow.Author.Needs.{needs}
 use mathlib.Core.Path.{refl}
 use Rattle.wave_file.specs.Opening.Opens.{unread, empty}

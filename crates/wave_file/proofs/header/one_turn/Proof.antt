@@ -1,4 +1,4 @@
--- `wave_file::header::one_turn` meets its contract: a head that was read, or none. Assumes nothing.
+-- `wave_file::header::one_turn` meets its contract: a head was read, or the reading failed. Assumes nothing.
 use borrow.Author.Needs.{needs}
 use mathlib.Core.Path.{refl}
 use Rattle.wave_file.specs.Inside.Turns.{broken}

@@ -1,4 +1,4 @@
--- `wave_file::header::size_of`: an i64 that is not below 0 is a usize. Assumes nothing.
+-- `wave_file::header::size_of` is safe: an i64 that is not negative fits a usize. Assumes nothing.
 use borrow.Author.Needs.{needs}
 use Rattle.ring.proofs.RunStartWays as held
 use Rattle.wave_file.proofs.header.size_of.Statement.{statement}

@@ -1,4 +1,4 @@
--- `wave_file::header::turn_by` meets its contract, by the head at hand. Assumes nothing.
+-- `wave_file::header::turn_by` meets its contract, by the head that was read. Assumes nothing.
 use borrow.Author.Needs.{needs}
 use mathlib.Core.Path.{ap}
 use denote.Ref.{now}

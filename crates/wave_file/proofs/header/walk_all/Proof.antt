@@ -1,4 +1,4 @@
--- `wave_file::header::walk_all` meets its contract: a head more at each turn. Assumes nothing.
+-- `wave_file::header::walk_all` meets its contract: each turn of the loop adds one head. Assumes nothing.
 use borrow.Author.Needs.{needs}
 use mathlib.Core.Path.{refl, ap}
 use Rattle.riff_chunks.specs.declared.Walking.{Walking}

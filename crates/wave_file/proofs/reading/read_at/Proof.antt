@@ -1,4 +1,4 @@
--- `wave_file::reading::read_at` meets its contract: each way out has its answer. Assumes nothing.
+-- `wave_file::reading::read_at` meets its contract, return by return. Assumes nothing.
 use borrow.Author.Needs.{needs}
 use Rattle.wave_file.specs.Reads.{filled, failed, ended}
 use Rattle.wave_file.proofs.reading.read_at.Statement.{statement}

@@ -1,4 +1,4 @@
--- `wave_file::reading::read_begun` stays inside its slice, and hands the answer on. Assumes nothing.
+-- `wave_file::reading::read_begun` stays inside its slice, and returns the answer of `read_at`. Assumes nothing.
 use borrow.Author.Needs.{needs}
 use mathlib.Core.Path.{sym}
 use native.Mathlib.Omega.{arith}
