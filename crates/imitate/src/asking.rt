@@ -48,7 +48,7 @@ pub(crate) fn tell_usage(fd: i32) {
     );
 }
 
-// Two files were named, or the usage is said.
+// Unless exactly two files were named, the program shows its usage and ends.
 fn both_named(asked: ToImitate) -> ToImitate {
     let names = asked.names;
     if !names.good {

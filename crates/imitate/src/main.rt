@@ -62,7 +62,8 @@ fn imitate(settings: Imitation, from: &[u8], to: &[u8]) -> bool {
     }
 }
 
-// All that can be told beforehand is told before anything is written.
+// Everything that can be checked beforehand is checked before anything is written, so that a refused run leaves no
+// file.
 fn imitate_of(settings: Imitation, from: &[u8], to: &[u8], file: WaveFile) -> bool {
     let asked = settings.kind;
     let same = file.kind;

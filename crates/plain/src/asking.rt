@@ -1,4 +1,4 @@
-// What the arguments of `plain FROM TO` ask for: it has no settings.
+// What the arguments of `plain FROM TO` ask for. The program has no settings.
 use arguments::Argument;
 use libc::STDERR_FILENO;
 use words_asked::Names;
@@ -36,7 +36,7 @@ pub(crate) fn tell_usage(fd: i32) {
     );
 }
 
-// Two files were named, or the usage is said.
+// Unless exactly two files were named, the program shows its usage and ends.
 fn both_named(names: Names) -> Names {
     if !names.good {
         return names;

@@ -1,5 +1,5 @@
-// What the arguments of `residual FIRST SECOND [NAME=VALUE …]` ask for, and where the picture's name stands among
-// them, 0 for nowhere.
+// What the arguments of `residual FIRST SECOND [NAME=VALUE …]` ask for, and which of them names the picture, 0 for
+// none.
 use arguments::Argument;
 use asked::Compared;
 use asked::Comparison;
@@ -51,7 +51,7 @@ pub(crate) fn tell_usage(fd: i32) {
     );
 }
 
-// Two files were named, or the usage is said.
+// Unless exactly two files were named, the program shows its usage and ends.
 fn both_named(asked: ToCompare) -> ToCompare {
     let names = asked.names;
     if !names.good {
