@@ -8,7 +8,7 @@ pub(crate) fn least(a: usize, b: usize) -> usize
     if a <= b { a } else { b }
 }
 
-// m turns on, or the end.
+// The turn m turns further on, or the end if that comes first.
 pub(crate) fn ahead(k: usize, m: usize, n: usize) -> usize
     requires { ⌜ k ≤ n ⌝ }
     ensures { λ r. ⌜ r ≡ min (k + m) n ⌝ }

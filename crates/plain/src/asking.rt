@@ -36,7 +36,7 @@ pub(crate) fn tell_usage(fd: i32) {
     );
 }
 
-// Unless exactly two files were named, the program shows its usage and ends.
+// Unless exactly two files were named, the usage is shown and the names are not good.
 fn both_named(names: Names) -> Names {
     if !names.good {
         return names;
