@@ -42,7 +42,7 @@ resetLeft s xs =
     let c = renewedOf true s (length xs) in
     renews (c .number) (changedOf (c .state)) (ringRenewed true s xs)
 
--- Opening: a refusal keeps what stood there.
+-- What an opening leaves. A refusal keeps what stood there.
 pub record Begun : Type 0 where
   pub rule : ℕ
   pub numbers : Changed

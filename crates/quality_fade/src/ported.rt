@@ -50,7 +50,7 @@ fn left(
     }
 }
 
-// The call itself, on the state after its quality was asked for.
+// The call itself, on the state that `ask` gives for its quality.
 pub(crate) fn turn(state: Fade) -> Turn
     requires { ⌜ (plainOf state ≡ false → state .«crossfade_position» < state .«crossfade_samples») ⌝ }
     ensures { λ r. ⌜ r ≡ turnOf state ⌝ }

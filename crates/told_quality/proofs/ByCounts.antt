@@ -1,5 +1,5 @@
--- What is worked out from the counts before and after a call is what the call tells, whatever its verdict: by the
--- ring's length alone, and by the choice that an accepted call has. Assumes nothing.
+-- The numbers that the code computes from the counts before and after a call are the call's absent taps, whatever its
+-- verdict. They need only the ring's length and the choice that an accepted call makes. Assumes nothing.
 use mathlib.Core.Path.{_≡_, refl, sym, _∙_, ap}
 use mathlib.Core.List.{List}
 use Prim.Native.Nat.{ℕ, zero, suc, _+_, _*_}
