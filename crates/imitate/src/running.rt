@@ -96,7 +96,6 @@ fn run<'a>(
     run_blocks(job, sides, ring, second, table)
 }
 
-// Runs over the file, block after block.
 fn run_blocks<'a>(
     job: Job,
     start: Sides,

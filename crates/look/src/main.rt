@@ -28,7 +28,6 @@ fn main() {
     }
 }
 
-// Whether the first argument asks for the usage.
 fn help_asked() -> bool {
     let mut words = io::buffer();
     let n = os::arg(1, &mut words);

@@ -8,7 +8,6 @@ use crate::legend::put_legend;
 use crate::legend::put_scales;
 use crate::names::put_escaped;
 
-// Puts the title, which names the two files.
 fn put_title(out: &mut [u8], at: usize, first: &[u8], second: &[u8]) -> usize
     ensures { λ r. ⌜ r ≡ placeAfter (length (now (out .entry))) at
         (titleText (now (first .entry)) (now (second .entry))) ⌝ }
@@ -26,7 +25,6 @@ fn put_title(out: &mut [u8], at: usize, first: &[u8], second: &[u8]) -> usize
     text::put(out, four, b" differ</text>\n")
 }
 
-// Puts the size of the drawing.
 fn put_size(out: &mut [u8], at: usize, channels: u8) -> usize
     ensures { λ r. ⌜ r ≡ placeAfter (length (now (out .entry))) at (sizeText channels) ⌝ }
     ensures { λ r. ⌜ now (out .exit) ≡ putAt (now (out .entry)) at (sizeText channels) ⌝ }
@@ -64,7 +62,6 @@ pub fn put_head(out: &mut [u8], at: usize, channels: u8, first: &[u8], second: &
     put_scales(out, five)
 }
 
-// Puts the end of a picture.
 pub fn put_tail(out: &mut [u8], at: usize) -> usize
     ensures { λ r. ⌜ r ≡ placeAfter (length (now (out .entry))) at tailText ⌝ }
     ensures { λ r. ⌜ now (out .exit) ≡ putAt (now (out .entry)) at tailText ⌝ }

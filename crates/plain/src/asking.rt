@@ -22,7 +22,6 @@ pub(crate) fn to_copy() -> Names {
     both_named(names)
 }
 
-// Whether the first argument asks for the usage.
 pub(crate) fn help_asked() -> bool {
     let mut words = io::buffer();
     let n = os::arg(1, &mut words);

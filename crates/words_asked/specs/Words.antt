@@ -8,7 +8,6 @@ use Rattle.arguments.specs.declared.Name.{Name}
 use Rattle.wanted.specs.Wanted.{wantedOf}
 use Rattle.error_lines.specs.Lines.{startText}
 
--- Whether an argument asks for the usage.
 abbrev pub isHelp : List ℕ → Bool
 isHelp words = sameBytes words (ascii "--help") || sameBytes words (ascii "-h")
 
