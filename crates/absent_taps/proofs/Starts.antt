@@ -64,7 +64,7 @@ module _ {i : ℤ} (b : Below i) where
       go zero = rw (lt-ltb 0 (suc (b .j)) (omega arith)) (ap (λ (n : ℕ). start n 0) (omega arith))
       go (suc m) = ap (λ (n : ℕ). start n 0) (omega arith)
 
--- A number for which the test for a negative one failed is not negative.
+-- The code's test for a negative number cannot fail for one.
 not-negative : (k : ℕ) → ltZ (negsuc k) (pos 0) ≡ false → ⊥
 not-negative k h = let e : _≡_ {A = ℕ} 0 1 = cc in omega arith
 

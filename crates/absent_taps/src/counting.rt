@@ -10,7 +10,7 @@ pub struct Start {
     pub from: u64,
 }
 
-// a less b, or 0 if that is below 0.
+// The difference a less b, or 0 if b is larger.
 pub(crate) fn less(a: u64, b: u64) -> u64
     ensures { λ r. ⌜ r ≡ a - b ⌝ }
 {

@@ -52,9 +52,9 @@ fn rare_step(x: f32, c: f32, sum: f64, s: f64) -> f64
     any_step(x, c, sum)
 }
 
-// x * c + sum rounded once to an f32, for any f64 sum. The chain keeps its f32 sums as f64, so no step widens or
-// narrows them. The product is exact in f64. If the f64 sum is plain, half of the last digit that an f32 keeps is added
-// to its pattern and the digits that an f32 lacks are cut off; a carry goes up into the exponent field. No tie is
+// The value x * c + sum rounded once to an f32, for any f64 sum. The chain keeps its f32 sums as f64, so no step widens
+// or narrows them. The product is exact in f64. If the f64 sum is plain, half of the last digit that an f32 keeps is
+// added to its pattern and the digits that an f32 lacks are cut off; a carry goes up into the exponent field. No tie is
 // possible there, so the result is the nearest f32.
 pub fn step(x: f32, c: f32, sum: f64) -> f64
     ensures { λ r. ⌜ r ≡ fused binary32 x c sum ⌝ }

@@ -22,7 +22,7 @@ leftOf s (q ∷ qs) = leftOf (stepOf s q .state) qs
 abbrev pub mixesOf : List Turn → List Bool
 mixesOf ts = map (λ t. t .mixed) ts
 
--- n mixed calls of the fade from c to q, the first at position i.
+-- A ramp of n mixed calls of the fade from c to q, the first at position i.
 unfoldable pub rampOf : QualityMode → QualityMode → ℕ → ℕ → ℕ → List Turn
 rampOf c q len i zero = []
 rampOf c q len i (suc n) = mixTurn (fadeOf c q i len) ∷ rampOf c q len (i + 1) n

@@ -14,7 +14,7 @@ use Rattle.ring.specs.Taps.{held, unwritten, ahead, overwritten, tapAt}
 use Rattle.ring.specs.Quick.{placeOf}
 use Rattle.ring.proofs.RunStartWays.{place-mod}
 
--- A number for which the test for a negative one failed is not negative.
+-- The code's test for a negative number cannot fail for one.
 not-negative : (k : ℕ) → ltZ (negsuc k) (pos 0) ≡ false → ⊥
 not-negative k h = let e : _≡_ {A = ℕ} 0 1 = cc in omega arith
 

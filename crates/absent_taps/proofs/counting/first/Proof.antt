@@ -1,4 +1,4 @@
--- `absent_taps::first` meets its contract, by whether the number is negative and how large it is. Assumes nothing.
+-- `absent_taps::first` meets its contract: one law of `Starts` for each return. Assumes nothing.
 use borrow.Author.Needs.{needs}
 use mathlib.Core.Path.{_≡_}
 use native.Mathlib.Omega.{arith}
