@@ -80,7 +80,6 @@ fn blend_read<'a>(
     a + (b - a) * blend
 }
 
-// Set k of a bank.
 fn set_at(sets: &[f32], k: usize) -> &[f32]
     requires { ⌜ (k + 1) * 1081648 ≤ length (now sets) ⌝ }
     ensures { λ r. ⌜ now r ≡ setAt (now (sets .entry)) k ⌝ }

@@ -14,7 +14,6 @@ use crate::lengths::stretch;
 use crate::turns::one_by_one;
 use narrowing::narrow;
 
-// The sums of two chains.
 pub struct Pair {
     pub a: f32,
     pub b: f32,

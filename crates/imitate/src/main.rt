@@ -1,4 +1,4 @@
-// The program `imitate FROM TO [NAME=VALUE …]`: FROM read back at a wandering delay.
+// The program `imitate FROM TO [NAME=VALUE …]`: it reads FROM back at a wandering delay and writes that to TO.
 mod asking; // what the arguments ask for
 mod hearing; // a block's samples
 mod running; // block after block

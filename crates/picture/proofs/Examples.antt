@@ -1,4 +1,4 @@
--- Parts of a picture, to the byte: computed over the definitions that the contracts cite. Assumes nothing.
+-- Parts of a picture, exact to the byte, computed over the definitions that the contracts cite. Assumes nothing.
 use mathlib.Core.Path.{_≡_, refl}
 use mathlib.Core.List.{[], _∷_, _++_}
 use lib.Ieee.{size}

@@ -46,7 +46,6 @@ headText channels first second =
     (legendText ++
     scalesText))))
 
--- The end of a picture.
 unfoldable pub tailText : List ℕ
 tailText =
     ascii "</svg>\n"

@@ -30,7 +30,6 @@ changed accepted current target crossfade-position direction = record {
 abbrev pub changedOf : Coded → Changed
 changedOf s = changed (s .accepted) (s .current) (s .target) (s .«crossfade_position») (s .direction)
 
--- What a call of process_sample_rate_aware leaves.
 abbrev pub leftBy : List Float → Float → Coded → List Float → Float → Float → ℕ → Float → Left Float Changed
 leftBy sets max-rate s xs x y q playback-rate =
     let c = calledOf sets max-rate s xs x y q playback-rate in

@@ -81,7 +81,6 @@ fn filled(maximum: usize, margin: usize, len: usize, max_rate: f64, lent: usize)
     false
 }
 
-// Whether all qualities are Draft and nothing is refused.
 pub(crate) fn plain(
     maximum: usize,
     margin: usize,

@@ -47,6 +47,6 @@ turnOf s = cond (plainOf s) (plainTurn s) (mixTurn s)
 abbrev pub stillTurn : Fade → Turn
 stillTurn s = record { state = s; mixed = false; from = s .target; to = s .target; weight = 0 }
 
--- One accepted call that asks for q.
+-- One accepted call that requests q.
 unfoldable pub stepOf : Fade → QualityMode → Turn
 stepOf s q = cond (validOf s) (turnOf (askedOf s q)) (stillTurn s)

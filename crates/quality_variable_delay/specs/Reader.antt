@@ -63,7 +63,7 @@ stateAfter zero d q =
     (leftBy (fadePart d) (stepOf (fadePart d) q))
 stateAfter (suc k) d q = d
 
--- K1, D1c. The ring afterwards, as every delay reader's.
+-- K1, D1c. The ring after a call, which changes as in every delay reader.
 abbrev pub ringAfter : ℕ → QualityVariableDelayF32 → List Float → Float → List Float
 ringAfter v d xs x = plain.ringAfter v (delayPart d) xs x
 

@@ -30,7 +30,7 @@ struct Turn {
     words: Words,
 }
 
-// No answer of the original looks like this word for a refusal.
+// The words for a refusal, which look like no answer of the original.
 fn refused(no: u8) -> Words {
     Words {
         first: replay_lines::refused(no),

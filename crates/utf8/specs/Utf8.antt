@@ -1,4 +1,4 @@
--- Texts that are UTF-8 and that XML takes: the well-formed byte sequences of the Unicode Standard, table 3-7, without
+-- Texts that are UTF-8 and that XML accepts: the well-formed byte sequences of the Unicode Standard, table 3-7, without
 -- U+FFFE and U+FFFF, which XML 1.0 forbids. Definitions only.
 use Prim.Native.Nat.{ℕ}
 use mathlib.Core.Bool.{Bool, cond, _&&_}
