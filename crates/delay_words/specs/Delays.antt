@@ -16,8 +16,8 @@ leastFrom (suc k) n x = cond (le x (ofInt binary64 (pos n))) n (leastFrom k (suc
 abbrev pub wholeAbove : Float → ℕ
 wholeAbove x = leastFrom 65536 0 x
 
--- The least delay is 16 taps more than the wandering reaches, and the greatest as much less than 65528, the longest
--- that the ring holds.
+-- The kernel reads 16 samples to either side, so the least delay is 16 more than the wandering reaches, and the
+-- greatest is 65528, the longest that the ring holds, less as much.
 unfoldable pub rangeText : ℕ → List ℕ
 rangeText above =
     ascii "with these settings delay= can be from " ++ (decimal (above + 16) ++
