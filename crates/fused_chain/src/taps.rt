@@ -54,8 +54,8 @@ fn multiply(x: f32, c: f32) -> f64
     (x as f64) * (c as f64)
 }
 
-// The products of the taps from k on. Adding the four together makes the compiler compute them together, and the sum is
-// finite only if they are.
+// The products of the taps from k on. They do not wait for one another, and one test is enough for all four: their sum
+// is finite only if each of them is.
 pub(crate) fn multiplied<'a>(
     xs: &'a [f32],
     row0: &'a [f32],

@@ -6,8 +6,8 @@ use sizes::times;
 use variable_delay::VariableDelay;
 use wave_file::WaveFile;
 
-// The state after a block; or the number of the refusal that ended the block, with the frame and the channel (counted
-// from 1) that it is about.
+// The state after a block. If a refusal ended the block, `number` is its number, `done` the number of frames before it,
+// and `channel` its channel, counted from 1.
 pub(crate) struct Heard {
     pub sides: Sides,
     pub number: u8,

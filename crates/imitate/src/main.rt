@@ -62,8 +62,7 @@ fn imitate(settings: Imitation, from: &[u8], to: &[u8]) -> bool {
     }
 }
 
-// Everything that can be checked beforehand is checked before anything is written, so that a refused run leaves no
-// file.
+// Everything that can be checked beforehand is checked before the file is made, so that such a refusal comes at once.
 fn imitate_of(settings: Imitation, from: &[u8], to: &[u8], file: WaveFile) -> bool {
     let asked = settings.kind;
     let same = file.kind;

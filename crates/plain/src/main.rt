@@ -55,8 +55,7 @@ fn plain(from: &[u8], to: &[u8]) -> bool {
     }
 }
 
-// Everything that can be checked beforehand is checked before anything is written, so that a refused run leaves no
-// file.
+// Everything that can be checked beforehand is checked before the file is made, so that such a refusal comes at once.
 fn plain_of(from: &[u8], to: &[u8], file: WaveFile) -> bool {
     let kind = file.kind;
     let count = times(file.frames, file.channels as usize);
