@@ -1,5 +1,6 @@
 -- The numbers that the code computes from the counts before and after a call are the call's absent taps, whatever its
--- verdict. They need only the ring's length and the choice that an accepted call makes. Assumes nothing.
+-- verdict. Of the ring only the length matters, and for an accepted call the choice of sets is the definition's.
+-- Assumes nothing.
 use mathlib.Core.Path.{_≡_, refl, sym, _∙_, ap}
 use mathlib.Core.List.{List}
 use Prim.Native.Nat.{ℕ, zero, suc, _+_, _*_}
