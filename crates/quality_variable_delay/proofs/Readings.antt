@@ -1,6 +1,6 @@
--- What an accepted call answers, over whatever each quality reads. By the ported rule (Q1, Q2) a quality that is current
--- already is read alone, at once, and a new one starts from the current one with the weight 1 over the fade length; by the
--- second rule (W9c) going back mixes the same two qualities with a weight one lower. Assumes nothing.
+-- What an accepted call answers, whatever each quality reads. By the ported rule (Q1, Q2) a quality that is already
+-- current is read alone, at once, and a new one starts from the current one with the weight 1 over the fade length. By
+-- the second rule (W9c) going back mixes the same two qualities with a weight that is one lower. Assumes nothing.
 use mathlib.Core.Path.{_≡_, _∙_, ap, subst}
 use mathlib.Core.Bool.{true, false}
 use mathlib.Core.List.{List}
