@@ -1,5 +1,5 @@
--- What a quality reads, by whether it is Draft and by how many sets are read, and that its numbers are few.
--- Assumes nothing.
+-- What a quality reads, by whether it is Draft and by how many sets are read, and that its numbers are small. Assumes
+-- nothing.
 use mathlib.Core.Path.{_≡_, refl}
 use mathlib.Core.Bool.{true, false}
 use mathlib.Core.List.{List}
@@ -46,7 +46,7 @@ module _ (c : Choice) (xs : List Float) (count : ℕ) (p : Float) where
   table-reads Hq e = refl
   table-reads Ultra e = refl
 
-  -- n taps have at most n absent ones of a kind
+  -- Of n taps at most n are absent in each way.
   few-of : (n : ℕ) → n ≤ 128 → let s = absentAt xs count p n in
       (s .unwritten ≤ 128) × ((s .ahead ≤ 128) × (s .overwritten ≤ 128))
   few-of n h =

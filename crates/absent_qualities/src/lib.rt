@@ -1,5 +1,5 @@
-// The absent taps of what a quality reads of a bank, and of a call that may read two qualities (W7g): every reading
-// made is added.
+// The absent taps of what a quality reads from a bank, and of a call that may read two qualities (W7g). The numbers of
+// every reading are added.
 mod sums; // two readings added
 
 ghost use mathlib.Core.Path.{_≡_};
@@ -32,7 +32,7 @@ pub fn of_quality(
     plus(one, one)
 }
 
-// A mixed call reads both of its qualities, another the one.
+// A mixed call reads both of its qualities, any other call only one.
 pub fn of_turn(choice: Choice, turn: Turn, len: usize, count: u64, position: f64) -> Absent
     ensures { λ r. ⌜ r ≡ ofTurn choice turn (zeros len) count position ⌝ }
 {

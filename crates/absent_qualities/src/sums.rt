@@ -1,10 +1,10 @@
-// Two readings' numbers added.
+// The sum of two readings' numbers.
 ghost use mathlib.Core.Path.{_≡_};
 ghost use Rattle.absent_taps.specs.Absent as numbers;
 ghost use Rattle.absent_qualities.specs.Readings.{Few};
 use absent_taps::Absent;
 
-// No sum wraps, since no reading has more taps than two tables.
+// No sum overflows, because no reading has more taps than two tables.
 pub(crate) fn plus(a: Absent, b: Absent) -> Absent
     requires { ⌜ Few a × Few b ⌝ }
     ensures { λ r. ⌜ r ≡ numbers.plus a b ⌝ }

@@ -1,5 +1,5 @@
--- The three numbers of absent taps that are worked out at once are those of the taps, one after the other: by how many
--- numbers of a run lie below a bound. Assumes nothing.
+-- The three numbers of absent taps that the code computes at once are those counted tap by tap. The proof goes by how
+-- many numbers of a run lie below a bound. Assumes nothing.
 use mathlib.Core.Path.{_≡_, refl, sym, _∙_, ap}
 use mathlib.Core.Bool.{Bool, true, false, cond}
 use mathlib.Core.List.{List}
@@ -23,14 +23,14 @@ same {s} {t} p q r = go (s .unwritten) (s .ahead) (s .overwritten) p q r
     go : (x y z : ℕ) → x ≡ t .unwritten → y ≡ t .ahead → z ≡ t .overwritten → absentOf x y z ≡ t
     go x y z p q r = rw (p, q, r)
 
--- a least that does not see the next number, and one that goes up with it
+-- A minimum that the next number does not change, and one that grows with it.
 level : (n x : ℕ) → x ≤ n → min n x ≡ min (suc n) x
 level n x h = omega arith
 
 top : (n x : ℕ) → n ≤ x → min n x ≡ n
 top n x h = omega arith
 
--- X numbers lie below the oldest that is kept, Y below 0, Z below the count; n is the next number
+-- X numbers lie below the oldest that is kept, Y below 0, Z below the count; n is the next number.
 module _ (n X Y Z : ℕ) where
   stays-ahead : suc n ≤ Z → n - min n Z ≡ suc n - min (suc n) Z
   stays-ahead h = rw (top n Z (omega arith), top (suc n) Z h) (omega arith)
@@ -62,7 +62,7 @@ module _ (xs : List Float) (count low from n : ℕ) where
   abbrev Z : ℕ
   Z = low + (count - from)
 
-  -- it is k, from 0 on
+  -- The next number is k, which is not below 0.
   module _ (k : ℕ) (is : low + k ≡ from + n) (past : low ≤ n) where
     from-zero : (a b : Bool) → ltb k count ≡ a → leb count (k + length xs) ≡ b
         → counted (pick a (pick b (held (getD xs (k % length xs) nan)) overwritten) ahead) (run n) ≡ run (suc n)
@@ -81,7 +81,7 @@ module _ (xs : List Float) (count low from n : ℕ) where
         same (level n Y (omega arith)) (one-ahead n X Y Z (omega arith))
         (stays-gone n X Y Z (omega arith) (omega arith))
 
-  -- it is still below 0
+  -- The next number is still below 0.
   below-zero : n < low → from ≡ 0 → counted unwritten (run n) ≡ run (suc n)
   below-zero h z =
       same (omega arith) (stays-ahead n X Y Z (omega arith)) (none-gone n X Y Z (omega arith) (omega arith))
@@ -117,7 +117,7 @@ pub at-once : (xs : List Float) (count : ℕ) (z : ℤ) (n : ℕ)
 at-once xs count (pos i) n = from-pos xs count i n
 at-once xs count (negsuc j) n = from-neg xs count j n
 
--- the same at a position, from what the code holds: s from `first`, u, g and w from `below`, the rest from `less`
+-- The same at a position, from what the code holds: s from `first`, u, g and w from `below`, the rest from `less`.
 pub missing-is : (len count : ℕ) (p : Float) (n : ℕ) (s : Start) {oldest u g w a o : ℕ} → s ≡ startOf (firstTap p n)
     → oldest ≡ count - len → u ≡ belowOf (s .low) (s .from) 0 n → g ≡ belowOf (s .low) (s .from) oldest n
     → w ≡ belowOf (s .low) (s .from) count n → a ≡ n - w → o ≡ g - u

@@ -1,5 +1,6 @@
--- What holds of the three numbers: they are those of the ring's length, its count and the position (W7e); below 0 a tap
--- is not yet written at any distance (W7f); with the held ones they are all taps that were read (W7h). Assumes nothing.
+-- Laws of the three numbers: they depend only on the ring's length, its count and the position (W7e); below 0 a tap is
+-- not yet written at any distance (W7f); together with the held taps they make up all taps that were read (W7h).
+-- Assumes nothing.
 use mathlib.Core.Path.{_≡_, refl, sym, _∙_, ap}
 use mathlib.Core.List.{List}
 use Prim.Native.Nat.{ℕ, zero, suc, _+_, _-_, _≤_}
@@ -13,7 +14,7 @@ use Rattle.absent_taps.specs.Absent.{absentOf, counted, absentFrom, firs
 use Rattle.absent_taps.specs.Inner.{startOf, missingOf}
 use Rattle.absent_taps.proofs.AtOnce.{same, at-once}
 
--- W7e. Two rings of one length tell the same, whatever they hold.
+-- W7e. Two rings of one length give the same numbers, whatever they hold.
 pub by-length : (xs ys : List Float) → length xs ≡ length ys → (count : ℕ) (p : Float) (n : ℕ)
     → absentAt xs count p n ≡ absentAt ys count p n
 by-length xs ys e count p n =
@@ -28,7 +29,7 @@ pub all-below-zero : (xs : List Float) (count j n : ℕ) → n ≤ j + 1 → abs
 all-below-zero xs count j n h =
     at-once xs count (negsuc j) n ∙ same (omega arith) (omega arith) (omega arith)
 
--- W7h. Held ones and absent ones are all taps that were read.
+-- W7h. The held taps and the absent ones are all taps that were read.
 abbrev sum : Absent → ℕ
 sum s = s .unwritten + s .ahead + s .overwritten
 

@@ -1,4 +1,4 @@
--- Where a run that starts `back` before a number has its numbers below 0, and from where it goes on, for a number that
+-- How many numbers below 0 a run has that starts `back` before a number, and from where it goes on, for a number that
 -- the code holds as a word. Assumes nothing.
 use mathlib.Core.Path.{_≡_, refl, sym, _∙_, ap, subst}
 use mathlib.Core.Bool.{true, false}
@@ -14,14 +14,14 @@ use mir.ValLaws.{toZ-ofZ}
 use Rattle.absent_taps.specs.declared.counting.Start.{Start}
 use Rattle.absent_taps.specs.Inner.{startOf}
 
--- an integer as the code holds it
+-- An integer as the code holds it.
 abbrev word : ℤ → ℤ
 word z = toZ w64 (ofZ w64 z)
 
 abbrev start : ℕ → ℕ → Start
 start low from = record { low = low; from = from }
 
--- a number below 0
+-- A number below 0.
 pub record Below (i : ℤ) : Type 0 where
   pub j : ℕ
   pub is : i ≡ negsuc j
@@ -64,7 +64,7 @@ module _ {i : ℤ} (b : Below i) where
       go zero = rw (lt-ltb 0 (suc (b .j)) (omega arith)) (ap (λ (n : ℕ). start n 0) (omega arith))
       go (suc m) = ap (λ (n : ℕ). start n 0) (omega arith)
 
--- a negative number where the test for one failed
+-- The code's test for a negative number cannot fail for one.
 not-negative : (k : ℕ) → ltZ (negsuc k) (pos 0) ≡ false → ⊥
 not-negative k h = let e : _≡_ {A = ℕ} 0 1 = cc in omega arith
 

@@ -1,5 +1,5 @@
--- W7d. How many taps of a reading are absent, by kind: counted over ring's definition of a tap, one after the other.
--- Definitions only.
+-- W7d. How many taps of a reading are absent, by kind: they are counted over ring's definition of a tap, one after the
+-- other. Definitions only.
 use Prim.Native.Nat.{ℕ, zero, suc, _+_, _-_, _/_}
 use mathlib.Core.List.{List}
 use lib.IntN.{ℤ, pos, _+ℤ_, _-ℤ_}
@@ -11,18 +11,18 @@ use Rattle.absent_taps.specs.declared.Absent.{Absent}
 abbrev pub absentOf : ℕ → ℕ → ℕ → Absent
 absentOf u a o = record { unwritten = u; ahead = a; overwritten = o }
 
--- What a refused call tells: three zeros (W7h).
+-- A refused call has no absent taps, so its numbers are three zeros (W7h).
 abbrev pub none : Absent
 none = absentOf 0 0 0
 
--- One tap more: a held one adds nothing.
+-- The numbers with one tap more. A held tap adds nothing.
 abbrev pub counted : Tap → Absent → Absent
 counted (held x) s = s
 counted unwritten s = absentOf (s .unwritten + 1) (s .ahead) (s .overwritten)
 counted ahead s = absentOf (s .unwritten) (s .ahead + 1) (s .overwritten)
 counted overwritten s = absentOf (s .unwritten) (s .ahead) (s .overwritten + 1)
 
--- Of the n taps from number z on.
+-- The numbers for the n taps from number z on.
 unfoldable pub absentFrom : List Float → ℕ → ℤ → ℕ → Absent
 absentFrom xs count z zero = none
 absentFrom xs count z (suc n) = counted (tapAt xs count (z +ℤ pos n)) (absentFrom xs count z n)
@@ -31,15 +31,15 @@ absentFrom xs count z (suc n) = counted (tapAt xs count (z +ℤ pos n)) (absentF
 abbrev pub firstTap : Float → ℕ → ℤ
 firstTap p n = floorOf p -ℤ pos (n / 2 - 1)
 
--- Of the n taps that a kernel reads at a position.
+-- The numbers for the n taps that a kernel reads at a position.
 abbrev pub absentAt : List Float → ℕ → Float → ℕ → Absent
 absentAt xs count p n = absentFrom xs count (firstTap p n) n
 
--- Every reading made is added (W7g).
+-- The numbers of all readings of a call are added (W7g).
 abbrev pub plus : Absent → Absent → Absent
 plus s t = absentOf (s .unwritten + t .unwritten) (s .ahead + t .ahead) (s .overwritten + t .overwritten)
 
--- How many of the n taps from number z on are held.
+-- The number of held taps among the n from number z on.
 abbrev pub one : Tap → ℕ
 one (held x) = 1
 one unwritten = 0

@@ -1,16 +1,16 @@
-// A run of numbers that may start below 0: where it starts, and how many of it lie below a bound.
+// A run of numbers that may start below 0: where it starts, and how many of its numbers lie below a bound.
 ghost use mathlib.Core.Path.{_≡_};
 ghost use Prim.Native.Nat.{_-_, _<_, _^_};
 ghost use lib.IntN.{pos, _-ℤ_};
 ghost use Rattle.absent_taps.specs.Inner.{startOf, belowOf};
 
-// So many numbers below 0, then on from a number; one of the two is 0.
+// The run has `low` numbers below 0 and then goes on from the number `from`; one of the two is 0.
 pub struct Start {
     pub low: u64,
     pub from: u64,
 }
 
-// a less b, 0 where that lies below 0.
+// The difference a less b, or 0 if b is larger.
 pub(crate) fn less(a: u64, b: u64) -> u64
     ensures { λ r. ⌜ r ≡ a - b ⌝ }
 {
@@ -42,7 +42,8 @@ pub(crate) fn first(whole: i64, back: u64) -> Start
     }
 }
 
-// How many of the first `taps` numbers of a run lie below a bound. No sum is made that could wrap.
+// The number of the first `taps` numbers of a run that lie below a bound. The order of the tests avoids every sum that
+// could overflow.
 pub(crate) fn below(low: u64, from: u64, bound: u64, taps: u64) -> u64
     ensures { λ r. ⌜ r ≡ belowOf low from bound taps ⌝ }
 {

@@ -1,7 +1,6 @@
 // How many of a reading's taps are absent, by kind, in constant time (W7d, W7e): not yet written, ahead of the newest,
-// overwritten.
-// Every kernel reads n taps from the integer part of the position less n / 2 - 1 on, so how many of them lie below a
-// few bounds says it all.
+// overwritten. Every kernel reads n consecutive taps, the first of which is n / 2 - 1 before the integer part of the
+// position, so it is enough to know how many of them lie below a few bounds.
 mod counting; // where the taps start, and how many lie below a bound
 
 ghost use mathlib.Core.Path.{_≡_};
@@ -17,7 +16,7 @@ pub struct Absent {
     pub overwritten: u64,
 }
 
-// What a refused call tells: it reads no tap (W7h).
+// A refused call reads no tap, so its numbers are zeros (W7h).
 pub fn nothing() -> Absent
     ensures { λ r. ⌜ r ≡ none ⌝ }
 {
@@ -28,8 +27,8 @@ pub fn nothing() -> Absent
     }
 }
 
-// The absent ones of the taps that are read at a position, in a ring of that length that has accepted `count` samples.
-// Where a tap lies does not hang on what the ring holds, so its length is enough (`by-length` in proofs/Laws.antt).
+// The absent taps among those read at a position, in a ring of length `len` that has accepted `count` samples. Where a
+// tap lies does not depend on what the ring holds, so its length is enough (`by-length` in proofs/Laws.antt).
 pub fn missing(len: usize, count: u64, position: f64, taps: u64) -> Absent
     ensures { λ r. ⌜ r ≡ absentAt (zeros len) count position taps ⌝ }
 {

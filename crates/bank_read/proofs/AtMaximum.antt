@@ -1,5 +1,5 @@
--- T4, T5. At the bank's maximum, or at a rate that is clamped to it, a quality with a table reads the last set's and no
--- other: both sets of the choice are the last one, and it is not blended. Assumes nothing.
+-- T4, T5. At the bank's maximum, or at a rate that is clamped to it, a quality with a table reads only the last set:
+-- both sets of the choice are the last one, and nothing is blended. Assumes nothing.
 use mathlib.Core.Path.{_≡_, refl}
 use mathlib.Core.Bool.{Bool, true, false, cond}
 use mathlib.Core.List.{List}
@@ -28,7 +28,7 @@ last-read top rate ok held equal q sets xs count p =
     let close = closeOf (rateOf top n (n - 1 + 1)) (lowerOf top n (n - 1)) in
     rw (c .0, c .1, c .2) (either close (chosenOf top rate .blend) (tableAt q (setAt sets (n - 1)) xs count p))
 
--- the rate that 000's process_sample asks for
+-- The rate that 000's process_sample uses.
 pub maximum-read : (top : Float) → bankOk top ≡ true → T (fits binary64 top)
     → (q : QualityMode) (sets xs : List Float) (count : ℕ) (p : Float)
     → tablesAt (chosenOf top top) q sets xs count p ≡ tableAt q (setAt sets (stepsOf top - 1)) xs count p

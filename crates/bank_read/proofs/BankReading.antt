@@ -1,5 +1,5 @@
--- What `read` gives, by its tests; and that with a bank for a rate in range it is the bank's reading (T4, T5).
--- Assumes nothing.
+-- What `read` gives, by its tests; and that with a bank for a rate in range it is the bank's reading (T4, T5). Assumes
+-- nothing.
 use mathlib.Core.Path.{_≡_, refl, sym, _∙_}
 use mathlib.Core.Bool.{Bool, true, false, true≢false, not, _&&_, cond}
 use mathlib.Core.List.{List}
@@ -52,7 +52,7 @@ module _ (c : Choice) (sets xs : List Float) (count : ℕ) (p : Float) where
     pub no-sets : setsOk c (length sets) ≡ false → zero-f ≡ readOf c q sets xs count p
     no-sets s = sym (as-tables q h ∙ rw s)
 
--- a bank has the sets that are chosen
+-- A bank has the sets that are chosen.
 held : (c : Choice) (q : QualityMode) (n : ℕ) → setsOk c n ≡ true → heldOk c q n ≡ true
 held c Draft n h = refl
 held c Normal n h = h
@@ -72,7 +72,7 @@ module _ (top rate : Float) (ok : bankOk top ≡ true) where
       → readOf (choiceOf top rate) q sets xs count p ≡ bankAt sets top rate q xs count p
   bank-read q sets xs count p l h = rw (ok, held (chosenOf top rate) q (length sets) (sets-chosen (length sets) l), h)
 
--- where nothing is refused the reading is the bank's
+-- If nothing is refused, the reading is the bank's.
 module _ (top rate : Float) (q : QualityMode) (sets xs : List Float) (count : ℕ) (p : Float) where
   pub answered : answerF32Of (sampleVerdict top rate (length sets) p) (readOf (choiceOf top rate) q sets xs count p)
       ≡ sampledOf sets top rate q xs count p

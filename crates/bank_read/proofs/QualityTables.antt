@@ -1,5 +1,5 @@
--- A quality's part of a whole set is its table, with the length that its taps and phases need:
--- so nothing of a reading in range is refused. Assumes nothing.
+-- A quality's part of a whole set is its table, with the length that its taps and phases need, so a reading in range is
+-- never refused. Assumes nothing.
 use mathlib.Core.Path.{_≡_, refl, _∙_, ap}
 use mathlib.Core.Bool.{true}
 use mathlib.Core.List.{List, []}
@@ -33,7 +33,7 @@ module _ (xs : List Float) (count : ℕ) (p : Float) (h : positionOk p ≡ true)
   of-length n taps phases table e t =
       whole-read table taps phases (ap (λ (m : ℕ). eqb (tableVerdict taps phases m) 0) e ∙ t)
 
-  -- Draft has no taps to read
+  -- Draft has no taps to read.
   none-read : readOf [] 0 0 xs count p ≡ sincF32At [] 0 0 xs count p
   unfolding sincF32At fold
   none-read = refl
@@ -52,7 +52,7 @@ module _ (xs : List Float) (count : ℕ) (p : Float) (h : positionOk p ≡ true)
   table-is q set l =
       ap (λ (t : List Float). readOf t (tapsOf q) (phasesOf q) xs count p) (lent-whole q set l) ∙ part-read q set l
 
--- neither set alone
+-- The case in which both sets are read and blended.
 pub both-read : (w : ℕ) (blend a b : Float) → (w ≡ 1 → ⊥) → (w ≡ 0 → ⊥) → blended 2 blend a b ≡ blended w blend a b
 both-read zero blend a b h k = absurd (k refl)
 both-read (suc zero) blend a b h k = absurd (h refl)

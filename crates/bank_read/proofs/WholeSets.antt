@@ -13,7 +13,7 @@ use Rattle.bank_choice.specs.declared.Choice.{Choice}
 use Rattle.bank_read.specs.Bank.{setAt}
 use Rattle.bank_read.specs.Inner.{setsOk}
 
--- over the length n of a set
+-- The same for sets of any length n.
 module _ (n : ℕ) (some : 0 < n) where
   has : (k len : ℕ) → ltb k (len / n) ≡ leb ((k + 1) * n) len
   has k len = go (leb ((k + 1) * n) len) refl

@@ -28,7 +28,8 @@ setAt sets k = take setLength (drop (k * setLength) sets)
 abbrev pub tableAt : QualityMode → List Float → List Float → ℕ → Float → Float
 tableAt q set xs count p = sincF32At (partOf q set) (tapsOf q) (phasesOf q) xs count p
 
--- The safe set's reading a for 0, the tighter set's b for 1, else `a + (b - a) * blend`, each step rounded to f32.
+-- The blend of the readings a of the safe set and b of the tighter set: a for 0, b for 1, and otherwise `a + (b - a) *
+-- blend`, each step rounded to f32.
 abbrev pub blended : ℕ → Float → Float → Float → Float
 blended zero blend a b = a
 blended (suc zero) blend a b = b
@@ -39,19 +40,19 @@ tablesAt c q sets xs count p =
     blended (c .which) (c .blend) (tableAt q (setAt sets (c .safe)) xs count p)
     (tableAt q (setAt sets (c .tighter)) xs count p)
 
--- What a quality reads by a choice of sets: Draft reads none of them.
+-- What a quality reads by a choice of sets. Draft reads no set.
 unfoldable pub chosenAt : Choice → QualityMode → List Float → List Float → ℕ → Float → Float
 chosenAt c Draft sets xs count p = draftAt xs count p
 chosenAt c Normal sets xs count p = tablesAt c Normal sets xs count p
 chosenAt c Hq sets xs count p = tablesAt c Hq sets xs count p
 chosenAt c Ultra sets xs count p = tablesAt c Ultra sets xs count p
 
--- What a quality reads at a rate, of a bank for the maximum rate `max-rate`.
+-- What a quality reads at a rate from a bank for the maximum rate `max-rate`.
 abbrev pub bankAt : List Float → Float → Float → QualityMode → List Float → ℕ → Float → Float
 bankAt sets max-rate rate q xs count p = chosenAt (chosenOf max-rate rate) q sets xs count p
 
--- N1, N2, N7. The refusal that is due, 0 for none, whatever quality is asked for: the bank's rate and the position, the
--- bank's length, a rate that is a NaN.
+-- N1, N2, N7. The number of the refusal, 0 for none, for every quality: the tests are of the bank's rate and the
+-- position, of the bank's length, and of a rate that is a NaN.
 abbrev pub sampleVerdict : Float → Float → ℕ → Float → ℕ
 sampleVerdict max-rate rate len p =
     firstOf

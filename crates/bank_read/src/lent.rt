@@ -1,4 +1,4 @@
-// What a quality other than Draft reads: its table in one of two lent sets, or both, blended.
+// What a quality other than Draft reads: its table in one of two lent sets, or its tables in both, blended.
 ghost use mathlib.Core.Path.{_≡_};
 ghost use mathlib.Core.Bool.{true};
 ghost use Prim.Native.Nat.{_+_, _*_, _≤_};
@@ -13,7 +13,7 @@ use constants::SET_LENGTH;
 use fused_chain::Pair;
 use quality_mode::QualityMode;
 
-// The quality's table in the tighter set, or in the safe one.
+// Reads the quality's table in the tighter set, or in the safe one.
 fn table_read<'a>(
     safe: &'a [f32],
     tighter: &'a [f32],
@@ -33,7 +33,7 @@ fn table_read<'a>(
     sinc_read_f32::read(table, taps, phases, source, count, position)
 }
 
-// The quality's tables in both sets, at once.
+// Reads the quality's tables in both sets at once.
 fn both_read<'a>(
     safe: &'a [f32],
     tighter: &'a [f32],
@@ -53,7 +53,7 @@ fn both_read<'a>(
     sinc_read_f32::read_pair(a, b, taps, phases, source, count, position)
 }
 
-// One set's reading, or both, blended.
+// The reading of one set, or the blend of both.
 fn blend_read<'a>(
     safe: &'a [f32],
     tighter: &'a [f32],
@@ -80,7 +80,6 @@ fn blend_read<'a>(
     a + (b - a) * blend
 }
 
-// Set k of a bank.
 fn set_at(sets: &[f32], k: usize) -> &[f32]
     requires { ⌜ (k + 1) * 1081648 ≤ length (now sets) ⌝ }
     ensures { λ r. ⌜ now r ≡ setAt (now (sets .entry)) k ⌝ }

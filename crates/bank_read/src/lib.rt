@@ -1,4 +1,4 @@
-// The original's SincBankF32::sample (000): what a quality reads of a bank of lent sets.
+// The original's SincBankF32::sample (000): what a quality reads from a bank of lent sets.
 mod lent; // one set's table, or two blended
 
 ghost use mathlib.Core.Path.{_≡_};
@@ -22,8 +22,8 @@ fn sets_ok(choice: Choice, len: usize) -> bool
     }
 }
 
-// What a quality reads by a choice of sets, for readers that have tested everything: 0.0 if the bank has not those sets
-// or the position is out of range. Draft looks at no set.
+// What a quality reads by a choice of sets, for readers that have tested everything. It is 0.0 if the bank does not
+// have those sets or the position is out of range. Draft reads no set.
 pub fn read<'a>(
     sets: &'a [f32],
     choice: Choice,
@@ -45,8 +45,8 @@ pub fn read<'a>(
     0.0
 }
 
-// N1, N2, N7. 0, or the refusal that is due: the bank's rate and the position in range, the bank's length, and a rate
-// that is no NaN.
+// N1, N2, N7. The number of the refusal, 0 for none: the bank's rate and the position must be in range, the bank must
+// have its length, and the rate must be no NaN.
 fn refusal(max_rate: f64, rate: f64, len: usize, position: f64) -> u8
     ensures { λ r. ⌜ r ≡ sampleVerdict «max_rate» rate len position ⌝ }
 {
@@ -59,7 +59,7 @@ fn refusal(max_rate: f64, rate: f64, len: usize, position: f64) -> u8
     answer::first(t1, t2, true, true, true, true, t7, true)
 }
 
-// What a quality reads at a rate, of a whole bank, or the number of the refusal.
+// What a quality reads at a rate from a whole bank, or the number of the refusal.
 pub fn sample<'a>(
     sets: &'a [f32],
     max_rate: f64,

@@ -1,5 +1,5 @@
--- The end of a stretch by quotient and rest, so that no product passes a word: it is k nths of all, and lies before the
--- end. Assumes nothing.
+-- The end of a stretch, computed by quotient and remainder so that no product overflows a word, is k nths of all frames
+-- and lies within them. Assumes nothing.
 use mathlib.Core.Path.{_≡_, sym, ap, _∙_}
 use Prim.Native.Nat.{ℕ, _+_, _*_, _/_, _%_, _<_, _≤_}
 use native.Mathlib.Nat.{div-add-mod, mul-add, mul-left-comm, mul-add-div, mul-le-mul-right, mod-lt, div-le-of-le-mul}

@@ -7,7 +7,7 @@ use Rattle.arguments.specs.declared.Frames.{Frames}
 use Rattle.arguments.specs.declared.Frames.the-variants.{All, Number}
 use Rattle.compared_frames.specs.declared.Extent.{Extent}
 
--- As many frames as were asked for, of those that both have.
+-- The number of frames that the settings ask for, but no more than both files have.
 abbrev pub askedOf : Frames → ℕ → ℕ
 askedOf All both = both
 askedOf (Number n) both = min n both
@@ -24,22 +24,23 @@ spanBy first second one two n = record {
   «second_left» = two - n;
 }
 
--- Files of a and b frames, behind what is skipped of each.
+-- The extent for files of a and b frames, after the frames that are skipped in each.
 abbrev pub spanOf : ℕ → ℕ → ℕ → ℕ → Frames → Extent
 spanOf a b first second frames =
     spanBy first second (a - first) (b - second) (countOf (a - first) (b - second) frames)
 
--- Where stretch k of n equal ones ends, counted from 1; the end of all for the last one and where n is not 1 to 1000.
+-- The place where stretch k of n equal ones ends, k counted from 1. It is the end of all frames for the last stretch,
+-- and where n is not 1 to 1000.
 unfoldable pub endOf : ℕ → ℕ → ℕ → ℕ
 endOf frames n k = cond (ltb k n && leb n 1000) (k * frames / n) frames
 
--- The stretch after k, counted from 0, once k has ended.
+-- The number of the stretch after k, counted from 0.
 abbrev pub nextOf : ℕ → ℕ
 nextOf k = min (k + 1) most
 
 unfoldable pub stretchOf : ℕ → ℕ → ℕ → ℕ → ℕ
 stretchOf frames n k done = cond (leb (endOf frames n (nextOf k)) done) (nextOf k) k
 
--- Blocks of at most 4096 frames, and of one at the least.
+-- A block has at most 4096 frames, and at least one, so that a run always ends.
 unfoldable pub blockOf : ℕ → ℕ
 blockOf left = cond (eqb left 0) 1 (min left 4096)

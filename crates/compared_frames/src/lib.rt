@@ -7,7 +7,8 @@ use sizes::fewer;
 use sizes::less;
 use sizes::plus;
 
-// From frame `first` and frame `second` on so many frames are compared; what each file has behind them.
+// `frames` frames are compared, from frame `first` of the one file and frame `second` of the other on. The rest says
+// what each file has after them.
 pub struct Extent {
     pub first: usize,
     pub second: usize,
@@ -16,7 +17,7 @@ pub struct Extent {
     pub second_left: usize,
 }
 
-// Of files of a and b frames, behind what is skipped of each.
+// The extent for files of a and b frames, after the frames that are skipped in each.
 pub fn span(a: usize, b: usize, first: usize, second: usize, frames: Frames) -> Extent
     ensures { λ r. ⌜ r ≡ spanOf a b first second frames ⌝ }
 {
@@ -41,7 +42,7 @@ fn asked(frames: Frames, both: usize) -> usize
     }
 }
 
-// Where stretch k of n ends, counted from 1, n at most 1000: so many frames of all lie before it.
+// The place where stretch k of n ends, k counted from 1 and n at most 1000: that many frames lie before it.
 pub fn stretch_end(frames: usize, n: usize, k: usize) -> usize
     ensures { λ r. ⌜ r ≡ endOf frames n k ⌝ }
 {
@@ -57,7 +58,7 @@ pub fn stretch_end(frames: usize, n: usize, k: usize) -> usize
     k * (frames / n) + k * (frames % n) / n
 }
 
-// The stretch that frame `done` lies in, counted from 0, where k is it or the one before.
+// The stretch in which frame `done` lies, counted from 0, if that is k or the stretch after it.
 pub fn stretch_of(frames: usize, n: usize, k: usize, done: usize) -> usize
     ensures { λ r. ⌜ r ≡ stretchOf frames n k done ⌝ }
 {
@@ -68,7 +69,7 @@ pub fn stretch_of(frames: usize, n: usize, k: usize, done: usize) -> usize
     k
 }
 
-// How many frames are compared at once, of so many that are left of a stretch: one at the least, so that a run ends.
+// The number of frames compared at once if `left` are left of a stretch: at least one, so that a run ends.
 pub fn block_of(left: usize) -> usize
     ensures { λ r. ⌜ r ≡ blockOf left ⌝ }
 {

@@ -1,4 +1,4 @@
--- The least number that is not below x: this one, or one of those behind it. Assumes nothing.
+-- The least number that is not below x is either this one or one of those after it. Assumes nothing.
 use mathlib.Core.Path.{_≡_}
 use mathlib.Core.Bool.{true, false}
 use Prim.Native.Nat.{ℕ, suc}

@@ -1,4 +1,4 @@
--- Which whole delays would do, in words. Definitions only.
+-- Which whole delays would be accepted, in words. Definitions only.
 use Prim.Native.Nat.{ℕ, zero, suc, _+_, _-_}
 use mathlib.Core.Bool.{cond}
 use mathlib.Core.List.{List, _++_}
@@ -7,7 +7,7 @@ use lib.IntN.{pos}
 use lib.Ieee.{Float, binary64, le, ofInt}
 use Rattle.text.specs.Text.{ascii, decimal}
 
--- The least of the numbers n, n + 1, … n + k that is not below x; the last of them where none is.
+-- The least of the numbers n, n + 1, … n + k that is not below x, or the last of them if all are below.
 unfoldable pub leastFrom : ℕ → ℕ → Float → ℕ
 leastFrom zero n x = n
 leastFrom (suc k) n x = cond (le x (ofInt binary64 (pos n))) n (leastFrom k (suc n) x)
@@ -16,13 +16,14 @@ leastFrom (suc k) n x = cond (le x (ofInt binary64 (pos n))) n (leastFrom k (suc
 abbrev pub wholeAbove : Float → ℕ
 wholeAbove x = leastFrom 65536 0 x
 
--- 16 taps before the least delay that the wandering reaches, and the same before 65528, the longest of the ring.
+-- The kernel reads 16 samples to either side, so the least delay is 16 more than the wandering reaches, and the
+-- greatest is 65528, the longest that the ring holds, less as much.
 unfoldable pub rangeText : ℕ → List ℕ
 rangeText above =
     ascii "with these settings delay= can be from " ++ (decimal (above + 16) ++
     (ascii " to " ++ (decimal (65512 - above) ++ ascii " samples\n")))
 
--- Where no delay is left between the two ends.
+-- The settings may leave no delay between the two ends.
 unfoldable pub delaysText : ℕ → List ℕ
 delaysText above =
     cond (ltb above 32749) (rangeText above)

@@ -1,4 +1,4 @@
-// Which whole delays would do for settings that wander so far, in words: a line without its beginning.
+// Which whole delays would be accepted for settings that wander this far, in words: a line without its beginning.
 ghost use mathlib.Core.Path.{_≡_};
 ghost use Prim.Native.Nat.{_<_};
 ghost use lib.ListN.{length};
@@ -33,7 +33,7 @@ fn put_range(out: &mut [u8], at: usize, above: u64) -> usize
     put(out, four, b" samples\n")
 }
 
-// Puts which delays would do, where the wandering reaches up to `above` samples from its middle.
+// Puts which delays would be accepted if the wandering reaches up to `above` samples from its middle.
 pub fn put_delays(out: &mut [u8], at: usize, above: u64) -> usize
     ensures { λ r. ⌜ r ≡ placeAfter (length (now (out .entry))) at (delaysText above) ⌝ }
     ensures { λ r. ⌜ now (out .exit) ≡ putAt (now (out .entry)) at (delaysText above) ⌝ }

@@ -1,6 +1,6 @@
-// What a program says on standard error, each time a line in one piece, and the sign that ./run looks for: a program
+// What a program says on standard error, one whole line at a time, and the sign that ./run looks for because a program
 // has no exit status. What a line says is given by equations; that C's `write` takes it is assumed (docs/TRUST.md), so
-// each call answers how many bytes it has handed over.
+// each call gives the number of bytes that it has handed over.
 ghost use mathlib.Core.Path.{_≡_};
 ghost use lib.ListN.{length};
 ghost use Rattle.text.specs.Text.{putAt, placeAfter};
@@ -35,7 +35,7 @@ pub fn put_start(out: &mut [u8], at: usize, command: &[u8], name: &[u8]) -> usiz
     put_name(out, two, name)
 }
 
-// The beginning, and what is to be said of the file or the argument, which ends the line.
+// Puts the beginning of a line and what it says of the file or the argument, which ends the line.
 pub fn put_line(out: &mut [u8], at: usize, command: &[u8], name: &[u8], words: &[u8]) -> usize
     ensures { λ r. ⌜ r ≡ placeAfter (length (now (out .entry))) at
         (lineText (now (command .entry)) (now (name .entry)) (now (words .entry))) ⌝ }
@@ -46,7 +46,7 @@ pub fn put_line(out: &mut [u8], at: usize, command: &[u8], name: &[u8], words: &
     put(out, one, words)
 }
 
-// The same of nothing that has a name.
+// Puts a line about something that has no name.
 pub fn put_plain(out: &mut [u8], at: usize, command: &[u8], words: &[u8]) -> usize
     ensures { λ r. ⌜ r ≡ placeAfter (length (now (out .entry))) at
         (plainText (now (command .entry)) (now (words .entry))) ⌝ }
@@ -65,14 +65,14 @@ fn hand_over(fd: i32, words: &[u8]) -> usize
     words.len()
 }
 
-// All went well.
+// Gives ./run the sign that everything went well.
 pub fn succeed() -> usize
     ensures { λ r. ⌜ r ≡ length endSign ⌝ }
 {
     hand_over(SIGN, b"end\n")
 }
 
-// The arguments were wrong.
+// Gives ./run the sign that the arguments were wrong.
 pub fn misused() -> usize
     ensures { λ r. ⌜ r ≡ length usageSign ⌝ }
 {
@@ -85,7 +85,7 @@ pub fn say(words: &[u8]) -> usize
     hand_over(STDERR_FILENO, words)
 }
 
-// Two names of 4096 bytes and what is said of them fit.
+// The line has room for two names of 4096 bytes and for what is said of them.
 pub fn say_of(command: &[u8], name: &[u8], words: &[u8]) -> usize
     ensures { λ r. ⌜ r ≡ placeAfter 9216 0
         (lineText (now (command .entry)) (now (name .entry)) (now (words .entry))) ⌝ }
@@ -105,8 +105,8 @@ pub fn say_plain(command: &[u8], words: &[u8]) -> usize
     n
 }
 
-// A line where a call of C's failed: its beginning, and then errno's text, which is not counted. Nothing is called
-// between, so that errno is still the failed call's.
+// Says that a call of C's failed: the beginning of a line, and then errno's text, which is not counted. Nothing is
+// called before errno is read, so that it is still that of the failed call.
 pub fn say_failed(command: &[u8], name: &[u8]) -> usize
     ensures { λ r. ⌜ r ≡ placeAfter 4608 0 (startText (now (command .entry)) (now (name .entry))) ⌝ }
 {

@@ -1,4 +1,4 @@
--- Lines about files that cannot be used, or not as they are. Definitions only.
+-- Lines about files that cannot be used, or cannot be used as they are. Definitions only.
 use Prim.Native.Nat.{ℕ}
 use mathlib.Core.Bool.{cond}
 use mathlib.Core.List.{List, _++_}
@@ -14,19 +14,19 @@ emptyText = ascii " is empty: copy it again from where it came\n"
 abbrev pub shorterText : List ℕ
 shorterText = ascii " became shorter while it was read\n"
 
--- Why a file was not read on: 1 where a call failed, and errno's text follows; else it has ended too early.
+-- Why reading a file stopped: for 1 a call failed, and errno's text follows; otherwise the file ended too early.
 abbrev pub unreadSaid : List ℕ → List ℕ → ℕ → ℕ
 unreadSaid command name number =
     cond (eqb number 1) (placeAfter 4608 0 (startText command name))
     (placeAfter 9216 0 (lineText command name shorterText))
 
--- That a file's kind stood inside WAVE_FORMAT_EXTENSIBLE.
+-- The line that says that a file's kind stood inside WAVE_FORMAT_EXTENSIBLE.
 unfoldable pub wrappedLine : List ℕ → List ℕ → SampleKind → List ℕ
 wrappedLine command name kind =
     startText command name ++
     (ascii " is wrapped (WAVE_FORMAT_EXTENSIBLE) and read as " ++ (kindText kind ++ ascii "\n"))
 
--- What is refused is the sample of a frame, counted from 0, and of a channel, counted from 1.
+-- A line about one refused sample names its frame, counted from 0, and its channel, counted from 1.
 unfoldable pub placeText : ℕ → ℕ → ℕ → List ℕ → List ℕ
 placeText number frame channel words =
     ascii " is refused by " ++ (decimal number ++ (ascii ": frame " ++ (decimal frame ++
@@ -35,7 +35,7 @@ placeText number frame channel words =
 unfoldable pub placeLine : List ℕ → List ℕ → ℕ → ℕ → ℕ → List ℕ → List ℕ
 placeLine command name number frame channel words = startText command name ++ placeText number frame channel words
 
--- Two files that differ in a number.
+-- A line about two files that differ in a number.
 unfoldable pub differText : List ℕ → ℕ → ℕ → List ℕ → List ℕ
 differText second a b words =
     ascii " has " ++ (decimal a ++ (ascii " and " ++ (nameText second ++ (ascii " has " ++ (decimal b ++ words)))))

@@ -13,7 +13,7 @@ unfoldable pub refusedLine : List ℕ → List ℕ → Refusal → List ℕ
 refusedLine command name t =
     startText command name ++ refusalText name (t .number) (t .tag) (t .channels) (t .block) (t .bits)
 
--- How many bytes are handed over for it; nothing is said of a file that was opened.
+-- The number of bytes of the line. Nothing is said of a file that was opened.
 abbrev pub unopenedSaid : List ℕ → List ℕ → Opened → ℕ
 unopenedSaid command name (File f) = 0
 unopenedSaid command name Unread = placeAfter 4608 0 (startText command name)

@@ -1,5 +1,5 @@
-// Why a file cannot be used, or not as it is, in words that say what to do: a line on standard error, with the command
-// in front, of which each call answers how many bytes it has.
+// Why a file cannot be used, or not as it is, in words that say what to do: lines on standard error that begin with the
+// command. Each call gives the number of bytes of its line.
 ghost use mathlib.Core.Path.{_≡_};
 ghost use mathlib.Core.Bool.{cond};
 ghost use Rattle.text.specs.Text.{placeAfter};
@@ -17,7 +17,7 @@ use wave_file::Opened;
 use wave_file::Refused;
 use wave_file::WaveFile;
 
-// Why a file was not opened.
+// Says why a file was not opened.
 pub fn say_unopened(command: &[u8], name: &[u8], opened: Opened) -> usize
     ensures { λ r. ⌜ r ≡ unopenedSaid (now (command .entry)) (now (name .entry)) opened ⌝ }
 {
@@ -34,7 +34,7 @@ pub fn say_unopened(command: &[u8], name: &[u8], opened: Opened) -> usize
     }
 }
 
-// A name of 4096 bytes, shown twice, fits.
+// The line has room for a name of 4096 bytes, which it shows twice.
 fn say_refused(command: &[u8], name: &[u8], refused: Refused) -> usize
     ensures { λ r. ⌜ r ≡ placeAfter 9216 0 (refusedLine (now (command .entry)) (now (name .entry)) refused) ⌝ }
 {
@@ -44,7 +44,7 @@ fn say_refused(command: &[u8], name: &[u8], refused: Refused) -> usize
     n
 }
 
-// Why `read_at` did not fill its slice.
+// Says why `read_at` did not fill its slice.
 pub fn say_unread(command: &[u8], name: &[u8], number: u8) -> usize
     ensures { λ r. ⌜ r ≡ unreadSaid (now (command .entry)) (now (name .entry)) number ⌝ }
 {
@@ -63,7 +63,7 @@ fn say_kind(command: &[u8], name: &[u8], kind: SampleKind) -> usize
     n
 }
 
-// That a file's kind stood inside WAVE_FORMAT_EXTENSIBLE, where it did.
+// Says that a file's kind stood inside WAVE_FORMAT_EXTENSIBLE, if it did.
 pub fn say_wrapped(command: &[u8], name: &[u8], file: WaveFile) -> usize
     ensures { λ r. ⌜ r ≡ cond (file .wrapped)
         (placeAfter 9216 0 (wrappedLine (now (command .entry)) (now (name .entry)) (file .kind))) 0 ⌝ }
@@ -75,7 +75,7 @@ pub fn say_wrapped(command: &[u8], name: &[u8], file: WaveFile) -> usize
     0
 }
 
-// A line about the sample of a frame, counted from 0, and of a channel, counted from 1.
+// Says why one sample is refused, by its frame, counted from 0, and its channel, counted from 1.
 pub fn say_place(
     command: &[u8],
     name: &[u8],
@@ -93,7 +93,7 @@ pub fn say_place(
     n
 }
 
-// Two files of which the one has a, the other b of something.
+// Says that of something the first file has a and the second b.
 pub fn say_differ(
     command: &[u8],
     first: &[u8],

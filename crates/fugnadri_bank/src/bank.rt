@@ -55,7 +55,7 @@ fn choice(s: Selected) -> Choice
     }
 }
 
-// Returns 1 if the bank's rate is out of range, 7 if the rate is a NaN, and otherwise 0. A refusal writes zeros.
+// The answer is 1 if the bank's rate is out of range, 7 if the rate is a NaN, and otherwise 0. A refusal writes zeros.
 #[no_mangle]
 pub extern "C" fn fugnadri_bank_choose(
     max_rate: f64,

@@ -1,4 +1,4 @@
-// A call of the quality reader for C (Q1, Q2): takes the state's numbers, the ring and the bank's sets, writes the
+// A call of the quality reader for C (Q1, Q2): it takes the state's numbers, the ring and the bank's sets, writes the
 // sample (0.0 if refused) and the changed numbers of the state through pointers, and returns the refusal number, 0 for
 // none.
 ghost use mathlib.Core.Path.{_≡_};

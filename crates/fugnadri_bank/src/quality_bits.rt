@@ -1,6 +1,5 @@
-// The calls of `quality` with the sample handed out as a bit pattern (O3). Both use `call_through`, so that the
-// functions of `quality` have one caller each and are compiled into their exports: otherwise Draft's fast path costs a
-// tenth more.
+// The calls of `quality` that write the sample as a bit pattern (O3). Both use `call_through`, so that the functions of
+// `quality` have one caller each and are compiled into their exports: otherwise Draft's fast path costs a tenth more.
 ghost use mathlib.Core.Path.{_≡_};
 ghost use lib.Ieee.{binary32};
 ghost use Rattle.answer_parts.specs.Left.{leaves, inBits};

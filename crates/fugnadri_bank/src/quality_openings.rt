@@ -1,6 +1,6 @@
 // Opening and reset of the quality reader for C (Q3): each writes the state's numbers through pointers, unchanged if
-// refused, and returns the refusal number, 0 for none. There is an opening for each rule, so that no rule's number is
-// handed in (W9h); an opening writes the rule too.
+// refused, and returns the refusal number, 0 for none. There is an opening for each rule, so that no caller passes a
+// rule's number (W9h); an opening writes the rule too.
 ghost use mathlib.Core.Path.{_≡_};
 ghost use Rattle.answer_parts.specs.Left.{renews};
 ghost use Rattle.returning_fade.specs.declared.Rule.the-variants.{Ported, Returning};

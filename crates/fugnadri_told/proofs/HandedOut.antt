@@ -1,5 +1,5 @@
--- What an export leaves, from what the reader p that tells and the handing out of its answer ensure, in either width.
--- Assumes nothing.
+-- What an export leaves follows from what the reader p and the writing of its answer ensure, in either width. Assumes
+-- nothing.
 use mathlib.Core.Path.{_≡_}
 use mathlib.Core.List.{List}
 use Prim.Native.Nat.{ℕ}

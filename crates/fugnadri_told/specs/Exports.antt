@@ -1,5 +1,5 @@
--- What stands in the exports' contracts: what a call of a reader that tells leaves, all that it returns and writes in
--- one record. Definitions only.
+-- The definitions in the exports' contracts: what a call of a reader that reports absent taps leaves, with all that it
+-- returns and writes in one record. Definitions only.
 use Prim.Native.Nat.{ℕ}
 use mathlib.Core.Bool.{Bool, true, _&&_}
 use mathlib.Core.List.{List}
@@ -18,7 +18,8 @@ use Rattle.told_delays.specs.declared.Told.{Told}
 use Rattle.told_delays.specs.declared.ToldF32.{ToldF32}
 use Rattle.told_delays.specs.Told.{toldBy, toldF32By}
 
--- The refusal's number, 0 for none; the sample, 0.0 where there is none; the count; the ring; the absent taps by kind.
+-- The number of the refusal, 0 for none; the sample, 0.0 if there is none; the count; the ring; the absent taps by
+-- kind.
 pub record Left : Type 0 where
   pub number : ℕ
   pub sample : Float
@@ -48,13 +49,13 @@ leftToldF32 t ring = record {
   absent = t .absent;
 }
 
--- A kernel of n taps without a table; `own` says that its settings are in range.
+-- A call with a kernel of n taps without a table. `own` says that its settings are in range.
 abbrev pub leftBy : Bool → Reading → ℕ → VariableDelay → List Float → Float → Float → Left
 leftBy own read n d ring input delay =
     let v = verdict own true d (length ring) input delay in
     leftTold (toldBy read n v d ring input delay) (ringAfter v d ring input)
 
--- One over a lent table, whose taps and phases are settings and which must have its length.
+-- A call over a lent table, whose taps and phases are settings and which must have its length.
 abbrev pub tableVerdict : List Float → ℕ → ℕ → VariableDelay → List Float → Float → Float → ℕ
 tableVerdict table taps phases d ring input delay =
     verdict (tapsOk taps && phasesOk phases) (eqb (length table) (tableLength taps phases)) d (length ring) input delay

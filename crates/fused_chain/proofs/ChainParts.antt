@@ -1,4 +1,4 @@
--- Parts of a chain, one behind the other, and that a loop over them ends. Assumes nothing.
+-- Parts of a chain follow one another, and a loop over them ends. Assumes nothing.
 use mathlib.Core.Path.{_≡_, sym, _∙_, subst}
 use mathlib.Core.List.{List}
 use mathlib.Core.Logic.{inl, inr}
@@ -14,7 +14,7 @@ use Rattle.rounding.proofs.RoundsToItself.{narrowed-own}
 use Rattle.fused_chain.specs.Chain.{turnOf, chainOf}
 use Rattle.fused_chain.specs.Blocks.{Carries}
 
--- a run up to r, and then some turns up to e, leave fewer
+-- After a run up to r and then some turns up to e, fewer turns are left.
 pub less : (k r e n : ℕ) → k < n → k ≤ r → r ≤ n → r ≤ e → e ≤ n → (r < n → r < e) → n - e < n - k
 less k r e n a b c d f g = elim (lt-or-ge r n) [
   | inl l ↦ let x : r < e = g l in omega arith
@@ -37,7 +37,7 @@ module _ (xs row0 row1 : List Float) (blend : Float) where
         λ a is. subst (λ (z : ℕ). r ≡ chainOf xs row0 row1 blend a z) e (turn (turnOf xs row0 row1 blend) a k s r is h);
   }
 
-  -- all turns carried from the start, and the sum narrowed: it is an f32 already
+  -- If all turns are carried from the start, narrowing the sum changes nothing, because it already is an f32.
   pub whole : (n : ℕ) (a s r : Float) → r ≡ narrowed s → Carries xs row0 row1 blend 0 n a s
       → r ≡ chainOf xs row0 row1 blend a n
   whole n a s r e h = e ∙ narrowed-own s (h .held) ∙ h .is a (none (turnOf xs row0 row1 blend) a)

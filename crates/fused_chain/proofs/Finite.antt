@@ -1,5 +1,5 @@
--- What is finite: what differs from itself by zero, and the parts of a finite sum; a sum of two finite values is a
--- number. Assumes nothing.
+-- A value whose difference from itself is zero is finite, and so are the parts of a finite sum; a sum of two finite
+-- values is a number. Assumes nothing.
 use mathlib.Core.Path.{_≡_, sym, subst}
 use mathlib.Core.Bool.{Bool, true, false, not, cond, false≢true}
 use Prim.Native.Nat.{ℕ, zero, suc, _+_, _*_, _^_}

@@ -13,7 +13,7 @@ use Rattle.fused_chain.specs.Chain.{coefficientOf, turnOf}
 use Rattle.fused_chain.specs.Blocks.{Carries, Runs, Product, TapProduct, Multiplied}
 use Rattle.fused_chain.proofs.ChainParts.{on, once}
 
--- the product's factors under other names
+-- The product with equal factors in the place of its own.
 pub renamed : {x y c d p : Float} → x ≡ y → c ≡ d → Product x c p → Product y d p
 renamed {x} {y} {c} {d} {p} e f h = subst (λ (z : Float). Product y z p) f (subst (λ (z : Float). Product z c p) e h)
 
@@ -29,7 +29,7 @@ module _ (xs row0 row1 : List Float) (blend bias low high : Float) where
       (subst (λ (z : Float). lt low (add binary64 z s) ≡ true) (h .is) (b .lower))
       (subst (λ (z : Float). lt (add binary64 z s) high ≡ true) (h .is) (b .upper)))
 
-  -- the sum q that a biased sum s stands for, from a chain's start on
+  -- The sum q for which a biased sum s stands, from a chain's start on.
   abbrev pub Stands : ℕ → Float → ℕ → Float → Type 0
   Stands from sum k s = (q : Float) × (Biased bias low high s q) × (Carries xs row0 row1 blend from k sum q)
 

@@ -1,4 +1,4 @@
--- Four turns whose sums are rounded by their patterns. Assumes nothing.
+-- Four turns whose sums are rounded on their bit patterns. Assumes nothing.
 use mathlib.Core.Path.{_≡_, refl}
 use mathlib.Core.List.{List}
 use Prim.Native.Nat.{ℕ, _+_}

@@ -1,4 +1,4 @@
--- What the parts of a run of taps promise each other: a run from one turn to another, and four turns at once.
+-- What the parts of a run of taps promise one another: a run from one turn to another, and four turns at once.
 -- Definitions only.
 use mathlib.Core.Path.{_≡_}
 use mathlib.Core.List.{List}
@@ -9,7 +9,7 @@ use lib.Ieee.{Float, nan, binary32, binary64, mul, fits}
 use lib.Ieee.Scale.{finite}
 use Rattle.fused_chain.specs.Chain.{coefficientOf, chainOf}
 
--- The lists reach as far as the turn `to`, and the sum is an f32.
+-- The lists reach as far as turn `to`, and the sum is an f32.
 pub record Ready (xs row0 row1 : List Float) (from to : ℕ) (sum : Float) : Type 0 where
   pub order : from ≤ to
   pub samples : to ≤ length xs
@@ -17,19 +17,19 @@ pub record Ready (xs row0 row1 : List Float) (from to : ℕ) (sum : Float) : Typ
   pub next : to ≤ length row1
   pub held : T (fits binary32 sum)
 
--- From a chain's sum before the turn `from`, r is its sum before the turn `to`.
+-- If `sum` is a chain's sum before turn `from`, r is its sum before turn `to`.
 pub record Carries (xs row0 row1 : List Float) (blend : Float) (from to : ℕ) (sum r : Float) : Type 0 where
   pub held : T (fits binary32 r)
   pub is : (a : Float) → sum ≡ chainOf xs row0 row1 blend a from → r ≡ chainOf xs row0 row1 blend a to
 
--- A run that may stop early, at k.
+-- A run that may stop early, at turn k.
 pub record Runs (xs row0 row1 : List Float) (blend : Float) (from to : ℕ) (sum : Float) (k : ℕ)
     (r : Float) : Type 0 where
   pub first : from ≤ k
   pub last : k ≤ to
   pub carried : Carries xs row0 row1 blend from k sum r
 
--- p is the product of two f32, exactly.
+-- The value p is exactly the product of two f32 values.
 pub record Product (x c p : Float) : Type 0 where
   pub sample : T (fits binary32 x)
   pub coefficient : T (fits binary32 c)

@@ -1,5 +1,5 @@
-// Runs of taps of two chains over the same samples, four of each at a time, so that neither waits for the other. They
-// stop where either one does.
+// Runs of taps of two chains over the same samples, four of each at a time, so that the processor works on one chain
+// while it waits for the other. Both stop where either one must.
 ghost use Rattle.fused_chain.specs.Blocks.{Ready, Runs};
 use crate::before::four_rounded;
 use crate::taps::multiplied;
@@ -7,14 +7,14 @@ use biased_sum::advance;
 use biased_sum::with_bias;
 use refusal_order::both;
 
-// How far both runs came, and their sums there.
+// How far both runs got, and their sums there.
 pub(crate) struct Reached {
     pub(crate) k: usize,
     pub(crate) a: f64,
     pub(crate) b: f64,
 }
 
-// The turns before the middle, as far as both sums are plain.
+// Makes the turns before the middle as long as both sums are plain.
 pub(crate) fn plain_runs<'a>(
     xs: &'a [f32],
     a0: &'a [f32],
@@ -59,7 +59,7 @@ pub(crate) fn plain_runs<'a>(
     Reached { k: k, a: s, b: t }
 }
 
-// The turns behind the middle, as far as both sums keep their size and their sign.
+// Makes the turns after the middle as long as both sums keep their exponent and their sign.
 pub(crate) fn biased_runs<'a>(
     xs: &'a [f32],
     a0: &'a [f32],

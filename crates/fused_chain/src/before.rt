@@ -11,7 +11,7 @@ use crate::taps::Moved;
 use crate::taps::multiplied;
 use fused_step::is_plain;
 
-// p + sum, rounded once to an f32, where the f64 sum is plain.
+// Rounds p + sum once to an f32, if the f64 sum is plain.
 fn rounded(p: f64, sum: f64) -> Moved
     requires { ⌜ (T (finite p)) × (T (finite sum)) ⌝ }
     ensures { λ r. ⌜ (r .fine ≡ true → Nearest p sum (r .sum)) ⌝ }
@@ -50,7 +50,7 @@ pub(crate) fn four_rounded(a: f64, b: f64, c: f64, d: f64, sum: f64) -> Moved
     rounded(d, u.sum)
 }
 
-// The turns from `from` on, up to `to` at most, as far as the sums are plain.
+// Makes the turns from `from` up to `to` at most, as long as the sums are plain.
 pub(crate) fn plain_run<'a>(
     xs: &'a [f32],
     row0: &'a [f32],

@@ -1,4 +1,4 @@
-// A run of taps with its sum kept biased, so that each tap waits for one addition only. It serves the taps behind the
+// A run of taps with its sum kept biased, so that each tap waits for one addition only. It serves the taps after the
 // middle, where the sum keeps its exponent.
 ghost use Rattle.fused_chain.specs.Blocks.{Ready, Runs};
 use crate::Run;
@@ -7,7 +7,7 @@ use biased_sum::advance;
 use biased_sum::with_bias;
 use refusal_order::both;
 
-// The turns from `from` on, four at a time, up to `to` at most, as far as the sum keeps its size and its sign.
+// Makes the turns from `from` up to `to` at most, four at a time, as long as the sum keeps its exponent and its sign.
 pub(crate) fn biased_run<'a>(
     xs: &'a [f32],
     row0: &'a [f32],

@@ -1,4 +1,4 @@
-// How far a run goes.
+// How far each part of a run goes.
 ghost use mathlib.Core.Path.{_≡_};
 ghost use Prim.Native.Nat.{_+_, _≤_, _<_, min};
 
@@ -8,7 +8,7 @@ pub(crate) fn least(a: usize, b: usize) -> usize
     if a <= b { a } else { b }
 }
 
-// m turns on, or the end.
+// The turn m turns further on, or the end if that comes first.
 pub(crate) fn ahead(k: usize, m: usize, n: usize) -> usize
     requires { ⌜ k ≤ n ⌝ }
     ensures { λ r. ⌜ r ≡ min (k + m) n ⌝ }
@@ -16,8 +16,8 @@ pub(crate) fn ahead(k: usize, m: usize, n: usize) -> usize
     if n - k < m { n } else { k + m }
 }
 
-// How far to go one tap at a time after a fast run stopped: four taps, or 32 if the sum is zero, since a zero stays for
-// long and silence must not be slow.
+// How far to go one tap at a time after a fast run stopped: four taps, or 32 if the sum is zero, because a sum often
+// stays zero for long and silence must not be slow.
 pub(crate) fn stretch(k: usize, n: usize, sum: f64) -> usize
     requires { ⌜ k ≤ n ⌝ }
     ensures { λ r. ⌜ (k ≤ r) × (r ≤ n) × (k < n → k < r) ⌝ }

@@ -12,7 +12,7 @@ pub use pair::Pair;
 pub use pair::chains;
 pub use single::chain;
 
-// How far a run came, and its sum there.
+// How far a run got, and its sum there.
 pub(crate) struct Run {
     pub(crate) k: usize,
     pub(crate) sum: f64,

@@ -1,5 +1,5 @@
-// Two chains over the same samples, as a blend of two tables needs them (T4, T5). They run side by side, so that one
-// works while the other waits.
+// Two chains over the same samples, as a blend of two tables needs them (T4, T5). They run side by side, so that the
+// processor works on one while it waits for the other.
 ghost use mathlib.Core.Path.{_≡_};
 ghost use Prim.Native.Nat.{_≤_};
 ghost use lib.ListN.{length};
@@ -14,13 +14,12 @@ use crate::lengths::stretch;
 use crate::turns::one_by_one;
 use narrowing::narrow;
 
-// The sums of two chains.
 pub struct Pair {
     pub a: f32,
     pub b: f32,
 }
 
-// The turns of both up to `to`, four of each at a time where both sums are plain.
+// Makes the turns of both chains up to `to`, four of each at a time where both sums are plain.
 fn plainly<'a>(
     xs: &'a [f32],
     a0: &'a [f32],
@@ -49,7 +48,7 @@ fn plainly<'a>(
     Reached { k: k, a: s, b: t }
 }
 
-// Two chains of the same length.
+// Computes two chains of the same length.
 fn together<'a>(
     xs: &'a [f32],
     a0: &'a [f32],
@@ -86,8 +85,8 @@ fn together<'a>(
     }
 }
 
-// Both chains, each as `chain` gives it. Where one ends before the other, which no reader asks for, each is made by
-// itself, tap by tap: a call of `chain` would take its stack below this one's.
+// Both chains, each as `chain` gives it. If one ends before the other, which no reader causes, each is computed by
+// itself, tap by tap: calling `chain` here would add its stack to this function's.
 pub fn chains<'a>(
     xs: &'a [f32],
     a0: &'a [f32],

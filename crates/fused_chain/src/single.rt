@@ -10,8 +10,8 @@ use crate::turns::one_by_one;
 use crate::turns::plainly;
 use narrowing::narrow;
 
-// K4, K5. 000's `for k in 0..taps` of the f32 reading, over a run of samples and two rows of a table, from a sum on.
-// Up to its middle, where the coefficients grow, the sum changes its size at most turns; behind it at few.
+// K4, K5. 000's `for k in 0..taps` of the f32 reading, over a run of samples and two rows of a table, from a given sum
+// on. Up to the middle, where the coefficients grow, the sum changes its exponent at most turns; after it, at few.
 pub fn chain<'a>(xs: &'a [f32], row0: &'a [f32], row1: &'a [f32], blend: f32, sum: f32) -> f32
     ensures { λ r. ⌜ r ≡ chainOf (now (xs .entry)) (now (row0 .entry)) (now (row1 .entry)) blend sum
         (runLength (length (now (xs .entry))) (length (now (row0 .entry))) (length (now (row1 .entry)))) ⌝ }

@@ -1,4 +1,4 @@
-// Four taps at a time: their products, which no tap waits for.
+// Four taps at a time. Their products do not depend on the sum, so no tap waits for them.
 ghost use mathlib.Core.Path.{_≡_};
 ghost use mathlib.Core.Bool.{true, _&&_};
 ghost use Prim.Native.Nat.{_+_, _≤_, _<_};
@@ -16,7 +16,7 @@ pub(crate) struct Tap {
     pub(crate) c: f32,
 }
 
-// Four products, where they are fine.
+// Four products, valid if `fine`.
 pub(crate) struct Products {
     pub(crate) fine: bool,
     pub(crate) a: f64,
@@ -25,7 +25,7 @@ pub(crate) struct Products {
     pub(crate) d: f64,
 }
 
-// A sum that went on, where it is fine.
+// A sum after some turns, valid if `fine`.
 pub(crate) struct Moved {
     pub(crate) fine: bool,
     pub(crate) sum: f64,
@@ -54,7 +54,8 @@ fn multiply(x: f32, c: f32) -> f64
     (x as f64) * (c as f64)
 }
 
-// The products from the tap k on. Their sum has them computed together, and is finite where they are.
+// The products of the taps from k on. They do not wait for one another, and one test is enough for all four: their sum
+// is finite only if each of them is.
 pub(crate) fn multiplied<'a>(
     xs: &'a [f32],
     row0: &'a [f32],

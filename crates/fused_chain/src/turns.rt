@@ -1,10 +1,10 @@
-// The turns of a chain up to a place that the caller sets.
+// The turns of a chain up to a place that the caller chooses.
 ghost use Rattle.fused_chain.specs.Blocks.{Ready, Carries};
 use crate::before::plain_run;
 use crate::lengths::stretch;
 use fused_step::step;
 
-// The turns from `from` up to `to`, one at a time.
+// Makes the turns from `from` up to `to`, one at a time.
 pub(crate) fn one_by_one<'a>(
     xs: &'a [f32],
     row0: &'a [f32],
@@ -27,7 +27,7 @@ pub(crate) fn one_by_one<'a>(
     held
 }
 
-// The turns from `from` up to `to`, four at a time where their sums are plain.
+// Makes the turns from `from` up to `to`, four at a time where their sums are plain.
 pub(crate) fn plainly<'a>(
     xs: &'a [f32],
     row0: &'a [f32],

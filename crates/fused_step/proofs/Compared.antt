@@ -1,5 +1,5 @@
--- A comparison that holds is one of two numbers: a NaN stands in no order. A number that is an f32 is an f64.
--- Assumes nothing.
+-- If a comparison holds, both of its operands are numbers, because a NaN is in no order. A number that is an f32 is
+-- also an f64. Assumes nothing.
 use mathlib.Core.Path.{_≡_, refl, sym, _∙_}
 use mathlib.Core.Bool.{Bool, true, false, not, _&&_, true≢false}
 use lib.Dec.{T}
@@ -40,6 +40,6 @@ unfolding lt eq le
 at-most-numbers x y h =
     let n = numbers le (λ z. refl) at-most-nan y x h in record { first = n .second; second = n .first }
 
--- what a cast to f64 asks of an f32
+-- What a cast from f32 to f64 requires.
 pub widens : (x : Float) → T (fits binary32 x) → T (not (isNan x)) → T (fits binary64 x && not (isNan x))
 widens x h number = and-i (fits binary64 x) (not (isNan x)) (fits-widens x h) number

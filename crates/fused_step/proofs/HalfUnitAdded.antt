@@ -1,5 +1,5 @@
--- The nearest f32 of an f64 that is plain, without its sign, as the pattern of an f64: half a unit is added,
--- and the 29 digits that an f32 lacks are cut off. Assumes nothing.
+-- The nearest f32 of a plain f64, without its sign, as the pattern of an f64: half a unit is added, and the 29 digits
+-- that an f32 lacks are cut off. Assumes nothing.
 use mathlib.Core.Path.{_≡_, refl, sym, ap, _∙_, subst}
 use mathlib.Core.Bool.{Bool, cond}
 use Prim.Native.Nat.{ℕ, _+_, _-_, _*_, _/_, _%_, _^_, _≤_, _<_}
@@ -22,7 +22,7 @@ use Rattle.narrowing.proofs.Patterns.{count, exponent, narrows}
 abbrev pub d : ℕ
 d = 2 ^ 29
 
--- no tie: the nearest is the one reached by half a unit more
+-- If there is no tie, the nearest is the one that half a unit more reaches.
 half-up : (q : ℕ) → (q % d ≡ 2 ^ 28 → ⊥) → closest q d ≡ (q + 2 ^ 28) / d
 half-up q off = closest-unique q d ((q + 2 ^ 28) / d) (pow-pos 29) (omega arith) (omega arith)
 
@@ -37,7 +37,7 @@ module _ (s : Bool) (m : ℕ) (lo : 0x3810_0000_0000_0000 ≤ m) (hi : m < 0x47e
   abbrev x : Float
   x = ofBits binary64 (cond s 0x8000_0000_0000_0000 0 + m)
 
-  -- m is k + 896 and q, and the nearest f32 counts c of 2 ^ 29
+  -- The pattern m consists of the exponent k + 896 and the digits q, and the nearest f32 is c units of 2 ^ 29.
   abbrev c : ℕ
   c = closest q d
 
@@ -53,7 +53,7 @@ module _ (s : Bool) (m : ℕ) (lo : 0x3810_0000_0000_0000 ≤ m) (hi : m < 0x47e
       let e : exponent m ≡ 896 + k = omega arith in
       narrows m fine s ∙ ap (λ (z : ℕ). round binary32 s (q * 2 ^ z) (2 ^ 1074)) e
 
-  -- its value, in the units of either format
+  -- The value of the nearest f32, in the units of either format.
   value : HasValue (narrowed x) s (c * d * 2 ^ (896 + k)) (2 ^ 1074)
   value =
       let K : k ≤ 252 = omega arith in

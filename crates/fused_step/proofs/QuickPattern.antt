@@ -1,4 +1,4 @@
--- The quick way over a whole pattern: the sign stays out of it, and no carry reaches it. Assumes nothing.
+-- The fast path over a whole pattern: it leaves the sign alone, because no carry reaches it. Assumes nothing.
 use mathlib.Core.Path.{_≡_, sym, ap, _∙_, subst}
 use mathlib.Core.Bool.{Bool, true, false, not, cond}
 use Prim.Native.Nat.{ℕ, _+_, _-_, _*_, _/_, _%_, _^_, _≤_, _<_}
@@ -70,7 +70,7 @@ module _ (x : Float) (held : T (fits binary64 x)) (number : T (not (isNan x))) w
         ∙ ap (λ (z : ℕ). narrowed (ofBits binary64 z)) (sym parts)
         ∙ ap narrowed (ofBits-toBits binary64 x held)
       where
-        -- the sign stays out of it
+        -- The sign does not take part.
         beside : (s : Bool) (r n : ℕ) → n ≡ cond s (2 ^ 63) 0 + r
             → (n + 2 ^ 28) / d * d ≡ cond s (2 ^ 63) 0 + (r + 2 ^ 28) / d * d
         beside true r n e = omega arith

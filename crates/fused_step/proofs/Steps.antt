@@ -1,5 +1,5 @@
--- What each way of a step gives, for an f64 sum s of the exact product and an f64: the quick way, an exact zero,
--- and the sum rounded once. Assumes nothing.
+-- What each path of a step gives, for an f64 sum s of the exact product and an f64: the fast path, an exact zero, and
+-- the sum rounded once. Assumes nothing.
 use mathlib.Core.Path.{_≡_, refl, sym, ap, _∙_, subst}
 use mathlib.Core.Logic.{inl, inr}
 use mathlib.Core.Bool.{Bool, true, false, not, _&&_}
@@ -57,7 +57,7 @@ module _ (p c : Float) (P : Short p) (C : Short c) (bounded : T (finite (add bin
       ∙ ap (λ (n : ℕ). round binary32 (S p c P C) n (2 ^ 1074)) no-size
       ∙ round-zero binary32 (S p c P C) (2 ^ 1074) (pow-pos 1074))
 
--- only a finite value equals a zero
+-- Only a finite value equals a zero.
 zero-finite : (x : Float) → eq x (ofBits binary64 0) ≡ true → T (finite x)
 unfolding eq ofBits
 zero-finite nan h = absurd (subst T (sym h) tt)

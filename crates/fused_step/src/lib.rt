@@ -1,5 +1,5 @@
-// One tap of the original's f32 loop: a fused step whose sum is held as an f64 that is an f32 (K4).
-// It is quick where the f64 sum is plain.
+// One tap of the original's f32 loop: a fused step whose sum is held as an f64 that is an f32 (K4). There is a fast
+// path for an f64 sum that is plain.
 ghost use mathlib.Core.Path.{_≡_};
 ghost use mathlib.Core.Bool.{true};
 ghost use lib.Ieee.{binary32, binary64, add, mul};
@@ -7,7 +7,7 @@ ghost use Rattle.rounding.specs.Operations.{fused};
 ghost use Rattle.fused_step.specs.Steps.{Numbers, Plain, inOrder, plain};
 use fused32::sum32;
 
-// Whether neither is a NaN: one comparison of the two tells.
+// Whether neither is a NaN. The two can be ordered only then, so comparing them is enough.
 pub fn are_numbers(x: f32, c: f32) -> bool
     ensures { λ r. ⌜ r ≡ inOrder x c ⌝ }
     ensures { λ r. ⌜ (r ≡ true → Numbers x c) ⌝ }
@@ -15,8 +15,8 @@ pub fn are_numbers(x: f32, c: f32) -> bool
     if x < c { true } else { x >= c }
 }
 
-// `n` is an f64's pattern with half of an f32's last digit added. True if the f64's exponent field was 897 to 1149, so
-// that it is as large as a normal f32, and the f64 was no midpoint of two f32.
+// `n` is an f64's pattern to which half of an f32's last digit has been added. The answer is true if the f64's exponent
+// field was 897 to 1149, so that it is as large as a normal f32, and the f64 was no midpoint of two f32.
 pub fn is_plain(n: u64) -> bool
     ensures { λ r. ⌜ r ≡ plain n ⌝ }
     ensures { λ r. ⌜ (r ≡ true → Plain n) ⌝ }
@@ -31,7 +31,7 @@ pub fn is_plain(n: u64) -> bool
     m < 0x47e0_0000_1000_0000
 }
 
-// The step where it is not quick: the product is exact in f64, and the sum of the two is rounded once.
+// The step off the fast path: the product is exact in f64, and the sum of the two is rounded once.
 fn any_step(x: f32, c: f32, sum: f64) -> f64
     ensures { λ r. ⌜ r ≡ fused binary32 x c sum ⌝ }
 {
@@ -40,7 +40,8 @@ fn any_step(x: f32, c: f32, sum: f64) -> f64
     std::num::f32_to_f64_with_nan(sum32(a * b, sum))
 }
 
-// A step whose f64 sum s is not plain. A zero is exact, and stays as it is, sign included: silence is not slow.
+// A step whose f64 sum s is not plain. A zero is exact and stays as it is, sign included; testing for it keeps silence
+// fast.
 fn rare_step(x: f32, c: f32, sum: f64, s: f64) -> f64
     requires { ⌜ s ≡ add binary64 (mul binary64 x c) sum ⌝ }
     ensures { λ r. ⌜ r ≡ fused binary32 x c sum ⌝ }
@@ -51,9 +52,9 @@ fn rare_step(x: f32, c: f32, sum: f64, s: f64) -> f64
     any_step(x, c, sum)
 }
 
-// x * c + sum rounded once to an f32, for any f64 sum. The chain keeps its f32 sums as f64, so no step widens or
-// narrows them. The product is exact in f64. If the f64 sum is plain, half of the last digit that an f32 keeps is added
-// to its pattern and the digits that an f32 lacks are cut off; a carry goes up into the exponent field. No tie is
+// The value x * c + sum rounded once to an f32, for any f64 sum. The chain keeps its f32 sums as f64, so no step widens
+// or narrows them. The product is exact in f64. If the f64 sum is plain, half of the last digit that an f32 keeps is
+// added to its pattern and the digits that an f32 lacks are cut off; a carry goes up into the exponent field. No tie is
 // possible there, so the result is the nearest f32.
 pub fn step(x: f32, c: f32, sum: f64) -> f64
     ensures { λ r. ⌜ r ≡ fused binary32 x c sum ⌝ }

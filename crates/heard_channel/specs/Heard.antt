@@ -9,10 +9,10 @@ use Rattle.wav_samples.specs.Filling.{filled}
 use Rattle.stretch.specs.Stretch.{Ran}
 use Rattle.imitation.specs.Reading.{heard}
 
--- The channel's samples; what was there where W1 refuses to fill.
+-- The channel's samples. Where W1 refuses to fill, the old contents stay.
 unfoldable pub samplesIn : SampleKind → ℕ → ℕ → List ℕ → List Float → List Float
 samplesIn kind channels channel part old = filled binary32 kind channels channel part (length old) old
 
--- The single calls in order, up to the first that is refused.
+-- The results of the single calls in order, up to the first that is refused.
 unfoldable pub heardIn : List Float → VariableDelay → List Float → List Float → List Float → Ran VariableDelay
 heardIn table reader ring samples delays = heard table reader ring samples delays

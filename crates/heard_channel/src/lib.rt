@@ -7,7 +7,8 @@ use sample_kind::SampleKind;
 use variable_delay::VariableDelay;
 use wav_samples::filling::fill_f32;
 
-// Fills `samples`, as many as the part has frames, and reads each at its delay, up to the first that is refused.
+// Fills `samples`, which has a place for each frame of the part, and reads each sample back at its delay, up to the
+// first that is refused.
 pub fn hear<'a>(
     kind: SampleKind,
     channels: u8,

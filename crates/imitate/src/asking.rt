@@ -34,7 +34,6 @@ pub(crate) fn to_imitate() -> ToImitate {
     both_named(asked)
 }
 
-// Whether the first argument asks for the usage.
 pub(crate) fn help_asked() -> bool {
     let mut words = io::buffer();
     let n = os::arg(1, &mut words);
@@ -48,7 +47,7 @@ pub(crate) fn tell_usage(fd: i32) {
     );
 }
 
-// Two files were named, or the usage is said.
+// Unless exactly two files were named, the usage is shown and the names are not good.
 fn both_named(asked: ToImitate) -> ToImitate {
     let names = asked.names;
     if !names.good {

@@ -6,7 +6,8 @@ use sizes::times;
 use variable_delay::VariableDelay;
 use wave_file::WaveFile;
 
-// The state behind a block; or the refusal that ended it, behind so many frames, in a channel counted from 1.
+// The state after a block. If a refusal ended the block, `number` is its number, `done` the number of frames before it,
+// and `channel` its channel, counted from 1.
 pub(crate) struct Heard {
     pub sides: Sides,
     pub number: u8,
@@ -55,7 +56,7 @@ fn ended_with(sides: Sides, ended: Ended, channel: u8) -> Heard {
     }
 }
 
-// Both channels' samples in turn.
+// Reads both channels; their samples stand in the file in turn.
 fn hear_two<'a>(
     file: WaveFile,
     sides: Sides,
@@ -94,7 +95,7 @@ fn hear_two<'a>(
     )
 }
 
-// The second channel, woven with the first.
+// Reads the second channel and puts its samples between those of the first.
 fn hear_other<'a>(
     file: WaveFile,
     sides: Sides,
@@ -128,7 +129,7 @@ fn weave(one: &[f32; 4096], two: &[f32; 4096], both: &mut [f32]) {
     woven::weave(one, two, both);
 }
 
-// One channel of a part, into the first n of `samples`.
+// Reads one channel of a part into the first n places of `samples`.
 fn hear_into<'a>(
     file: WaveFile,
     channel: u8,

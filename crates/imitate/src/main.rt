@@ -1,4 +1,4 @@
-// The program `imitate FROM TO [NAME=VALUE …]`: FROM read back at a wandering delay.
+// The program `imitate FROM TO [NAME=VALUE …]`: it reads FROM back at a wandering delay and writes that to TO.
 mod asking; // what the arguments ask for
 mod hearing; // a block's samples
 mod running; // block after block
@@ -62,7 +62,7 @@ fn imitate(settings: Imitation, from: &[u8], to: &[u8]) -> bool {
     }
 }
 
-// All that can be told beforehand is told before anything is written.
+// Everything that can be checked beforehand is checked before the file is made, so that such a refusal comes at once.
 fn imitate_of(settings: Imitation, from: &[u8], to: &[u8], file: WaveFile) -> bool {
     let asked = settings.kind;
     let same = file.kind;

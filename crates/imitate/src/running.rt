@@ -1,5 +1,6 @@
-// `imitate` over open files: each channel read back at its wandering delay, as `render` reads it, block after block.
-// What a channel of a block becomes is proved in heard_channel, its delays in imitation, what is stored in wav_store.
+// `imitate` over open files: each channel is read back at its wandering delay, as `render` reads it, block after block.
+// What a channel of a block becomes is proved in heard_channel, its delays in imitation, and what is stored in
+// wav_store.
 use crate::hearing::hear;
 use crate::storing::store;
 use asked::Imitation;
@@ -18,10 +19,10 @@ use sizes::plus;
 use variable_delay::VariableDelay;
 use wave_file::WaveFile;
 
-// Frames of a block.
+// The number of frames in a block.
 const FRAMES: usize = 4096;
 
-// What is read, and as which kind it is written to which descriptor.
+// The file that is read, the kind of sample that is written, and the descriptor that it is written to.
 pub(crate) struct Job {
     pub file: WaveFile,
     pub kind: SampleKind,
@@ -41,7 +42,7 @@ struct Turn {
     outcome: Outcome,
 }
 
-// The readers over their rings of 65536, which hold delays up to 65528, and the table of 65 rows of 32: `render`'s.
+// The sizes are those of `render`: rings of 65536, which hold delays up to 65528, and a table of 65 rows of 32.
 pub(crate) fn imitate(job: Job) -> Outcome {
     let mut ring = [0.0f32; 65536];
     let mut second = [0.0f32; 65536];
@@ -84,7 +85,7 @@ pub(crate) fn imitate(job: Job) -> Outcome {
     )
 }
 
-// The arrays by their lengths: the readers above were lent them.
+// Lends the arrays as slices. Their lengths are those that the readers were opened with.
 fn run<'a>(
     job: Job,
     sides: Sides,
@@ -95,7 +96,6 @@ fn run<'a>(
     run_blocks(job, sides, ring, second, table)
 }
 
-// Block after block.
 fn run_blocks<'a>(
     job: Job,
     start: Sides,
@@ -124,7 +124,7 @@ fn run_blocks<'a>(
     well()
 }
 
-// How far it is, where there is a terminal.
+// Shows how far the run is, if standard error is a terminal.
 fn tell(done: usize, frames: usize, said: i64) -> i64 {
     let mut now: i64 = 0;
     let terminal = libc::isatty(STDERR_FILENO) == 1;
@@ -132,7 +132,7 @@ fn tell(done: usize, frames: usize, said: i64) -> i64 {
     progress::tell(b"imitate", done, frames, terminal, said, second)
 }
 
-// One block: the delays of its frames, then what its bytes become.
+// Computes the delays of one block's frames and then what its bytes become.
 fn block<'a>(
     job: Job,
     sides: Sides,
@@ -168,7 +168,8 @@ fn block<'a>(
     )
 }
 
-// What the bytes of n frames become, behind `done` frames. The same bytes hold what is read and what is written.
+// Computes what the bytes of n frames become, after `done` frames. What is written replaces what was read in the same
+// bytes.
 fn read_block<'a>(
     job: Job,
     sides: Sides,

@@ -1,4 +1,4 @@
-// What is said of settings, delays and samples that will not do.
+// The lines about settings, delays and samples that cannot be used.
 use delay_words::put_delays;
 use delay_words::whole_above;
 use error_lines::say_plain;
@@ -8,7 +8,8 @@ use modulation_params::ModulationParams;
 use outcomes::Outcome;
 use sizes::begun;
 
-// Whether the settings are in range and the delay has room for the wandering, or what would do.
+// Whether the settings are in range and the delay leaves room for the wandering. If not, a line says what would be
+// accepted.
 pub(crate) fn suits(params: ModulationParams, delay: f64, rate: u32) -> bool {
     if !params.in_range() {
         say_settings(params);
@@ -42,7 +43,7 @@ fn say_settings(params: ModulationParams) {
     say_plain(b"imitate", b"shapes and amounts are finite numbers\n");
 }
 
-// Which whole delays would do: the reach counts as the next whole number above it.
+// Says which whole delays would be accepted. The reach counts as the next whole number above it.
 fn say_delays(reach: f64) {
     let mut line = [0u8; 128];
     let n = put_delays(&mut line, 0, whole_above(reach));

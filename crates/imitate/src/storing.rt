@@ -1,4 +1,4 @@
-// A block's samples stored as a kind and written, or the sample that does not fit it.
+// Stores a block's samples as a kind and writes them, or says which sample does not fit the kind.
 use outcomes::Outcome;
 use outcomes::broken;
 use outcomes::misfit_at;

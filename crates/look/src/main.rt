@@ -1,5 +1,5 @@
-// The program `look FILE …`: what each recording holds, or why it is refused and what to do. A refused file does not
-// keep the others from being looked at.
+// The program `look FILE …`: it says what each recording holds, or why it is refused and what to do. A refused file
+// does not keep the program from looking at the others.
 use error_lines::misused;
 use error_lines::say_failed;
 use error_lines::succeed;
@@ -28,7 +28,6 @@ fn main() {
     }
 }
 
-// Whether the first argument asks for the usage.
 fn help_asked() -> bool {
     let mut words = io::buffer();
     let n = os::arg(1, &mut words);
@@ -42,7 +41,7 @@ fn tell_usage(fd: i32) {
     );
 }
 
-// A line for each file, in order. Whether all are read.
+// Writes a line for each file, in order, and answers whether all of them were read.
 fn look(count: usize) -> bool {
     let mut well = true;
     let mut i: usize = 1;

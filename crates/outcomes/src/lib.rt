@@ -4,9 +4,9 @@ ghost use Rattle.outcomes.specs.Outcomes.{outcomeOf, sideOf, misfitAt, i
 use refusal_order::both;
 use sizes::plus;
 
-// `io` is 0, or 1 where the file could not be read, as errno tells, 2 where it became shorter, 3 where nothing more
-// could be written, as errno tells. `number` is 0, or the refusal of a sample: its frame, counted from 0, and its
-// channel, counted from 1.
+// `io` is 0; or 1 if the file could not be read, for the reason in errno; 2 if it became shorter; 3 if nothing more
+// could be written, for the reason in errno. `number` is 0, or the refusal of a sample, of which `frame` is counted
+// from 0 and `channel` from 1.
 pub struct Outcome {
     pub io: u8,
     pub number: u8,
@@ -48,7 +48,7 @@ fn side_of(at: usize) -> u8
     if at % 2 == 0 { 1 } else { 2 }
 }
 
-// 15: the sample at a place of all channels' samples, which stand in turn, behind `done` frames.
+// Refusal 15 of the sample at a place among the samples of all channels, which alternate, after `done` frames.
 pub fn misfit_at(channels: u8, done: usize, at: usize) -> Outcome
     ensures { λ r. ⌜ r ≡ misfitAt channels done at ⌝ }
 {

@@ -1,4 +1,5 @@
--- A file that is written whole or not at all: its names, and what is known of answers that are C's. Definitions only.
+-- A file that is written whole or not at all: its names, and what is known of the answers that C gives. Definitions
+-- only.
 use Prim.Native.Nat.{ℕ}
 use mathlib.Core.Path.{_≡_}
 use mathlib.Core.Bool.{Bool, true, false, cond}
@@ -10,30 +11,31 @@ use Rattle.spelling.specs.Words.{sameBytes}
 use Rattle.part_file.specs.declared.Made.{Made}
 use Rattle.part_file.specs.declared.Made.the-variants.{Open}
 
--- `-` is standard output.
+-- The name `-` stands for standard output.
 abbrev pub isStandard : List ℕ → Bool
 isStandard name = sameBytes name (ascii "-")
 
--- What a line calls it.
+-- The name that a line shows.
 unfoldable pub shownName : List ℕ → List ℕ
 shownName name = cond (isStandard name) (ascii "standard output") name
 
--- NAME.part, under which it is written.
+-- The file is written as NAME.part.
 unfoldable pub partText : List ℕ → List ℕ
 partText name = name ++ ascii ".part"
 
--- Standard output is open already, as 1.
+-- Standard output is already open, as descriptor 1.
 abbrev pub MadeFor : List ℕ → Made → Type 0
 MadeFor name r = isStandard name ≡ true → r ≡ Open (pos 1)
 
--- Nothing is written without a call.
+-- Writing no bytes always succeeds, because it needs no call.
 abbrev pub WrittenOf : List ℕ → Bool → Type 0
 WrittenOf bytes r = length bytes ≡ 0 → r ≡ true
 
--- Standard output has its name.
+-- Standard output always succeeds, because it needs no name.
 abbrev pub StandsAs : List ℕ → Bool → Type 0
 StandsAs name r = isStandard name ≡ true → r ≡ true
 
--- A file never stands there where not all went well, and standard output is as good as what was written to it.
+-- Where something went wrong, the file never stands under its name. Standard output is as good as what was written to
+-- it.
 abbrev pub FinishedAs : List ℕ → Bool → Bool → Type 0
 FinishedAs name well r = (well ≡ false → r ≡ false) × (isStandard name ≡ true → r ≡ well)

@@ -1,6 +1,6 @@
-// A file that is written whole or not at all: as NAME.part, which gets its name at the end. A file that exists is never
-// touched. `-` is standard output. What goes wrong is said on standard error, with the command's name in front. Whether
-// a file is made, written and named is C's answer: of it the contracts say what holds whatever C answers.
+// A file that is written whole or not at all: it is written as NAME.part, and gets its name at the end. A file that
+// exists is never touched. `-` is standard output. Errors are reported on standard error, after the command's name.
+// Whether a file is made, written and named is C's answer, so the contracts state what holds whatever C answers.
 ghost use mathlib.Core.Path.{_≡_};
 ghost use lib.ListN.{length};
 ghost use Rattle.text.specs.Text.{putAt, placeAfter};
@@ -13,7 +13,7 @@ use libc::EEXIST;
 use libc::STDOUT_FILENO;
 use sizes::begun;
 
-// A descriptor open for writing.
+// A descriptor that is open for writing.
 pub enum Made {
     Open(i32),
     Failed,
@@ -33,7 +33,7 @@ fn put_part(part: &mut [u8], name: &[u8]) -> usize
     text::put(part, at, b".part")
 }
 
-// Opens NAME.part, or says why not.
+// Opens NAME.part, or says why it cannot.
 pub fn make(command: &[u8], name: &[u8]) -> Made
     ensures { λ r. ⌜ MadeFor (now (name .entry)) r ⌝ }
 {
@@ -43,7 +43,7 @@ pub fn make(command: &[u8], name: &[u8]) -> Made
     make_named(command, name)
 }
 
-// The name itself is made and removed again: so one that is taken, or that cannot be made, is said before the work
+// The name itself is made and removed again, so that a name that is taken or cannot be made is reported before the work
 // begins.
 fn make_named(command: &[u8], name: &[u8]) -> Made {
     if !claim(command, name) {
@@ -55,7 +55,7 @@ fn make_named(command: &[u8], name: &[u8]) -> Made {
     make_part(command, begun(&part, n))
 }
 
-// Makes the file itself, which no file that exists lets happen.
+// Makes the file under its own name, which fails if a file of that name exists.
 fn claim(command: &[u8], name: &[u8]) -> bool {
     let fd = os::create(name);
     if fd < 0 {
@@ -91,7 +91,7 @@ fn say_taken(command: &[u8], name: &[u8], words: &[u8]) {
     say_failed(command, name);
 }
 
-// Writes a block, or says why not.
+// Writes a block, or says why it cannot.
 pub fn write(command: &[u8], name: &[u8], fd: i32, bytes: &[u8]) -> bool
     ensures { λ r. ⌜ WrittenOf (now (bytes .entry)) r ⌝ }
 {
@@ -105,7 +105,8 @@ pub fn write(command: &[u8], name: &[u8], fd: i32, bytes: &[u8]) -> bool
     false
 }
 
-// That a block was not written, right after the call that failed; gives how many bytes stand before errno's text.
+// Says that a block was not written. It must be called right after the call that failed, for errno's text; it gives the
+// number of bytes before that text.
 pub fn say_unwritten(command: &[u8], name: &[u8]) -> usize
     ensures { λ r. ⌜ r ≡ placeAfter 4608 0 (startText (now (command .entry)) (shownName (now (name .entry)))) ⌝ }
 {
@@ -115,7 +116,8 @@ pub fn say_unwritten(command: &[u8], name: &[u8]) -> usize
     say_failed(command, name)
 }
 
-// Ends a file: where all went well it gets its name, else it is removed. Whether it stands there whole.
+// Ends a file, which gets its name if everything went well and is removed otherwise. The answer is whether the file
+// stands under its name, whole.
 pub fn finish(command: &[u8], name: &[u8], fd: i32, well: bool) -> bool
     ensures { λ r. ⌜ FinishedAs (now (name .entry)) well r ⌝ }
 {
@@ -159,7 +161,7 @@ fn keep_part(command: &[u8], name: &[u8], part: &[u8], fd: i32) -> bool {
     false
 }
 
-// The name is claimed anew, so that a file that came meanwhile is kept, and then taken over.
+// The name is claimed again and then replaced, so that a file that was made under it meanwhile is kept.
 fn give_name(command: &[u8], name: &[u8], part: &[u8]) -> bool {
     if !claim(command, name) {
         os::unlink(part);
@@ -174,7 +176,7 @@ fn give_name(command: &[u8], name: &[u8], part: &[u8]) -> bool {
     true
 }
 
-// What was written has reached its device: some systems tell only now that it is full.
+// Waits until what was written has reached its device, because some systems report only then that it is full.
 fn kept(command: &[u8], name: &[u8], fd: i32) -> bool {
     if libc::fsync(fd) < 0 {
         say_failed(command, name);

@@ -1,4 +1,5 @@
--- A name is escaped byte by byte: none puts nothing, and one more adds its own text at the end. Assumes nothing.
+-- A name is escaped byte by byte: an empty one puts nothing, and each further byte adds its own text at the end.
+-- Assumes nothing.
 use mathlib.Core.Path.{_≡_, refl, sym, _∙_, ap}
 use mathlib.Core.Bool.{Bool}
 use mathlib.Core.List.{List, [], _∷_, _++_, append-assoc, append-nil}

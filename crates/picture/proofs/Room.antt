@@ -1,6 +1,6 @@
--- How many bytes the parts of a picture can have, so that a program knows how large a slice cuts none of them off: 900
--- and five for each byte of the names for the head, 1200 for a panel's beginning, 210 for a stretch, 250 for the ends.
--- By the digits of a word, of which there are at most 20. Assumes nothing.
+-- How many bytes the parts of a picture can have, so that a program knows how large a slice never cuts one off: the
+-- head has at most 900 bytes and five for each byte of the names, a panel's beginning 1200, a stretch 210, and the ends
+-- 250. This holds because a word has at most 20 digits. Assumes nothing.
 use mathlib.Core.Path.{_≡_}
 use mathlib.Core.Bool.{Bool}
 use mathlib.Core.List.{List, [], _∷_, _++_}

@@ -1,4 +1,4 @@
--- The bars of a stretch: how tall and where. Definitions only.
+-- The bars of a stretch: how tall they are, and where they stand. Definitions only.
 use Prim.Native.Nat.{ℕ, _+_, _-_, _*_, _/_}
 use mathlib.Core.Bool.{cond}
 use mathlib.Core.List.{List, _++_}
@@ -10,15 +10,15 @@ use Rattle.text.specs.Text.{ascii, decimal}
 abbrev pub bitsOf : ℕ → ℕ
 bitsOf n = size n
 
--- A text with a number behind it.
+-- A text followed by a number.
 unfoldable pub numberText : List ℕ → ℕ → List ℕ
 numberText before n = before ++ decimal n
 
--- Where stretch k of n begins on a line of 1000 units.
+-- The place on a line of 1000 units where stretch k of n begins.
 unfoldable pub edge : ℕ → ℕ → ℕ
 edge k n = cond (eqb n 0) 0 (k * 1000 / n)
 
--- A bar of stretch k of n, ten units tall for each bit. Its opening says the colour.
+-- A bar of stretch k of n, ten units tall for each bit. Its opening gives the colour.
 unfoldable pub barText : List ℕ → ℕ → ℕ → ℕ → List ℕ
 barText opening k n bits =
     numberText opening (edge k n) ++ (numberText (ascii "\" width=\"") (edge (k + 1) n - edge k n) ++

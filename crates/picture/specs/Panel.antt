@@ -1,4 +1,4 @@
--- A channel's panel: lines and labels, measured from the left end of the foot of its bars, which the panel is moved to.
+-- A channel's panel: lines and labels, measured from the left end of the foot of its bars, to which the panel is moved.
 -- Definitions only.
 use Prim.Native.Nat.{ℕ, _+_, _*_, _/_}
 use mathlib.Core.List.{List, _++_}
@@ -20,8 +20,8 @@ labelsText =
     (ascii "<text x=\"-10\" y=\"-115\">12</text>\n<text x=\"-10\" y=\"-75\">8</text>\n" ++
     ascii "<text x=\"-10\" y=\"-35\">4</text>\n<text x=\"-10\" y=\"5\">0</text>\n</g>\n"))
 
--- The same in decibels beside full scale, 2^23: a number of b bits lies below 2^b, which stands 6.02 × (b - 23) dB
--- above it.
+-- The same in decibels relative to full scale, 2^23: a number of b bits lies below 2^b, which is 6.02 × (b - 23) dB
+-- above full scale.
 unfoldable pub decibelsText : List ℕ
 decibelsText =
     ascii "<text x=\"1010\" y=\"-252\">dB</text>\n<text x=\"1010\" y=\"-235\">+6</text>\n" ++
@@ -40,7 +40,7 @@ timesText frames rate =
     (lengthText frames rate ++
     ascii "</text>\n</g>\n")))))
 
--- The beginning of a channel's panel: the foot of its bars stands 300 units below that of the channel before.
+-- The beginning of a channel's panel. The foot of its bars is 300 units below that of the channel before.
 unfoldable pub panelText : ℕ → ℕ → ℕ → List ℕ
 panelText channel frames rate =
     numberText (ascii "<g transform=\"translate(90 ") (channel * 300 + 90) ++
@@ -51,7 +51,7 @@ panelText channel frames rate =
     (timesText frames rate ++
     ascii "<g transform=\"scale(1 -1)\">\n")))))
 
--- The end of a panel: its lines and axes, over the bars.
+-- The end of a panel. Its lines and axes come last, so that they are drawn over the bars.
 unfoldable pub panelEndText : List ℕ
 panelEndText =
     ascii "</g>\n" ++

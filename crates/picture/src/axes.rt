@@ -49,7 +49,7 @@ pub(crate) fn put_labels(out: &mut [u8], at: usize) -> usize
     )
 }
 
-// The same in decibels beside full scale, 2^23.
+// The same in decibels relative to full scale, 2^23.
 pub(crate) fn put_decibels(out: &mut [u8], at: usize) -> usize
     ensures { λ r. ⌜ r ≡ placeAfter (length (now (out .entry))) at decibelsText ⌝ }
     ensures { λ r. ⌜ now (out .exit) ≡ putAt (now (out .entry)) at decibelsText ⌝ }

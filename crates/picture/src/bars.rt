@@ -5,7 +5,7 @@ ghost use lib.ListN.{length};
 ghost use Rattle.text.specs.Text.{putAt, placeAfter};
 ghost use Rattle.picture.specs.Bars.{bitsOf, numberText, edge, barText, stretchText};
 
-// How many binary digits a number has.
+// The number of binary digits of n.
 pub fn bits(n: u32) -> u32
     ensures { λ r. ⌜ r ≡ bitsOf n ⌝ }
 {
@@ -20,7 +20,7 @@ pub(crate) fn put_number(out: &mut [u8], at: usize, before: &[u8], n: u64) -> us
     text::put_decimal(out, to, n)
 }
 
-// Where stretch k of n begins.
+// The place where stretch k of n begins.
 fn start(k: u64, n: u64) -> u64
     requires { ⌜ k ≤ 2 ^ 32 ⌝ }
     ensures { λ r. ⌜ r ≡ edge k n ⌝ }
@@ -43,7 +43,7 @@ fn put_bar(out: &mut [u8], at: usize, opening: &[u8], k: u32, n: u32, digits: u3
     text::put(out, third, b"\"/>")
 }
 
-// Stretch k of n, counted from 0: the bars of its largest sample and of its largest difference.
+// Puts stretch k of n, counted from 0: the bars of its largest sample and of its largest difference.
 pub fn put_stretch(out: &mut [u8], at: usize, k: u32, n: u32, sample: u32, difference: u32) -> usize
     ensures { λ r. ⌜ r ≡ placeAfter (length (now (out .entry))) at (stretchText k n sample difference) ⌝ }
     ensures { λ r. ⌜ now (out .exit) ≡ putAt (now (out .entry)) at (stretchText k n sample difference) ⌝ }

@@ -4,7 +4,7 @@ ghost use lib.ListN.{length};
 ghost use Rattle.text.specs.Text.{putAt, placeAfter};
 ghost use Rattle.picture.specs.Page.{legendText, scalesText};
 
-// What light and dark mean.
+// What the light and the dark shade mean.
 pub(crate) fn put_legend(out: &mut [u8], at: usize) -> usize
     ensures { λ r. ⌜ r ≡ placeAfter (length (now (out .entry))) at legendText ⌝ }
     ensures { λ r. ⌜ now (out .exit) ≡ putAt (now (out .entry)) at legendText ⌝ }
@@ -31,7 +31,7 @@ pub(crate) fn put_legend(out: &mut [u8], at: usize) -> usize
     )
 }
 
-// What the two directions mean.
+// What the two directions of the picture mean.
 pub(crate) fn put_scales(out: &mut [u8], at: usize) -> usize
     ensures { λ r. ⌜ r ≡ placeAfter (length (now (out .entry))) at scalesText ⌝ }
     ensures { λ r. ⌜ now (out .exit) ≡ putAt (now (out .entry)) at scalesText ⌝ }

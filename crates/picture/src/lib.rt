@@ -1,6 +1,6 @@
-// The picture of a residual, an SVG: a program writes the head, for each channel a panel, its stretches and the panel's
-// end, and the tail. Each function puts its text into a lent slice at a place and gives the place after it, as
-// `text::put` does. All numbers are whole.
+// The picture of a residual as the text of an SVG, part by part. A program writes the head, then for each channel a
+// panel, its stretches and the panel's end, and then the tail. Each function puts its text into a lent slice at a place
+// and gives the place after it, as `text::put` does. All numbers are whole.
 mod axes; // a panel's lines and labels
 mod bars; // a stretch of the samples
 mod legend; // what a picture says about itself

@@ -54,7 +54,7 @@ fn put_all(out: &mut [u8], at: usize, readable: bool, name: &[u8]) -> usize
     to
 }
 
-// Puts a name so that XML reads it back, as far as it can be read.
+// Puts a name so that XML reads it back, except for the bytes that become question marks.
 pub(crate) fn put_escaped(out: &mut [u8], at: usize, name: &[u8]) -> usize
     ensures { λ r. ⌜ r ≡ placeAfter (length (now (out .entry))) at (escaped (now (name .entry))) ⌝ }
     ensures { λ r. ⌜ now (out .exit) ≡ putAt (now (out .entry)) at (escaped (now (name .entry))) ⌝ }

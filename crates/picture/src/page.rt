@@ -8,7 +8,6 @@ use crate::legend::put_legend;
 use crate::legend::put_scales;
 use crate::names::put_escaped;
 
-// Which files the picture is of.
 fn put_title(out: &mut [u8], at: usize, first: &[u8], second: &[u8]) -> usize
     ensures { λ r. ⌜ r ≡ placeAfter (length (now (out .entry))) at
         (titleText (now (first .entry)) (now (second .entry))) ⌝ }
@@ -26,7 +25,6 @@ fn put_title(out: &mut [u8], at: usize, first: &[u8], second: &[u8]) -> usize
     text::put(out, four, b" differ</text>\n")
 }
 
-// How large the picture is.
 fn put_size(out: &mut [u8], at: usize, channels: u8) -> usize
     ensures { λ r. ⌜ r ≡ placeAfter (length (now (out .entry))) at (sizeText channels) ⌝ }
     ensures { λ r. ⌜ now (out .exit) ≡ putAt (now (out .entry)) at (sizeText channels) ⌝ }
@@ -41,7 +39,7 @@ fn put_size(out: &mut [u8], at: usize, channels: u8) -> usize
     put_number(out, one, b"\" width=\"1160\" height=\"", height)
 }
 
-// The beginning of a picture of so many channels.
+// Puts the beginning of a picture with so many channels.
 pub fn put_head(out: &mut [u8], at: usize, channels: u8, first: &[u8], second: &[u8]) -> usize
     ensures { λ r. ⌜ r ≡ placeAfter (length (now (out .entry))) at
         (headText channels (now (first .entry)) (now (second .entry))) ⌝ }
@@ -64,7 +62,6 @@ pub fn put_head(out: &mut [u8], at: usize, channels: u8, first: &[u8], second: &
     put_scales(out, five)
 }
 
-// The end of a picture.
 pub fn put_tail(out: &mut [u8], at: usize) -> usize
     ensures { λ r. ⌜ r ≡ placeAfter (length (now (out .entry))) at tailText ⌝ }
     ensures { λ r. ⌜ now (out .exit) ≡ putAt (now (out .entry)) at tailText ⌝ }

@@ -9,7 +9,7 @@ use crate::axes::put_labels;
 use crate::axes::put_times;
 use crate::bars::put_number;
 
-// The beginning of a channel's panel: the foot of its bars stands 300 units below that of the channel before.
+// Puts the beginning of a channel's panel. The foot of its bars is 300 units below that of the channel before.
 pub fn put_panel(out: &mut [u8], at: usize, channel: u8, frames: u64, rate: u32) -> usize
     ensures { λ r. ⌜ r ≡ placeAfter (length (now (out .entry))) at (panelText channel frames rate) ⌝ }
     ensures { λ r. ⌜ now (out .exit) ≡ putAt (now (out .entry)) at (panelText channel frames rate) ⌝ }
@@ -37,7 +37,7 @@ pub fn put_panel(out: &mut [u8], at: usize, channel: u8, frames: u64, rate: u32)
     text::put(out, six, b"<g transform=\"scale(1 -1)\">\n")
 }
 
-// The end of a panel: its lines and axes, over the bars.
+// Puts the end of a panel. Its lines and axes come last, so that they are drawn over the bars.
 pub fn put_panel_end(out: &mut [u8], at: usize) -> usize
     ensures { λ r. ⌜ r ≡ placeAfter (length (now (out .entry))) at panelEndText ⌝ }
     ensures { λ r. ⌜ now (out .exit) ≡ putAt (now (out .entry)) at panelEndText ⌝ }

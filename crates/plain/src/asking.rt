@@ -1,4 +1,4 @@
-// What the arguments of `plain FROM TO` ask for: it has no settings.
+// What the arguments of `plain FROM TO` ask for. The program has no settings.
 use arguments::Argument;
 use libc::STDERR_FILENO;
 use words_asked::Names;
@@ -22,7 +22,6 @@ pub(crate) fn to_copy() -> Names {
     both_named(names)
 }
 
-// Whether the first argument asks for the usage.
 pub(crate) fn help_asked() -> bool {
     let mut words = io::buffer();
     let n = os::arg(1, &mut words);
@@ -36,7 +35,7 @@ pub(crate) fn tell_usage(fd: i32) {
     );
 }
 
-// Two files were named, or the usage is said.
+// Unless exactly two files were named, the usage is shown and the names are not good.
 fn both_named(names: Names) -> Names {
     if !names.good {
         return names;

@@ -1,5 +1,5 @@
-// The stored samples of a file, block after block, their low byte first. Of a float kind each is looked at: what is not
-// finite is refused.
+// The stored samples of a file, block after block, their low byte first. Each sample of a float kind is checked,
+// because one that is not finite is refused.
 use libc::STDERR_FILENO;
 use outcomes::Outcome;
 use outcomes::broken;
@@ -15,7 +15,7 @@ use sizes::plus;
 use sizes::times;
 use wave_file::WaveFile;
 
-// Frames of a block.
+// The number of frames in a block.
 const FRAMES: usize = 4096;
 
 pub(crate) fn copy(file: WaveFile, fd: i32) -> Outcome {
@@ -36,7 +36,7 @@ pub(crate) fn copy(file: WaveFile, fd: i32) -> Outcome {
     well()
 }
 
-// How far it is, where there is a terminal.
+// Shows how far the run is, if standard error is a terminal.
 fn tell(done: usize, frames: usize, said: i64) -> i64 {
     let mut now: i64 = 0;
     let terminal = libc::isatty(STDERR_FILENO) == 1;
@@ -74,7 +74,7 @@ fn look_at(file: WaveFile, done: usize, part: &[u8]) -> Outcome {
     }
 }
 
-// Both channels' samples as one channel's: only their places count.
+// Reads both channels' samples as if they were one channel's, because the check needs only their places.
 fn look_at_floats(channels: u8, done: usize, part: &[u8]) -> Outcome {
     let mut floats = [0.0f32; 8192];
     let count = part.len() / 4;

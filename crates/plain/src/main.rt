@@ -1,4 +1,5 @@
-// The program `plain FROM TO`: the same stored samples written anew as plain WAVE, RIFF or past four gigabytes RF64.
+// The program `plain FROM TO`: it writes the same stored samples anew as plain WAVE, as RIFF or, past four gigabytes,
+// RF64.
 mod asking; // what the arguments ask for
 mod copying; // block after block
 
@@ -54,7 +55,7 @@ fn plain(from: &[u8], to: &[u8]) -> bool {
     }
 }
 
-// All that can be told beforehand is told before anything is written.
+// Everything that can be checked beforehand is checked before the file is made, so that such a refusal comes at once.
 fn plain_of(from: &[u8], to: &[u8], file: WaveFile) -> bool {
     let kind = file.kind;
     let count = times(file.frames, file.channels as usize);

@@ -6,17 +6,17 @@ use lib.Dec.{eqb}
 use Rattle.text.specs.Text.{ascii, decimal}
 use Rattle.sizes.specs.Sizes.{most}
 
--- How many hundredths of all are done, rounded down; 0 where there is nothing to do.
+-- The number of hundredths done, rounded down; 0 if there is nothing to do.
 unfoldable pub hundredthsOf : ℕ → ℕ → ℕ
 hundredthsOf done all = cond (eqb all 0) 0 (min (done * 100) most / all)
 
--- The line, which the next is written over.
+-- The line ends with a carriage return, so that the next one is written over it.
 unfoldable pub percentText : List ℕ → ℕ → List ℕ
 percentText command n = command ++ (ascii ": " ++ (decimal n ++ ascii " %   \r"))
 
 abbrev pub progressText : List ℕ → ℕ → ℕ → List ℕ
 progressText command done all = percentText command (hundredthsOf done all)
 
--- What is written over the last of them.
+-- The spaces that are written over the last line.
 abbrev pub blankText : List ℕ
 blankText = ascii "                              \r"

@@ -1,5 +1,5 @@
-// How far a command is, each second anew, where standard error is a terminal: a line that the next is written over. The
-// program asks C whether there is a terminal and which second it is.
+// How far a command is, shown anew each second if standard error is a terminal, in a line that the next one is written
+// over. The program finds out from C whether there is a terminal and which second it is.
 ghost use mathlib.Core.Path.{_≡_};
 ghost use mathlib.Core.Bool.{cond};
 ghost use lib.ListN.{length};
@@ -11,7 +11,7 @@ use sizes::quotient;
 use sizes::times;
 use text::put;
 
-// How many hundredths of all are done.
+// The number of hundredths done.
 pub fn hundredths(done: usize, all: usize) -> usize
     ensures { λ r. ⌜ r ≡ hundredthsOf done all ⌝ }
 {
@@ -28,7 +28,7 @@ fn put_percent(out: &mut [u8], at: usize, command: &[u8], n: usize) -> usize
     put(out, three, b" %   \r")
 }
 
-// Puts the line that says so.
+// Puts the line that shows how far the command is.
 pub fn put_progress(out: &mut [u8], at: usize, command: &[u8], done: usize, all: usize) -> usize
     ensures { λ r. ⌜ r ≡ placeAfter (length (now (out .entry))) at (progressText (now (command .entry)) done all) ⌝ }
     ensures { λ r. ⌜ now (out .exit) ≡ putAt (now (out .entry)) at (progressText (now (command .entry)) done all) ⌝ }
@@ -43,7 +43,7 @@ fn say_progress(command: &[u8], done: usize, all: usize) {
     say(begun(&line, n));
 }
 
-// Says it where a second has begun since the last time.
+// Shows the line if a new second has begun since the last time.
 fn tell_anew(command: &[u8], done: usize, all: usize, last: i64, second: i64) -> i64
     ensures { λ r. ⌜ r ≡ second ⌝ }
 {
@@ -54,7 +54,7 @@ fn tell_anew(command: &[u8], done: usize, all: usize, last: i64, second: i64) ->
     second
 }
 
-// The same where there is a terminal; gives the second for the next call.
+// Shows the line if there is a terminal, and gives the second to pass to the next call.
 pub fn tell(command: &[u8], done: usize, all: usize, terminal: bool, last: i64, second: i64) -> i64
     ensures { λ r. ⌜ r ≡ cond terminal second last ⌝ }
 {
@@ -64,7 +64,7 @@ pub fn tell(command: &[u8], done: usize, all: usize, terminal: bool, last: i64, 
     last
 }
 
-// Takes the line away; gives how many bytes that took.
+// Blanks the line, and gives the number of bytes that this took.
 pub fn clear(terminal: bool) -> usize
     ensures { λ r. ⌜ r ≡ cond terminal (length blankText) 0 ⌝ }
 {

@@ -1,5 +1,5 @@
--- What a call on plain numbers gives where all three qualities are Draft and nothing is refused, by either rule:
--- it stores, reads a cubic and counts. Assumes nothing.
+-- What a call on plain numbers gives if all three qualities are Draft and nothing is refused, by either rule: it
+-- stores, reads a cubic and counts. Assumes nothing.
 use mathlib.Core.Path.{_≡_}
 use mathlib.Core.Bool.{true}
 use mathlib.Core.List.{List}
@@ -36,7 +36,7 @@ pub placed : (s : Coded) → s .current ≡ 0 → s .target ≡ 0 → s .directi
 placed s c t o l =
     rw (c, t, o) (rest-placed (ruleOf (s .rule)) Draft (s .«crossfade_position») (s .«crossfade_samples») l)
 
--- what `read` asks for
+-- What `read` requires.
 pub ready : (lent : ℕ) (max-rate : Float) (s : Coded) (len : ℕ) (x y playback-rate : Float)
     → dueOf lent max-rate (decoded s) len x y playback-rate ≡ 0
     → (s .accepted < 2 ^ 36) × (0 < len) × (bitAnd (s .accepted) (len - 1) ≡ s .accepted % len)
@@ -71,7 +71,7 @@ module _ (sets : List Float) (max-rate : Float)
   unfolding chosenAt
   at-zero = rw (le-leb rule 1 l, none, turned, same-rule rule l)
 
--- at the numbers that the code holds
+-- The same at the numbers that the code holds.
 module _ (sets : List Float) (max-rate : Float) (s : Coded) (xs : List Float) (x y : Float) (q : ℕ)
     (playback-rate : Float) (c : s .current ≡ 0) (t : s .target ≡ 0) (a : q ≡ 0) (o : s .direction ≡ 0)
     (l : s .rule ≤ 1) (none : dueOf (length sets) max-rate (decoded s) (length xs) x y playback-rate ≡ 0) where

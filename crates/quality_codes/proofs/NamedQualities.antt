@@ -1,5 +1,5 @@
--- What a call on plain numbers gives where every number names what it stands for, and where one does not;
--- what stood is kept by a refusal. Assumes nothing.
+-- What a call on plain numbers gives if every number names something, and if one does not. A refusal keeps what stood
+-- there. Assumes nothing.
 use mathlib.Core.Path.{_≡_, refl}
 use mathlib.Core.Bool.{Bool, true, false}
 use mathlib.Core.List.{List}
@@ -27,7 +27,7 @@ ring-served b xs ys h = rw h
 pub ring-not-served : (b : Bool) (xs ys : List Float) → b ≡ false → ys ≡ pickRing b xs ys
 ring-not-served b xs ys h = rw h
 
--- an opening that was refused, and one that was not; n is the number that was found
+-- An opening that was refused, and one that was not; n is the number that the code found.
 pub kept : (m : ℕ) {n : ℕ} (before after : Begun) {xs ys : List Float}
     → n ≡ m → (n ≡ 0 → ⊥) → xs ≡ ys → renews n before xs ≡ renews m (unlessRefused m before after) ys
 kept zero before after e h x = absurd (h e)

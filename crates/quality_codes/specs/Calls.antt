@@ -57,8 +57,8 @@ renewedOf asked s len =
 abbrev pub ringRenewed : Bool → Coded → List Float → List Float
 ringRenewed asked s xs = pickRing (asked && fieldsOk s) (ringReset (decoded s) xs) xs
 
--- Opening: a state that has accepted nothing and holds its one quality. It chooses the rule, whose number nobody hands
--- in (W9h).
+-- Opening starts from a state that has accepted nothing and holds its one quality. It chooses the rule itself, so that
+-- no caller passes a rule's number (W9h).
 abbrev pub freshOf : Rule → ℕ → ℕ → ℕ → ℕ → Coded
 freshOf rule maximum margin quality crossfade-samples =
     record {

@@ -80,7 +80,7 @@ stateOf maximum margin accepted current target crossfade-position crossfade-samp
 abbrev pub fieldsOk : Coded → Bool
 fieldsOk s = (codeOk (s .current) && codeOk (s .target)) && (oneOfTwo (s .rule) && oneOfTwo (s .direction))
 
--- The refusal when a number names nothing: 1 if it is the requested quality's; otherwise 3, unless v, the refusal due
+-- The refusal when a number names nothing: 1 if it is the requested quality's; otherwise 3, unless v, the refusal
 -- without it, is already 1 or 2.
 abbrev pub oddNumber : Bool → ℕ → ℕ
 oddNumber asked v = cond asked (cond (leb 1 v && leb v 2) v 3) 1

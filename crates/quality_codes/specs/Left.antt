@@ -30,7 +30,6 @@ changed accepted current target crossfade-position direction = record {
 abbrev pub changedOf : Coded → Changed
 changedOf s = changed (s .accepted) (s .current) (s .target) (s .«crossfade_position») (s .direction)
 
--- What a call of process_sample_rate_aware leaves.
 abbrev pub leftBy : List Float → Float → Coded → List Float → Float → Float → ℕ → Float → Left Float Changed
 leftBy sets max-rate s xs x y q playback-rate =
     let c = calledOf sets max-rate s xs x y q playback-rate in
@@ -42,7 +41,7 @@ resetLeft s xs =
     let c = renewedOf true s (length xs) in
     renews (c .number) (changedOf (c .state)) (ringRenewed true s xs)
 
--- Opening: a refusal keeps what stood there.
+-- What an opening leaves. A refusal keeps what stood there.
 pub record Begun : Type 0 where
   pub rule : ℕ
   pub numbers : Changed

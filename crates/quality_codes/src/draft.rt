@@ -1,5 +1,5 @@
-// Fast path for a call in which all qualities are Draft and nothing is due (Q2), by either rule: no state is made, and
-// only the count is written.
+// The fast path for a call in which all qualities are Draft and nothing is refused (Q2), by either rule: no state is
+// made, and only the count is written.
 ghost use mathlib.Core.Path.{_≡_};
 ghost use mathlib.Core.Bool.{true};
 ghost use Prim.Native.Nat.{_+_, _-_, _%_, _^_, _<_};
@@ -15,7 +15,7 @@ use super::plainly;
 use super::through::call_through;
 use answer_parts::handing::put_f32;
 
-// K1. Stores sample i at its place, which a mask of the ring's length gives, and reads behind it.
+// K1. Stores sample i at its place, which a mask of the ring's length gives, and then reads.
 fn read(i: u64, ring: &mut [f32], input: f32, delay: f64) -> f32
     requires { ⌜ (i < 2 ^ 36) × (0 < length (now ring)) × (bitAnd i (length (now ring) - 1) ≡ i % length (now ring))
         × (positionOk (positionOf i delay) ≡ true) ⌝ }

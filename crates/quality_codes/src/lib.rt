@@ -1,6 +1,6 @@
-// The quality reader's call, opening and reset on plain numbers.
-// A quality is its place in the original's list, from 0; a number above 3 names none. Of a rule and of a direction 0 is
-// the ported one and onwards, 1 the returning one and back (W9h).
+// The quality reader's call, opening and reset on plain numbers. A quality is its place in the original's list, from 0;
+// a number above 3 names none. The number 0 stands for the ported rule and for the direction onwards, 1 for the
+// returning rule and for the direction back (W9h).
 mod calls; // a call
 mod codes; // a quality, a rule, a direction and a state as numbers
 mod draft; // a call that is plain in Draft
@@ -14,8 +14,8 @@ pub use draft::call_at_once;
 pub use renewing::renew;
 pub use through::call_through;
 
-// A quality reader's state in plain numbers; the names are the original's (000), and what is no number there is its
-// number.
+// A quality reader's state in plain numbers. The names are the original's (000), and what is not a number there is
+// given by its number.
 pub struct Coded {
     pub maximum: usize,
     pub margin: usize,
@@ -28,7 +28,7 @@ pub struct Coded {
     pub direction: u8,
 }
 
-// What a call gives: the refusal number is 0 for none, and the sample is 0.0 if refused.
+// What a call gives. The number of the refusal is 0 for none, and the sample is 0.0 if the call is refused.
 pub struct Called {
     pub state: Coded,
     pub number: u8,

@@ -1,5 +1,5 @@
-// Fast path: true only if all qualities are Draft and nothing is refused. Returns at the first failing test; `due`
-// works out the number.
+// The fast path's test: true only if all qualities are Draft and nothing is refused. It returns at the first failing
+// test, and `due` then finds the number.
 ghost use mathlib.Core.Path.{_≡_};
 ghost use mathlib.Core.Bool.{true, false, not};
 ghost use Prim.Native.Nat.{_*_, _^_, _<_, _≤_};
@@ -16,7 +16,8 @@ use super::lent;
 use constants::LIMIT;
 use constants::LIMIT_F64;
 
-// Whether all three qualities are Draft and the fade's numbers in range: nothing goes back where no fade runs (W9g).
+// Whether all three qualities are Draft and the fade's numbers are in range. A state in which no fade runs never goes
+// back (W9g).
 fn draft(
     current: u8,
     target: u8,
@@ -46,8 +47,8 @@ fn draft(
     false
 }
 
-// Whether there is room and the call's three floats are in range. A delay between two finite numbers is finite; only a
-// NaN differs from itself.
+// Whether there is room and the call's three floats are in range. A delay between two finite numbers is finite, and
+// only a NaN differs from itself.
 fn in_range(accepted: u64, input: f32, delay: f64, playback_rate: f64) -> bool
     ensures { λ r. ⌜ (r ≡ true
         → (accepted < 2 ^ 36) × (le (fin false 0 (pos 0)) delay ≡ true) × (le delay (fin false 1 (pos 36)) ≡ true)
@@ -65,7 +66,8 @@ fn in_range(accepted: u64, input: f32, delay: f64, playback_rate: f64) -> bool
     false
 }
 
-// Whether a ring of `len` and a bank of `lent` f32 have the lengths that their settings need; an empty one never has.
+// Whether a ring of `len` and a bank of `lent` f32 values have the lengths that their settings need. An empty one never
+// has.
 fn filled(maximum: usize, margin: usize, len: usize, max_rate: f64, lent: usize) -> bool
     ensures { λ r. ⌜ (r ≡ true
         → (settingsOk maximum margin ≡ true) × (eqb len (lengthFor maximum margin) ≡ true)
@@ -79,7 +81,6 @@ fn filled(maximum: usize, margin: usize, len: usize, max_rate: f64, lent: usize)
     false
 }
 
-// Whether all qualities are Draft and nothing is refused.
 pub(crate) fn plain(
     maximum: usize,
     margin: usize,

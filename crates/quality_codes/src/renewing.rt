@@ -28,7 +28,7 @@ fn opened_apart(state: Coded, o: Opened) -> Called
     }
 }
 
-// Q3. Opening and reset. `asked` says that a quality handed in as an argument has a number up to 3.
+// Q3. Opening and reset. `asked` is false if a quality that is passed as an argument has a number above 3.
 pub fn renew(asked: bool, state: Coded, ring: &mut [f32]) -> Called
     ensures { λ r. ⌜ r ≡ renewedOf asked state (length (now (ring .entry))) ⌝ }
     ensures { λ r. ⌜ now (ring .exit) ≡ ringRenewed asked state (now (ring .entry)) ⌝ }

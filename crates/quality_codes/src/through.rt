@@ -1,5 +1,5 @@
-// `call` for C: writes the new state and the sample (0.0 if refused) through pointers; returns the refusal number, 0
-// for none.
+// `call` for C: it writes the new state and the sample (0.0 if refused) through pointers, and returns the number of the
+// refusal, 0 for none.
 ghost use mathlib.Core.Path.{_≡_};
 ghost use Rattle.answer_parts.specs.Left.{leaves};
 ghost use Rattle.quality_codes.specs.Codes.{stateOf};

@@ -21,14 +21,14 @@ use Rattle.quality_fade.proofs.StaysInRange.{both, step-valid}
 use Rattle.quality_fade.proofs.OneCall.{third}
 use Rattle.quality_fade.proofs.FadeToEnd.{fades-on}
 
--- a run in two parts
+-- A run can be split into two parts.
 pub turns-append : (s : Fade) (ps qs : List QualityMode)
     → turnsOf s (ps ++ qs) ≡ turnsOf s ps ++ turnsOf (leftOf s ps) qs
 unfolding turnsOf leftOf
 turns-append s [] qs = refl
 turns-append s (p ∷ ps) qs = ap (λ (l : List Turn). stepOf s p ∷ l) (turns-append (stepOf s p .state) ps qs)
 
--- G2. in its ranges after a run exactly where it was before
+-- G2. The state is in its ranges after a run exactly if it was before.
 pub run-valid : (s : Fade) (qs : List QualityMode) → validOf (leftOf s qs) ≡ validOf s
 unfolding leftOf
 run-valid s [] = refl
@@ -39,7 +39,7 @@ next : (s : Fade) (q : QualityMode) (qs : List QualityMode) {t : Turn} → stepO
 unfolding leftOf
 next s q qs e = ap (λ (u : Turn). leftOf (u .state) qs) e
 
--- after the mixed call at place i of the fade from c to q, n more within it; and n more to its end
+-- After the mixed call at place i of the fade from c to q: n more calls within it, and n more to its end.
 module _ (c q : QualityMode) (len : ℕ) (fits : lengthOk len ≡ true) (h : sameQ c q ≡ false) where
   within : (n i : ℕ) → i + suc n < len
       → leftOf (mixTurn (fadeOf c q i len) .state) (replicate n q) ≡ fadeOf c q (i + suc n) len

@@ -1,5 +1,5 @@
--- Q1. A fade to its end: as many calls as the length are mixed, the first that asks included, with the weights 1, 2, ..
--- , length; all the calls after those are plain. By the calls that are left to mix. Assumes nothing.
+-- Q1. A fade to its end: as many calls as the length are mixed, including the first that asks, with the weights 1, 2, …
+-- up to the length; all later calls are plain. The proof goes by the number of calls left to mix. Assumes nothing.
 use mathlib.Core.Path.{_≡_, refl, sym, _∙_, ap}
 use mathlib.Core.Bool.{Bool, true, false}
 use mathlib.Core.List.{List, [], _∷_, _++_, map, map-append}
@@ -20,7 +20,7 @@ use Rattle.quality_fade.proofs.StaysInRange.{both, step-length}
 use Rattle.quality_fade.proofs.OneCall.{fade-valid, open-valid, mixes, stays, goes-on, third, never-mixed}
 
 module _ (c q : QualityMode) (len : ℕ) (fits : lengthOk len ≡ true) where
-  -- a call that asks for q where q is read already, and one within the fade from c to q
+  -- A call that asks for q where q is already read, and one within the fade from c to q.
   pub reads-on : stepOf (openOf q len) q ≡ plainTurn (openOf q len)
   reads-on = goes-on (openOf q len) q (open-valid q len fits) (same-refl q) ∙ stays q len len
 
@@ -34,7 +34,7 @@ module _ (c q : QualityMode) (len : ℕ) (fits : lengthOk len ≡ true) where
   rest zero = refl
   rest (suc k) = rw reads-on (ap (λ (l : List Turn). plainTurn (openOf q len) ∷ l) (rest k))
 
-  -- from the place i on, with n + 1 calls left to mix
+  -- From place i on, with n + 1 calls left to mix.
   onto : sameQ c q ≡ false → (n i k : ℕ) → i + suc n ≡ len
       → mixTurn (fadeOf c q i len) ∷ turnsOf (mixTurn (fadeOf c q i len) .state) (replicate n q ++ replicate k q)
       ≡ rampOf c q len i (suc n) ++ replicate k (plainTurn (openOf q len))
@@ -51,7 +51,7 @@ module _ (c q : QualityMode) (len : ℕ) (fits : lengthOk len ≡ true) where
 
 module _ (s : Fade) (q : QualityMode) (k : ℕ) (v : validOf s ≡ true) (ht : sameQ q (s .target) ≡ false)
     (hc : sameQ q (s .current) ≡ false) (l : 0 < s .«crossfade_samples») where
-  -- Q1, with what each call reads
+  -- Q1, with what each call reads.
   pub fades : turnsOf s (replicate (s .«crossfade_samples») q ++ replicate k q)
       ≡ rampOf (s .current) q (s .«crossfade_samples») 0 (s .«crossfade_samples»)
       ++ replicate k (plainTurn (openOf q (s .«crossfade_samples»)))
@@ -80,8 +80,8 @@ mixes-plain : (s : Fade) (k : ℕ) → mixesOf (replicate k (plainTurn s)) ≡ r
 mixes-plain s zero = refl
 mixes-plain s (suc k) = ap (λ (l : List Bool). false ∷ l) (mixes-plain s k)
 
--- Q1. Exactly N calls are mixed, the one that asks for a quality other than the target and the current included,
--- and the next are plain.
+-- Q1. Exactly N calls are mixed, including the one that asks for a quality other than the target and the current, and
+-- the following calls are plain.
 pub exactly : (s : Fade) (q : QualityMode) (k : ℕ) → validOf s ≡ true → sameQ q (s .target) ≡ false
     → sameQ q (s .current) ≡ false → 0 < s .«crossfade_samples»
     → mixesOf (turnsOf s (replicate (s .«crossfade_samples» + k) q))

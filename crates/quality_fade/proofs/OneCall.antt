@@ -21,7 +21,7 @@ pub fade-valid : (c t : QualityMode) (i n : ℕ) → lengthOk n ≡ true → i �
     → validOf (fadeOf c t i n) ≡ true
 fade-valid c t i n fits l h = rw fits (in-place c t i n l h)
 
--- Q3. opening and reset
+-- Q3. Opening and reset leave a state in its ranges.
 pub open-valid : (q : QualityMode) (n : ℕ) → lengthOk n ≡ true → validOf (openOf q n) ≡ true
 open-valid q n fits =
     fade-valid q q n n fits (omega arith) (λ f. let z : _≡_ {A = ℕ} 0 1 = cc (same-refl q) in absurd (omega arith))
@@ -47,22 +47,22 @@ plain-at-zero a e = rw (eq-eqb (a .«crossfade_samples») 0 e) (go (sameQ (a .cu
 
 -- ---- a call
 
--- asking for the target again
+-- A call that asks for the target again goes on with the fade.
 pub goes-on : (s : Fade) (q : QualityMode) → validOf s ≡ true → sameQ q (s .target) ≡ true → stepOf s q ≡ turnOf s
 goes-on s q v h = step-taken s q v ∙ rw h
 
--- asking for another quality than the target
+-- A call that asks for a quality other than the target starts a fade.
 pub starts : (s : Fade) (q : QualityMode) → validOf s ≡ true → sameQ q (s .target) ≡ false
     → stepOf s q ≡ turnOf (fadeOf (s .current) q 0 (s .«crossfade_samples»))
 starts s q v h = step-taken s q v ∙ rw h
 
--- Q2. a third quality starts again from the current one
+-- Q2. A third quality starts again from the current one.
 pub third : (s : Fade) (q : QualityMode) → validOf s ≡ true → sameQ q (s .target) ≡ false → sameQ (s .current) q ≡ false
     → 0 < s .«crossfade_samples»
     → stepOf s q ≡ mixTurn (fadeOf (s .current) q 0 (s .«crossfade_samples»))
 third s q v ht hc l = starts s q v ht ∙ mixes (s .current) q 0 (s .«crossfade_samples») hc l
 
--- Q2. the current quality is read at once, whatever the state
+-- Q2. The current quality is read at once, whatever the state.
 pub back : (s : Fade) → validOf s ≡ true
     → stepOf s (s .current)
     ≡ plainTurn (fadeOf (s .current) (s .current)
@@ -80,7 +80,7 @@ back s v = go (sameQ (s .current) (s .target)) refl
         (same-eq (s .current) (s .target) e) (stays (s .current) (s .«crossfade_position») (s .«crossfade_samples»))
     go false e = starts s (s .current) v e ∙ stays (s .current) 0 (s .«crossfade_samples»)
 
--- the last quality that a call reads, plain or mixed, is the one that it asks for
+-- The last quality that a call reads, plain or mixed, is the one that it asks for.
 pub reads-asked : (s : Fade) (q : QualityMode) → validOf s ≡ true → stepOf s q .to ≡ q
 reads-asked s q v =
     ap (λ (t : Turn). t .to) (step-taken s q v)
@@ -95,7 +95,7 @@ reads-asked s q v =
     go true e = sym (same-eq q (s .target) e)
     go false e = refl
 
--- a weight over the length is at most 1
+-- A weight over the length is at most 1.
 pub weight-fits : (s : Fade) (q : QualityMode) → stepOf s q .weight ≤ s .«crossfade_samples»
 weight-fits s q = go (validOf s) refl
   where
@@ -112,7 +112,7 @@ weight-fits s q = go (validOf s) refl
         rw (step-taken s q v) (omega (arith, asked-length s q))
     go false v = rw (step-still s q v) (omega arith)
 
--- Q2. length 0 never mixes
+-- Q2. Length 0 never mixes.
 pub never-mixed : (s : Fade) (q : QualityMode) → s .«crossfade_samples» ≡ 0 → stepOf s q .mixed ≡ false
 never-mixed s q h = go (validOf s) refl
   where

@@ -1,5 +1,5 @@
--- G2. A step keeps a state in its ranges: a fade that runs stands below its length, and the call that reaches it ends
--- the fade. Assumes nothing.
+-- G2. A step keeps a state in its ranges: the place of a running fade is below its length, and the call that reaches
+-- the length ends the fade. Assumes nothing.
 use mathlib.Core.Path.{_≡_, refl, sym, _∙_, ap}
 use mathlib.Core.Bool.{Bool, true, false, _&&_, _||_, cond}
 use mathlib.Core.List.{List, [], _∷_}
@@ -117,7 +117,7 @@ turn-length a = go (plainOf a)
     go true = refl
     go false = refl
 
--- the length never changes
+-- The length never changes.
 pub step-length : (s : Fade) (q : QualityMode) → stepOf s q .state .«crossfade_samples» ≡ s .«crossfade_samples»
 unfolding stepOf
 step-length s q = go (validOf s)
@@ -126,7 +126,7 @@ step-length s q = go (validOf s)
     go true = turn-length (askedOf s q) ∙ asked-length s q
     go false = refl
 
--- a state in its ranges takes the rule's turn
+-- A state in its ranges takes the rule's turn.
 pub step-taken : (s : Fade) (q : QualityMode) → validOf s ≡ true → stepOf s q ≡ turnOf (askedOf s q)
 unfolding stepOf
 step-taken s q v = rw v
@@ -140,7 +140,7 @@ step-kept s q v =
     let b = both (lengthOk (s .«crossfade_samples»)) (placeOk s) v in
     rw (step-length s q, b .0, step-taken s q v) (turn-kept (askedOf s q) (ready s q (b .1)))
 
--- in its ranges after a step exactly where it was before
+-- A state is in its ranges after a step exactly if it was before.
 pub step-valid : (s : Fade) (q : QualityMode) → validOf (stepOf s q .state) ≡ validOf s
 step-valid s q = go (validOf s) refl
   where

@@ -20,7 +20,7 @@ fadeOf current target crossfade-position crossfade-samples =
 abbrev pub lengthOk : ℕ → Bool
 lengthOk crossfade-samples = leb crossfade-samples 16777216
 
--- G2. The place is 0 to the length; where current and target differ, below it.
+-- G2. The place is from 0 to the length, and below the length if current and target differ.
 unfoldable pub placeOk : Fade → Bool
 placeOk s =
     cond (sameQ (s .current) (s .target)) (leb (s .«crossfade_position») (s .«crossfade_samples»))
@@ -29,7 +29,7 @@ placeOk s =
 abbrev pub validOf : Fade → Bool
 validOf s = lengthOk (s .«crossfade_samples») && placeOk s
 
--- Q3. Opening: its one quality is current and target, and the place is the length.
+-- Q3. After opening, the one quality is current and target, and the place is the length.
 abbrev pub openOf : QualityMode → ℕ → Fade
 openOf q crossfade-samples = fadeOf q q crossfade-samples crossfade-samples
 

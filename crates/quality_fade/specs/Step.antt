@@ -12,7 +12,7 @@ use Rattle.quality_fade.specs.Fade.{fadeOf, validOf}
 abbrev pub askedOf : Fade → QualityMode → Fade
 askedOf s q = cond (sameQ q (s .target)) s (fadeOf (s .current) q 0 (s .«crossfade_samples»))
 
--- Nothing is mixed where the current quality is the target, and at length 0.
+-- Nothing is mixed if the current quality is the target, or if the length is 0.
 abbrev pub plainOf : Fade → Bool
 plainOf s = sameQ (s .current) (s .target) || eqb (s .«crossfade_samples») 0
 
@@ -43,10 +43,10 @@ mixTurn s = record {
 abbrev pub turnOf : Fade → Turn
 turnOf s = cond (plainOf s) (plainTurn s) (mixTurn s)
 
--- No accepted call meets a state out of range (N3): it is left as it is.
+-- No accepted call has a state out of range (N3). Such a state is left as it is.
 abbrev pub stillTurn : Fade → Turn
 stillTurn s = record { state = s; mixed = false; from = s .target; to = s .target; weight = 0 }
 
--- One accepted call that asks for q.
+-- One accepted call that requests q.
 unfoldable pub stepOf : Fade → QualityMode → Turn
 stepOf s q = cond (validOf s) (turnOf (askedOf s q)) (stillTurn s)

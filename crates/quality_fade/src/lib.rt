@@ -24,7 +24,7 @@ pub struct Turn {
     pub weight: u32,
 }
 
-// G2. At most 2^24, so that a weight and the length are both f32 values.
+// G2. The length is at most 2^24, so that a weight and the length are both exact as f32 values.
 pub fn length_ok(crossfade_samples: u32) -> bool
     ensures { λ r. ⌜ r ≡ lengthOk «crossfade_samples» ⌝ }
 {
@@ -44,7 +44,7 @@ pub fn place_ok(state: Fade) -> bool
     }
 }
 
-// One accepted call that asks for a quality. A state out of range is left as it is, because its position plus 1 might
+// One accepted call that requests a quality. A state out of range is left as it is, because its position plus 1 might
 // overflow.
 pub fn step(state: Fade, asked: QualityMode) -> Turn
     ensures { λ r. ⌜ r ≡ stepOf state asked ⌝ }
@@ -64,7 +64,7 @@ pub fn step(state: Fade, asked: QualityMode) -> Turn
     }
 }
 
-// Q3. Opening, with its one quality.
+// Q3. After opening, the one quality is current and target, and nothing is left to fade.
 pub fn open(quality: QualityMode, crossfade_samples: u32) -> Fade
     ensures { λ r. ⌜ r ≡ openOf quality «crossfade_samples» ⌝ }
 {

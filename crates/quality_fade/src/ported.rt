@@ -1,4 +1,4 @@
-// The original's rule for a change of quality (000, 'Changing quality' in 01): the quality asked for becomes the
+// The original's rule for a change of quality (000, 'Changing quality' in 01): the requested quality becomes the
 // target, and a fade to it starts again from the current one.
 ghost use mathlib.Core.Path.{_≡_};
 ghost use mathlib.Core.Bool.{false};
@@ -9,7 +9,7 @@ use super::Fade;
 use super::Turn;
 use quality_mode::QualityMode;
 
-// The state after a quality was asked for.
+// The state after a quality was requested.
 pub fn ask(state: Fade, asked: QualityMode) -> Fade
     ensures { λ r. ⌜ r ≡ askedOf state asked ⌝ }
 {
@@ -50,7 +50,7 @@ fn left(
     }
 }
 
-// The call itself, on the state after its quality was asked for.
+// The call itself, on the state that `ask` gives for its quality.
 pub(crate) fn turn(state: Fade) -> Turn
     requires { ⌜ (plainOf state ≡ false → state .«crossfade_position» < state .«crossfade_samples») ⌝ }
     ensures { λ r. ⌜ r ≡ turnOf state ⌝ }

@@ -24,7 +24,7 @@ leaves read r c = (refl, refl)
 pub stays : (k : ℕ) (r : Reader) (c : Call) → afterBy (suc k) r c ≡ r
 stays k r c = refl
 
--- The accepted calls alone leave the same.
+-- A run of the accepted calls alone leaves the same.
 pub refused-leave-nothing : (r : Reader) (cs : List Call) → run r (accepted r cs) ≡ run r cs
 refused-leave-nothing = calls.refused-leave-nothing due afterBy stays
 

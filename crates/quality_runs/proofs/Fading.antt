@@ -1,6 +1,6 @@
--- Over a run of calls the qualities go as the accepted calls ask, one after the other: so what holds of runs of steps of
--- quality_fade holds of a reader with the ported rule (Q1, Q2), and what holds of returning_fade's of one with the second
--- rule (W9e, W9f). Assumes nothing.
+-- Over a run of calls the qualities change as the accepted calls ask, in their order. So what holds of runs of steps of
+-- quality_fade holds of a reader with the ported rule (Q1, Q2), and what holds of returning_fade's holds of a reader
+-- with the second rule (W9e, W9f). Assumes nothing.
 use mathlib.Core.Path.{_≡_, refl, sym, _∙_, ap, subst}
 use mathlib.Core.Bool.{true, false}
 use mathlib.Core.List.{List, _∷_, _++_}
@@ -59,12 +59,12 @@ module _ (r : Reader) (cs : List Call) (e : r .state .rule ≡ Ported) where
   abbrev s : RuledFade
   s = fadePart (r .state)
 
-  -- W9b. the turns are those of quality_fade
+  -- W9b. The turns are those of quality_fade.
   pub ported-turns : turns r cs ≡ ported.turnsOf (s .fade) (asked (accepted r cs))
   ported-turns = turned r cs ∙ by-ported.turns s e (asked (accepted r cs))
 
-  -- Q1. Where the accepted calls of a run ask for a quality other than the target and the current, N and k times over,
-  -- exactly the first N of them are mixed.
+  -- Q1. If the accepted calls of a run ask N + k times for a quality other than the target and the current, exactly the
+  -- first N of them are mixed.
   pub exactly : (q : QualityMode) (k : ℕ) → let f = s .fade in
       validOf s ≡ true → sameQ q (f .target) ≡ false → sameQ q (f .current) ≡ false → 0 < f .«crossfade_samples»
       → asked (accepted r cs) ≡ replicate (f .«crossfade_samples» + k) q

@@ -1,6 +1,5 @@
--- G2, N3, Q3, W9g. A call leaves a state in its ranges where it was in them, over whole runs too;
--- and so do opening and reset, which leave nothing to fade.
--- Assumes nothing.
+-- G2, N3, Q3, W9g. A call leaves a state in its ranges if it was in them before, over whole runs too. So do opening and
+-- reset, which leave nothing to fade. Assumes nothing.
 use mathlib.Core.Path.{_≡_, refl}
 use mathlib.Core.Bool.{Bool, true, _&&_}
 use mathlib.Core.List.{List, [], _∷_}
@@ -124,7 +123,7 @@ reset-kept d len h =
 pub reset-again : (d : QualityVariableDelayF32) → renewed (renewed d) ≡ renewed d
 reset-again d = refl
 
--- Q3. opening leaves its one quality, and only 1 and 2 can be due
+-- Q3. Opening leaves its one quality, and only 1 and 2 are possible.
 pub opens : (rule : Rule) (maximum margin crossfade : ℕ) (q : QualityMode)
     → renewed (fresh rule maximum margin q crossfade) ≡ fresh rule maximum margin q crossfade
 opens rule maximum margin crossfade q = refl

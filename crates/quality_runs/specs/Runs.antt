@@ -1,5 +1,5 @@
--- Q1 to Q3, W9, K8. A run of a quality reader's calls, by either rule: state and ring are handed on as the last call
--- left them, whatever each quality reads. Each call brings its own bank. Definitions only.
+-- Q1 to Q3, W9, K8. A run of a quality reader's calls, by either rule: each call takes the state and the ring that the
+-- last call left, whatever each quality reads. Each call brings its own bank. Definitions only.
 use Prim.Native.Nat.{ℕ}
 use mathlib.Core.Bool.{Bool, _&&_}
 use mathlib.Core.List.{List, [], _∷_, map}

@@ -1,6 +1,5 @@
--- What an accepted call knows: every test passed, those of a plain delay reader among them, so that its position lies
--- in range and its ring has room.
--- And what it leaves. Assumes nothing.
+-- What is known of an accepted call: every test passed, also those of a plain delay reader, so its position is in range
+-- and its ring has room. And what the call leaves. Assumes nothing.
 use mathlib.Core.Path.{_≡_, refl}
 use mathlib.Core.Bool.{Bool, true, false, not, _&&_}
 use mathlib.Core.List.{List}
@@ -30,7 +29,7 @@ use Rattle.quality_variable_delay.specs.Reader.{verdict, outputOf, proce
 use Rattle.quality_variable_delay.specs.declared.QualityVariableDelayF32.{QualityVariableDelayF32}
 use Rattle.quality_variable_delay.specs.declared.ProcessedQ.{ProcessedQ}
 
--- the tests by name: settings, fade length, bank; ring, sets; count, place; input, delay twice, rate, room
+-- The tests by name: settings, fade length, bank; ring, sets; count, place; input, delay twice, rate, room.
 record Tests (s n b e l a p x y w r m : Bool) : Type 0 where
   fewer : lowestOf (s && true) (e && true) a x y w true m ≡ 0
   fits : n ≡ true
@@ -89,7 +88,7 @@ module _ {bank lent : Bool} {d : QualityVariableDelayF32} {len : ℕ} {x y : Flo
   pub position-in-range : positionOk (positionOf (d .accepted) y) ≡ true
   position-in-range = plainly.position-in-range as-plain
 
--- the call's record, from the turn, the ring and the position that it read with
+-- The call's record, from the turn, the ring and the position with which it read.
 pub taken-call : (read : QualityMode → Reading) (d : QualityVariableDelayF32) (xs : List Float) (x y : Float)
     (q : QualityMode) {t : RuledTurn} {ys : List Float} {p z : Float} {s : QualityVariableDelayF32} {a : AnswerF32}
     → s ≡ joined (record { maximum = d .maximum; margin = d .margin; accepted = d .accepted + 1 })

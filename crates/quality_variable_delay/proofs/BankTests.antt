@@ -1,5 +1,5 @@
--- The tests of the bank as the code makes them, on the length that `bank_length` gives: it is 0 exactly where the
--- bank's rate is out of range, and what the lent length says then counts for nothing. Assumes nothing.
+-- The tests of the bank as the code makes them, on the length that `bank_length` gives. That is 0 exactly if the bank's
+-- rate is out of range, and then the lent length does not matter. Assumes nothing.
 use mathlib.Core.Path.{_≡_, refl}
 use mathlib.Core.Bool.{Bool, true, false, not, cond, _&&_}
 use Prim.Native.Nat.{ℕ, _*_, _<_}

@@ -1,4 +1,4 @@
--- Where the tests of a common call pass, nothing is to be refused: each of 01's is among them, or follows.
+-- If the tests of the fast path pass, nothing is refused: each of 01's tests is among them or follows from them.
 -- Assumes nothing.
 use mathlib.Core.Path.{_≡_}
 use mathlib.Core.Bool.{true, false, not}

@@ -1,6 +1,6 @@
--- What an accepted call answers, over whatever each quality reads. By the ported rule (Q1, Q2) a quality that is current
--- already is read alone, at once, and a new one starts from the current one with the weight 1 over the fade length; by the
--- second rule (W9c) going back mixes the same two qualities with a weight one lower. Assumes nothing.
+-- What an accepted call answers, whatever each quality reads. By the ported rule (Q1, Q2) a quality that is already
+-- current is read alone, at once, and a new one starts from the current one with the weight 1 over the fade length. By
+-- the second rule (W9c) going back mixes the same two qualities with a weight that is one lower. Assumes nothing.
 use mathlib.Core.Path.{_≡_, _∙_, ap, subst}
 use mathlib.Core.Bool.{true, false}
 use mathlib.Core.List.{List}
@@ -30,16 +30,16 @@ module _ (read : QualityMode → Reading) (d : QualityVariableDelayF32) (xs : Li
   abbrev answered : QualityMode → Float
   answered q = outputOf read (stepOf (fadePart d) q .turn) xs count p
 
-  -- the rule is the ported one
+  -- The rule is the ported one.
   module _ (e : d .rule ≡ Ported) where
-    -- Q2. the current quality, asked for during a fade or not
+    -- Q2. The current quality is requested, during a fade or not.
     pub goes-back : answered (d .«current_quality») ≡ read (d .«current_quality») xs count p
     goes-back =
         ap (λ (t : Turn). outputOf read t xs count p)
         (ported.step (fadePart d) e (d .«current_quality»)
         ∙ back (fadePart d .fade) (ported.valid (fadePart d) e v))
 
-    -- Q1, Q2. a quality other than the target and the current
+    -- Q1, Q2. A quality other than the target and the current is requested.
     pub starts-anew : (q : QualityMode) → sameQ q (d .«target_quality») ≡ false
         → sameQ (d .«current_quality») q ≡ false → 0 < d .«crossfade_samples»
         → answered q
@@ -48,7 +48,7 @@ module _ (read : QualityMode → Reading) (d : QualityVariableDelayF32) (xs : Li
         ap (λ (t : Turn). outputOf read t xs count p)
         (ported.step (fadePart d) e q ∙ third (fadePart d .fade) q (ported.valid (fadePart d) e v) ht hc l)
 
-    -- Q2. at length 0 what is asked for is read, whatever was current
+    -- Q2. At length 0 the requested quality is read, whatever was current.
     pub never-mixes : (q : QualityMode) → d .«crossfade_samples» ≡ 0 → answered q ≡ read q xs count p
     never-mixes q z =
         rw (
@@ -57,7 +57,7 @@ module _ (read : QualityMode → Reading) (d : QualityVariableDelayF32) (xs : Li
           reads-asked (fadePart d .fade) q (ported.valid (fadePart d) e v),
         )
 
-  -- W9c. the rule is the second one, and the current quality is asked for during a fade
+  -- W9c. The rule is the second one, and the current quality is requested during a fade.
   pub runs-down : d .rule ≡ Returning → sameQ (d .«current_quality») (d .«target_quality») ≡ false
       → 1 < d .«crossfade_position»
       → answered (d .«current_quality»)

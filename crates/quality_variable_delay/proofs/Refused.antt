@@ -1,5 +1,5 @@
--- D1c. A refusal changes neither the state nor the ring and forgets the quality that was asked for;
--- an answer's number is the verdict (C4). Assumes nothing.
+-- D1c. A refusal changes neither the state nor the ring and forgets the requested quality; an answer's number is the
+-- verdict (C4). Assumes nothing.
 use mathlib.Core.Path.{_≡_, refl}
 use mathlib.Core.List.{List}
 use Prim.Native.Nat.{ℕ, zero, suc}
@@ -15,7 +15,7 @@ use Rattle.quality_variable_delay.specs.declared.QualityVariableDelayF32
 use Rattle.quality_variable_delay.specs.declared.ProcessedQ.{ProcessedQ}
 use Rattle.quality_variable_delay.specs.declared.Opened.the-variants.{Refused}
 
--- each at a number w that the code holds for the verdict v
+-- Each law is stated at the number w that the code holds for the verdict v.
 pub not-processed : (read : QualityMode → Reading) (w : ℕ) {v : ℕ} → w ≡ v → (w ≡ 0 → ⊥)
     → (d : QualityVariableDelayF32) (xs : List Float) (x y z : Float) (q : QualityMode)
     → _≡_ {A = ProcessedQ} (record { state = d; answer = answerF32Of w z }) (processedBy read v d xs x y q)

@@ -13,8 +13,8 @@ use Rattle.quality_variable_delay.specs.Reader.{verdict, ringAfter, proc
 use Rattle.quality_variable_delay.specs.declared.QualityVariableDelayF32.{QualityVariableDelayF32}
 use Rattle.quality_variable_delay.specs.declared.ProcessedQ.{ProcessedQ}
 
--- The refusal that is due, 0 for none, if n f32 are lent as a bank for the maximum rate `max-rate`: it must lie from 1
--- to 2 (N1, G6), and n must be as many as its sets need (N2).
+-- The number of the refusal, 0 for none, if n f32 values are lent as a bank for the maximum rate `max-rate`: it must
+-- lie from 1 to 2 (N1, G6), and n must be as many as its sets need (N2).
 abbrev pub dueOf : ℕ → Float → QualityVariableDelayF32 → ℕ → Float → Float → Float → ℕ
 dueOf n max-rate d len x y playback-rate =
     verdict (bankOk max-rate) (eqb n (stepsOf max-rate * setLength)) d len x y playback-rate

@@ -21,7 +21,7 @@ use Rattle.quality_variable_delay.specs.declared.Opened.{Opened}
 use Rattle.quality_variable_delay.specs.declared.Opened.the-variants.{Reader, Refused}
 use Rattle.quality_variable_delay.specs.State.{fadePart, joined}
 
--- N1 to N3. The refusal that is due at a reset, 0 for none; a full state may be reset.
+-- N1 to N3. The number of the refusal of a reset, 0 for none. A state that is full may be reset.
 abbrev pub resetVerdict : QualityVariableDelayF32 → ℕ → ℕ
 resetVerdict d len =
     firstOf
@@ -34,7 +34,8 @@ resetVerdict d len =
 abbrev pub renewed : QualityVariableDelayF32 → QualityVariableDelayF32
 renewed d = joined (plain.fresh (d .maximum) (d .margin)) (fade.resetOf (fadePart d))
 
--- The reader that a verdict leaves; its ring is every delay reader's: a refusal leaves every element (D1c).
+-- The reader that a verdict leaves. Its ring is that of every delay reader: a refusal leaves every element as it was
+-- (D1c).
 abbrev pub openedBy : ℕ → QualityVariableDelayF32 → Opened
 openedBy zero d = Reader (renewed d)
 openedBy (suc k) d = Refused (suc k)
@@ -46,7 +47,7 @@ abbrev pub ringReset : QualityVariableDelayF32 → List Float → List Float
 ringReset d xs = clearedBy (resetVerdict d (length xs)) xs
 
 -- Q3. Opening is the reset of a state that has accepted nothing and holds its one quality and the rule that the opening
--- chooses (W9a), so only 1 and 2 can be due.
+-- chooses (W9a), so that only 1 and 2 are possible.
 abbrev pub fresh : Rule → ℕ → ℕ → QualityMode → ℕ → QualityVariableDelayF32
 fresh rule maximum margin quality crossfade-samples =
     joined (plain.fresh maximum margin) (openOf rule quality crossfade-samples)

@@ -1,5 +1,5 @@
--- 000's QualityVariableDelayF32::process_sample_rate_aware, over what each quality reads: which refusal is due, what an
--- accepted call stores, which qualities it reads, and what it leaves. Definitions only.
+-- 000's QualityVariableDelayF32::process_sample_rate_aware, over what each quality reads: which calls are refused, what
+-- an accepted call stores, which qualities it reads, and what it leaves. Definitions only.
 use Prim.Native.Nat.{ℕ, zero, suc, _+_, _^_}
 use mathlib.Core.Bool.{Bool, true, false, not, _&&_, cond}
 use mathlib.Core.List.{List, [], _∷_}
@@ -23,9 +23,9 @@ use Rattle.quality_variable_delay.specs.declared.QualityVariableDelayF32
 use Rattle.quality_variable_delay.specs.declared.ProcessedQ.{ProcessedQ}
 use Rattle.quality_variable_delay.specs.State.{delayPart, fadePart, joined}
 
--- N1 to N9. The refusal that is due, 0 for none. `bank` says that the bank's rate is in range, `lent` that its lent
+-- N1 to N9. The number of the refusal, 0 for none. `bank` says that the bank's rate is in range, `lent` that its lent
 -- sets have their length. The crossfade's length is a setting; the qualities, its position, the rule and the direction
--- are fields of a state (W9h). A playback rate that is a NaN is refused whatever quality is asked for (N7).
+-- are fields of a state (W9h). A playback rate that is a NaN is refused whatever quality is requested (N7).
 abbrev pub verdict : Bool → Bool → QualityVariableDelayF32 → ℕ → Float → Float → Float → ℕ
 verdict bank lent d len x y playback-rate =
     firstOf
@@ -48,26 +48,26 @@ weightOf weight crossfade-samples =
 abbrev pub mixedOf : Float → Float → Float → Float
 mixedOf from to mix = add binary32 from (mul binary32 (sub binary32 to from) mix)
 
--- Q1. What a call's turn reads: both of its qualities, mixed, or the one.
+-- Q1. What a call's turn reads: both of its qualities, mixed, or the only one.
 abbrev pub outputOf : (QualityMode → Reading) → Turn → Reading
 outputOf read t xs count p =
     cond (t .mixed)
     (mixedOf (read (t .from) xs count p) (read (t .to) xs count p)
     (weightOf (t .weight) (t .state .«crossfade_samples»))) (read (t .to) xs count p)
 
--- The state after a call with a verdict: an accepted call counts and takes its turn; a refusal changes nothing and
--- forgets the quality that was asked for (D1c).
+-- The state after a call with a verdict. An accepted call counts and takes its turn; a refusal changes nothing and
+-- forgets the requested quality (D1c).
 abbrev pub stateAfter : ℕ → QualityVariableDelayF32 → QualityMode → QualityVariableDelayF32
 stateAfter zero d q =
     joined (record { maximum = d .maximum; margin = d .margin; accepted = d .accepted + 1 })
     (leftBy (fadePart d) (stepOf (fadePart d) q))
 stateAfter (suc k) d q = d
 
--- K1, D1c. The ring afterwards, as every delay reader's.
+-- K1, D1c. The ring after a call, which changes as in every delay reader.
 abbrev pub ringAfter : ℕ → QualityVariableDelayF32 → List Float → Float → List Float
 ringAfter v d xs x = plain.ringAfter v (delayPart d) xs x
 
--- A call: refused with the state as it was, or stored, then read.
+-- A call is refused with the state as it was, or its sample is stored and then the ring is read.
 abbrev pub processedBy : (QualityMode → Reading) → ℕ → QualityVariableDelayF32 → List Float → Float → Float
     → QualityMode → ProcessedQ
 processedBy read v d xs x y q = record {

@@ -8,7 +8,7 @@ use super::served;
 use super::storing;
 use quality_mode::QualityMode;
 
-// The refusal that is due, 0 for none, with a bank of `lent` f32.
+// The number of the refusal, 0 for none, with a bank of `lent` f32 values.
 pub fn due(
     state: QualityVariableDelayF32,
     lent: usize,
@@ -32,7 +32,7 @@ pub fn due(
     )
 }
 
-// The same state, made anew: `due` takes it in memory, and a call that is served need not put it there.
+// The same state, made anew. `due` takes a state in memory, and a call on the fast path need not put it there.
 fn again(state: QualityVariableDelayF32) -> QualityVariableDelayF32
     ensures { λ r. ⌜ r ≡ state ⌝ }
 {
@@ -53,7 +53,7 @@ fn again(state: QualityVariableDelayF32) -> QualityVariableDelayF32
     }
 }
 
-// `due`, faster: most calls are accepted, which fewer tests than the order of refusals has can tell.
+// `due` with a fast path: most calls are accepted, and fewer tests than the order of refusals has can show it.
 fn tested(
     state: QualityVariableDelayF32,
     lent: usize,
@@ -79,8 +79,8 @@ fn tested(
     )
 }
 
-// The original's process_sample_rate_aware (000): refuses by number, or stores the sample and reads behind it. A
-// refused call forgets the quality that it asked for.
+// The original's process_sample_rate_aware (000): it refuses by number, or stores the sample and then reads. A refused
+// call forgets the quality that it requested.
 pub fn process_sample_rate_aware<'a>(
     state: QualityVariableDelayF32,
     ring: &mut [f32],
@@ -123,7 +123,7 @@ pub fn process_sample_rate_aware<'a>(
     )
 }
 
-// 000's process_sample: at the bank's maximum rate.
+// 000's process_sample, which reads at the bank's maximum rate.
 pub fn process_sample<'a>(
     state: QualityVariableDelayF32,
     ring: &mut [f32],

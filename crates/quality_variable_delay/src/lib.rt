@@ -21,7 +21,7 @@ pub use refusing::refusal;
 use returning_fade::Direction;
 use returning_fade::Rule;
 
-// F1. The qualities are fields, written anew where a fade starts or ends. Opening chooses the rule (W9a).
+// F1. The qualities are fields, which are written anew when a fade starts or ends. Opening chooses the rule (W9a).
 pub struct QualityVariableDelayF32 {
     pub maximum: usize,
     pub margin: usize,

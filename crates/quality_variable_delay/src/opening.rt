@@ -39,8 +39,8 @@ fn open_by(
     reset(state, &mut ring[..])
 }
 
-// 000's QualityVariableDelayF32::new over a lent ring, by its own rule for a change of quality: refuses by 1 or 2, or
-// zeroes the ring.
+// 000's QualityVariableDelayF32::new over a lent ring, by 000's own rule for a change of quality. It refuses by 1 or 2,
+// or zeroes the ring.
 pub fn open(
     maximum: usize,
     margin: usize,
@@ -86,7 +86,7 @@ pub fn open_returning(
     )
 }
 
-// The refusal that is due at a reset, 0 for none.
+// The number of the refusal of a reset, 0 for none.
 pub fn reset_refusal(state: QualityVariableDelayF32, len: usize) -> u8
     ensures { λ r. ⌜ r ≡ resetVerdict state len ⌝ }
 {
@@ -103,7 +103,7 @@ pub fn reset_refusal(state: QualityVariableDelayF32, len: usize) -> u8
     answer::first(t1, t2, t3, true, true, true, true, true)
 }
 
-// Q3. Nothing accepted, and the target is current; the rule stays.
+// Q3. The state has accepted nothing, and the target is current; the rule stays.
 fn renew(state: QualityVariableDelayF32) -> QualityVariableDelayF32
     ensures { λ r. ⌜ r ≡ renewed state ⌝ }
 {
@@ -125,8 +125,8 @@ fn renew(state: QualityVariableDelayF32) -> QualityVariableDelayF32
     }
 }
 
-// The original's QualityVariableDelayF32::reset (000): refuses by 1, 2 or 3, or zeroes the ring and the count and ends
-// any fade.
+// The original's QualityVariableDelayF32::reset (000): it refuses by 1, 2 or 3, or zeroes the ring and the count and
+// ends any fade.
 pub fn reset(state: QualityVariableDelayF32, ring: &mut [f32]) -> Opened
     ensures { λ r. ⌜ r ≡ resetOf state (length (now (ring .entry))) ⌝ }
     ensures { λ r. ⌜ now (ring .exit) ≡ ringReset state (now (ring .entry)) ⌝ }

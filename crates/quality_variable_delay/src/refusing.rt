@@ -1,4 +1,4 @@
-// The refusal that is due at a call, when it is known which tests its bank passes.
+// The refusal of a call, once it is known which tests its bank passes.
 ghost use mathlib.Core.Path.{_≡_};
 ghost use mathlib.Core.Bool.{_&&_};
 ghost use Rattle.quality_variable_delay.specs.Reader.{verdict};
@@ -8,7 +8,7 @@ use constants::LIMIT;
 use constants::LIMIT_F64;
 use refusal_order::both;
 
-// The refusal that is due, in 01's order, and 0 for none: `bank` says that the bank's rate is in range, `lent` that its
+// The number of the refusal in 01's order, 0 for none. `bank` says that the bank's rate is in range, `lent` that its
 // sets have their length.
 pub fn refusal(
     state: QualityVariableDelayF32,

@@ -1,4 +1,5 @@
-// Fast path: true only if no refusal is due. Returns at the first failing test; `due` works out the number.
+// The fast path: true only if nothing is refused. It returns at the first failing test, and `due` then finds the
+// number.
 ghost use mathlib.Core.Path.{_≡_};
 ghost use mathlib.Core.Bool.{true};
 ghost use Prim.Native.Nat.{_*_};
@@ -12,7 +13,8 @@ use super::state::fading;
 use constants::LIMIT;
 use constants::LIMIT_F64;
 
-// Whether a ring of `len` and a bank of `lent` f32 have the lengths that their settings need; an empty one never has.
+// Whether a ring of `len` and a bank of `lent` f32 values have the lengths that their settings need. An empty one never
+// has.
 fn filled(maximum: usize, margin: usize, len: usize, max_rate: f64, lent: usize) -> bool
     ensures { λ r. ⌜ (r ≡ true
         → (settingsOk maximum margin ≡ true) × (eqb len (lengthFor maximum margin) ≡ true)
@@ -28,7 +30,7 @@ fn filled(maximum: usize, margin: usize, len: usize, max_rate: f64, lent: usize)
     false
 }
 
-// Whether nothing is to be refused. A delay between two finite numbers is finite.
+// Whether nothing is refused. A delay between two finite numbers is finite, so that needs no test of its own.
 pub(crate) fn served(
     state: QualityVariableDelayF32,
     lent: usize,

@@ -16,7 +16,7 @@ use quality_fade::Fade;
 use quality_mode::QualityMode;
 use returning_fade::Direction;
 
-// F1. The state anew: one sample more, and the qualities as the turn leaves them.
+// F1. The state is made anew, with one sample more and the qualities that the turn leaves.
 fn after(
     state: QualityVariableDelayF32,
     direction: Direction,
@@ -54,7 +54,7 @@ fn store(i: u64, ring: &mut [f32], input: f32, delay: f64) -> f64
     (i as i64) as f64 - delay
 }
 
-// A call that nothing refuses: stores the sample, then reads behind it.
+// A call that nothing refuses: it stores the sample and then reads.
 pub(crate) fn accepted<'a>(
     state: QualityVariableDelayF32,
     ring: &mut [f32],

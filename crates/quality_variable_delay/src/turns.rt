@@ -11,7 +11,7 @@ ghost use Rattle.quality_variable_delay.specs.Reader.{weightOf, mixedOf,
 use quality_fade::Turn;
 use quality_mode::QualityMode;
 
-// `from + (to - from) * mix.min(1.0)`
+// 000's `from + (to - from) * mix.min(1.0)`.
 fn mix(from: f32, to: f32, weight: u32, crossfade_samples: u32) -> f32
     ensures { λ r. ⌜ r ≡ mixedOf from to (weightOf weight «crossfade_samples») ⌝ }
 {

@@ -69,7 +69,7 @@ pub left-over : map (λ (n : ℕ). refused (whole (plain ++ replicate n 1))) (0 
 unfolding refused lowBytes
 left-over = refl
 
--- The tests for 11 and 12: a `fmt ` behind `data` does not count, and the walk ends with the first `data`; the first
+-- The tests for 11 and 12: a `fmt ` after `data` does not count, and the walk ends with the first `data`; the first
 -- `fmt ` counts.
 pub firsts : refused (whole (samples 4 ++ plain)) ∷ refused (whole (samples 4)) ∷ refused (whole plain)
     ∷ refused (whole (plain ++ (samples 4 ++ chunk noteLetters 9 [])))

@@ -69,8 +69,9 @@ pub reset-places : map (λ (p : ℕ). renewed (portedState 0 0 0 2 3 p 9) 8) (0 
 unfolding renewed
 reset-places = refl
 
--- W9g. The ported rule goes on alone. By the second rule so does a state in which no fade runs, at the place 0 to the
--- length; a fade that runs stands above 0 and below the length, in either direction; at length 0 none does.
+-- W9g. By the ported rule the direction is onwards. By the second rule so is that of a state in which no fade runs, at
+-- a place from 0 to the length; a running fade has a place above 0 and below the length, in either direction; at length
+-- 0 none runs.
 pub ported-way : map (λ (w : ℕ). asked (stateOf 0 0 0 2 3 8 9 0 w) 8 1081648 one one one one) (0 ∷ 1 ∷ []) ≡ 0 ∷ 3 ∷ []
 unfolding asked f64
 ported-way = refl

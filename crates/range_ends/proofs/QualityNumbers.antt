@@ -1,6 +1,6 @@
--- N1, N3, N9. A quality's number: 0 to 3 name one. Another gives 1 where it is asked for, whatever else is due, and 3
--- in a state, after 1 and 2 and before 4 to 8. W9h: so does a rule's and a direction's number above 1. Computed; of a
--- bank that is lent only its length counts. Assumes nothing.
+-- N1, N3, N9. A quality's number: 0 to 3 name one. Any other gives 1 if it is the requested quality's, whatever else is
+-- wrong, and 3 in a state, after 1 and 2 and before 4 to 8. W9h: so does a rule's and a direction's number above 1.
+-- Proved by computing; of a lent bank only the length matters. Assumes nothing.
 use mathlib.Core.Path.{_≡_, refl}
 use mathlib.Core.List.{List, [], _∷_, map}
 use Prim.Native.Nat.{ℕ}
@@ -20,7 +20,7 @@ use Rattle.range_ends.specs.Readers.{renewed, portedState}
 pub named : map (λ (q : ℕ). numberOf (namedOf q)) (0 ∷ 3 ∷ 4 ∷ 255 ∷ []) ≡ 0 ∷ 0 ∷ 1 ∷ 1 ∷ []
 named = refl
 
--- Opening asks for one.
+-- An opening requests a quality.
 pub opened : map (λ (q : ℕ). renewedOf (codeOk q) (freshOf Ported 0 0 q 9) 8 .number) (0 ∷ 3 ∷ 4 ∷ 255 ∷ [])
     ≡ 0 ∷ 0 ∷ 1 ∷ 1 ∷ []
 unfolding lengthFor placeOk returningOk size
@@ -39,7 +39,7 @@ pub opened-returning : map (λ (q : ℕ). renewedOf (codeOk q) (freshOf Returnin
 unfolding lengthFor placeOk returningOk size
 opened-returning = refl
 
--- A reset asks for none. Each state has a fault fewer than the one above it.
+-- A reset requests none. Each state has one fault fewer than the one above it.
 pub reset-order : renewed (portedState 16777209 0 0 4 4 9 9) 7
     ∷ renewed (portedState 0 0 0 4 4 9 9) 7
     ∷ renewed (portedState 0 0 0 4 4 9 9) 8
@@ -51,7 +51,7 @@ pub reset-order : renewed (portedState 16777209 0 0 4 4 9 9) 7
 unfolding renewed
 reset-order = refl
 
--- A call has one, as the number behind the delay.
+-- A call requests a quality, by the number after the delay.
 pub order : (sets : List Float) → length sets ≡ 1081648
     → calledOf sets one (portedState 16777209 0 0 4 4 9 9) (zeros 7) nan nan 4 nan .number
     ∷ calledOf sets one (portedState 16777209 0 0 4 4 9 9) (zeros 7) nan nan 3 nan .number

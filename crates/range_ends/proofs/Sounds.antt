@@ -49,7 +49,7 @@ pub offsets : map (λ (n : ℕ). soundRefused (sound (told 0 ++ held n 4))) (0 �
 unfolding soundRefused lowBytes
 offsets = refl
 
--- 21: there are at most as many frames as the bytes behind the offset hold.
+-- 21: there are at most as many frames as the bytes after the offset hold.
 pub frames : map (λ (n : ℕ). soundRefused (sound (told n ++ held 2 6))) (0 ∷ 1 ∷ 2 ∷ 3 ∷ (2 ^ 32 - 1) ∷ [])
     ≡ 0 ∷ 0 ∷ 0 ∷ 21 ∷ 21 ∷ []
 unfolding soundRefused lowBytes
@@ -80,7 +80,7 @@ pub rates : soundRate (sound (part commLetters 18 (fieldsAt 1 0 16 0x400b 0xf9f8
 unfolding soundRate lowBytes
 rates = refl
 
--- `COMM` and `SSND` may stand in either order, and the first of each counts. The whole file is walked: a chunk behind
+-- `COMM` and `SSND` may stand in either order, and the first of each counts. The whole file is walked: a chunk after
 -- both that runs past the end gives 10.
 pub firsts : soundRefused (sound (held 0 4 ++ told 2)) ∷ soundRefused (sound (told 2 ++ (told 3 ++ held 0 4)))
     ∷ soundRefused (sound (told 3 ++ (told 2 ++ held 0 4))) ∷ soundRefused (sound (told 2 ++ (held 0 4 ++ held 9 0)))

@@ -59,8 +59,8 @@ formatted size body n = whole (chunk fmtLetters size body ++ samples n)
 abbrev pub ofKind : ℕ → ℕ → ℕ → ℕ → ℕ → List ℕ
 ofKind tag channels block bits n = formatted 16 (format tag channels block bits) n
 
--- One channel of samples of some bytes each, in a `fmt ` of WAVE_FORMAT_EXTENSIBLE with a stated size. Behind the first
--- 16 bytes stand the extension's size, the valid bits, the speakers, the tag inside and its tail; then 12 bytes of
+-- One channel of samples of some bytes each, in a `fmt ` of WAVE_FORMAT_EXTENSIBLE with a stated size. After the first
+-- 16 bytes come the extension's size, the valid bits, the speakers, the tag inside and its tail; then 12 bytes of
 -- `data`.
 abbrev pub wrapping : ℕ → ℕ → ℕ → ℕ → ℕ → List ℕ → List ℕ
 wrapping size bytes extension valid inner tail =

@@ -74,7 +74,7 @@ unfoldable pub renewed : Coded → ℕ → ℕ
 unfolding lengthFor placeOk returningOk size
 renewed state len = renewedOf true state len .number
 
--- A state by the ported rule, on its way.
+-- A state by the ported rule, with the direction onwards.
 abbrev pub portedState : ℕ → ℕ → ℕ → ℕ → ℕ → ℕ → ℕ → Coded
 portedState maximum margin accepted current target place crossfade =
     codes.stateOf maximum margin accepted current target place crossfade 0 0

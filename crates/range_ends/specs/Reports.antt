@@ -11,7 +11,7 @@ use Rattle.residual.specs.Report.{carried as carriedOn}
 use Rattle.residual.specs.Runs.{behind}
 use Rattle.fugnadri_residual.specs.Words.{refusalOf, numbers, leftFrom}
 
--- The sum is handed in as two halves.
+-- The sum is passed as two halves.
 abbrev pub reported : ℕ → ℕ → Place → ℕ → Report
 reported number largest place sum = record {
   number = number;

@@ -47,7 +47,7 @@ fields channels frames bits = fieldsAt channels frames bits 0x400b 0xfa00_0000_0
 abbrev pub told : ℕ → List ℕ
 told frames = part commLetters 18 (fields 1 frames 16)
 
--- An `SSND` with an offset and n bytes behind its 8, all of which are there.
+-- An `SSND` with an offset and n bytes after its first 8, all of which are there.
 abbrev pub held : ℕ → ℕ → List ℕ
 held offset n = part ssndLetters (8 + n) (highBytes 4 offset ++ (highBytes 4 0 ++ replicate n 0))
 

@@ -1,4 +1,4 @@
--- W7d. Each kernel's reading depends on its taps alone, those that are counted at the position. Assumes nothing.
+-- W7d. Each kernel's reading depends only on its taps, which are those counted at the position. Assumes nothing.
 use mathlib.Core.Path.{_≡_, sym, _∙_, ap}
 use mathlib.Core.List.{List}
 use Prim.Native.Nat.{ℕ, _<_}
@@ -16,12 +16,12 @@ use Rattle.sinc_read.specs.Reading.{sincAt}
 use Rattle.sinc_read_f32.specs.Reading.{sincF32At}
 use Rattle.reads.specs.Local.{Alike, Local}
 
--- one tap by its own number j
+-- One tap by its own number j.
 module _ (xs ys : List Float) (a b n : ℕ) (z : ℤ) (h : Alike xs a ys b z n) where
   tap : (k : ℕ) → k < n → {j : ℤ} → z +ℤ pos k ≡ j → tapOf xs a j ≡ tapOf ys b j
   tap k l e = sym (ap (tapOf xs a) e) ∙ h k l ∙ ap (tapOf ys b) e
 
--- the four taps around i, in either width
+-- The four taps around i, in either width.
 four : (f : Format) (mu : Float) (xs ys : List Float) (a b : ℕ) (i : ℤ) → Alike xs a ys b (i -ℤ pos 1) 4
     → weighed f mu (tapOf xs a (i -ℤ pos 1)) (tapOf xs a i) (tapOf xs a (i +ℤ pos 1)) (tapOf xs a (i +ℤ pos 2))
     ≡ weighed f mu (tapOf ys b (i -ℤ pos 1)) (tapOf ys b i) (tapOf ys b (i +ℤ pos 1)) (tapOf ys b (i +ℤ pos 2))
@@ -44,7 +44,7 @@ pub draft : Local 4 draftAt
 unfolding draftAt
 draft xs ys a b p h = four _ _ xs ys a b (floorOf p) h
 
--- the eight around i
+-- The eight taps around i.
 eight : (xs ys : List Float) (a b : ℕ) (i : ℤ) → Alike xs a ys b (i -ℤ pos 3) 8 → tapsAt xs a i ≡ tapsAt ys b i
 eight xs ys a b i h =
     rw (
@@ -66,7 +66,7 @@ unfolding farrowAt
 farrow8 xs ys a b p h =
     ap (λ (x : List Float). polynomialOf x (fractionOf p)) (eight xs ys a b (floorOf p) h)
 
--- The others are sums over the taps, from the first on.
+-- The other kernels are sums over the taps, from the first on.
 pub lagrange : (taps : ℕ) → Local taps (lagrangeAt taps)
 unfolding lagrangeAt
 lagrange taps xs ys a b p h = same _ _ _ taps (λ k l v. rw (h k l))

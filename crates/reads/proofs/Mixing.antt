@@ -1,5 +1,5 @@
--- W7d, W7g. What a call of the quality reader reads depends on the taps of its qualities alone: of both where it is
--- mixed, else of the one that it reads. Assumes nothing.
+-- W7d, W7g. What a call of the quality reader reads depends only on the taps of its qualities: of both if it is mixed,
+-- otherwise of the one that it reads. Assumes nothing.
 use mathlib.Core.Path.{_≡_, refl}
 use mathlib.Core.Bool.{Bool, true, false, cond}
 use mathlib.Core.List.{List}

@@ -1,4 +1,4 @@
--- W7d. What a quality reads of a bank, at any choice of sets, depends on its taps alone: both sets of a blend read the
+-- W7d. What a quality reads from a bank, by any choice of sets, depends only on its taps: both sets of a blend read the
 -- same ones. Assumes nothing.
 use mathlib.Core.List.{List}
 use lib.Ieee.{Float}
@@ -27,7 +27,7 @@ chosen c Normal sets = tables c Normal sets
 chosen c Hq sets = tables c Hq sets
 chosen c Ultra sets = tables c Ultra sets
 
--- a quality at a playback rate, of a bank for a maximum rate
+-- A quality at a playback rate, with a bank for a maximum rate.
 pub bank : (sets : List Float) (max-rate rate : Float) (q : QualityMode)
     → Local (readBy q) (bankAt sets max-rate rate q)
 bank sets max-rate rate q = chosen (chosenOf max-rate rate) q sets

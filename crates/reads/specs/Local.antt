@@ -1,5 +1,5 @@
--- W7d. What it is that a reading depends on the taps at certain positions, and on nothing else of its ring and count.
--- Definitions only.
+-- W7d. What it means that a reading depends on the taps at certain positions, and on nothing else of its ring and
+-- count. Definitions only.
 use mathlib.Core.Path.{_≡_}
 use mathlib.Core.List.{List}
 use Prim.Native.Nat.{ℕ, _<_}
@@ -16,12 +16,12 @@ use Rattle.quality_mode.specs.Quality.{tapsOf}
 abbrev pub Alike : List Float → ℕ → List Float → ℕ → ℤ → ℕ → Type 0
 Alike xs a ys b z n = (k : ℕ) → k < n → tapOf xs a (z +ℤ pos k) ≡ tapOf ys b (z +ℤ pos k)
 
--- A reading of n taps: where those that are counted at a position (`absentAt`) are alike it reads the same.
+-- A reading of n taps: if the taps counted at a position (`absentAt`) are alike, it gives the same value.
 abbrev pub Local : ℕ → Reading → Type 0
 Local n read =
     (xs ys : List Float) (a b : ℕ) (p : Float) → Alike xs a ys b (firstTap p n) n → read xs a p ≡ read ys b p
 
--- How many taps a quality reads: Draft the cubic's four, the others their tables'.
+-- The number of taps that a quality reads: Draft reads the cubic's four, the others those of their tables.
 abbrev pub readBy : QualityMode → ℕ
 readBy Draft = 4
 readBy Normal = tapsOf Normal

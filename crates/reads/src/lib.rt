@@ -1,2 +1,2 @@
-// Laws only: which taps a reading depends on, of every kernel and of every quality of a bank (W7d).
-// There is no code.
+// Laws only: the taps on which a reading depends, for every kernel and for every quality of a bank (W7d). There is no
+// code.

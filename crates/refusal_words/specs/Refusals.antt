@@ -1,4 +1,4 @@
--- Why a file is refused, by the number that its reading gives (9 to 13, 18 to 22), in words that say what to do.
+-- Why a file is refused, by the number that reading it gives (9 to 13, 18 to 22), in words that say what to do.
 -- Definitions only.
 use Prim.Native.Nat.{ℕ}
 use mathlib.Core.Bool.{cond}
@@ -7,11 +7,11 @@ use lib.Dec.{eqb}
 use Rattle.text.specs.Text.{ascii, decimal}
 use Rattle.refusal_words.specs.Kinds.{kindRefusal}
 
--- A number that no reading gives.
+-- The words for a number that no reading gives.
 unfoldable pub otherRefusal : ℕ → List ℕ
 otherRefusal number = ascii " is refused by " ++ (decimal number ++ ascii ": README.md says what that number means\n")
 
--- The numbers of RF64 and BW64 files (18, 19), of AIFF files (20, 21, 22), and any other.
+-- The words for the numbers of RF64 and BW64 files (18, 19), of AIFF files (20, 21, 22), and for any other.
 unfoldable pub laterRefusal : ℕ → List ℕ
 laterRefusal number =
     cond (eqb number 18)
@@ -26,7 +26,7 @@ laterRefusal number =
     (ascii " is refused by 22: its rate is no whole number from 8000 to 768000: save it anew at such a rate\n")
     (otherRefusal number)))))
 
--- The numbers of any file (10) and of RIFF files (9, 11, 12, 13) before them.
+-- The numbers of any file (10) and of RIFF files (9, 11, 12, 13) come first.
 unfoldable pub refusalText : List ℕ → ℕ → ℕ → ℕ → ℕ → ℕ → List ℕ
 refusalText name number tag channels block bits =
     cond (eqb number 9)

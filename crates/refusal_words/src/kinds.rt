@@ -1,4 +1,4 @@
-// Refusal 13: what a file says of its samples, and how to get a kind that is read.
+// The words of refusal 13: what a file says of its samples, and how to convert it to a kind that is read.
 ghost use mathlib.Core.Path.{_≡_};
 ghost use lib.ListN.{length};
 ghost use Rattle.text.specs.Text.{putAt, placeAfter};

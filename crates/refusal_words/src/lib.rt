@@ -1,5 +1,5 @@
-// Why a recording is refused, by the number that its reading gives, in words that say what to do. They stand behind the
-// file's name, and end the line.
+// Why a recording is refused, by the number that reading it gives, in words that say what to do. They follow the file's
+// name and end the line.
 ghost use mathlib.Core.Path.{_≡_};
 ghost use lib.ListN.{length};
 ghost use Rattle.text.specs.Text.{putAt, placeAfter};
@@ -18,7 +18,7 @@ fn put_other(out: &mut [u8], at: usize, number: u8) -> usize
     put(out, two, b": README.md says what that number means\n")
 }
 
-// 18 and above.
+// Puts the words for 18 and above.
 fn put_later(out: &mut [u8], at: usize, number: u8) -> usize
     ensures { λ r. ⌜ r ≡ placeAfter (length (now (out .entry))) at (laterRefusal number) ⌝ }
     ensures { λ r. ⌜ now (out .exit) ≡ putAt (now (out .entry)) at (laterRefusal number) ⌝ }
@@ -61,7 +61,7 @@ fn put_later(out: &mut [u8], at: usize, number: u8) -> usize
     put_other(out, at, number)
 }
 
-// Puts the words for a number; of 13 they tell the kind that the file says, zeros where it says none.
+// Puts the words for a number. For 13 they name the kind that the file gives, with zeros if it gives none.
 pub fn put_refusal(
     out: &mut [u8],
     at: usize,

@@ -1,8 +1,8 @@
-// The program that replays a stored list of the original's answers about the bank and the change of quality (O5).
-// A line of standard input is a letter and three words of sixteen hex digits, the line that is written two words: `s`
-// and `c` a bank's sets and the choice among them (T3, T4), `o`, `q` and `r` a change of quality (Q1, Q2), which `b`
-// opens by the second rule (W9), `p` and `d` a slice and Draft's reading of it. oracle/src/lists/bank.rs makes the
-// list. A trailing part of a line is ignored.
+// The program that replays a stored list of the original's answers about the bank and the change of quality (O5). A
+// line of standard input is a letter and three words of sixteen hex digits, and the line that is written has two words.
+// `s` and `c` are about a bank's sets and the choice among them (T3, T4); `o`, `q` and `r` are about a change of
+// quality (Q1, Q2), which `b` opens by the second rule (W9); `p` and `d` are about a slice and Draft's reading of it.
+// oracle/src/lists/bank.rs makes the list. A trailing part of a line is ignored.
 mod quality; // a change of quality, and its two words
 mod sets; // a bank's sets, and the choice's two words
 mod slice; // a slice of samples, and Draft's reading of it
@@ -30,7 +30,7 @@ struct Turn {
     words: Words,
 }
 
-// No answer of the original looks like this word for a refusal.
+// The words for a refusal, which look like no answer of the original.
 fn refused(no: u8) -> Words {
     Words {
         first: replay_lines::refused(no),
@@ -66,7 +66,7 @@ fn call(before: RuledFade, source: &mut [f32], letter: u8, a: u64, b: u64, c: u6
     }
 }
 
-// The next 53 bytes, a line, if there are so many.
+// The next 53 bytes, which are a line, if there are that many.
 fn hear() -> Heard {
     let mut text = [0u8; 53];
     let n = io::read_full(STDIN_FILENO, &mut text);
@@ -80,8 +80,8 @@ fn say(first: u64, second: u64) {
     io::write_all(STDOUT_FILENO, b"\n");
 }
 
-// Goes line after line. The loop counts down from the largest u64, because the language demands that it ends; no input
-// is that long.
+// Answers line after line. The loop counts down from the largest u64, because the language demands that it ends; no
+// input is that long.
 fn run(source: &mut [f32]) {
     let mut fade = RuledFade {
         rule: Rule::Ported,

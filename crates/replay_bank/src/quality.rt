@@ -1,4 +1,4 @@
-// Q1, Q2, W9. A change of quality: a line opens, asks or resets, and its two words are what that leaves.
+// Q1, Q2, W9. A change of quality: a line opens, requests or resets, and its two words are what that leaves.
 use super::Turn;
 use super::Words;
 use super::refused;
@@ -11,12 +11,13 @@ use returning_fade::Rule;
 use returning_fade::RuledFade;
 use returning_fade::direction_code;
 
-// Four small numbers in one word, two hex digits each.
+// Packs four small numbers into one word, two hex digits each.
 fn four(a: u8, b: u8, c: u8, d: u8) -> u64 {
     a as u64 * 0x100_0000 + b as u64 * 65536 + c as u64 * 256 + d as u64
 }
 
-// The direction, current, target and whether the call was mixed; the place, and the weight that the target had.
+// The first word holds the direction, the current and target quality and whether the call was mixed; the second holds
+// the place and the weight that the target had.
 fn left(rule: Rule, direction: Direction, fade: Fade, mixed: u8, weight: u32) -> Turn {
     let current = fade.current;
     let target = fade.target;

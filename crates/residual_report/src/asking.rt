@@ -1,5 +1,5 @@
-// What the arguments of `residual FIRST SECOND [NAME=VALUE …]` ask for, and where the picture's name stands among
-// them, 0 for nowhere.
+// What the arguments of `residual FIRST SECOND [NAME=VALUE …]` ask for, and which of them names the picture, 0 for
+// none.
 use arguments::Argument;
 use asked::Compared;
 use asked::Comparison;
@@ -37,7 +37,6 @@ pub(crate) fn to_compare() -> ToCompare {
     both_named(asked)
 }
 
-// Whether the first argument asks for the usage.
 pub(crate) fn help_asked() -> bool {
     let mut words = io::buffer();
     let n = os::arg(1, &mut words);
@@ -51,7 +50,7 @@ pub(crate) fn tell_usage(fd: i32) {
     );
 }
 
-// Two files were named, or the usage is said.
+// Unless exactly two files were named, the usage is shown and the names are not good.
 fn both_named(asked: ToCompare) -> ToCompare {
     let names = asked.names;
     if !names.good {

@@ -1,4 +1,4 @@
-// A block of both files, channel by channel: the report carried on, and the peaks of its stretch.
+// A block of both files, channel by channel: the report is carried on, and the peaks of the block's stretch are raised.
 use crate::comparing::Job;
 use crate::comparing::Reports;
 use crate::filling::fill;
@@ -52,7 +52,7 @@ fn compare_parts(
     compare_rest(job, half, peaks, plus(k, 2000), done, n, one, two)
 }
 
-// The second channel, where there is one, it is asked for and the first one ended well.
+// Compares the second channel, if there is one, if it is to be compared, and if the first one ended well.
 fn compare_rest(
     job: Job,
     half: Reports,
@@ -126,7 +126,7 @@ fn compare_second(
     }
 }
 
-// One channel, counted from 0.
+// Compares one channel, counted from 0.
 fn compare_channel(
     job: Job,
     channel: u8,
@@ -200,7 +200,8 @@ fn told(before: Report, compared: Compared) -> Carried {
     }
 }
 
-// The same, and the largest sample, which is the largest difference from silence, and the largest difference.
+// Carries the report on and raises the peaks of stretch k, which the picture shows: the largest sample, which is the
+// largest difference from silence, and the largest difference.
 fn note(report: Report, peaks: &mut [u32], k: usize, a: &[i32], b: &[i32]) -> Carried {
     let silence = [0i32; 4096];
     let none = begun_i32(&silence, a.len());

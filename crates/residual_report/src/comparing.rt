@@ -1,6 +1,6 @@
-// `residual` over open files: two files compared in whole numbers of 24 bits, block after block, and for a picture the
-// peaks of each stretch. What a report says is proved in residual, what a peak is in peaks, which frames are compared
-// in compared_frames.
+// `residual` over open files: it compares two files in whole numbers of 24 bits, block after block, and notes the peaks
+// of each stretch for a picture. What a report says is proved in residual, what a peak is in peaks, which frames are
+// compared in compared_frames.
 use crate::channels::compare_channels;
 use compared_frames::Extent;
 use compared_frames::block_of;
@@ -17,8 +17,8 @@ use sizes::plus;
 use wave_file::WaveFile;
 use wave_file::read_frames;
 
-// Two files, what is compared of them, and which channel: 0 for all. Where a picture is asked for it has so many
-// stretches, at most 1000; else one.
+// Two files, the frames of them that are compared, and the channel, 0 for all. If a picture is wanted, `stretches` is
+// the number of its stretches, at most 1000; otherwise it is 1.
 pub(crate) struct Job {
     pub first: WaveFile,
     pub second: WaveFile,
@@ -28,7 +28,7 @@ pub(crate) struct Job {
     pub drawn: bool,
 }
 
-// A report for each channel; how it ended, and whether it was the second file that ended it so.
+// A report for each channel, how the run ended, and whether it was the second file that ended it.
 pub(crate) struct Reports {
     pub one: Report,
     pub two: Report,
@@ -36,7 +36,8 @@ pub(crate) struct Reports {
     pub second: bool,
 }
 
-// The peaks are the samples' and the differences' of channel 1, then those of channel 2, 1000 places each.
+// The peaks are those of the samples and then of the differences of channel 1, followed by those of channel 2, with
+// 1000 places for each.
 pub(crate) fn compare(job: Job, peaks: &mut [u32]) -> Reports {
     let extent = job.extent;
     let frames = extent.frames;
@@ -72,7 +73,7 @@ fn none() -> Reports {
     }
 }
 
-// How far it is, where there is a terminal.
+// Shows how far the run is, if standard error is a terminal.
 fn tell(done: usize, frames: usize, said: i64) -> i64 {
     let mut now: i64 = 0;
     let terminal = libc::isatty(STDERR_FILENO) == 1;
@@ -91,7 +92,7 @@ fn ended(reports: Reports, outcome: Outcome, second: bool) -> Reports {
     }
 }
 
-// n frames of both files, behind `done` frames.
+// Compares n frames of both files, after `done` frames.
 fn block(
     job: Job,
     reports: Reports,

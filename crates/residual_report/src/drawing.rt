@@ -1,11 +1,11 @@
-// The picture of a residual, written to an open file: its head, for each channel a panel with its stretches, its tail.
-// What each part says is proved in picture.
+// The picture of a residual, written to an open file: its head, a panel with its stretches for each channel, and its
+// tail. What each part says is proved in picture.
 use part_file::write;
 use sizes::begun;
 use sizes::plus;
 
-// How many channels the files have, and which is shown, 0 for all; how many frames were compared, at which rate, and in
-// how many stretches they are shown.
+// The number of channels of the files and the one that is shown, 0 for all; the number of frames compared, their rate,
+// and the number of stretches in which they are shown.
 pub(crate) struct Drawing {
     pub channels: u8,
     pub channel: u8,
@@ -14,7 +14,8 @@ pub(crate) struct Drawing {
     pub stretches: u32,
 }
 
-// The peaks are the samples' and the differences' of channel 1, then those of channel 2, 1000 places each.
+// The peaks are those of the samples and then of the differences of channel 1, followed by those of channel 2, with
+// 1000 places for each.
 pub(crate) fn draw(
     name: &[u8],
     fd: i32,
@@ -41,7 +42,7 @@ pub(crate) fn draw(
     write_tail(name, fd)
 }
 
-// Two names of 4096 bytes, of which each may become five, fit.
+// The page has room for two names of 4096 bytes, of which each byte may become five.
 fn write_head(name: &[u8], fd: i32, channels: u8, first: &[u8], second: &[u8]) -> bool {
     let mut page = [0u8; 65536];
     let at = picture::put_head(&mut page, 0, channels, first, second);

@@ -1,4 +1,4 @@
-// One channel of a part as whole numbers of 24 bits: PCM as it is, floats rounded as they would be stored.
+// One channel of a part as whole numbers of 24 bits: PCM is taken as it is, floats are rounded as they would be stored.
 use rounded_samples::first_misfit;
 use rounded_samples::round_off;
 use sample_kind::SampleKind;
@@ -7,7 +7,7 @@ use wav_samples::filling::fill_f32;
 use wav_samples::filling::fill_whole;
 use wave_file::WaveFile;
 
-// Fills the first n numbers; gives the place of the first sample that does not fit (15), or n.
+// Fills the first n numbers, and gives n, or the place of the first sample that does not fit (15).
 pub(crate) fn fill(file: WaveFile, channel: u8, part: &[u8], out: &mut [i32], n: usize) -> usize {
     let kind = file.kind;
     if n <= out.len() {

@@ -1,5 +1,5 @@
-// The program `residual FIRST SECOND [NAME=VALUE …]`: what is left when one file is taken from the other, as a report
-// and, where it is asked for, a picture.
+// The program `residual FIRST SECOND [NAME=VALUE …]`: it reports what is left when one file is subtracted from the
+// other, and draws a picture of it if one is wanted.
 mod asking; // what the arguments ask for
 mod channels; // a block, channel by channel
 mod comparing; // block after block
@@ -54,7 +54,7 @@ fn main() {
     run(settings, &picture[..p], &first[..n], &second[..m]);
 }
 
-// The picture's name stands behind `picture=`.
+// The name of the picture stands after `picture=`.
 fn run(settings: Comparison, argument: &[u8], first: &[u8], second: &[u8]) {
     let at = arguments::value_at(argument);
     run_named(settings, &argument[at..], first, second);
@@ -125,7 +125,7 @@ fn compare_both(
     tell(job, first, second)
 }
 
-// 0 for all.
+// The channel's number, or 0 for all channels.
 fn channel_of(channel: Channel) -> u8 {
     match channel {
         Channel::All => 0,
@@ -179,7 +179,7 @@ fn ended_well(reports: Reports, first: &[u8], second: &[u8]) -> bool {
     false
 }
 
-// The picture gets its name, and then the report is told.
+// The picture gets its name before the report is printed, so that a report never stands beside a picture that failed.
 fn draw(job: Job, picture: &[u8], first: &[u8], second: &[u8]) -> bool {
     let made = part_file::make(b"residual", picture);
     match made {

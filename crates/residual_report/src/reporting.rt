@@ -28,7 +28,7 @@ pub(crate) fn tell(job: Job, reports: Reports, first: &[u8], second: &[u8]) -> b
     tell_left_over(extent.first_left, extent.second_left)
 }
 
-// `first: PCM of 24 bits, 1 channel, 48000 Hz, 480000 frames: A.wav`.
+// An example of such a line is `first: PCM of 24 bits, 1 channel, 48000 Hz, 480000 frames: A.wav`.
 fn tell_file(which: &[u8], name: &[u8], file: WaveFile) -> bool {
     let mut line = [0u8; 4400];
     let kind = file.kind;

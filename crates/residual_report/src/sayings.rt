@@ -1,4 +1,4 @@
-// What is said of files that cannot be compared.
+// The lines about files that cannot be compared.
 use error_lines::say_of;
 use file_words::say_differ;
 use file_words::say_place;
@@ -6,7 +6,8 @@ use file_words::say_unread;
 use outcomes::Outcome;
 use wave_file::WaveFile;
 
-// Different rates or numbers of channels cannot be compared frame by frame, nor a channel that is not there.
+// Files of different rates or numbers of channels cannot be compared frame by frame, nor can a channel that a file does
+// not have.
 pub(crate) fn comparable(
     first: &[u8],
     second: &[u8],

@@ -1,6 +1,6 @@
--- W9e. No jump: from a call to the next no quality's share changes by more than 1 out of the length. A state has shares
--- too, which are those of the call that left it, and a call moves them by one step. (At length 0 all shares are 0, and
--- this says nothing.) Assumes nothing.
+-- W9e. There is no jump: from one call to the next no quality's share changes by more than 1 out of the length. A state
+-- has shares too, which are those of the call that left it, and a call moves them by at most one step. (At length 0 all
+-- shares are 0, and this says nothing.) Assumes nothing.
 use mathlib.Core.Path.{_≡_, refl, sym, _∙_, ap, subst}
 use mathlib.Core.Bool.{Bool, true, false, cond}
 use mathlib.Core.List.{List, [], _∷_}
@@ -52,7 +52,7 @@ abbrev standing : ℕ → State → QualityMode → ℕ
 standing n (rests c p) r = part (sameQ r c) n
 standing n (runs c t p direction) r = both-parts (sameQ r c) (sameQ r t) n p
 
--- a call moves them by at most one
+-- A call moves the shares by at most one.
 moved : (n : ℕ) (q : QualityMode) (s : State) → Fine n s → (r : QualityMode)
     → Close (standing n s r) (standing n (next n q s) r)
 moved n q (rests c p) f r = go (sameQ q c) (leb n 1) refl
@@ -96,7 +96,7 @@ moved n q (runs c t p direction) f r =
         (up (sameQ r c) (sameQ r t) n p (f .2))
     go false e false l m = up (sameQ r c) (sameQ r t) n p (f .2)
 
--- the shares of a call are those of the state that it leaves
+-- The shares of a call are those of the state that it leaves.
 abbrev share : QualityMode → RuledTurn → ℕ
 share r t = shareOf (t .turn) r
 

@@ -1,4 +1,4 @@
--- W9c, W9d. What one accepted call does by the second rule, by what it asks for. Assumes nothing.
+-- W9c, W9d. What one accepted call does by the second rule, for each quality that it may request. Assumes nothing.
 use mathlib.Core.Path.{_≡_, _∙_}
 use mathlib.Core.Bool.{true, false, cond}
 use Prim.Native.Nat.{ℕ, _-_, _<_}
@@ -16,7 +16,8 @@ use Rattle.returning_fade.specs.Step.{aimOf, onTurn, lowered, backAgain,
 use Rattle.returning_fade.specs.Step.{stepOf}
 use Rattle.returning_fade.proofs.States.{State, rests, runs, fadeIn, directionIn, held, Fine, fine-ok}
 
--- where none runs: the same quality again, another one at length 0, and another one, which starts with the weight 1
+-- No fade runs: the same quality is requested again, or another one at length 0, or another one, which starts with the
+-- weight 1.
 module _ (n : ℕ) (q c : QualityMode) (p : ℕ) where
   pub stays : sameQ q c ≡ true
       → returningTurn Onwards (fadeOf c c p n) q
@@ -33,7 +34,7 @@ module _ (n : ℕ) (q c : QualityMode) (p : ℕ) where
       ≡ record { turn = mixTurn (fadeOf c q 0 n); direction = Onwards }
   starts e l = rw (same-refl c, e, same-not q c e, ne-eqb n 0 (λ z. omega arith))
 
--- a fade that runs: on or down, by where it is aimed
+-- A fade runs: it goes up or down, by the direction that the request gives it.
 module _ (n : ℕ) (q c t : QualityMode) (p : ℕ) (direction : Direction) (h : sameQ c t ≡ false) where
   pub on : backwards (aimOf direction (fadeOf c t p n) q) ≡ false
       → returningTurn direction (fadeOf c t p n) q ≡ onTurn (fadeOf c t p n)
@@ -43,41 +44,41 @@ module _ (n : ℕ) (q c t : QualityMode) (p : ℕ) (direction : Direction) (h : 
       → returningTurn direction (fadeOf c t p n) q ≡ lowerTurn (fadeOf c t p n)
   down e = rw (h, e)
 
--- a state in its ranges takes the rule's turn
+-- A state in its ranges takes the rule's turn.
 pub taken : (n : ℕ) (q : QualityMode) (s : State) → lengthOk n ≡ true → Fine n s
     → stepOf (held n s) q ≡ returningTurn (directionIn s) (fadeIn n s) q
 unfolding returningStep
 taken n q (rests c p) fits f = rw (fits, fine-ok n (rests c p) f)
 taken n q (runs c t p direction) fits f = rw (fits, fine-ok n (runs c t p direction) f)
 
--- W9c, W9d, of a fade that runs from c to t and stands at the weight p
+-- W9c, W9d. A fade runs from c to t and has the weight p.
 module _ (n : ℕ) (c t : QualityMode) (p : ℕ) (direction : Direction) (fits : lengthOk n ≡ true)
     (fine : Fine n (runs c t p direction)) where
   abbrev running : State
   running = runs c t p direction
 
-  -- W9c. Asking for the current quality runs the weight down by one, of the same two qualities in the same order.
+  -- W9c. Requesting the current quality lowers the weight by one and keeps the two qualities and their order.
   pub goes-back : 1 < p → stepOf (held n running) c ≡ lowered (fadeOf c t p n)
   goes-back l =
       taken n c running fits fine ∙ down n c c t p direction (fine .0) (rw (fine .0, same-refl c)) ∙ rw (lt-leb p 1 l)
 
-  -- From 1 the next is 0: the current quality alone, and nothing is left to fade.
+  -- After the weight 1 comes 0: the current quality is read alone, and nothing is left to fade.
   pub is-back : p ≡ 1 → stepOf (held n running) c ≡ backAgain (fadeOf c t p n)
   is-back e =
       taken n c running fits fine
       ∙ down n c c t p direction (fine .0) (rw (fine .0, same-refl c))
       ∙ rw (le-leb p 1 (omega arith))
 
-  -- Asking for the target runs it up, whichever way it went.
+  -- Requesting the target raises the weight, whichever way the fade went before.
   pub goes-on : stepOf (held n running) t ≡ onTurn (fadeOf c t p n)
   goes-on = taken n t running fits fine ∙ on n t c t p direction (fine .0) (rw (same-refl t))
 
-  -- W9d. A third quality waits: the fade goes on as it ran.
+  -- W9d. A third quality waits: the fade keeps its direction.
   pub waits : (q : QualityMode) → sameQ q t ≡ false → sameQ q c ≡ false
       → stepOf (held n running) q ≡ cond (backwards direction) (lowerTurn (fadeOf c t p n)) (onTurn (fadeOf c t p n))
   waits q a b = taken n q running fits fine ∙ rw (fine .0, a, b)
 
--- W9d. Once it has ended, the next call starts the third's with the weight 1.
+-- W9d. Once the fade has ended, the next call starts the fade to the third quality with the weight 1.
 pub then-starts : (n : ℕ) (q c : QualityMode) (p : ℕ) → lengthOk n ≡ true → Fine n (rests c p) → sameQ q c ≡ false
     → 0 < n → stepOf (held n (rests c p)) q ≡ onTurn (fadeOf c q 0 n)
 then-starts n q c p fits fine e l = taken n q (rests c p) fits fine ∙ starts n q c p e l

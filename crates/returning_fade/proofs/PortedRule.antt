@@ -48,7 +48,7 @@ module _ (s : RuledFade) (e : s .rule ≡ Ported) where
       ≡ ruled Ported (s .direction) (ported-runs.leftOf (s .fade) qs)) (sym e)
       (left-by (s .direction) (s .fade) qs)
 
-  -- in its ranges it is one of `quality_fade`'s in its ranges, on its way
+  -- A state in its ranges by the ported rule is one of `quality_fade`'s in its ranges, with the direction onwards.
   module _ (v : validOf s ≡ true) where
     tests : (lengthOk (s .fade .«crossfade_samples») ≡ true) × (placeBy Ported (s .direction) (s .fade) ≡ true)
     tests = both _ _ (subst (λ (r : Rule). validOf (ruled r (s .direction) (s .fade)) ≡ true) e v)

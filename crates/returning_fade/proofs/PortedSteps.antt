@@ -1,6 +1,6 @@
--- Every call by the second rule is one step of the ported rule: where no fade runs, that step; on its way to the target,
--- the step that asks for the target; on its way back, the step from two places lower, or from 1 a call in the current
--- quality. Assumes nothing.
+-- Every call by the second rule is one step of the ported rule. If no fade runs, it is that step; on the way to the
+-- target, the step that requests the target; on the way back, the step from two places lower, or at place 1 a call in
+-- the current quality. Assumes nothing.
 use mathlib.Core.Path.{_≡_, refl, _∙_, ap}
 use mathlib.Core.Bool.{Bool, true, false, not, _&&_, cond}
 use Prim.Native.Nat.{_+_, _-_, _<_}
@@ -32,7 +32,7 @@ towards direction t = record { turn = t; direction = direction }
 
 module _ (direction : Direction) (s : Fade) (fits : lengthOk (s .«crossfade_samples») ≡ true)
     (ok : returningOk direction s ≡ true) where
-  -- a state in its ranges by the second rule is in those of the ported one
+  -- A state in its ranges by the second rule is in those of the ported one.
   valid : validOf s ≡ true
   unfolding returningOk placeOk
   valid = rw fits (go (sameQ (s .current) (s .target)) ok)
@@ -47,13 +47,13 @@ module _ (direction : Direction) (s : Fade) (fits : lengthOk (s .«crossfade_sam
       go true h = both (not (backwards direction)) (leb (s .«crossfade_position») (s .«crossfade_samples»)) h .1
       go false h = both (ltb 0 (s .«crossfade_position»)) _ h .1
 
-  -- where one runs
+  -- A fade runs.
   module _ (e : sameQ (s .current) (s .target) ≡ false) where
     pub between : (0 < s .«crossfade_position») × (s .«crossfade_position» < s .«crossfade_samples»)
     unfolding returningOk
     between = let p = both _ _ (rw e at ok) in (ltb-true _ _ (p .0), ltb-true _ _ (p .1))
 
-    -- one step down
+    -- The fade goes one step down.
     down : stepAt s (lowerAim s) ≡ lowerTurn s
     down = go (leb (s .«crossfade_position») 1) refl
       where
@@ -93,7 +93,7 @@ module _ (direction : Direction) (s : Fade) (fits : lengthOk (s .«crossfade_sam
       go false true e = down e
       go false false e = on e
 
--- of any state
+-- The same for any state.
 by-ported-steps : (direction : Direction) (s : Fade) (q : QualityMode)
     → stepAt s (aimedAt direction s q) ≡ returningStep direction s q
 unfolding aimedAt returningStep

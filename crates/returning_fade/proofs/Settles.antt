@@ -1,5 +1,5 @@
--- W9f. Once the request stays the same, every call from number 2N on, counted from 0, is plain in it, from every state
--- in its ranges: each call brings the end one step nearer. Assumes nothing.
+-- W9f. Once the request stays the same, every call from number 2N on, counted from 0, reads that quality alone, from
+-- every state in its ranges, because each call brings the end one step nearer. Assumes nothing.
 use mathlib.Core.Path.{_≡_, refl, sym, _∙_, subst}
 use mathlib.Core.Bool.{Bool, true, false, cond}
 use Prim.Native.Nat.{ℕ, zero, suc, _+_, _-_, _*_, _≤_}
@@ -24,7 +24,7 @@ use Rattle.returning_fade.proofs.States.{State, rests, runs, held, Fine
 use Rattle.returning_fade.proofs.OneCall.{stays, at-once, taken}
 use Rattle.returning_fade.proofs.StaysInRange.{next, fine-next, reaches}
 
--- how many calls that ask for q come before the first that is plain in it
+-- The number of calls requesting q before the first that reads q alone.
 abbrev toGo : ℕ → QualityMode → State → ℕ
 toGo n q (rests c p) = cond (sameQ q c) 0 n
 toGo n q (runs c t p direction) =
@@ -96,7 +96,7 @@ module _ (n : ℕ) (fits : lengthOk n ≡ true) (q : QualityMode) where
       subst (λ (x : RuledFade). PlainIn q (stepOf (leftOf x (replicate k q)) q .turn)) (sym (reaches n q s fits f))
       (near k (next n q s) (fine-next n q s f) (omega (arith, nearer n q s f)))
 
--- after k calls that ask for q, 2N or more, the next is plain in it
+-- After k calls that request q, 2N or more, the next reads q alone.
 pub settles : (s : RuledFade) → s .rule ≡ Returning → validOf s ≡ true → (q : QualityMode) (k : ℕ)
     → 2 * s .fade .«crossfade_samples» ≤ k
     → PlainIn q (stepOf (leftOf s (replicate k q)) q .turn)

@@ -1,5 +1,5 @@
--- A state that is in its ranges by the second rule is one of two: it rests in a quality, or a fade runs from one quality
--- to another, above 0 and below the length. Assumes nothing.
+-- A state that is in its ranges by the second rule is one of two: no fade runs and it has one quality, or a fade runs
+-- from one quality to another, and its place is above 0 and below the length. Assumes nothing.
 use mathlib.Core.Path.{_≡_, refl, sym, ap}
 use mathlib.Core.Bool.{Bool, true, false, not, _&&_, cond, true≢false}
 use Prim.Native.Nat.{ℕ, _≤_, _<_}
@@ -17,12 +17,12 @@ use Rattle.returning_fade.specs.declared.Direction.the-variants.{Onwards
 use Rattle.returning_fade.specs.declared.RuledFade.{RuledFade}
 use Rattle.returning_fade.specs.Rules.{backwards, ruled, returningOk}
 
--- the quality and the place; or from, to, the place and the direction
+-- The fields are the quality and the place; or the first and the second quality, the place and the direction.
 pub data State : Type 0 where
   rests : QualityMode → ℕ → State
   runs : QualityMode → QualityMode → ℕ → Direction → State
 
--- the state of a reader whose fade has the length n
+-- The state of a reader whose fade has the length n.
 abbrev pub fadeIn : ℕ → State → Fade
 fadeIn n (rests c p) = fadeOf c c p n
 fadeIn n (runs c t p direction) = fadeOf c t p n
@@ -38,7 +38,7 @@ abbrev pub Fine : ℕ → State → Type 0
 Fine n (rests c p) = p ≤ n
 Fine n (runs c t p direction) = (sameQ c t ≡ false) × (0 < p) × (p < n)
 
--- every state in its ranges is one of the two
+-- Every state in its ranges is one of the two.
 pub record Seen (direction : Direction) (s : Fade) : Type 0 where
   pub state : State
   pub fine : Fine (s .«crossfade_samples») state

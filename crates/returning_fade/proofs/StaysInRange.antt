@@ -1,5 +1,6 @@
--- W9g. A call leaves a state in its ranges where it was in them, by either rule; opening and reset leave one.
--- By the second rule it is shown on the two kinds of state: `next` says which a call leaves. Assumes nothing.
+-- W9g. A call leaves a state in its ranges if it was in them before, by either rule; opening and reset leave one in its
+-- ranges. For the second rule it is proved on the two kinds of state: `next` says which of them a call leaves. Assumes
+-- nothing.
 use mathlib.Core.Path.{_≡_, refl, sym, _∙_, ap, subst}
 use mathlib.Core.Bool.{Bool, true, false, _&&_, cond, false≢true}
 use Prim.Native.Nat.{ℕ, _+_, _-_, _≤_}
@@ -27,7 +28,7 @@ use Rattle.returning_fade.specs.Step.{aimOf, returningTurn, returningSte
 use Rattle.returning_fade.proofs.States.{State, rests, runs, fadeIn, directionIn, held, Fine, seen, fine-ok}
 use Rattle.returning_fade.proofs.OneCall.{stays, at-once, starts, on, down, taken}
 
--- the state that a call leaves: a fade that ends leaves its quality at the length, as opening does
+-- The state that a call leaves. A fade that ends leaves its quality with the place at the length, as opening does.
 abbrev pub next : ℕ → QualityMode → State → State
 next n q (rests c p) = cond (sameQ q c) (rests c p) (cond (leb n 1) (rests q n) (runs c q 1 Onwards))
 next n q (runs c t p direction) =
@@ -54,7 +55,7 @@ fine-next n q (runs c t p direction) f =
     go false b true l m = omega arith
     go false b false l m = (f .0, omega arith, leb-false n (p + 1) m)
 
--- the turn leaves that state
+-- The turn leaves that state.
 abbrev reached : RuledTurn → RuledFade
 reached t = ruled Returning (t .direction) (t .turn .state)
 
@@ -125,7 +126,7 @@ valid-by Returning direction s q v = returning-valid direction s q v
 pub step-valid : (s : RuledFade) (q : QualityMode) → validOf s ≡ true → validOf (leftBy s (stepOf s q)) ≡ true
 step-valid s q v = valid-by (s .rule) (s .direction) (s .fade) q v
 
--- the length never changes
+-- The length never changes.
 held-length : (n : ℕ) (s : State) → held n s .fade .«crossfade_samples» ≡ n
 held-length n (rests c p) = refl
 held-length n (runs c t p direction) = refl
@@ -165,11 +166,11 @@ unfolding ported-fade.placeOk returningOk
 rest-within Ported q p n h = leb-true p n (rw (same-refl q) at h)
 rest-within Returning q p n h = leb-true p n (rw (same-refl q) at h)
 
--- Q3. opening and reset
+-- Q3. Opening and reset leave a state in its ranges.
 pub open-valid : (rule : Rule) (q : QualityMode) (n : ℕ) → lengthOk n ≡ true → validOf (openOf rule q n) ≡ true
 open-valid rule q n fits = rw (fits, rest-placed rule q n n (omega arith))
 
--- the same quality again leaves everything as it was
+-- Requesting the same quality again leaves everything as it was.
 pub rest-stays : (rule : Rule) (q : QualityMode) (p n : ℕ) → lengthOk n ≡ true → p ≤ n
     → stepOf (ruled rule Onwards (fadeOf q q p n)) q
     ≡ record { turn = plainTurn (fadeOf q q p n); direction = Onwards }

@@ -1,4 +1,4 @@
--- The second rule as the code takes it: what the ported rule's step is handed for a fade and a request, and the
+-- The second rule as the code computes it: what the ported rule's step is given for a fade and a request, and the
 -- direction that is left. `PortedSteps` proves that this is `returningStep`. Definitions only.
 use Prim.Native.Nat.{ℕ, _-_}
 use mathlib.Core.Bool.{_&&_, cond}
@@ -36,12 +36,12 @@ aimedAt direction s q =
     (cond (backwards (aimOf direction s q)) (lowerAim s) (aimed s (s .target) Onwards)))
     (aimed s q direction)
 
--- By either rule.
+-- What the step is given by either rule.
 abbrev pub handedBy : Rule → Direction → Fade → QualityMode → Handed
 handedBy Ported direction s q = aimed s q direction
 handedBy Returning direction s q = aimedAt direction s q
 
--- The step of a fade that it is handed to.
+-- The ported rule's step of a fade with what it is given.
 abbrev pub stepAt : Fade → Handed → RuledTurn
 stepAt s h =
     record {

@@ -14,7 +14,7 @@ use Rattle.returning_fade.specs.declared.Direction.{Direction}
 use Rattle.returning_fade.specs.declared.Direction.the-variants.{Onwards, Back}
 use Rattle.returning_fade.specs.declared.RuledFade.{RuledFade}
 
--- Where only numbers cross.
+-- The numbers of rules and directions, for interfaces that pass only numbers.
 abbrev pub ruleCode : Rule → ℕ
 ruleCode Ported = 0
 ruleCode Returning = 1
@@ -30,8 +30,9 @@ backwards Back = true
 abbrev pub ruled : Rule → Direction → Fade → RuledFade
 ruled rule direction s = record { rule = rule; direction = direction; fade = s }
 
--- W9g. The ported rule never goes back, and its place is 01's. By the second rule nothing goes back where current and
--- target are the same, and the place is 0 to the length; where they differ it is above 0 and below the length.
+-- W9g. By the ported rule no fade goes back, and the place is in 01's range. By the second rule, if current and target
+-- are the same, nothing goes back and the place is from 0 to the length; if they differ, it is above 0 and below the
+-- length.
 unfoldable pub returningOk : Direction → Fade → Bool
 returningOk direction s =
     cond (sameQ (s .current) (s .target))

@@ -9,7 +9,7 @@ use Rattle.quality_fade.specs.declared.Turn.{Turn}
 use Rattle.returning_fade.specs.declared.RuledFade.{RuledFade}
 use Rattle.returning_fade.specs.Step.{stepOf, leftBy}
 
--- What the calls do, one after the other, and the state that they leave.
+-- What the calls do, in their order, and the state that they leave.
 unfoldable pub turnsOf : RuledFade → List QualityMode → List Turn
 turnsOf s [] = []
 turnsOf s (q ∷ qs) = stepOf s q .turn ∷ turnsOf (leftBy s (stepOf s q)) qs
@@ -29,7 +29,7 @@ shareOf t r =
     cond (t .mixed) (part (sameQ r (t .from)) (n - t .weight) + part (sameQ r (t .to)) (t .weight))
     (part (sameQ r (t .to)) n)
 
--- No share changes by more than 1 from a call to the next, all along a run.
+-- No share changes by more than 1 from one call to the next, in a whole run.
 abbrev pub Close : ℕ → ℕ → Type 0
 Close a b = (a ≤ b + 1) × (b ≤ a + 1)
 

@@ -16,17 +16,17 @@ use Rattle.returning_fade.specs.declared.RuledFade.{RuledFade}
 use Rattle.returning_fade.specs.declared.RuledTurn.{RuledTurn}
 use Rattle.returning_fade.specs.Rules.{backwards, ruled, returningOk}
 
--- W9c, W9d. Where a running fade goes: on where its target is asked for, back where the current quality is; a third
--- quality waits, and the fade goes on as it ran.
+-- W9c, W9d. The direction of a running fade: onwards if its target is requested, back if the current quality is. A
+-- third quality waits, and the fade keeps its direction.
 abbrev pub aimOf : Direction → Fade → QualityMode → Direction
 aimOf direction s q = cond (sameQ q (s .target)) Onwards (cond (sameQ q (s .current)) Back direction)
 
--- One step on: the ported rule's mixed call.
+-- One step up is the ported rule's mixed call.
 abbrev pub onTurn : Fade → RuledTurn
 onTurn s = record { turn = mixTurn s; direction = Onwards }
 
--- One step down, of the same two qualities in the same order. At a weight of 0 the current quality is read alone, and
--- the fade has ended, as opening with that quality leaves it.
+-- One step down, with the same two qualities in the same order. At the weight 0 the current quality is read alone, and
+-- the fade has ended in the state that opening with that quality leaves.
 abbrev pub lowered : Fade → RuledTurn
 lowered s = record {
   turn = record {
@@ -54,20 +54,20 @@ backAgain s = record {
 abbrev pub lowerTurn : Fade → RuledTurn
 lowerTurn s = cond (leb (s .«crossfade_position») 1) (backAgain s) (lowered s)
 
--- A fade runs where current and target differ. Where none does, a call starts one as by the ported rule.
+-- A fade runs if current and target differ. If none runs, a call starts one as by the ported rule.
 abbrev pub returningTurn : Direction → Fade → QualityMode → RuledTurn
 returningTurn direction s q =
     cond (sameQ (s .current) (s .target)) (record { turn = turnOf (askedOf s q); direction = Onwards })
     (cond (backwards (aimOf direction s q)) (lowerTurn s) (onTurn s))
 
--- No accepted call meets a state out of range (N3): there it is the ported rule's call.
+-- No accepted call has a state out of range (N3). For such a state this is the ported rule's call.
 unfoldable pub returningStep : Direction → Fade → QualityMode → RuledTurn
 returningStep direction s q =
     cond (lengthOk (s .«crossfade_samples») && returningOk direction s) (returningTurn direction s q)
     (record { turn = ported.stepOf s q; direction = direction })
 
--- One accepted call that asks for q, by the rule that the reader was opened with, and what it leaves. The ported rule's
--- call is `quality_fade`'s (W9b).
+-- One accepted call that requests q, by the rule with which the reader was opened, and what it leaves. The ported
+-- rule's call is `quality_fade`'s (W9b).
 abbrev pub stepBy : Rule → Direction → Fade → QualityMode → RuledTurn
 stepBy Ported direction s q = record { turn = ported.stepOf s q; direction = direction }
 stepBy Returning direction s q = returningStep direction s q

@@ -1,5 +1,5 @@
-// The second rule for a change of quality: going back runs the weight down again from where it stands, and a third
-// quality waits until the running fade has ended (W9). The ported rule stands beside it, as `quality_fade` has it.
+// The second rule for a change of quality: going back lowers the weight again from where it is, and a third quality
+// waits until the running fade has ended (W9). The ported rule stands beside it, as in `quality_fade`.
 mod returning; // the second rule
 
 ghost use mathlib.Core.Path.{_≡_};
@@ -11,7 +11,7 @@ use quality_fade::Turn;
 use quality_mode::QualityMode;
 use returning::Handed;
 
-// W9a. Chosen when a reader is opened. Ported is 000's, by which going back jumps.
+// W9a. The rule is chosen when a reader is opened. Ported is 000's, by which going back jumps.
 pub enum Rule {
     Ported,
     Returning,
@@ -36,7 +36,7 @@ pub struct RuledTurn {
     pub direction: Direction,
 }
 
-// A rule's number, where only numbers cross.
+// A rule's number, for interfaces that pass only numbers.
 pub fn rule_code(rule: Rule) -> u8
     ensures { λ r. ⌜ r ≡ ruleCode rule ⌝ }
 {
@@ -46,7 +46,7 @@ pub fn rule_code(rule: Rule) -> u8
     }
 }
 
-// A direction's number, where only numbers cross.
+// A direction's number, for interfaces that pass only numbers.
 pub fn direction_code(direction: Direction) -> u8
     ensures { λ r. ⌜ r ≡ directionCode direction ⌝ }
 {
@@ -56,7 +56,7 @@ pub fn direction_code(direction: Direction) -> u8
     }
 }
 
-// W9g. Whether place and direction are in their ranges.
+// W9g. Whether the place and the direction are in their ranges.
 pub fn place_ok(state: RuledFade) -> bool
     ensures { λ r. ⌜ r ≡ placeOk state ⌝ }
 {
@@ -71,7 +71,7 @@ pub fn place_ok(state: RuledFade) -> bool
     }
 }
 
-// What the ported rule's step is handed: by the ported rule, what it always was.
+// What the ported rule's step is given. By the ported rule that is the state and the request unchanged.
 fn handed(state: RuledFade, asked: QualityMode) -> Handed
     ensures { λ r. ⌜ r ≡ handedBy (state .rule) (state .direction) (state .fade) asked ⌝ }
 {
@@ -90,8 +90,8 @@ fn handed(state: RuledFade, asked: QualityMode) -> Handed
     }
 }
 
-// One accepted call that asks for a quality, which either rule makes a step of the ported one. Of a state out of range
-// it is `quality_fade::step`'s.
+// One accepted call that requests a quality. By either rule it is one step of the ported rule. For a state out of range
+// it is the call of `quality_fade::step`.
 pub fn step(state: RuledFade, asked: QualityMode) -> RuledTurn
     ensures { λ r. ⌜ r ≡ stepOf state asked ⌝ }
 {

@@ -17,8 +17,8 @@ fn back(direction: Direction) -> bool
     }
 }
 
-// Whether place and direction are in their ranges: nothing goes back where no fade runs, and a fade that runs stands
-// above 0, or it would have ended.
+// Whether the place and the direction are in their ranges: nothing goes back if no fade runs, and a running fade has a
+// place above 0, because at 0 it would have ended.
 pub(crate) fn place_ok(direction: Direction, fade: Fade) -> bool
     ensures { λ r. ⌜ r ≡ returningOk direction fade ⌝ }
 {
@@ -36,7 +36,7 @@ pub(crate) fn place_ok(direction: Direction, fade: Fade) -> bool
     false
 }
 
-// Whether a running fade goes back at a call that asks for a quality.
+// Whether a running fade goes back in a call that requests a quality.
 fn goes_back(direction: Direction, fade: Fade, asked: QualityMode) -> bool
     ensures { λ r. ⌜ r ≡ backwards (aimOf direction fade asked) ⌝ }
 {
@@ -51,8 +51,9 @@ fn goes_back(direction: Direction, fade: Fade, asked: QualityMode) -> bool
     back(direction)
 }
 
-// What the ported rule's step is handed for a fade and a request of the second rule: the fade's target and place, and
-// the request; and the direction that is left. Single numbers are cheaper to choose between than two fades.
+// What the ported rule's step is given for a fade and a request by the second rule: the fade's target and place, and
+// the request; and the direction that is left. Choosing between single numbers is cheaper than choosing between two
+// fades.
 pub(crate) struct Handed {
     pub target: QualityMode,
     pub place: u32,
@@ -60,8 +61,8 @@ pub(crate) struct Handed {
     pub direction: Direction,
 }
 
-// One step down is the ported rule's step from two places lower. From 1 it is a call in the current quality, as opening
-// leaves it: a weight of 0 would read the target for nothing.
+// One step down is the ported rule's step from two places lower. At place 1 it is a call in the current quality, in the
+// state that opening leaves, because at the weight 0 the target would be read for nothing.
 fn lower(fade: Fade) -> Handed
     ensures { λ r. ⌜ r ≡ lowerAim fade ⌝ }
 {
@@ -83,7 +84,7 @@ fn lower(fade: Fade) -> Handed
     }
 }
 
-// So every call is one step of the ported rule, and the reader has one place where it steps.
+// Turns every call into one step of the ported rule, so that the reader makes its step in one place only.
 pub(crate) fn aim(direction: Direction, fade: Fade, asked: QualityMode) -> Handed
     ensures { λ r. ⌜ r ≡ aimedAt direction fade asked ⌝ }
 {

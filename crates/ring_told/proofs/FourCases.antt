@@ -1,5 +1,5 @@
--- Which case a tap is, by where its index stands, for an index that the code holds as a word: one law for each way out
--- of `told`, in either width. Assumes nothing.
+-- Which case a tap is, by where its index lies, for an index that the code holds as a word: one law for each return of
+-- `told`, in either width. Assumes nothing.
 use mathlib.Core.Path.{_≡_}
 use mathlib.Core.Bool.{true, false}
 use mathlib.Core.List.{List}
@@ -14,7 +14,7 @@ use Rattle.ring.specs.Taps.{held, unwritten, ahead, overwritten, tapAt}
 use Rattle.ring.specs.Quick.{placeOf}
 use Rattle.ring.proofs.RunStartWays.{place-mod}
 
--- a negative number where the test for one failed
+-- The code's test for a negative number cannot fail for one.
 not-negative : (k : ℕ) → ltZ (negsuc k) (pos 0) ≡ false → ⊥
 not-negative k h = let e : _≡_ {A = ℕ} 0 1 = cc in omega arith
 

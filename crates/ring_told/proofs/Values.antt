@@ -1,4 +1,4 @@
--- W7a, W7b. What `ring::tap` and `ring::tap_f32` answer is the value of what is told of the tap: the three that are not
+-- W7a, W7b. What `ring::tap` and `ring::tap_f32` answer is the value of the tap's case: the three cases that are not
 -- held count as zero. Assumes nothing.
 use mathlib.Core.Path.{_≡_, refl}
 use mathlib.Core.List.{List}
@@ -21,7 +21,7 @@ value-f32-is unwritten = refl
 value-f32-is ahead = refl
 value-f32-is overwritten = refl
 
--- At every ring, count and index.
+-- This holds for every ring, count and index.
 pub tap-is-value : (xs : List Float) (count : ℕ) (i : ℤ) → tapOf xs count i ≡ valueOf (toldOf (tapAt xs count i))
 tap-is-value xs count i = rw value-is
 

@@ -1,4 +1,4 @@
--- W7a, W7b. What is told of a tap: the enum's case for each case of ring's definition, and what each counts as in
+-- W7a, W7b. Which case a tap is: the enum's case for each case of ring's definition, and what each counts as in
 -- arithmetic. Definitions only.
 use lib.Ieee.{Float}
 use Rattle.constants.specs.Numbers.{zero-f}
@@ -20,7 +20,7 @@ toldF32Of ring.unwritten = f32.Unwritten
 toldF32Of ring.ahead = f32.Ahead
 toldF32Of ring.overwritten = f32.Overwritten
 
--- The value of each case: a tap that is not held counts as zero.
+-- The value of each case. A tap that is not held counts as zero.
 abbrev pub valueOf : Tap → Float
 valueOf (f64.Held x) = x
 valueOf f64.Unwritten = zero-f

@@ -1,5 +1,6 @@
-// What a tap of a lent ring is: held with its value, not yet written, ahead of the newest, or overwritten (W7a).
-// It stands beside `ring`, whose `tap` gives the value alone, so that a reading that does not ask pays nothing.
+// What a tap of a lent ring is: held with its value, not yet written, ahead of the newest sample, or overwritten (W7a).
+// It stands beside `ring`, whose `tap` gives the value alone, so that a reading that does not need the case pays
+// nothing.
 mod single; // the same for samples of single precision
 
 pub use single::told_f32;

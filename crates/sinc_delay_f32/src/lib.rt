@@ -1,6 +1,5 @@
-// The delay reader over a windowed sinc table of f32: it refuses by number, or stores the sample and reads behind it
-// (000).
-// The table is lent; its taps and phases are settings that are handed in at every call.
+// The delay reader over a windowed sinc table of f32: it refuses by number, or stores the sample and then reads at the
+// delay before it (000). The table is lent; its taps and phases are settings that every call takes.
 ghost use mathlib.Core.Path.{_≡_};
 ghost use mathlib.Core.Bool.{_&&_};
 ghost use lib.Dec.{eqb};
@@ -31,7 +30,7 @@ pub fn process_sample<'a>(
         (eqb (length (now (table .entry))) (tableLength taps phases)) state
         (length (now (ring .entry))) input delay) state (now (ring .entry)) input ⌝ }
 {
-    // The refusals 1 and 2 of the table; variable_delay_f32 puts them into their order among its own.
+    // These are the refusals 1 and 2 of the table. variable_delay_f32 puts them into their order among its own.
     let due = sinc_settings::table_refusal(taps, phases, table.len());
     let a = variable_delay_f32::accept(state, due != 1, due != 2, &mut ring[..], input, delay);
     let no = a.refusal;

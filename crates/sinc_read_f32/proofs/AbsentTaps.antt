@@ -1,4 +1,4 @@
--- Taps that are absent: those ahead of the newest sample read zero, and a step over a zero is a product and a sum.
+-- Absent taps: those ahead of the newest sample read zero, and a fused step over a zero equals a product and a sum.
 -- Assumes nothing.
 use mathlib.Core.Path.{_≡_, refl, sym, _∙_, ap}
 use mathlib.Core.Bool.{false}

@@ -1,5 +1,5 @@
--- Both ways of a reading that nothing refuses, every tap held and some taps absent, are the definition's,
--- at what the code holds: r from `phase_at`, b its blend narrowed, z from `first_tap`, s from `run_start`.
+-- Both paths of a reading that is not refused, with every tap held and with some absent, give the definition's value.
+-- The names are those of the code: r from `phase_at`, b its blend narrowed, z from `first_tap`, s from `run_start`.
 -- Assumes nothing.
 use mathlib.Core.Path.{_≡_, _∙_, ap}
 use mathlib.Core.Bool.{true}

@@ -1,4 +1,4 @@
--- Chains over samples side by side are turns of 000's sum: from any tap on, and one behind another. Assumes nothing.
+-- Chains over adjacent samples are turns of 000's sum, from any tap on, and one chain after another. Assumes nothing.
 use mathlib.Core.Path.{_≡_, sym, ap, _∙_}
 use mathlib.Core.List.{List}
 use Prim.Native.Nat.{ℕ, _+_, _-_, _*_, _%_, _≤_, _<_}
@@ -71,7 +71,7 @@ module _ (xs table : List Float) (blend : Float) (taps phase place turns : ℕ)
   abbrev left : ℕ
   left = length xs - place
 
-  -- a part from the place on, counted as the code does
+  -- A part from the place on, counted as the code counts it.
   before-end : (n k : ℕ) → k < n → n ≤ left → getD (take n (drop place xs)) k nan ≡ x k
   before-end n k l h =
       getD-take n (drop place xs) k nan l

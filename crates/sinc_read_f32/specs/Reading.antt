@@ -23,7 +23,7 @@ sincF32At table taps phases xs count p =
     (tapTurn (λ k. tapOf xs count (firstTap p taps +ℤ pos k)) table (narrowed (blendOf p phases)) taps
     (phaseOf p phases)) zero-f taps
 
--- G3, G5. Zero where a setting or the position is out of range, or the table has another length.
+-- G3, G5. Zero if a setting or the position is out of range, or if the table has another length.
 abbrev pub readOf : List Float → ℕ → ℕ → List Float → ℕ → Float → Float
 readOf table taps phases xs count p =
     cond (eqb (tableVerdict taps phases (length table)) 0 && positionOk p)

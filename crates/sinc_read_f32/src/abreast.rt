@@ -9,7 +9,8 @@ ghost use Rattle.sinc_read_f32.specs.Sums.{tapTurn, runTurn};
 use fused_chain::Pair;
 use fused_chain::chains;
 
-// The turns over samples side by side, from two sums on: rows of each table from the same two places on.
+// Makes the turns of two chains over adjacent samples, from two sums on. The rows start at the same two places in each
+// table.
 fn over<'a>(
     samples: &'a [f32],
     one: &'a [f32],
@@ -39,7 +40,8 @@ fn over<'a>(
     )
 }
 
-// Taps that are all held, the first at a place: one run, or one up to the ring's end and one from its start on.
+// Reads taps that are all held, the first at `place`: in one run, or in one up to the ring's end and one from its
+// start.
 pub(crate) fn held<'a>(
     one: &'a [f32],
     two: &'a [f32],

@@ -13,7 +13,7 @@ use crate::sums::held;
 use fused_step::step;
 use narrowing::narrow;
 
-// The tap k behind the first.
+// Tap k, counted from the first.
 fn tap_after(source: &[f32], count: u64, first: i64, k: usize) -> f32
     requires { ⌜ (mag first ≤ 2 ^ 37) × (k ≤ 128) ⌝ }
     ensures { λ r. ⌜ r ≡ tapOf (now (source .entry)) count (first +ℤ pos k) ⌝ }
@@ -21,7 +21,7 @@ fn tap_after(source: &[f32], count: u64, first: i64, k: usize) -> f32
     ring::tap_f32(source, count, first + (k as i64))
 }
 
-// Taps of which any may be absent, one by one. The sum is held as an f64 that is an f32, as in a chain.
+// Reads taps of which any may be absent, one by one. The sum is held as an f64 that is an f32, as in a chain.
 fn one_by_one<'a>(
     table: &'a [f32],
     taps: usize,
@@ -49,7 +49,7 @@ fn one_by_one<'a>(
     narrow(held)
 }
 
-// How many samples there are from an index on, up to `most`.
+// The number of samples there are from an index on, up to `most`.
 fn ahead(count: u64, index: i64, most: usize) -> usize
     ensures { λ r. ⌜ (r ≤ most) × ((i : ℕ) → index ≡ pos i → r < most → count ≤ i + r) ⌝ }
 {
@@ -67,8 +67,8 @@ fn ahead(count: u64, index: i64, most: usize) -> usize
     most
 }
 
-// The turns over absent taps, from `from` up to the last. A product with zero is exact, so a product and a sum are the
-// fused step.
+// Makes the turns over absent taps, from `from` to the last. A product with zero is exact, so a product and a sum give
+// what the fused step gives.
 fn silent<'a>(table: &'a [f32], taps: usize, phase: usize, blend: f32, from: usize, sum: f32) -> f32
     requires { ⌜ (phase * taps + taps + taps ≤ length (now table)) × (from ≤ taps) ⌝ }
     ensures { λ r. ⌜ ((x : ℕ → Float) → ((k : ℕ) → from ≤ k → k < taps → x k ≡ zero-f)
@@ -87,8 +87,8 @@ fn silent<'a>(table: &'a [f32], taps: usize, phase: usize, blend: f32, from: usi
     sum
 }
 
-// Taps of which some are absent. At a short delay the first are held and the rest are ahead of the newest sample: a
-// chain reads the held ones where they lie, and no tap is tested. Else they are taken one by one.
+// Reads taps of which some are absent. At a short delay the first taps are held and the rest are ahead of the newest
+// sample, so a chain reads the held ones where they stand and no tap is tested. Otherwise the taps are read one by one.
 pub(crate) fn scattered<'a>(
     table: &'a [f32],
     taps: usize,

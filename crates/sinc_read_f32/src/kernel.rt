@@ -8,7 +8,7 @@ use crate::absent::scattered;
 use crate::sums::held;
 use answer::AnswerF32;
 
-// The reading at a position in range. Fast path: if every tap is held none is tested.
+// The reading at a position in range. If every tap is held, the fast path tests none of them.
 fn at<'a>(
     table: &'a [f32],
     taps: usize,
@@ -33,7 +33,7 @@ fn at<'a>(
     }
 }
 
-// The reading at a position; zero where a setting or the position is out of range, or the table has another length.
+// The reading at a position; zero if a setting or the position is out of range, or if the table has another length.
 pub fn read<'a>(
     table: &'a [f32],
     taps: usize,
@@ -51,8 +51,8 @@ pub fn read<'a>(
     }
 }
 
-// The reading of a lent slice by a lent table: refuses by 1 if a setting or the position is out of range, by 2 if the
-// table has another length.
+// The reading of a lent slice by a lent table. It is refused by 1 if a setting or the position is out of range, and by
+// 2 if the table has another length.
 pub fn sample<'a>(
     table: &'a [f32],
     taps: usize,

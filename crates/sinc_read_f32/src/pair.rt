@@ -1,11 +1,11 @@
-// What two lent tables of f32 read at one position, as a blend of two sets wants it (T4, T5).
+// What two lent tables of f32 read at one position, as a blend of two sets needs it (T4, T5).
 ghost use mathlib.Core.Path.{_≡_};
 ghost use Rattle.sinc_read_f32.specs.Reading.{readOf};
 use crate::abreast::held;
 use crate::kernel::read;
 use fused_chain::Pair;
 
-// Both readings, each as `read` gives it: at once where every tap is held, else one behind the other.
+// Both readings, each as `read` gives it. If every tap is held they are made at once, otherwise one after the other.
 pub fn read_pair<'a>(
     one: &'a [f32],
     two: &'a [f32],

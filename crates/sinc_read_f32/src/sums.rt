@@ -1,4 +1,4 @@
-// The sum over taps that are held, as chains over samples that lie side by side.
+// The sum over taps that are held, as chains over adjacent samples.
 ghost use mathlib.Core.Path.{_≡_};
 ghost use Prim.Native.Nat.{_+_, _*_, _%_, _≤_, _<_};
 ghost use lib.ListN.{length, getD};
@@ -8,8 +8,8 @@ ghost use Rattle.loop_laws.specs.Loops.{fold};
 ghost use Rattle.sinc_read_f32.specs.Sums.{tapTurn, runTurn};
 use fused_chain::chain;
 
-// The turns over samples side by side, from a sum on: rows of the table from two places on. The chain ends with its
-// samples.
+// Makes the turns over adjacent samples, from a sum on. The rows start at two places of the table and are longer than
+// the samples, so the chain ends with its samples.
 fn over<'a>(
     samples: &'a [f32],
     table: &'a [f32],
@@ -26,8 +26,8 @@ fn over<'a>(
     chain(samples, &table[row..], &table[next..], blend, sum)
 }
 
-// The first n taps, which are all held, the first at a place: one chain, or one up to the ring's end and one from its
-// start on.
+// Reads the first n taps, which are all held, the first at `place`: in one chain, or in one up to the ring's end and
+// one from its start.
 pub(crate) fn held<'a>(
     table: &'a [f32],
     taps: usize,

@@ -1,5 +1,5 @@
--- What is worked out from the counts before and after a call is what the call tells, whatever its verdict.
--- Assumes nothing.
+-- The numbers that the code computes from the counts before and after a call are the call's absent taps, whatever its
+-- verdict. Assumes nothing.
 use mathlib.Core.Path.{_≡_, refl, sym, _∙_}
 use mathlib.Core.List.{List}
 use Prim.Native.Nat.{ℕ, zero, suc, _+_}

@@ -1,11 +1,11 @@
-// The absent taps of one call of a reader, worked out beside it from the count that it found and the count that it left
-// (W7c).
-// A call that was accepted leaves one sample more, and a refused one leaves the count as it was.
+// The absent taps of one call of a reader, computed beside it from the count before the call and the count after it
+// (W7c). An accepted call raises the count by one, and a refused call leaves it as it was.
 ghost use mathlib.Core.Path.{_≡_};
 ghost use Rattle.told_call.specs.Told.{countedOf};
 use absent_taps::Absent;
 
-// The absent ones of the taps that a call read, three zeros if it was refused. `len` is the length of its ring.
+// The numbers of absent taps among those that a call read, three zeros if it was refused. `len` is the length of its
+// ring.
 pub fn of_call(len: usize, before: u64, after: u64, delay: f64, taps: u64) -> Absent
     ensures { λ r. ⌜ r ≡ countedOf len before after delay taps ⌝ }
 {

@@ -1,5 +1,5 @@
--- A reader's answer p and the numbers s that were counted beside it are what a call that tells gives, in either width.
--- Assumes nothing.
+-- A reader's answer p and the numbers s that were counted beside it are what a call that reports absent taps gives, in
+-- either width. Assumes nothing.
 use mathlib.Core.Path.{_≡_, ap}
 use mathlib.Core.Bool.{Bool}
 use mathlib.Core.List.{List}

@@ -1,5 +1,6 @@
--- W7c. A call of a delay reader that tells: the reader's own answer, with the absent ones of the n taps that its kernel
--- reads; none where it is refused. Over what the kernel reads, as the reader itself is. Definitions only.
+-- W7c. A call of a delay reader that reports absent taps: the reader's own answer, with the absent taps among the n
+-- that its kernel reads, and none if it is refused. It is defined over what the kernel reads, as the reader itself is.
+-- Definitions only.
 use Prim.Native.Nat.{ℕ}
 use mathlib.Core.List.{List}
 use lib.Ieee.{Float}
@@ -19,7 +20,7 @@ withAbsent p s = record { state = p .state; answer = p .answer; absent = s }
 abbrev pub withAbsentF32 : ProcessedF32 → Absent → ToldF32
 withAbsentF32 p s = record { state = p .state; answer = p .answer; absent = s }
 
--- v is the call's verdict.
+-- The argument v is the call's verdict.
 abbrev pub toldBy : Reading → ℕ → ℕ → VariableDelay → List Float → Float → Float → Told
 toldBy read n v d xs x y =
     withAbsent (processedBy read v d xs x y) (unlessRefused v (absentOfCall (d .accepted) xs x y n))

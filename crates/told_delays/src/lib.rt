@@ -1,5 +1,5 @@
-// The delay readers of every kernel, telling how many of a call's taps were absent, by kind (W7c).
-// Each calls the reader as it stands and counts beside it, so that a call that does not ask pays nothing.
+// The delay readers of every kernel, with the number of a call's absent taps of each kind (W7c). Each calls the reader
+// as it is and counts beside it, so that a call that does not need the numbers pays nothing.
 mod tables; // the readers over a lent table
 
 pub use tables::sinc_f32_told;

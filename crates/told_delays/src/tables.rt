@@ -1,4 +1,4 @@
-// The readers over a windowed sinc table, telling their absent taps, in both widths.
+// The readers over a windowed sinc table, with the numbers of their absent taps, in both widths.
 ghost use mathlib.Core.Path.{_≡_};
 ghost use mathlib.Core.Bool.{_&&_};
 ghost use lib.Dec.{eqb};

@@ -1,5 +1,6 @@
--- What is worked out from the counts before and after a call is what the call tells, whatever its verdict: by the
--- ring's length alone, and by the choice that an accepted call has. Assumes nothing.
+-- The numbers that the code computes from the counts before and after a call are the call's absent taps, whatever its
+-- verdict. Of the ring only the length matters, and for an accepted call the choice of sets is the definition's.
+-- Assumes nothing.
 use mathlib.Core.Path.{_≡_, refl, sym, _∙_, ap}
 use mathlib.Core.List.{List}
 use Prim.Native.Nat.{ℕ, zero, suc, _+_, _*_}

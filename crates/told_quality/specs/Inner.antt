@@ -1,5 +1,5 @@
--- The numbers as the code has them, from a ring's length and the counts before and after the call. What is promised
--- stands in Told.antt without it. Definitions only.
+-- The numbers as the code computes them, from a ring's length and the counts before and after the call. What is
+-- promised stands in Told.antt, which does not use them. Definitions only.
 use Prim.Native.Nat.{ℕ}
 use mathlib.Core.Bool.{cond}
 use lib.Dec.{eqb}

@@ -1,5 +1,5 @@
--- W7c, W7g. A call of the quality reader that tells: the reader's own answer, with the absent taps of every reading
--- that its turn makes of the sets that its rate reads; none where it is refused. Definitions only.
+-- W7c, W7g. A call of the quality reader that reports absent taps: the reader's own answer, with the absent taps of
+-- every reading that its turn makes from the sets for its rate, and none if it is refused. Definitions only.
 use Prim.Native.Nat.{ℕ, _+_}
 use mathlib.Core.List.{List}
 use lib.ListN.{length}
@@ -20,7 +20,7 @@ use Rattle.told_quality.specs.declared.ToldQ.{ToldQ}
 abbrev pub withAbsent : ProcessedQ → Absent → ToldQ
 withAbsent p s = record { state = p .state; answer = p .answer; absent = s }
 
--- The absent taps of an accepted call that asks for q: of the ring with its sample stored, at its position.
+-- The absent taps of an accepted call that requests q, from the ring with its sample stored and at its position.
 abbrev pub absentOfCall : Float → QualityVariableDelayF32 → List Float → Float → Float → QualityMode → Float → Absent
 absentOfCall max-rate d xs x y q rate =
     ofTurn (chosenOf max-rate rate) (stepOf (fadePart d) q .turn) (stored (d .accepted) xs x) (d .accepted + 1)

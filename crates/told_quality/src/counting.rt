@@ -1,4 +1,4 @@
-// The absent taps of one call, from the counts around it, the sets that its rate reads and the turn that it takes.
+// The absent taps of one call, from the counts before and after it, the sets for its rate and the turn that it takes.
 ghost use mathlib.Core.Path.{_≡_};
 ghost use Rattle.returning_fade.specs.Step.{stepOf};
 ghost use Rattle.quality_variable_delay.specs.State.{fadePart};
@@ -33,7 +33,7 @@ pub(crate) fn turn(state: QualityVariableDelayF32, quality: QualityMode) -> Turn
     t.turn
 }
 
-// Three zeros if the count stayed, for then the call was refused.
+// The answer is three zeros if the count is unchanged, because then the call was refused.
 pub(crate) fn of_call(
     len: usize,
     before: u64,

@@ -1,5 +1,5 @@
-// The reader whose quality may change, telling how many of a call's taps were absent, by kind (W7c, W7g).
-// It calls the reader as it stands and counts beside it, so that a call that does not ask pays nothing.
+// The reader whose quality may change, with the number of a call's absent taps of each kind (W7c, W7g). It calls the
+// reader as it is and counts beside it, so that a call that does not need the numbers pays nothing.
 mod counting; // the numbers of one call
 
 ghost use mathlib.Core.Path.{_≡_};

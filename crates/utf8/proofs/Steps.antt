@@ -1,4 +1,4 @@
--- One byte of a text, and what is left of it. Assumes nothing.
+-- One step over a text: its next byte, and what is left after it. Assumes nothing.
 use mathlib.Core.Path.{_≡_, refl}
 use mathlib.Core.List.{List, []}
 use Prim.Native.Nat.{ℕ, suc, _<_}

@@ -1,4 +1,4 @@
-// Whether a text is UTF-8 that XML takes, by a table of where it stands after each byte.
+// Whether a text is UTF-8 that XML accepts, by a table of states with one step for each byte.
 ghost use mathlib.Core.Path.{_≡_};
 ghost use Rattle.utf8.specs.Utf8.{within, opens, continues, nextOf, isUtf8};
 
@@ -8,7 +8,7 @@ fn inside(low: u8, high: u8, b: u8) -> bool
     refusal_order::both(low <= b, b <= high)
 }
 
-// The first byte of a character.
+// The state after the first byte of a character.
 fn opened(b: u8) -> u8
     ensures { λ r. ⌜ r ≡ opens b ⌝ }
 {
@@ -37,7 +37,7 @@ fn opened(b: u8) -> u8
     }
 }
 
-// A byte that continues one.
+// The state after a byte that continues a character.
 fn continued(low: u8, high: u8, next: u8, b: u8) -> u8
     ensures { λ r. ⌜ r ≡ continues low high next b ⌝ }
 {

@@ -1,4 +1,4 @@
--- What is said of an argument that will not do, behind the command and the argument. Definitions only.
+-- What is said of an argument that cannot be used, after the command and the argument. Definitions only.
 use Prim.Native.Nat.{ℕ}
 use mathlib.Core.Bool.{Bool, _||_}
 use mathlib.Core.List.{List, _++_}
@@ -8,21 +8,20 @@ use Rattle.arguments.specs.declared.Name.{Name}
 use Rattle.wanted.specs.Wanted.{wantedOf}
 use Rattle.error_lines.specs.Lines.{startText}
 
--- Whether an argument asks for the usage.
 abbrev pub isHelp : List ℕ → Bool
 isHelp words = sameBytes words (ascii "--help") || sameBytes words (ascii "-h")
 
--- A file whose name looks like a setting can be named with its folder.
+-- A file whose name looks like a setting can be named with its folder in front.
 unfoldable pub unknownText : List ℕ → List ℕ
 unknownText words =
     ascii " is no setting that it knows (./run --help lists them); for a file of that name write ./" ++
     (words ++ ascii "\n")
 
--- What the value has to be.
+-- The words say what the value has to be.
 unfoldable pub badText : Name → List ℕ
 badText name = ascii " will not do: " ++ (wantedOf name ++ ascii "\n")
 
--- Both with the command and the argument in front.
+-- Both lines begin with the command and the argument.
 unfoldable pub unknownLine : List ℕ → List ℕ → List ℕ
 unknownLine command words = startText command words ++ unknownText words
 

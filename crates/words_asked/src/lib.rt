@@ -1,5 +1,5 @@
-// The files' places among a program's arguments, and what is said of an argument that will not do. What an argument
-// means is proved in `arguments`, what it changes in `asked`; a program goes through its own arguments.
+// The files' places among a program's arguments, and what is said of an argument that cannot be used. What an argument
+// means is proved in `arguments`, and what it changes in `asked`; each program loops over its own arguments.
 ghost use mathlib.Core.Path.{_≡_};
 ghost use Rattle.words_asked.specs.Names.{noNames, withFile, refusedNames, ofTwo};
 ghost use Rattle.words_asked.specs.Words.{isHelp};
@@ -11,7 +11,8 @@ pub use words::say_elsewhere;
 pub use words::say_too_long;
 pub use words::say_unknown;
 
-// Places of arguments, 0 for none; how many files were named, at most 3. Not good where an argument will not do.
+// The places of the two files among the arguments, 0 for none, and how many files were named, at most 3. `good` is
+// false if an argument cannot be used.
 pub struct Names {
     pub first: usize,
     pub second: usize,
@@ -56,7 +57,7 @@ pub fn refused(names: Names) -> Names
     n
 }
 
-// Good where two files were named.
+// The names stay good if exactly two files were named.
 pub fn of_two(names: Names) -> Names
     ensures { λ r. ⌜ r ≡ ofTwo names ⌝ }
 {

@@ -1,4 +1,4 @@
-// What is said of an argument that will not do: a line, of which each call answers how many bytes it has.
+// The lines about an argument that cannot be used. Each call gives the number of bytes of its line.
 ghost use mathlib.Core.Path.{_≡_};
 ghost use lib.ListN.{length};
 ghost use Rattle.text.specs.Text.{ascii, putAt, placeAfter};
@@ -54,7 +54,7 @@ fn put_bad_line(out: &mut [u8], at: usize, command: &[u8], words: &[u8], name: N
     put_bad(out, one, name)
 }
 
-// An argument of 4096 bytes, shown twice, fits.
+// The line has room for an argument of 4096 bytes, which it shows twice.
 pub fn say_unknown(command: &[u8], words: &[u8]) -> usize
     ensures { λ r. ⌜ r ≡ placeAfter 9216 0 (unknownLine (now (command .entry)) (now (words .entry))) ⌝ }
 {

@@ -24,7 +24,7 @@ returns c =
     ∙ draft-reads (a .choice) (zeros (a .len)) (a .count) (a .position) (a .quality)
     (sym (s .same .ensures) ∙ t .if1 .taken)
 
--- one set of a table
+-- The case of one set of a table.
 one : (c : tie.After-missing2) → let a = c .before .before .before .before .args in
     c .missing2 .result ≡ absentAt (zeros (a .len)) (a .count) (a .position) (tapsOf (a .quality))
 one c =

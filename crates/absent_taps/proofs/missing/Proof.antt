@@ -1,5 +1,5 @@
--- `absent_taps::missing` meets its contract: the three numbers worked out at once are those of the taps, one after the
--- other. Assumes nothing.
+-- `absent_taps::missing` meets its contract: the three numbers computed at once are those counted tap by tap. Assumes
+-- nothing.
 use borrow.Author.Needs.{needs}
 use mathlib.Core.Path.{_∙_}
 use mir.Syntax.{w64}

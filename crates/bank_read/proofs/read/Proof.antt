@@ -1,4 +1,4 @@
--- `bank_read::read` meets its contract, by its four ways out. Assumes nothing.
+-- `bank_read::read` meets its contract, by its four returns. Assumes nothing.
 use borrow.Author.Needs.{needs}
 use mathlib.Core.Path.{_≡_, sym, _∙_}
 use mathlib.Core.Bool.{true, false}
@@ -21,7 +21,7 @@ returns c =
     ∙ draft-read (a .choice) (now (a .sets)) (now (a .source)) (a .count) (a .position) (a .quality)
     (sym (d .same .ensures) ∙ c .before .if1 .taken)
 
--- Draft is not asked for; the bank has the sets
+-- The quality is not Draft, and the bank has the sets.
 no-draft : (c : tie.Else1) → sameQ (c .before .before .before .before .args .quality) Draft ≡ false
 no-draft c = sym (c .before .same .ensures) ∙ c .if1 .left
 

@@ -1,4 +1,4 @@
--- `bank_read::sample` meets its contract: the refusal that is due, or the bank's reading. Assumes nothing.
+-- `bank_read::sample` meets its contract, by the number of the refusal or the bank's reading. Assumes nothing.
 use borrow.Author.Needs.{needs}
 use mathlib.Core.Path.{_∙_}
 use denote.Ref.{now}

@@ -1,4 +1,4 @@
--- `bank_read::sets_ok` meets its contract: a bank has a set where it holds more whole sets than come before it.
+-- `bank_read::sets_ok` meets its contract: a bank has a set if it holds more whole sets than come before that one.
 -- Assumes nothing.
 use mathlib.Core.Path.{_≡_, sym, _∙_}
 use borrow.Author.Tests.{lt-ltb, le-ltb}

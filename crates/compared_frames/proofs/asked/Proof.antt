@@ -1,4 +1,4 @@
--- `compared_frames::asked` meets its contract: by whether a number was asked for. Assumes nothing.
+-- `compared_frames::asked` meets its contract, by whether the settings give a number. Assumes nothing.
 use borrow.Author.Needs.{needs}
 use Rattle.compared_frames.proofs.asked.Statement.{statement}
 use Rattle.compared_frames.proofs.asked.Tie as tie

@@ -1,4 +1,4 @@
--- `compared_frames::block_of` meets its contract: by whether a frame is left. Assumes nothing.
+-- `compared_frames::block_of` meets its contract, by whether a frame is left. Assumes nothing.
 use borrow.Author.Needs.{needs}
 use borrow.Author.Tests.{eq-eqb, ne-eqb}
 use Rattle.compared_frames.specs.Compared.{blockOf}

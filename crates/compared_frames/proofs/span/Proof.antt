@@ -1,4 +1,4 @@
--- `compared_frames::span` meets its contract: what the calls ensure, put together. Assumes nothing.
+-- `compared_frames::span` meets its contract, by what the functions that it calls ensure. Assumes nothing.
 use borrow.Author.Needs.{needs}
 use Rattle.compared_frames.proofs.span.Statement.{statement}
 use Rattle.compared_frames.proofs.span.Tie as tie

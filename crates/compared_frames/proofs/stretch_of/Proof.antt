@@ -1,4 +1,4 @@
--- `compared_frames::stretch_of` meets its contract: by whether the stretch has ended. Assumes nothing.
+-- `compared_frames::stretch_of` meets its contract, by whether the stretch has ended. Assumes nothing.
 use borrow.Author.Needs.{needs}
 use borrow.Author.Tests.{le-leb, lt-leb}
 use native.Mathlib.Omega.{arith}

@@ -1,4 +1,4 @@
--- `delay_words::put_delays` meets its contract: by whether a delay is left. Assumes nothing.
+-- `delay_words::put_delays` meets its contract, by whether a delay is left. Assumes nothing.
 use borrow.Author.Needs.{needs}
 use borrow.Author.Tests.{lt-ltb, le-ltb}
 use Rattle.text.specs.Text.{ascii}

@@ -1,5 +1,5 @@
--- `delay_words::whole_above` meets its contract. The loop's invariant: the least number from n on is the one sought.
--- Assumes nothing.
+-- `delay_words::whole_above` meets its contract. The loop's invariant is that the least number from n on is the one
+-- sought. Assumes nothing.
 use borrow.Author.Needs.{needs}
 use mathlib.Core.Path.{_≡_, refl, sym, _∙_}
 use Prim.Native.Nat.{_+_, _-_, _^_, _≤_}

@@ -1,4 +1,4 @@
--- `error_lines::put_name` meets its contract: by whether the name has a byte. Assumes nothing.
+-- `error_lines::put_name` meets its contract, by whether the name has a byte. Assumes nothing.
 use borrow.Author.Needs.{needs}
 use borrow.Author.Tests.{eq-eqb, ne-eqb}
 use lib.ListN.{length}

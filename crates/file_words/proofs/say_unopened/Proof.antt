@@ -1,4 +1,4 @@
--- `file_words::say_unopened` meets its contract: by what was found. Assumes nothing.
+-- `file_words::say_unopened` meets its contract, by what was found. Assumes nothing.
 use borrow.Author.Needs.{needs}
 use Rattle.text.specs.Text.{ascii}
 use Rattle.file_words.proofs.say_unopened.Statement.{statement}

@@ -1,4 +1,4 @@
--- `file_words::say_unread` meets its contract: by whether a call failed. Assumes nothing.
+-- `file_words::say_unread` meets its contract, by whether a call failed. Assumes nothing.
 use borrow.Author.Needs.{needs}
 use borrow.Author.Tests.{eq-eqb, ne-eqb}
 use Rattle.text.specs.Text.{ascii}

@@ -1,4 +1,4 @@
--- `file_words::say_wrapped` meets its contract: by whether it is wrapped. Assumes nothing.
+-- `file_words::say_wrapped` meets its contract, by whether it is wrapped. Assumes nothing.
 use borrow.Author.Needs.{needs}
 use Rattle.file_words.proofs.say_wrapped.Statement.{statement}
 use Rattle.file_words.proofs.say_wrapped.Tie as tie

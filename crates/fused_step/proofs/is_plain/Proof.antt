@@ -16,7 +16,7 @@ size n = bitAnd n 0x7fff_ffff_ffff_ffff
 abbrev least : ℕ
 least = 0x3810_0000_1000_0000
 
--- past the first test the others tell
+-- If the first test does not decide, the other two do.
 rest : (n : ℕ) → (bitAnd n 0x1fff_ffff ≡ 0 → ⊥)
     → plain n ≡ (not (ltb (size n) least) && ltb (size n) 0x47e0_0000_1000_0000)
 rest n h =

@@ -1,4 +1,4 @@
--- `fused_step::rare_step` meets its contract: a zero is exact. Assumes nothing.
+-- `fused_step::rare_step` meets its contract: a sum that is zero is exact. Assumes nothing.
 use borrow.Author.Needs.{needs}
 use mathlib.Core.Path.{sym, subst}
 use lib.Dec.{T}

@@ -1,4 +1,4 @@
--- `fused_step::step` meets its contract: `proofs/Steps.antt` says what the quick way gives. Assumes nothing.
+-- `fused_step::step` meets its contract: `proofs/Steps.antt` says what the fast path gives. Assumes nothing.
 use borrow.Author.Needs.{needs}
 use borrow.Author.Tests.{not-false}
 use mathlib.Core.Path.{refl, sym, subst}
@@ -24,11 +24,11 @@ held-c c = subst T (sym (c .good .1 .0 .1)) tt
 held-sum : (c : tie.Start) → T (fits binary64 (c .args .sum))
 held-sum c = subst T (sym (c .good .1 .1 .0 .1)) tt
 
--- behind the first test neither operand is a NaN
+-- After the first test neither operand is a NaN.
 both : (c : tie.Else1) → let a = c .before .before .args in Numbers (a .x) (a .c)
 both c = c .before .are-numbers .ensures .1 (not-false (c .before .are-numbers .result) (c .if1 .left))
 
--- the sum, and behind the second test no NaN either
+-- The sum, which after the second test is no NaN either.
 abbrev s : tie.Else2 → Float
 s c = let a = c .before .before .before .before .before .args in add binary64 (mul binary64 (a .x) (a .c)) (a .sum)
 

@@ -1,4 +1,4 @@
--- `outcomes::misfit_at` meets its contract: by whether there are two channels. Assumes nothing.
+-- `outcomes::misfit_at` meets its contract, by whether there are two channels. Assumes nothing.
 use borrow.Author.Needs.{needs}
 use borrow.Author.Tests.{eq-eqb, ne-eqb}
 use Rattle.outcomes.specs.Outcomes.{misfitAt}

@@ -1,4 +1,4 @@
--- `outcomes::side_of` meets its contract: by whether the place is even. Assumes nothing.
+-- `outcomes::side_of` meets its contract, by whether the place is even. Assumes nothing.
 use borrow.Author.Needs.{needs}
 use borrow.Author.Tests.{eq-eqb, ne-eqb}
 use Prim.Native.Nat.{_%_}

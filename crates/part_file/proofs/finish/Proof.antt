@@ -1,4 +1,4 @@
--- `part_file::finish` meets its contract: by whether all went well. Assumes nothing.
+-- `part_file::finish` meets its contract, by whether all went well. Assumes nothing.
 use borrow.Author.Needs.{needs}
 use mathlib.Core.Path.{_≡_, refl, sym, _∙_}
 use mathlib.Core.Bool.{true≢false}

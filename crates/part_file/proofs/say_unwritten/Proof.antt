@@ -1,4 +1,4 @@
--- `part_file::say_unwritten` meets its contract: by whether it is standard output. Assumes nothing.
+-- `part_file::say_unwritten` meets its contract, by whether it is standard output. Assumes nothing.
 use borrow.Author.Needs.{needs}
 use Rattle.text.specs.Text.{ascii}
 use Rattle.part_file.specs.Parts.{shownName}

@@ -1,4 +1,4 @@
--- `part_file::write` meets its contract: by whether there is a byte. Assumes nothing.
+-- `part_file::write` meets its contract, by whether there is a byte. Assumes nothing.
 use borrow.Author.Needs.{needs}
 use mathlib.Core.Path.{refl}
 use Rattle.part_file.proofs.write.Statement.{statement}

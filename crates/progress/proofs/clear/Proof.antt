@@ -1,4 +1,4 @@
--- `progress::clear` meets its contract: by whether there is a terminal. Assumes nothing.
+-- `progress::clear` meets its contract, by whether there is a terminal. Assumes nothing.
 use borrow.Author.Needs.{needs}
 use mathlib.Core.Path.{_∙_}
 use Rattle.text.specs.Text.{ascii}

@@ -1,4 +1,4 @@
--- `progress::hundredths` meets its contract: what the calls ensure. Assumes nothing.
+-- `progress::hundredths` meets its contract, by what the functions that it calls ensure. Assumes nothing.
 use borrow.Author.Needs.{needs}
 use mathlib.Core.Path.{_∙_, ap}
 use mathlib.Core.Bool.{cond}

@@ -1,4 +1,4 @@
--- `progress::put_progress` meets its contract: what the calls ensure. Assumes nothing.
+-- `progress::put_progress` meets its contract, by what the functions that it calls ensure. Assumes nothing.
 use borrow.Author.Needs.{needs}
 use Rattle.progress.specs.Progress.{percentText}
 use Rattle.progress.proofs.put_progress.Statement.{statement}

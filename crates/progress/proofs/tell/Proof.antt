@@ -1,4 +1,4 @@
--- `progress::tell` meets its contract: by whether there is a terminal. Assumes nothing.
+-- `progress::tell` meets its contract, by whether there is a terminal. Assumes nothing.
 use borrow.Author.Needs.{needs}
 use mathlib.Core.Path.{_∙_}
 use mir.Syntax.{w64}

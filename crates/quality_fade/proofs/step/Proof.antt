@@ -1,5 +1,5 @@
--- `quality_fade::step` meets its contract: in its ranges a state takes the rule's turn, whose place has room,
--- by `ready`; another stays as it is. Assumes nothing.
+-- `quality_fade::step` meets its contract: a state in its ranges takes the rule's turn, whose place can grow by one, by
+-- `ready`; any other state stays as it is. Assumes nothing.
 use borrow.Author.Needs.{needs}
 use mathlib.Core.Path.{_≡_, sym, _∙_, ap, subst}
 use mathlib.Core.Bool.{true}
@@ -9,7 +9,7 @@ use Rattle.quality_fade.proofs.StaysInRange.{Ready, ready, step-taken}
 use Rattle.quality_fade.proofs.step.Statement.{statement}
 use Rattle.quality_fade.proofs.step.Tie as tie
 
--- both tests passed
+-- Both tests passed.
 placed : (c : tie.Then2) → placeOk (c .before .before .before .before .args .state) ≡ true
 placed c = sym (c .before .place-ok .ensures) ∙ c .if2 .taken
 

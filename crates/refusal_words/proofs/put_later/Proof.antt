@@ -1,4 +1,4 @@
--- `refusal_words::put_later` meets its contract: by the number. Assumes nothing.
+-- `refusal_words::put_later` meets its contract, by the number. Assumes nothing.
 use borrow.Author.Needs.{needs}
 use borrow.Author.Tests.{eq-eqb, ne-eqb}
 use Rattle.text.specs.Text.{ascii}

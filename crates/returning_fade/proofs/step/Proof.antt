@@ -1,5 +1,5 @@
--- `returning_fade::step` meets its contract: it is the ported rule's step of what it is handed, by `by-steps`.
--- Assumes nothing.
+-- `returning_fade::step` meets its contract: it is the ported rule's step from the target, place and request that
+-- `handed` gives, by `by-steps`. Assumes nothing.
 use borrow.Author.Needs.{needs}
 use Rattle.returning_fade.proofs.PortedSteps.{by-steps}
 use Rattle.returning_fade.proofs.step.Statement.{statement}

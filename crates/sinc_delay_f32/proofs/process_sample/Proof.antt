@@ -1,6 +1,5 @@
--- `sinc_delay_f32::process_sample` meets its contract: `accept` refuses, the table's settings and length among the
--- reasons, or stores; what is read behind the stored sample is the table's reading, by the laws over any kernel's
--- reading. Assumes nothing.
+-- `sinc_delay_f32::process_sample` meets its contract: `accept` refuses, also for the table's settings and length, or
+-- stores the sample; the reading after that is the table's, by the laws over any kernel's reading. Assumes nothing.
 use borrow.Author.Needs.{needs}
 use mathlib.Core.Path.{_∙_}
 use mathlib.Core.Bool.{_&&_}

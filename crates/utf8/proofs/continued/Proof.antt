@@ -1,4 +1,4 @@
--- `utf8::continued` meets its contract: by the test of the byte. Assumes nothing.
+-- `utf8::continued` meets its contract, by the test of the byte. Assumes nothing.
 use borrow.Author.Needs.{needs}
 use Rattle.utf8.specs.Utf8.{continues}
 use Rattle.utf8.proofs.continued.Statement.{statement}

@@ -1,6 +1,5 @@
--- `utf8::is_utf8` meets its contract. The loop's invariant: from the place after k bytes on, what is left of the text
--- ends where all of it does.
--- Assumes nothing.
+-- `utf8::is_utf8` meets its contract. The loop's invariant is that, from the place after k bytes, the rest of the text
+-- ends where the whole text does. Assumes nothing.
 use borrow.Author.Needs.{needs}
 use mathlib.Core.Path.{_≡_, refl, sym, _∙_, ap}
 use Prim.Native.Nat.{_-_, _≤_}

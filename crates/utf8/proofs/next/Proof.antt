@@ -1,4 +1,4 @@
--- `utf8::next` meets its contract: by the place. Assumes nothing.
+-- `utf8::next` meets its contract, by the place. Assumes nothing.
 use borrow.Author.Needs.{needs}
 use borrow.Author.Tests.{eq-eqb, ne-eqb}
 use Rattle.utf8.specs.Utf8.{nextOf}

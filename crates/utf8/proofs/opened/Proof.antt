@@ -1,4 +1,4 @@
--- `utf8::opened` meets its contract: by the tests of the byte. Assumes nothing.
+-- `utf8::opened` meets its contract, by the tests of the byte. Assumes nothing.
 use borrow.Author.Needs.{needs}
 use borrow.Author.Tests.{eq-eqb, ne-eqb, lt-ltb, le-ltb}
 use Rattle.utf8.specs.Utf8.{opens}

@@ -1,4 +1,4 @@
--- `words_asked::is_help` meets its contract: by the first test. Assumes nothing.
+-- `words_asked::is_help` meets its contract, by the first test. Assumes nothing.
 use borrow.Author.Needs.{needs}
 use mathlib.Core.Path.{_≡_, sym, _∙_, ap}
 use mathlib.Core.Bool.{Bool, _||_}

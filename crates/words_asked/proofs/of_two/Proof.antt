@@ -1,4 +1,4 @@
--- `words_asked::of_two` meets its contract: both tests. Assumes nothing.
+-- `words_asked::of_two` meets its contract, by both tests. Assumes nothing.
 use borrow.Author.Needs.{needs}
 use Rattle.words_asked.proofs.of_two.Statement.{statement}
 use Rattle.words_asked.proofs.of_two.Tie as tie

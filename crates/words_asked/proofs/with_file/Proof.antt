@@ -1,4 +1,4 @@
--- `words_asked::with_file` meets its contract: by how many files were named before. Assumes nothing.
+-- `words_asked::with_file` meets its contract, by how many files were named before. Assumes nothing.
 use borrow.Author.Needs.{needs}
 use borrow.Author.Tests.{eq-eqb, ne-eqb}
 use Rattle.words_asked.proofs.with_file.Statement.{statement}

@@ -1,4 +1,4 @@
--- `absent_taps::first` meets its contract, by where the number stands. Assumes nothing.
+-- `absent_taps::first` meets its contract: one law of `Starts` for each return. Assumes nothing.
 use borrow.Author.Needs.{needs}
 use mathlib.Core.Path.{_≡_}
 use native.Mathlib.Omega.{arith}
@@ -11,7 +11,7 @@ use Rattle.absent_taps.proofs.Starts.{Below, below-of}
 use Rattle.absent_taps.proofs.counting.first.Statement.{statement}
 use Rattle.absent_taps.proofs.counting.first.Tie as tie
 
--- the number, as the code holds it
+-- The number as the code holds it.
 word : (c : tie.Start) → toZ w64 (ofZ w64 (c .args .whole)) ≡ c .args .whole
 word c = toZ-ofZ w64 (c .args .whole) (c .fits .whole)
 

@@ -1,5 +1,5 @@
--- `fugnadri_bank::quality_openings::open_by` meets its contract: refused, what stood there is kept;
--- opened, it is what the reset gives. Assumes nothing.
+-- `fugnadri_bank::quality_openings::open_by` meets its contract: a refusal keeps what stood there, and an opening
+-- writes what the reset gives. Assumes nothing.
 use borrow.Author.Needs.{needs}
 use mathlib.Core.Path.{ap}
 use Rattle.quality_codes.specs.Left.{begunOf}

@@ -1,5 +1,5 @@
--- `fugnadri_told::readers::fugnadri_farrow8_process_told` meets its contract:
--- what the reader that tells gives, handed out. Assumes nothing.
+-- `fugnadri_told::readers::fugnadri_farrow8_process_told` meets its contract: it writes what `farrow8_told` gives.
+-- Assumes nothing.
 use borrow.Author.Needs.{needs}
 use Rattle.fugnadri_told.proofs.HandedOut.{left}
 use Rattle.fugnadri_told.proofs.readers.fugnadri_farrow8_process_told.Statement.{statement}

@@ -1,5 +1,5 @@
--- `fugnadri_told::tables::fugnadri_windowed_sinc_f32_process_told` meets its contract:
--- what the reader that tells gives, handed out. Assumes nothing.
+-- `fugnadri_told::tables::fugnadri_windowed_sinc_f32_process_told` meets its contract: it writes what `sinc_f32_told`
+-- gives. Assumes nothing.
 use borrow.Author.Needs.{needs}
 use Rattle.fugnadri_told.proofs.HandedOut.{left-f32}
 use Rattle.fugnadri_told.proofs.tables.fugnadri_windowed_sinc_f32_process_told.Statement.{statement}

@@ -28,7 +28,7 @@ abbrev μ-loop : tie.MeasureT-loop
 abbrev begun : tie.At-loop Inv-loop μ-loop → tie.Start Inv-loop μ-loop
 begun l = l .before .before .before .before .before .before .before .before .before .before
 
--- where a turn is not made, what both stand for comes back
+-- Where no further turn is made, subtracting the bias gives both sums back.
 ended : (l : tie.At-loop Inv-loop μ-loop)
     → let a = begun l .args in
     let v = l .before .before .before in

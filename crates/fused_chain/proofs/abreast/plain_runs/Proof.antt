@@ -1,5 +1,5 @@
--- `fused_chain::abreast::plain_runs` meets its contract: the turns so far carry both sums, and they are finite.
--- Assumes nothing.
+-- `fused_chain::abreast::plain_runs` meets its contract: the turns so far carry both sums, which are finite. Assumes
+-- nothing.
 use borrow.Author.Needs.{needs}
 use borrow.Author.Tests.{not-false}
 use mathlib.Core.Path.{_≡_}
@@ -30,7 +30,7 @@ abbrev μ-loop : tie.MeasureT-loop
 abbrev begun : tie.At-loop Inv-loop μ-loop → tie.Start Inv-loop μ-loop
 begun l = l .before .before .before .before .before .before .before .before
 
--- where a turn is not made, both runs end
+-- Where no further turn is made, both runs end.
 ended : (l : tie.At-loop Inv-loop μ-loop)
     → let a = begun l .args in
     (Runs (now (a .xs)) (now (a .a0)) (now (a .a1)) (a .blend) (a .from) (a .to) (a .a) (l .loop .k) (l .loop .s))
@@ -57,7 +57,7 @@ returns c =
       },
     )
 
--- what differs from itself by zero
+-- The code's test that a value is finite: its difference from itself is zero.
 abbrev none : Float → Bool
 none z = eq (sub binary64 z z) (ofBits binary64 0)
 
@@ -86,7 +86,7 @@ multiplied-requires-2 c κs =
     let p = begun (c .before .before) .pre .1 in
     (omega (arith, p .samples), omega (arith, p .row), omega (arith, p .next))
 
--- both chains' products are fine
+-- The products of both chains passed their tests.
 products : (c : tie.Else2 Inv-loop μ-loop) → let q = c .before .before in
     (q .before .multiplied .result .fine ≡ true) × (q .multiplied2 .result .fine ≡ true)
 products c =

@@ -7,7 +7,7 @@ use Rattle.fused_chain.specs.Rounding.{Nearest}
 use Rattle.fused_chain.proofs.before.four_rounded.Statement.{statement}
 use Rattle.fused_chain.proofs.before.four_rounded.Tie as tie
 
--- what was left is not fine
+-- A value that failed its test cannot also have passed it.
 left : (b : Bool) → not b ≡ true → b ≡ true → ⊥
 left b h k = false≢true (sym (not-true b h) ∙ k)
 

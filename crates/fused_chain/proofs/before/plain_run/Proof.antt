@@ -1,5 +1,5 @@
--- `fused_chain::before::plain_run` meets its contract: the turns so far carry the sum, and it is finite.
--- Assumes nothing.
+-- `fused_chain::before::plain_run` meets its contract: the turns so far carry the sum, which is finite. Assumes
+-- nothing.
 use borrow.Author.Needs.{needs}
 use borrow.Author.Tests.{not-false}
 use mathlib.Core.Path.{_≡_}

@@ -1,4 +1,4 @@
--- `fused_chain::before::rounded` meets its contract: the quick way of a step. Assumes nothing.
+-- `fused_chain::before::rounded` meets its contract: it is the fast path of a step. Assumes nothing.
 use borrow.Author.Needs.{needs}
 use mathlib.Core.Path.{sym, ap, subst}
 use mathlib.Core.Bool.{not, false≢true}

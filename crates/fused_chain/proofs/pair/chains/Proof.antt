@@ -1,5 +1,5 @@
--- `fused_chain::pair::chains` meets its contract: both chains end where the shorter lists do,
--- or each is made by itself. Assumes nothing.
+-- `fused_chain::pair::chains` meets its contract: both chains end where the shorter lists do, or each is computed by
+-- itself. Assumes nothing.
 use borrow.Author.Needs.{needs}
 use mathlib.Core.Path.{_≡_, sym, _∙_, ap, subst}
 use Prim.Native.Nat.{min}

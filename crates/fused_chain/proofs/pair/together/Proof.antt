@@ -19,7 +19,7 @@ Inv-loop xs a0 a1 b0 b1 blend a b n middle from-a from-b s₀ t₀ k₀ s t k =
 abbrev μ-loop : tie.MeasureT-loop
 μ-loop xs a0 a1 b0 b1 blend a b n middle from-a from-b s₀ t₀ k₀ s t k = n - k
 
--- both sums are f32
+-- Both sums are f32 values.
 held-a : (c : tie.Start Inv-loop μ-loop) → T (fits binary32 (c .args .a))
 held-a c = subst T (sym (c .good .1 .1 .1 .1 .1 .1 .0 .1)) tt
 
@@ -32,7 +32,7 @@ begun h = h .before .before .before .before .before .before
 abbrev entered : tie.At-loop Inv-loop μ-loop → tie.Start Inv-loop μ-loop
 entered l = begun (l .before .before .before .before)
 
--- the middle is no later than the end
+-- The middle is no later than the end.
 inside : (h : tie.After-ahead Inv-loop μ-loop) → h .ahead .result ≤ begun h .args .n
 inside h = omega arith
 

@@ -1,4 +1,4 @@
--- `fused_chain::taps::multiplied` meets its contract: every factor is a number where all are. Assumes nothing.
+-- `fused_chain::taps::multiplied` meets its contract: if the test passes, every factor is a number. Assumes nothing.
 use borrow.Author.Needs.{needs}
 use borrow.Author.Tests.{not-false}
 use mathlib.Core.Path.{_≡_}
@@ -9,7 +9,7 @@ use Rattle.fused_chain.proofs.FourBiasedTurns.{renamed}
 use Rattle.fused_chain.proofs.taps.multiplied.Statement.{statement}
 use Rattle.fused_chain.proofs.taps.multiplied.Tie as tie
 
--- the two halves of the test
+-- The two halves of the code's test.
 all : (c : tie.Else1) → c .before .both3 .result ≡ true
 all c = not-false (c .before .both3 .result) (c .if1 .left)
 

@@ -1,4 +1,4 @@
--- `picture::bars::start` meets its contract: by whether there are stretches. Assumes nothing.
+-- `picture::bars::start` meets its contract, by whether there are stretches. Assumes nothing.
 use borrow.Author.Needs.{needs}
 use borrow.Author.Tests.{eq-eqb, ne-eqb}
 use Rattle.picture.specs.Bars.{edge}

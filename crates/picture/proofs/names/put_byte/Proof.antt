@@ -1,4 +1,4 @@
--- `picture::names::put_byte` meets its contract: by the tests of the byte. Assumes nothing.
+-- `picture::names::put_byte` meets its contract, by the tests of the byte. Assumes nothing.
 use borrow.Author.Needs.{needs}
 use borrow.Author.Tests.{eq-eqb, ne-eqb, lt-ltb, le-ltb}
 use Rattle.text.specs.Text.{ascii}

@@ -1,4 +1,4 @@
--- `picture::names::put_escaped` meets its contract: what the calls ensure. Assumes nothing.
+-- `picture::names::put_escaped` meets its contract, by what the functions that it calls ensure. Assumes nothing.
 use borrow.Author.Needs.{needs}
 use Rattle.picture.proofs.names.put_escaped.Statement.{statement}
 use Rattle.picture.proofs.names.put_escaped.Tie as tie

@@ -1,4 +1,4 @@
--- `picture::names::put_shown` meets its contract: what the calls ensure. Assumes nothing.
+-- `picture::names::put_shown` meets its contract, by what the functions that it calls ensure. Assumes nothing.
 use borrow.Author.Needs.{needs}
 use Rattle.picture.proofs.names.put_shown.Statement.{statement}
 use Rattle.picture.proofs.names.put_shown.Tie as tie

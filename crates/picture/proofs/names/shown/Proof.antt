@@ -1,4 +1,4 @@
--- `picture::names::shown` meets its contract: by whether the name is UTF-8, and by the byte. Assumes nothing.
+-- `picture::names::shown` meets its contract, by whether the name is UTF-8, and by the byte. Assumes nothing.
 use borrow.Author.Needs.{needs}
 use borrow.Author.Tests.{lt-ltb, le-ltb}
 use Rattle.picture.specs.Names.{shownByte}

@@ -1,4 +1,4 @@
--- `quality_codes::codes::fields_ok` meets its contract: its tests, two by two. Assumes nothing.
+-- `quality_codes::codes::fields_ok` meets its contract: it makes the definition's tests, two by two. Assumes nothing.
 use Rattle.quality_codes.proofs.codes.fields_ok.Statement.{statement}
 use Rattle.quality_codes.proofs.codes.fields_ok.Tie as tie
 

@@ -1,5 +1,5 @@
--- `quality_codes::draft::read` meets its contract: the mask gives a place inside the ring, and the count is small,
--- so that both casts are exact. Assumes nothing.
+-- `quality_codes::draft::read` meets its contract: the mask gives a place inside the ring, and the count is small, so
+-- that both casts are exact. Assumes nothing.
 use borrow.Author.Needs.{needs, scaled-fits}
 use mathlib.Core.Path.{_≡_, _∙_}
 use Prim.Native.Nat.{_-_, _<_}

@@ -1,5 +1,5 @@
--- `quality_fade::ported::turn` meets its contract: plain, or mixed with a place below the length,
--- so that one more fits. Assumes nothing.
+-- `quality_fade::ported::turn` meets its contract: the call is plain, or it is mixed and its place is below the length,
+-- so that adding one cannot overflow. Assumes nothing.
 use borrow.Author.Needs.{needs}
 use mathlib.Core.Path.{_≡_, sym, _∙_}
 use mathlib.Core.Logic.{⊎-elim}

@@ -1,5 +1,5 @@
--- `quality_variable_delay::calls::process_sample_rate_aware` meets its contract: by its refusal,
--- or by what `accepted` gives. Assumes nothing.
+-- `quality_variable_delay::calls::process_sample_rate_aware` meets its contract, by its refusal or by what `accepted`
+-- gives. Assumes nothing.
 use borrow.Author.Needs.{needs}
 use mathlib.Core.Path.{sym, _∙_}
 use denote.Ref.{now}

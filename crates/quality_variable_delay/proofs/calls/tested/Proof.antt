@@ -1,5 +1,5 @@
--- `quality_variable_delay::calls::tested` meets its contract: a common call is refused nothing,
--- any other what `due` says. Assumes nothing.
+-- `quality_variable_delay::calls::tested` meets its contract: a call on the fast path is not refused, and for any other
+-- the number is that of `due`. Assumes nothing.
 use borrow.Author.Needs.{needs}
 use mathlib.Core.Path.{sym}
 use Rattle.quality_variable_delay.proofs.calls.tested.Statement.{statement}

@@ -1,6 +1,5 @@
--- `quality_variable_delay::opening::reset` meets its contract: by its refusal, or by the ring that `clear_f32` leaves
--- and the state that `renew` gives.
--- Assumes nothing.
+-- `quality_variable_delay::opening::reset` meets its contract, by its refusal or by the ring that `clear_f32` leaves
+-- and the state that `renew` gives. Assumes nothing.
 use borrow.Author.Needs.{needs}
 use mathlib.Core.Path.{sym, _∙_}
 use Rattle.variable_delay.proofs.Refused.{not-cleared}

@@ -1,6 +1,5 @@
--- `quality_variable_delay::storing::accepted` meets its contract: where no refusal is due the ring has room,
--- and the position and the bank are in range.
--- Assumes nothing.
+-- `quality_variable_delay::storing::accepted` meets its contract: if nothing is refused, the ring has room, and the
+-- position and the bank are in range. Assumes nothing.
 use borrow.Author.Needs.{needs}
 use mathlib.Core.Path.{_≡_, _∙_, ap}
 use Prim.Native.Nat.{_*_}

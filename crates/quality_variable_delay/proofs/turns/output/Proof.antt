@@ -12,7 +12,7 @@ use Rattle.bank_read.proofs.BankReading.{draft-read, bank-read}
 use Rattle.quality_variable_delay.proofs.turns.output.Statement.{statement}
 use Rattle.quality_variable_delay.proofs.turns.output.Tie as tie
 
--- a quality's reading by the choice that was made
+-- A quality's reading by the choice that was made.
 chosen : (s : tie.Start) (q : QualityMode) (h : Choice) → let a = s .args in
     h ≡ choiceOf (a .max-rate) (a .playback-rate)
     → readOf h q (now (a .sets)) (now (a .source)) (a .count) (a .position)
@@ -39,7 +39,7 @@ returns c =
       first .read .ensures ∙ chosen s (t .from) (h .choice-or-zero .result) e,
     ))
 
--- Draft reads the same by every choice
+-- Draft reads the same by every choice.
 returns-2 : tie.Need-returns-2
 returns-2 c =
     let d = c .before .before in

@@ -1,4 +1,4 @@
--- `refusal_words::kinds::put_frame` meets its contract: by whether the file says it. Assumes nothing.
+-- `refusal_words::kinds::put_frame` meets its contract, by whether the file says it. Assumes nothing.
 use borrow.Author.Needs.{needs}
 use borrow.Author.Tests.{eq-eqb, ne-eqb}
 use Rattle.text.specs.Text.{ascii}

@@ -1,4 +1,4 @@
--- `refusal_words::kinds::put_remix` meets its contract: by whether there are more than two. Assumes nothing.
+-- `refusal_words::kinds::put_remix` meets its contract, by whether there are more than two. Assumes nothing.
 use borrow.Author.Needs.{needs}
 use borrow.Author.Tests.{lt-ltb, le-ltb}
 use Rattle.text.specs.Text.{ascii}

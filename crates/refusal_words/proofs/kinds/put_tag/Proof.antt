@@ -1,4 +1,4 @@
--- `refusal_words::kinds::put_tag` meets its contract: by the tag. Assumes nothing.
+-- `refusal_words::kinds::put_tag` meets its contract, by the tag. Assumes nothing.
 use borrow.Author.Needs.{needs}
 use borrow.Author.Tests.{eq-eqb, ne-eqb}
 use Rattle.text.specs.Text.{ascii, decimal}

@@ -1,5 +1,5 @@
--- `sinc_read_f32::absent::ahead` meets its contract: an index that is no number from 0 on is asked about nothing.
--- Assumes nothing.
+-- `sinc_read_f32::absent::ahead` meets its contract: for an index below 0 it promises nothing but `most`. Assumes
+-- nothing.
 use borrow.Author.Needs.{needs}
 use borrow.Author.Tests.{ltb-true}
 use mathlib.Core.Path.{_≡_, _∙_, ap, subst}
@@ -15,7 +15,7 @@ use Rattle.ring.proofs.RunStartWays.{fits}
 use Rattle.sinc_read_f32.proofs.absent.ahead.Statement.{statement}
 use Rattle.sinc_read_f32.proofs.absent.ahead.Tie as tie
 
--- the index, as the code holds it
+-- The index as the code holds it.
 word : (c : tie.Start) → toZ w64 (ofZ w64 (c .args .index)) ≡ c .args .index
 word c = toZ-ofZ w64 (c .args .index) (c .fits .index)
 

@@ -1,4 +1,4 @@
--- `sinc_read_f32::absent::one_by_one` meets its contract: after k turns the sum is the fold of k turns, and an f32.
+-- `sinc_read_f32::absent::one_by_one` meets its contract: after k turns the sum is the fold of k turns, and is an f32.
 -- Assumes nothing.
 use borrow.Author.Needs.{needs}
 use mathlib.Core.Path.{_≡_, refl, sym, _∙_, ap, subst}

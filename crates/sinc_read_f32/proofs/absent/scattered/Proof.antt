@@ -1,5 +1,5 @@
--- `sinc_read_f32::absent::scattered` meets its contract: the first taps are held and the rest are ahead, or any may be
--- absent. Assumes nothing.
+-- `sinc_read_f32::absent::scattered` meets its contract: the first taps are held and the rest are ahead, or any tap may
+-- be absent. Assumes nothing.
 use borrow.Author.Needs.{needs}
 use mathlib.Core.Path.{_≡_, sym, _∙_, ap, subst}
 use Prim.Native.Nat.{ℕ, _^_, _≤_}
@@ -23,14 +23,14 @@ use Rattle.sinc_read_f32.proofs.AbsentTaps.{ahead-zero}
 use Rattle.sinc_read_f32.proofs.absent.scattered.Statement.{statement}
 use Rattle.sinc_read_f32.proofs.absent.scattered.Tie as tie
 
--- the first tap, as the code holds it
+-- The first tap as the code holds it.
 abbrev held-first : tie.Start → ℤ
 held-first s = toZ w64 (ofZ w64 (s .args .first))
 
 word : (s : tie.Start) → held-first s ≡ s .args .first
 word s = toZ-ofZ w64 (s .args .first) (s .fits .first)
 
--- all turns, the first tap being z
+-- All turns, if the first tap is z.
 abbrev all : tie.Start → ℤ → Float
 all s z =
     let a = s .args in

@@ -1,5 +1,5 @@
--- `sinc_read_f32::absent::silent` meets its contract: after each turn the sum is the fold of the turns so far,
--- whatever told the samples before. Assumes nothing.
+-- `sinc_read_f32::absent::silent` meets its contract: after each turn the sum is the fold of the turns so far, whatever
+-- the samples before were. Assumes nothing.
 use borrow.Author.Needs.{needs}
 use mathlib.Core.Path.{_≡_, _∙_, ap}
 use Prim.Native.Nat.{ℕ, _-_, _≤_, _<_}

@@ -1,4 +1,5 @@
--- `sinc_read_f32::kernel::at` meets its contract: each way is the definition's, by `BothWays`. Assumes nothing.
+-- `sinc_read_f32::kernel::at` meets its contract: each path gives the definition's value, by `BothWays`. Assumes
+-- nothing.
 use borrow.Author.Needs.{needs}
 use mathlib.Core.Path.{_≡_, sym, _∙_, subst}
 use Prim.Native.Nat.{_^_, _≤_}
@@ -21,14 +22,14 @@ use Rattle.sinc_read_f32.proofs.kernel.at.Tie as tie
 abbrev begun : tie.After-run-start → tie.Start
 begun c = c .before .before .before .before .before .before
 
--- nothing is refused
+-- Nothing is refused.
 ok : (c : tie.After-run-start) → let a = begun c .args in
     Readable (a .taps) (a .phases) (length (now (a .table))) (a .position)
 ok c =
     let s = begun c in
     readable (s .args .taps) (s .args .phases) (length (now (s .args .table))) (s .args .position) (s .pre)
 
--- the first tap, as the code holds it
+-- The first tap as the code holds it.
 first : (c : tie.After-run-start) → let a = begun c .args in
     toZ w64 (ofZ w64 (c .before .first-tap .result)) ≡ firstTap (a .position) (a .taps)
 first c =

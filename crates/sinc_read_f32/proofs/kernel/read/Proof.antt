@@ -1,4 +1,4 @@
--- `sinc_read_f32::kernel::read` meets its contract, by the refusal that is due. Assumes nothing.
+-- `sinc_read_f32::kernel::read` meets its contract, by the number of the refusal. Assumes nothing.
 use borrow.Author.Needs.{needs}
 use mathlib.Core.Path.{sym, _∙_}
 use lib.ListN.{length}

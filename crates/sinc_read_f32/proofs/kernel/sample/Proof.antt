@@ -1,4 +1,5 @@
--- `sinc_read_f32::kernel::sample` meets its contract: the refusal that is due, and what `read` gives. Assumes nothing.
+-- `sinc_read_f32::kernel::sample` meets its contract, by the number of the refusal and what `read` gives. Assumes
+-- nothing.
 use borrow.Author.Needs.{needs}
 use Rattle.sinc_read_f32.proofs.kernel.sample.Statement.{statement}
 use Rattle.sinc_read_f32.proofs.kernel.sample.Tie as tie

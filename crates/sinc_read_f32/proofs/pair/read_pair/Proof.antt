@@ -1,4 +1,4 @@
--- `sinc_read_f32::pair::read_pair` meets its contract: where nothing is refused and every tap is held both tables are
+-- `sinc_read_f32::pair::read_pair` meets its contract: if nothing is refused and every tap is held, both tables are
 -- read at once, by `BothWays`. Assumes nothing.
 use borrow.Author.Needs.{needs}
 use mathlib.Core.Path.{_≡_, sym, _∙_, subst}
@@ -21,7 +21,7 @@ use Rattle.sinc_read_f32.proofs.pair.read_pair.Tie as tie
 abbrev begun : tie.After-run-start → tie.Start
 begun c = c .before .before .before .before .before .before .before .before .before .before
 
--- nothing is refused, of either table
+-- Neither table is refused.
 due : (c : tie.After-run-start) → let a = begun c .args in
     sampleVerdict (a .taps) (a .phases) (length (now (a .one))) (a .position) ≡ 0
 due c = let i = c .before .before .before .before in sym (i .before .refusal .ensures) ∙ i .if2 .taken
@@ -41,7 +41,7 @@ ok-two : (c : tie.After-run-start) → let a = begun c .args in
     Readable (a .taps) (a .phases) (length (now (a .two))) (a .position)
 ok-two c = let a = begun c .args in readable (a .taps) (a .phases) (length (now (a .two))) (a .position) (due-two c)
 
--- the first tap, as the code holds it
+-- The first tap as the code holds it.
 first : (c : tie.After-run-start) → let a = begun c .args in
     toZ w64 (ofZ w64 (c .before .first-tap .result)) ≡ firstTap (a .position) (a .taps)
 first c =

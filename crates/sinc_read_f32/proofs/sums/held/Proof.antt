@@ -1,4 +1,4 @@
--- `sinc_read_f32::sums::held` meets its contract: the samples lie side by side, or up to the ring's end and on from its
+-- `sinc_read_f32::sums::held` meets its contract: the samples are adjacent, or go up to the ring's end and on from its
 -- start. Assumes nothing.
 use borrow.Author.Needs.{needs}
 use mathlib.Core.Path.{_∙_}

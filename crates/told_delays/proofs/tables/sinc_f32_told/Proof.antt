@@ -1,5 +1,5 @@
--- `told_delays::sinc_f32_told` meets its contract: the sinc of f32's reader answers, and its taps are counted beside it.
--- Assumes nothing.
+-- `told_delays::sinc_f32_told` meets its contract: the reader of the sinc of f32 answers, and its taps are counted
+-- beside it. Assumes nothing.
 use borrow.Author.Needs.{needs}
 use mathlib.Core.Bool.{_&&_}
 use lib.Dec.{eqb}

@@ -1,4 +1,4 @@
--- `told_quality::turn` meets its contract: the turn of the step that it makes. Assumes nothing.
+-- `told_quality::turn` meets its contract: it is the turn of the step that it makes. Assumes nothing.
 use borrow.Author.Needs.{needs}
 use mathlib.Core.Path.{ap}
 use Rattle.returning_fade.specs.declared.RuledTurn.{RuledTurn}
