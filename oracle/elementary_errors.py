@@ -1,5 +1,5 @@
 #!/usr/bin/env python3
-"""How far `elementary`'s sine, cosine and exp2 lie from 01's fractions, measured with exact arithmetic.
+"""Measures with exact arithmetic how far `elementary`'s sine, cosine and exp2 lie from 01's fractions.
 
   elementary_errors.py [ARGUMENTS] [SEED]
 
