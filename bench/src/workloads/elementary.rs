@@ -4,6 +4,13 @@
 use crate::random::Random;
 use crate::{one_by_one, Workload};
 
+/// By name: making one may take seconds.
+pub const WORKLOADS: &[(&str, fn() -> Workload)] = &[
+    ("sine", sine),
+    ("cosine", cosine),
+    ("exp2", exp2),
+];
+
 fn workload(range: f64, rust: fn(f64) -> f64, port: fn(f64) -> f64) -> Workload {
     let mut random = Random::new(1);
     let inputs: Vec<f64> = (0..20000).map(|_| (random.unit() * 2.0 - 1.0) * range).collect();

@@ -3,6 +3,11 @@
 use crate::random::Random;
 use crate::{one_by_one, Workload};
 
+/// By name: making one may take seconds.
+pub const WORKLOADS: &[(&str, fn() -> Workload)] = &[
+    ("fused32", workload),
+];
+
 #[inline(never)]
 fn rust(a: f32, b: f32, c: f32) -> f32 {
     a.mul_add(b, c)

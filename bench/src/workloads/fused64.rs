@@ -3,6 +3,11 @@
 use crate::random::Random;
 use crate::{one_by_one, Workload};
 
+/// By name: making one may take seconds.
+pub const WORKLOADS: &[(&str, fn() -> Workload)] = &[
+    ("fused64", workload),
+];
+
 #[inline(never)]
 fn rust(a: f64, b: f64, c: f64) -> f64 {
     a.mul_add(b, c)

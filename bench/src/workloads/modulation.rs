@@ -5,6 +5,12 @@ use crate::random::Random;
 use crate::Workload;
 use wow_dsp::modulation::{ModulationEngine, ModulationParams};
 
+/// By name: making one may take seconds.
+pub const WORKLOADS: &[(&str, fn() -> Workload)] = &[
+    ("engine", engine),
+    ("engine_default", engine_default),
+];
+
 fn workload(inputs: Vec<ModulationParams>) -> Workload {
     let settings = inputs.clone();
     let mut theirs = ModulationEngine::new(48000.0, 1);

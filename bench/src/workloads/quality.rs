@@ -7,6 +7,15 @@ use boundary::QualityReader;
 use std::sync::Arc;
 use wow_dsp::{QualityMode, QualityVariableDelayF32, SincBankF32};
 
+/// By name: making one may take seconds.
+pub const WORKLOADS: &[(&str, fn() -> Workload)] = &[
+    ("quality_draft", draft),
+    ("quality_hq", plain),
+    ("quality_hq_two_sets", blended),
+    ("quality_mixed", mixed),
+    ("quality_returning", returning),
+];
+
 const MAX: f64 = 1.02;
 const MODES: [QualityMode; 4] = [QualityMode::Draft, QualityMode::Normal, QualityMode::Hq, QualityMode::Ultra];
 

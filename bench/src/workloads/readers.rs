@@ -5,6 +5,14 @@ use crate::Workload;
 use boundary::Reader;
 use wow_dsp::{CubicFarrow, Farrow8, Kernel, Lagrange, VariableDelay};
 
+/// By name: making one may take seconds.
+pub const WORKLOADS: &[(&str, fn() -> Workload)] = &[
+    ("cubic", cubic),
+    ("lagrange8", lagrange8),
+    ("lagrange16", lagrange16),
+    ("farrow8", farrow8),
+];
+
 fn workload<K: Kernel + 'static>(kernel: K, port: impl Fn(&mut Reader, f64, f64, &mut f64) -> u8 + 'static) -> Workload {
     let mut random = Random::new(1);
     let inputs: Vec<[f64; 2]> = (0..20000)

@@ -5,6 +5,11 @@ use crate::random::Random;
 use crate::{Side, Workload};
 use boundary::ReportWords;
 
+/// By name: making one may take seconds.
+pub const WORKLOADS: &[(&str, fn() -> Workload)] = &[
+    ("residual", workload),
+];
+
 const SAMPLES: usize = 20000;
 const CALL: usize = 4000;
 

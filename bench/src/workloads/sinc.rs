@@ -7,6 +7,18 @@ use crate::Workload;
 use boundary::Width;
 use wow_dsp::{VariableDelay, VariableDelayF32, WindowedSinc, WindowedSincF32};
 
+/// By name: making one may take seconds.
+pub const WORKLOADS: &[(&str, fn() -> Workload)] = &[
+    ("sinc32", sinc32),
+    ("sinc96", sinc96),
+    ("sinc_f32_32", sinc_f32_32),
+    ("sinc_f32_80", sinc_f32_80),
+    ("sinc_f32_96", sinc_f32_96),
+    ("sinc_f32_128", sinc_f32_128),
+    ("table_f32", table_f32),
+    ("table_f32_full", table_f32_full),
+];
+
 const CUTOFF: f64 = 0.9;
 const BETA: f64 = 12.0;
 

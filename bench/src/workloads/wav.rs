@@ -6,6 +6,37 @@
 use crate::random::Random;
 use crate::Workload;
 
+/// By name: making one may take seconds.
+pub const WORKLOADS: &[(&str, fn() -> Workload)] = &[
+    ("wav_pcm16", pcm16_f64),
+    ("wav_pcm16_stereo", pcm16_stereo),
+    ("wav_pcm16_f32", pcm16_f32),
+    ("wav_pcm24", pcm24_f64),
+    ("wav_pcm24_stereo", pcm24_stereo),
+    ("wav_pcm24_f32", pcm24_f32),
+    ("wav_whole16", whole16),
+    ("wav_whole24", whole24),
+    ("wav_float", float_f64),
+    ("wav_float_stereo", float_stereo),
+    ("wav_float_any", float_any),
+    ("wav_float_any_stereo", float_any_stereo),
+    ("wav_float_one_nan", float_one_nan),
+    ("wav_float_one_nan_stereo", float_one_nan_stereo),
+    ("wav_float_f32", float_f32),
+    ("aiff_pcm16", aiff16_f64),
+    ("aiff_pcm16_stereo", aiff16_stereo),
+    ("aiff_pcm16_f32", aiff16_f32),
+    ("aiff_pcm16_f32_stereo", aiff16_f32_stereo),
+    ("aiff_pcm24", aiff24_f64),
+    ("aiff_pcm24_stereo", aiff24_stereo),
+    ("aiff_pcm24_f32", aiff24_f32),
+    ("aiff_pcm24_f32_stereo", aiff24_f32_stereo),
+    ("aiff_whole16", aiff_whole16),
+    ("aiff_whole16_stereo", aiff_whole16_stereo),
+    ("aiff_whole24", aiff_whole24),
+    ("aiff_whole24_stereo", aiff_whole24_stereo),
+];
+
 const FRAMES: usize = 20000;
 
 /// A part of random bytes; of each 4, were they a float, those bits are taken that the mask has, its low byte first.

@@ -4,6 +4,12 @@
 use crate::random::Random;
 use crate::Workload;
 
+/// By name: making one may take seconds.
+pub const WORKLOADS: &[(&str, fn() -> Workload)] = &[
+    ("header_read", reading),
+    ("header_written", writing),
+];
+
 const COUNT: usize = 2000;
 const FULL: u32 = u32::MAX;
 const LARGEST: u64 = 1 << 40;

@@ -4,6 +4,16 @@
 use crate::random::Random;
 use crate::Workload;
 
+/// By name: making one may take seconds.
+pub const WORKLOADS: &[(&str, fn() -> Workload)] = &[
+    ("store_pcm16", pcm16),
+    ("store_pcm16_f32", pcm16_f32),
+    ("store_pcm24", pcm24),
+    ("store_pcm24_f32", pcm24_f32),
+    ("store_float", float),
+    ("store_float_f32", float_f32),
+];
+
 const COUNT: usize = 20000;
 
 /// Samples from -1 to 0.99, so that all of them fit.

@@ -25,7 +25,7 @@ pub record Holds (len : ℕ) (ss xs : List Float) : Type 0 where
   pub rest : (k : ℕ) → k < len → length ss ≤ k → getD xs k nan ≡ fin false 0 (pos 0)
 
 -- Two numbers less than a length apart stand at different places.
-apart : (j n len : ℕ) → j < n → n < j + len → j % len ≢ n % len
+pub apart : (j n len : ℕ) → j < n → n < j + len → j % len ≢ n % len
 apart j n len h l e =
     let a = div-add-mod' j len in
     let b = div-add-mod' n len in
