@@ -1,6 +1,7 @@
-# bench/native.sh: on Arm, the library as the processor at hand runs it. Sourced by bench/run, with `root`, `kit` and
-# `out` set. The static library holds x86-64 code, and a time under the emulator is no figure. So an overlay of the kit
-# keeps the module that the toolchain hands to its clang, and the same clang compiles that module for aarch64.
+# bench/native.sh makes, on Arm, the library as the processor at hand runs it. It is sourced by bench/run, with `root`,
+# `kit` and `out` set. The static library holds x86-64 code, and a time under the emulator says nothing about a
+# processor. So an overlay of the kit keeps the module that the toolchain hands to its clang, and the same clang
+# compiles that module for aarch64.
 
 native_library() { # DIR: leaves DIR/libNAME.a for each static library
     dir=$1

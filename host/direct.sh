@@ -1,5 +1,5 @@
-# host/direct.sh: how host/test builds and runs the crate's programs and tests by rustc alone. Sourced by host/test,
-# after oracle/rust.sh, with `root`, `out` and `libraries` set.
+# host/direct.sh builds and runs the crate's programs and tests by rustc alone. It is sourced by host/test, after
+# oracle/rust.sh, with `root`, `out` and `libraries` set.
 # The emulator that runs x86-64 programs on Arm cannot open what Rust's own `main` opens, and Rust's test harness has
 # that `main`. So each program and each file of tests/ is copied below target/, where host/direct.rs stands in for both.
 

@@ -1,5 +1,5 @@
 #!/usr/bin/env python3
-"""W5a. How far the sum called I0 lies from I0's series (Abramowitz and Stegun 9.6.12), measured with exact fractions.
+"""Measures with exact fractions how far the sum called I0 lies from I0's series (Abramowitz and Stegun 9.6.12; W5a).
 
   bessel_errors.py [BETAS] [SEED]
 

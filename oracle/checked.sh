@@ -1,8 +1,9 @@
-# oracle/checked.sh: the exports with the toolchain's checks of what LLVM assumes. Sourced after oracle/rust.sh, with
-# `kit` and `out` set. `rt try` compiles a program three ways; the third has a check in front of each assumption that
-# the backend lets LLVM make, and fills what is not yet written with AA. It knows programs alone. So a program that does
-# nothing but depend on the libraries is tried, below target/, over an overlay of the kit that keeps the module handed
-# to clang; every function of the libraries is in it, and each export gets its C form as the static library has it.
+# oracle/checked.sh builds the exports with the toolchain's checks of what LLVM assumes. It is sourced after
+# oracle/rust.sh, with `kit` and `out` set. `rt try` compiles a program three ways; the third has a check in front of
+# each assumption that the backend lets LLVM make, and fills what is not yet written with AA. `rt try` takes programs
+# alone. So a program that does nothing but depend on the libraries is tried, below target/, over an overlay of the kit
+# that keeps the module handed to clang; every function of the libraries is in it, and each export gets its C form as
+# the static library has it.
 
 build_checked() { # leaves $out/libboundary.rlib over $out/libchecked.a
     signatures "$root"/crates/fugnadri*/src/*.rt >"$out/exported"

@@ -1,5 +1,5 @@
-# oracle/debian.sh: Debian packages into a folder of ours, nothing installed. Sourced, with `me` set and `part` the
-# folder that is being made.
+# oracle/debian.sh unpacks Debian packages into a folder of ours and installs nothing. It is sourced, with `me` set and
+# `part` the folder that is being made.
 
 cannot() { rm -rf "$part"; echo "$me: $1" >&2; exit 2; }
 

@@ -1,11 +1,12 @@
 #!/usr/bin/env python3
-"""How far `elementary`'s sine, cosine and exp2 lie from 01's fractions, measured with exact arithmetic.
+"""Measures with exact arithmetic how far `elementary`'s sine, cosine and exp2 lie from 01's fractions.
 
   elementary_errors.py [ARGUMENTS] [SEED]
 
-Does the three functions' f64 steps, in their order, at ARGUMENTS random arguments (default 20000) and at the ends of the ranges, compares them with
-Taylor's fractions over exact whole numbers, and prints the largest error of each, in units of 2^-54 (2^-45 is 512 of them), with the argument.
-Checks on the way that the reduction's k is the floor of the exact x/H + 1/2 and that x - kH loses nothing. Needs Python 3.9 and nothing else.
+Does the three functions' f64 steps, in their order, at ARGUMENTS random arguments (default 20000) and at the ends of
+the ranges, compares them with Taylor's fractions over exact whole numbers, and prints the largest error of each, in
+units of 2^-54 (2^-45 is 512 of them), with the argument. Checks on the way that the reduction's k is the floor of the
+exact x/H + 1/2 and that x - kH loses nothing. Needs Python 3.9 and nothing else.
 """
 import math, random, sys
 from fractions import Fraction as F

@@ -1,6 +1,6 @@
-# oracle/rust.sh: what oracle/run, oracle/store, bench/run and host/test share. Sourced, with `root` (the repository)
-# and `me` (the command) set. Builds Rust for x86-64 and runs it: plainly on x86-64, by oracle/fetch-rust and the kit's
-# emulator on Arm. Writes below target/oracle alone.
+# oracle/rust.sh has what oracle/run, oracle/store, bench/run, host/test and the other commands beside them share. It is
+# sourced, with `root` (the repository) and `me` (the command) set. It builds Rust for x86-64 and runs it: plainly on
+# x86-64, by oracle/fetch-rust and the kit's emulator on Arm. It writes below target/oracle alone.
 
 out=$root/target/oracle
 # cargo's release profile: opt-level 3, no fast-math, no target features beyond x86-64's own

@@ -8,7 +8,7 @@
 
 A line of stdin is a file: the number of its bytes in four hex digits, a blank, two digits for each byte. Its first line
 of stdout has 20 numbers: what `read` answers (the refusal's number, 0 for none; the kind's code, channels, rate, start
-and length, zeros where it is refused), the same by turns, and what `chunks_told` tells (the size of `COMM`, channels,
+and length, zeros where it is refused), the same by turns, and what `chunks_told` gives (the size of `COMM`, channels,
 frames, bits, the rate's sign and exponent, its digits, the size of `SSND`, its offset). Where nothing is refused a line
 follows for each channel: the refusals' numbers of the samples as f64, as f32 and as whole numbers, then for each frame
 the three, as patterns in hex: 16, 8 and 8 digits.

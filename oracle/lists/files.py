@@ -8,14 +8,14 @@
 
 A line of stdin is a file: the number of its bytes in four hex digits, a blank, two digits for each byte. Its first line
 of stdout has 18 numbers: what `read` answers (the refusal's number, 0 for none; the kind's code, channels, rate, start
-and length, zeros where it is refused), what `read_wrapped` answers, and what `fmt_told` tells (the size of `fmt `, tag,
+and length, zeros where it is refused), what `read_wrapped` answers, and what `fmt_told` gives (the size of `fmt `, tag,
 channels, block size, bits, the size of `data`). Where `read_wrapped` refuses nothing a line follows for each channel:
 the refusals' numbers of the samples as f64, as f32 and as whole numbers, then for each frame the three, as patterns in
 hex: 16, 8 and 8 digits. A NaN is 7ff8000000000000 and 7fc00000.
 
 The answers are riff_model.py's, the files riff_files.py's. The two readings and the samples are riff_second.py's too,
-written by somebody who had seen no definition: the script fails where the two models differ. It says for how many files each of the wrong readings of
-riff_wrong.py answers otherwise, and fails where one never does.
+written by somebody who had seen no definition: the script fails where the two models differ. It says for how many files
+each of the wrong readings of riff_wrong.py answers otherwise, and fails where one never does.
 
 Needs Python 3.8 or newer and nothing else. The inputs come from a generator of its own with the seed below, so every
 run writes the same bytes.

@@ -6,16 +6,16 @@
                                      what it would write
   oracle/lists/headers.py --help     this text
 
-A line of stdin is a header: the file's length in sixteen hex digits, a blank, the number of the bytes at hand in four, a
-blank, two digits for each byte. Its line of stdout has 19 numbers: how many bytes are needed, 0 where enough are at
+A line of stdin is a header: the file's length in sixteen hex digits, a blank, the number of the bytes at hand in four,
+a blank, two digits for each byte. Its line of stdout has 19 numbers: how many bytes are needed, 0 where enough are at
 hand; what `read_header` answers (the refusal's number, 0 for none; the kind's code, channels, rate, start and length,
-zeros where it is refused); what `read_header_wrapped` answers; and the same by turns, zeros where 1 or 2 is due.
+zeros where it is refused); what `read_header_wrapped` answers; and the same by turns, zeros where 1 or 2 applies.
 
 The answers are rf64_model.py's, the headers rf64_files.py's. It says for how many headers each of the wrong readings of
 rf64_wrong.py answers otherwise, and fails where one never does.
 
-Needs Python 3.8 or newer and nothing else. The inputs come from a generator of its own with the seed below, so every run
-writes the same bytes.
+Needs Python 3.8 or newer and nothing else. The inputs come from a generator of its own with the seed below, so every
+run writes the same bytes.
 """
 import os
 import sys

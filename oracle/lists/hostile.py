@@ -1,6 +1,8 @@
-"""Inputs that find mistakes in the number functions: special values, ties, neighbours of both, and patterns drawn at random.
+"""Inputs that find mistakes in the number functions: special values, ties, neighbours of both, and patterns drawn at
+random.
 
-Each generator yields words, or triples of words, and says in its name or its comment what it is after. No answer is computed here.
+Each generator yields words, or triples of words, and says in its name or its comment what it is after. No answer is
+computed here.
 """
 from fractions import Fraction
 

@@ -1,16 +1,20 @@
 #!/usr/bin/env python3
 """Writes the stored lists of the number functions: inputs, and the answers of exact arithmetic (exact.py).
 
-  oracle/lists/numbers.py            writes crates/replay_numbers/stdin and crates/replay_numbers/stdout, and says what is in them
-  oracle/lists/numbers.py --check    writes nothing; fails, by exit status 1 and one line, where the two files are not what it would write
+  oracle/lists/numbers.py            writes crates/replay_numbers/stdin and crates/replay_numbers/stdout, and says what
+                                     is in them
+  oracle/lists/numbers.py --check    writes nothing; fails, by exit status 1 and one line, where the two files are not
+                                     what it would write
   oracle/lists/numbers.py --help     this text
 
-A line of stdin is a function's letter and three words of sixteen hex digits, a b c; 53 bytes with the line's end. The same line of stdout has three
-answers: the function at (a, b, c), at (b, c, a) and at (c, a, b), of which it takes as many words as it needs. So a function of one word answers at a,
-b and c, a function of two at (a, b), (b, c) and (c, a). An f32's pattern stands in the low half of its word. A truth value is 1 or 0. A NaN's answer
-is 7FF8000000000000, or 000000007FC00000.
+A line of stdin is a function's letter and three words of sixteen hex digits, a b c; 53 bytes with the line's end. The
+same line of stdout has three answers: the function at (a, b, c), at (b, c, a) and at (c, a, b), of which it takes as
+many words as it needs. So a function of one word answers at a, b and c, a function of two at (a, b), (b, c) and (c, a).
+An f32's pattern stands in the low half of its word. A truth value is 1 or 0. A NaN's answer is 7FF8000000000000, or
+000000007FC00000.
 
-Needs Python 3.8 or newer and nothing else. The inputs come from a generator of its own with the seed below, so every run writes the same bytes.
+Needs Python 3.8 or newer and nothing else. The inputs come from a generator of its own with the seed below, so every
+run writes the same bytes.
 """
 import os
 import sys

@@ -1,6 +1,6 @@
 """Headers of WAV files of any length as Wish 10 of document 02 says it, with the layout of EBU Tech 3306 and ITU-R
 BS.2088: the model behind headers.py. It is written from those texts and from the readings of docs/DECISIONS.md, 'Files
-past four gigabytes', and calls nothing of this repository; who wrote it had read the definitions. What Wish 1 says stays
+past four gigabytes', and calls nothing of this repository; its author had read the definitions. What Wish 1 says stays
 riff_model.py's.
 
 A method or a constant of `Header` is one sentence, so that a wrong reading changes a single one of them

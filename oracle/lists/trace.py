@@ -2,15 +2,18 @@
 """Writes what the program `trace` is run on: samples, and the lines that it must write for them.
 
   oracle/lists/trace.py            writes crates/trace/stdin and crates/trace/stdout, and says what is in them
-  oracle/lists/trace.py --check    writes nothing; fails, by exit status 1 and one line, where the two files are not what it would write
+  oracle/lists/trace.py --check    writes nothing; fails, by exit status 1 and one line, where the two files are not
+                                   what it would write
   oracle/lists/trace.py --help     this text
 
-The lines are those of 000's CubicFarrow in 000's order, done with this language's own doubles, which round as IEEE 754 says. A reader is a list of the
-samples accepted so far here, with no ring and no place in it. The samples are 1, 2, 3, 4, whose lines must be 01's; values at the edges of the format, NaNs
-and infinities; samples of 24 bits; and patterns drawn at random. They fill three of the program's blocks and a part of a fourth, so that a program that
-stops after any of them is told; behind them stands a trailing part of three bytes.
+The lines are those of 000's CubicFarrow in 000's order, done with this language's own doubles, which round as IEEE 754
+says. A reader is a list of the samples accepted so far here, with no ring and no place in it. The samples are 1, 2, 3,
+4, whose lines must be 01's; values at the edges of the format, NaNs and infinities; samples of 24 bits; and patterns
+drawn at random. They fill three of the program's blocks and a part of a fourth, so that a program that stops after any
+of them is found out; behind them stands a trailing part of three bytes.
 
-Needs Python 3.8 or newer and nothing else. The inputs come from a generator of its own with the seed below, so every run writes the same bytes.
+Needs Python 3.8 or newer and nothing else. The inputs come from a generator of its own with the seed below, so every
+run writes the same bytes.
 """
 import os
 import struct

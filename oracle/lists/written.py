@@ -10,7 +10,7 @@
 A line of stdin is a call: the kind's code, channels, rate, the buffer's length, what is written (0 a file of f64s, 1 one
 of f32s, 2 the header of an RF64 file, 3 of a BW64 file), the number of samples, then of a file each sample's pattern, all
 in sixteen hex digits with a blank behind them. Its line of stdout has the refusal's number, 0 for none, the file's
-length, 0 where it is refused, or the header's, the file's length that is told beforehand, and the buffer's bytes, A5
+length, 0 where it is refused, or the header's, the file's length as it is given beforehand, and the buffer's bytes, A5
 before the call.
 
 It says how many lines each of the wrong writings of the two models would change, and fails where one changes none.

@@ -1,4 +1,4 @@
-"""What oracle/morning runs: the registrar's programs beside a plain reckoning of their own, standard library only."""
+"""What oracle/morning runs: it compares the registrar's programs with a plain reckoning of what they write. Standard library only."""
 import sys
 
 sys.dont_write_bytecode = True
