@@ -1,5 +1,5 @@
--- What a call of either run reads, which stores its sample and then reads: the rings are those of the run's samples with
--- this one, so that the laws of Rings and Taps hold of them. Assumes nothing.
+-- What a call of either run reads, which stores its sample and then reads: the rings are those of the run's samples
+-- with this one, so that the laws of Rings and Taps hold of them. Assumes nothing.
 use mathlib.Core.Path.{_≡_, _∙_, ap}
 use mathlib.Core.List.{List, [], _∷_, _++_}
 use Prim.Native.Nat.{ℕ, suc, _+_}

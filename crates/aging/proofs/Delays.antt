@@ -73,7 +73,8 @@ module _ (r : Reader) (cs ds : List Call) (h : Twins r cs ds) where
       → getD (run r cs .ring) j nan ≡ getD (run r ds .ring) j nan
   places j l spared =
       rw (ring-of r cs, ring-of r ds)
-      (rings.places (r .state .accepted) (r .ring) (samples (accepted r cs)) (samples (accepted r ds)) as-many j l spared)
+      (rings.places (r .state .accepted) (r .ring) (samples (accepted r cs))
+      (samples (accepted r ds)) as-many j l spared)
 
   -- W8c. Once the damage has aged out the readers are the same, and so is all that they ever answer.
   pub one-reader : (m : ℕ) → NoneAfter m (samples (accepted r cs)) (samples (accepted r ds))

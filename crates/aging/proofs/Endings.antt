@@ -15,8 +15,8 @@ use Rattle.runs.proofs.Refused.{refused-anywhere}
 use Rattle.aging.specs.Calls.{Asked, asked, Twins, delays}
 use Rattle.aging.proofs.Delays.{in-step}
 
--- W8d. A refused call that is inserted anywhere, in the one run or in the other, leaves the same reader, and the runs are
--- what they were to each other.
+-- W8d. A refused call that is inserted anywhere, in the one run or in the other, leaves the same reader, and the runs
+-- are what they were to each other.
 module _ (r : Reader) (xs : List Call) (c : Call) (ys ds : List Call) (refused : due (run r xs) c ≡ 0 → ⊥) where
   pub no-effect : run r (xs ++ c ∷ ys) ≡ run r (xs ++ ys)
   no-effect = refused-anywhere r xs c ys refused .0
@@ -37,7 +37,8 @@ reset-ends r cs ds h e =
     let f : resetVerdict (run r ds .state) (length (run r ds .ring)) ≡ 0 = rw (← l .state, ← l .long) e in
     (rw (l .state, l .long), rw (e, f, l .long))
 
--- W8f. Nothing is asked of the samples but that their calls were accepted: then the delays alone make the calls the same.
+-- W8f. Nothing is asked of the samples but that their calls were accepted: then the delays alone make the calls the
+-- same.
 abbrev fineOne : Float → Asked
 fineOne y = record { own = true; lent = true; fine = true; delay = y }
 

@@ -1,6 +1,6 @@
 -- W8a. Two runs of anything that has a state, whose calls are the same as far as `ask` looks: if then both states give
--- the same verdict and stay `Like` each other, the runs accept the same calls and leave states that are like each other.
--- By induction over the calls. Assumes nothing.
+-- the same verdict and stay `Like` each other, the runs accept the same calls and leave states that are like each
+-- other. By induction over the calls. Assumes nothing.
 use mathlib.Core.Path.{_≡_, refl, sym, _∙_, ap}
 use mathlib.Core.List.{List, [], _∷_, map}
 use Prim.Native.Nat.{ℕ, zero, suc}

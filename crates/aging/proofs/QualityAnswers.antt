@@ -1,4 +1,5 @@
--- W8b and W8c of the quality reader, by either rule: what a call answers in two runs of the same calls. Assumes nothing.
+-- W8b and W8c of the quality reader, by either rule: what a call answers in two runs of the same calls. Assumes
+-- nothing.
 use mathlib.Core.Path.{_≡_, refl, sym, _∙_, ap}
 use mathlib.Core.Bool.{Bool, true, false}
 use mathlib.Core.List.{List}
@@ -54,19 +55,20 @@ module _ (r : Reader) (cs ds : List Call) (c d : Call) (h : Twins r cs ds) where
   alike : (q : QualityMode) → QualityAvoids r cs ds c d q
       → Alike one (a + 1) other (a + 1) (firstTap p (readBy q)) (readBy q)
   alike q avoid =
-      call.alike (r .state .accepted) (r .ring) (samplesOf r cs) (samplesOf r ds) (as-many r cs ds h) (c .input) (d .input)
-      (count r cs ds h) (ring-of r cs) (ring-of r ds) (firstTap p (readBy q)) (readBy q) avoid
+      call.alike (r .state .accepted) (r .ring) (samplesOf r cs) (samplesOf r ds) (as-many r cs ds h)
+      (c .input) (d .input) (count r cs ds h) (ring-of r cs) (ring-of r ds) (firstTap p (readBy q)) (readBy q) avoid
 
   aged : (m : ℕ) → NoneAfter m (upTo r cs c) (upTo r ds d) → Aged (length (r .ring)) m (upTo r cs c) → one ≡ other
   aged m none old =
-      call.aged (r .state .accepted) (r .ring) (samplesOf r cs) (samplesOf r ds) (as-many r cs ds h) (c .input) (d .input)
-      (count r cs ds h) (ring-of r cs) (ring-of r ds) m none old
+      call.aged (r .state .accepted) (r .ring) (samplesOf r cs) (samplesOf r ds) (as-many r cs ds h)
+      (c .input) (d .input) (count r cs ds h) (ring-of r cs) (ring-of r ds) m none old
 
   output : (read : QualityMode → Reading) → ((q : QualityMode) → Local (readBy q) (read q)) → CallAvoids r cs ds c d
       → due (run r cs) c ≡ 0 → (b : Bool) → t .mixed ≡ b
       → outputOf read t one (a + 1) p ≡ outputOf read t other (a + 1) p
   output read local avoid v true m =
-      mixed-call read local t one other (a + 1) (a + 1) p (alike (t .from) (avoid .both v m)) (alike (t .to) (avoid .one v))
+      mixed-call read local t one other (a + 1) (a + 1) p (alike (t .from) (avoid .both v m))
+      (alike (t .to) (avoid .one v))
   output read local avoid v false m =
       plain-call read local t one other (a + 1) (a + 1) p m (alike (t .to) (avoid .one v))
 
@@ -83,7 +85,8 @@ same-bits read local r cs ds c d h e avoid =
       ← ap (λ (a : Asked). a .wants .playback-rate) e,
     )
     (same-reply (due (run r cs) c) _ _
-    (λ v. output r cs ds c d h (read (c .playback-rate)) (local (c .playback-rate)) avoid v (t r cs ds c d h .mixed) refl))
+    (λ v. output r cs ds c d h (read (c .playback-rate)) (local (c .playback-rate)) avoid v
+    (t r cs ds c d h .mixed) refl))
 
 -- W8b. The reader over a bank.
 pub bank-reader : (sets : List Float) (max-rate : Float) → SameBits (bankAt sets max-rate)

@@ -1,5 +1,5 @@
--- W8d to W8f of the quality reader, by either rule: refused calls in either run, a reset, and what is asked of the values.
--- Assumes nothing.
+-- W8d to W8f of the quality reader, by either rule: refused calls in either run, a reset, and what is asked of the
+-- values. Assumes nothing.
 use mathlib.Core.Path.{_≡_, refl, sym, _∙_, ap}
 use mathlib.Core.Bool.{true}
 use mathlib.Core.List.{List, _∷_, _++_, map}
@@ -16,8 +16,8 @@ use Rattle.quality_runs.proofs.Calls.{stays, refused-anywhere}
 use Rattle.aging.specs.Qualities.{Wanted, wanted, Asked, asked, Twins}
 use Rattle.aging.proofs.Qualities.{in-step}
 
--- W8d. A refused call that is inserted anywhere, in the one run or in the other, leaves the same reader, and the runs are
--- what they were to each other.
+-- W8d. A refused call that is inserted anywhere, in the one run or in the other, leaves the same reader, and the runs
+-- are what they were to each other.
 module _ (r : Reader) (xs : List Call) (c : Call) (ys ds : List Call) (refused : due (run r xs) c ≡ 0 → ⊥) where
   pub no-effect : run r (xs ++ c ∷ ys) ≡ run r (xs ++ ys)
   no-effect = refused-anywhere r xs c ys refused .0
@@ -38,7 +38,8 @@ reset-ends r cs ds h e =
     let f : resetVerdict (run r ds .state) (length (run r ds .ring)) ≡ 0 = rw (← l .state, ← l .long) e in
     (rw (l .state, l .long), rw (e, f, l .long))
 
--- W8f. Nothing is asked of the samples but that their calls were accepted: then what the calls want makes them the same.
+-- W8f. Nothing is asked of the samples but that their calls were accepted: then what the calls want makes them the
+-- same.
 abbrev fineOne : Wanted → Asked
 fineOne w = record { bank = true; lent = true; fine = true; wants = w }
 

@@ -1,4 +1,5 @@
--- W8b. The delay reader of each kernel, a line each: VariableDelay's four kernels, and VariableDelayF32. Assumes nothing.
+-- W8b. The delay reader of each kernel, a line each: VariableDelay's four kernels, and VariableDelayF32. Assumes
+-- nothing.
 use mathlib.Core.List.{List}
 use Prim.Native.Nat.{ℕ}
 use lib.Ieee.{Float}

@@ -65,7 +65,8 @@ module _ (Good : ℕ → Type 0) (len : ℕ) where
   all n xs ys [] (t ∷ ts) e same h = absurd (suc-ne-zero (length ts) (sym e))
   all n xs ys (s ∷ ss) [] e same h = absurd (suc-ne-zero (length ss) e)
   all n xs ys (s ∷ ss) (t ∷ ts) e same h =
-      subst (λ (m : ℕ). Beside Good len m (storedFrom (n + 1) (stored n xs s) ss) (storedFrom (n + 1) (stored n ys t) ts))
+      subst (λ (m : ℕ). Beside Good len m (storedFrom (n + 1) (stored n xs s) ss)
+      (storedFrom (n + 1) (stored n ys t) ts))
       (tick n (length ss))
       (all (n + 1) (stored n xs s) (stored n ys t) ss ts (suc-inj e)
       (λ i g. same (suc i) (subst Good (tick n i) g))
@@ -76,7 +77,8 @@ module _ (Good : ℕ → Type 0) (len : ℕ) where
 
 -- Of two runs that start from one ring.
 module _ (before : ℕ) (xs ss ts : List Float) (e : length ss ≡ length ts) where
-  beside : Beside (λ k. (i : ℕ) → k ≡ before + i → Same ss ts i) (length xs) (before + length ss) (storedFrom before xs ss)
+  beside : Beside (λ k. (i : ℕ) → k ≡ before + i → Same ss ts i) (length xs) (before + length ss)
+      (storedFrom before xs ss)
       (storedFrom before xs ts)
   beside =
       all (λ k. (i : ℕ) → k ≡ before + i → Same ss ts i) (length xs) before xs xs ss ts e (λ i g. g i refl)

@@ -1,5 +1,6 @@
 -- W8c is sharp. The samples 0 of two runs are 1 and 2, all others are zeros, and the ring has 8 places. The call that
--- brings the 7th sample after them still answers 1 and 2, the one that brings the 8th answers the same. Assumes nothing.
+-- brings the 7th sample after them still answers 1 and 2, the one that brings the 8th answers the same. Assumes
+-- nothing.
 use mathlib.Core.Path.{_≡_, refl}
 use Prim.Native.Nat.{_+_}
 use mathlib.Core.Bool.{false}

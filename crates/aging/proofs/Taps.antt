@@ -1,5 +1,5 @@
--- W8b. A reading whose held taps avoid the samples that differ reads the same of both rings, where it depends on its taps
--- alone (`Local`), and its absent taps are the same in any case. Assumes nothing.
+-- W8b. A reading whose held taps avoid the samples that differ reads the same of both rings, where it depends on its
+-- taps alone (`Local`), and its absent taps are the same in any case. Assumes nothing.
 use mathlib.Core.Path.{_≡_, refl, sym, _∙_, ap}
 use mathlib.Core.Bool.{Bool, true, false}
 use mathlib.Core.List.{List}

@@ -41,7 +41,8 @@ faded =
 turns-by : (r : Reader) (c : Call) (cs : List Call) (v : ℕ) → due r c ≡ v
     → turns r (c ∷ cs) ≡ keep v (stepOf (fadePart (r .state)) (c .quality) .turn) (turns (afterBy v r c) cs)
 unfolding turns
-turns-by r c cs v e = ap (λ (w : ℕ). keep w (stepOf (fadePart (r .state)) (c .quality) .turn) (turns (afterBy w r c) cs)) e
+turns-by r c cs v e =
+    ap (λ (w : ℕ). keep w (stepOf (fadePart (r .state)) (c .quality) .turn) (turns (afterBy w r c) cs)) e
 
 pub turned : (r : Reader) (cs : List Call) → turns r cs ≡ turnsOf (fadePart (r .state)) (asked (accepted r cs))
 unfolding turns acceptedOf turnsOf

@@ -103,7 +103,8 @@ pub bank-rates : map (λ t. asked (portedState 0 0 0 0 0 0 0) 8 1081648 t one on
 unfolding asked f64
 bank-rates = refl
 
-pub bank-lengths : map (λ (n : ℕ). asked (portedState 0 0 0 0 0 0 0) 8 n one one one one) (1081647 ∷ 1081648 ∷ 1081649 ∷ [])
+pub bank-lengths : map (λ (n : ℕ). asked (portedState 0 0 0 0 0 0 0) 8 n one one one one)
+    (1081647 ∷ 1081648 ∷ 1081649 ∷ [])
     ≡ 2 ∷ 0 ∷ 2 ∷ []
 unfolding asked f64
 bank-lengths = refl

@@ -69,7 +69,8 @@ module _ (direction : Direction) (s : Fade) (fits : lengthOk (s .«crossfade_sam
             let o : leb (s .«crossfade_samples») (s .«crossfade_position» - 1) ≡ false =
             lt-leb (s .«crossfade_samples») (s .«crossfade_position» - 1) (omega (arith, between)) in
             rw l (ap (towards Back)
-            (goes-on (fadeOf (s .current) (s .target) (s .«crossfade_position» - 2) (s .«crossfade_samples»)) (s .target)
+            (goes-on (fadeOf (s .current) (s .target) (s .«crossfade_position» - 2) (s .«crossfade_samples»))
+            (s .target)
             (fade-valid (s .current) (s .target) (s .«crossfade_position» - 2) (s .«crossfade_samples») fits
             (omega (arith, between)) (λ f. omega (arith, between))) (same-refl (s .target))
             ∙ mixes (s .current) (s .target) (s .«crossfade_position» - 2) (s .«crossfade_samples») e
@@ -108,6 +109,7 @@ pub by-steps : (s : RuledFade) (q : QualityMode)
     → stepAt (s .fade) (handedBy (s .rule) (s .direction) (s .fade) q) ≡ stepOf s q
 by-steps s q = go (s .rule)
   where
-    go : (rule : Rule) → stepAt (s .fade) (handedBy rule (s .direction) (s .fade) q) ≡ stepBy rule (s .direction) (s .fade) q
+    go : (rule : Rule) → stepAt (s .fade) (handedBy rule (s .direction) (s .fade) q)
+        ≡ stepBy rule (s .direction) (s .fade) q
     go Ported = refl
     go Returning = by-ported-steps (s .direction) (s .fade) q

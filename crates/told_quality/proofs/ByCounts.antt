@@ -67,4 +67,5 @@ pub told : (sets : List Float) (max-rate : Float) (d : QualityVariableDelayF32) 
     → withAbsent p s ≡ toldOf sets max-rate d xs x y q rate
 told sets max-rate d xs x y q rate p c t s e f g h =
     rw (h, e, f, g)
-    (ap (withAbsent (processed sets max-rate d xs x y q rate)) (by-verdict (length sets) max-rate d xs x y q rate _ refl))
+    (ap (withAbsent (processed sets max-rate d xs x y q rate))
+    (by-verdict (length sets) max-rate d xs x y q rate _ refl))

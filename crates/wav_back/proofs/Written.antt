@@ -44,7 +44,8 @@ module _ (form : Form) (kind : SampleKind) (channels rate : ℕ) (samples : List
   rest : List ℕ
   rest = bytesOf kind samples ++ lowBytes (padOf kind (length samples)) 0 ++ behind
 
-  file-is : fileOf form kind channels rate samples ++ behind ≡ headerFor form kind channels rate (length samples) ++ rest
+  file-is : fileOf form kind channels rate samples ++ behind
+      ≡ headerFor form kind channels rate (length samples) ++ rest
   unfolding fileOf rest
   file-is =
       append-assoc (headerFor form kind channels rate (length samples))

@@ -15,7 +15,8 @@ returns c =
       told (now (s .sets)) (s .max-rate) (s .state) (now (s .ring)) (s .input) (s .delay) (s .quality)
           (s .playback-rate)
           (p .process-sample-rate-aware .result) (k .choice-or-zero .result) (t .turn .result) (c .of-call .result)
-          (p .process-sample-rate-aware .ensures .0) (k .choice-or-zero .ensures) (t .turn .ensures) (c .of-call .ensures),
+          (p .process-sample-rate-aware .ensures .0) (k .choice-or-zero .ensures) (t .turn .ensures)
+          (c .of-call .ensures),
       p .process-sample-rate-aware .ensures .1,
     )
 

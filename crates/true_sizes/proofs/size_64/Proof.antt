@@ -18,7 +18,8 @@ returns-3 c =
     let i = c .before .before in
     let a = i .before .before .before .args in
     simp (ne-eqb _ _ (i .before .if1 .left), ne-eqb _ _ (i .if2 .left))
-    (c .size-in .ensures ∙ rw (c .before .looked-at .ensures .0) (size-cut (a .opening .now) (a .id) (entryCount (a .opening .now))))
+    (c .size-in .ensures ∙ rw (c .before .looked-at .ensures .0)
+    (size-cut (a .opening .now) (a .id) (entryCount (a .opening .now))))
 
 pub size-64-spec : {M : Type 1} → statement M
 size-64-spec =

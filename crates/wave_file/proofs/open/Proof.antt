@@ -9,5 +9,6 @@ use Rattle.wave_file.proofs.open.Tie as tie
 pub open-spec : {M : Type 1} → statement M
 open-spec =
     tie.close
-    (tie.spec (λ c κs. search needs) (λ c. unread refl) (λ c κs. search needs) (λ c. search needs) (λ c κs. search needs)
+    (tie.spec (λ c κs. search needs) (λ c. unread refl) (λ c κs. search needs) (λ c. search needs)
+    (λ c κs. search needs)
     (λ c. search needs) (λ c. search needs))

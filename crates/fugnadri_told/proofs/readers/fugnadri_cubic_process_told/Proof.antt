@@ -11,4 +11,5 @@ returns c =
     left (t .cubic-told .result) _ (t .cubic-told .ensures) (c .handed .ensures)
 
 pub fugnadri-cubic-process-told-spec : {M : Type 1} → statement M
-fugnadri-cubic-process-told-spec = tie.close (tie.spec (λ c κs. search needs) (λ c κs. search needs) (λ c. search needs) returns)
+fugnadri-cubic-process-told-spec =
+    tie.close (tie.spec (λ c κs. search needs) (λ c κs. search needs) (λ c. search needs) returns)

@@ -11,4 +11,5 @@ returns c =
     left (t .farrow8-told .result) _ (t .farrow8-told .ensures) (c .handed .ensures)
 
 pub fugnadri-farrow8-process-told-spec : {M : Type 1} → statement M
-fugnadri-farrow8-process-told-spec = tie.close (tie.spec (λ c κs. search needs) (λ c κs. search needs) (λ c. search needs) returns)
+fugnadri-farrow8-process-told-spec =
+    tie.close (tie.spec (λ c κs. search needs) (λ c κs. search needs) (λ c. search needs) returns)

@@ -11,4 +11,5 @@ returns c =
     left (t .lagrange-told .result) _ (t .lagrange-told .ensures) (c .handed .ensures)
 
 pub fugnadri-lagrange-process-told-spec : {M : Type 1} → statement M
-fugnadri-lagrange-process-told-spec = tie.close (tie.spec (λ c κs. search needs) (λ c κs. search needs) (λ c. search needs) returns)
+fugnadri-lagrange-process-told-spec =
+    tie.close (tie.spec (λ c κs. search needs) (λ c κs. search needs) (λ c. search needs) returns)

@@ -11,4 +11,5 @@ returns c =
     left-f32 (t .sinc-f32-told .result) _ (t .sinc-f32-told .ensures) (c .handed-f32 .ensures)
 
 pub fugnadri-windowed-sinc-f32-process-told-spec : {M : Type 1} → statement M
-fugnadri-windowed-sinc-f32-process-told-spec = tie.close (tie.spec (λ c κs. search needs) (λ c κs. search needs) (λ c. search needs) returns)
+fugnadri-windowed-sinc-f32-process-told-spec =
+    tie.close (tie.spec (λ c κs. search needs) (λ c κs. search needs) (λ c. search needs) returns)

@@ -11,4 +11,5 @@ returns c =
     left (t .sinc-told .result) _ (t .sinc-told .ensures) (c .handed .ensures)
 
 pub fugnadri-windowed-sinc-process-told-spec : {M : Type 1} → statement M
-fugnadri-windowed-sinc-process-told-spec = tie.close (tie.spec (λ c κs. search needs) (λ c κs. search needs) (λ c. search needs) returns)
+fugnadri-windowed-sinc-process-told-spec =
+    tie.close (tie.spec (λ c κs. search needs) (λ c κs. search needs) (λ c. search needs) returns)

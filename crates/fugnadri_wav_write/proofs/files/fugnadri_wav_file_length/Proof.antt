@@ -7,7 +7,11 @@ use Rattle.fugnadri_wav_write.proofs.files.fugnadri_wav_file_length.Tie
 returns : tie.Need-returns
 returns c =
     let k = c .before in
-    rw (sym (k .before .before .known .ensures) ∙ k .before .if1 .taken, c .file-length-for .ensures, k .of-code .ensures)
+    rw (
+      sym (k .before .before .known .ensures) ∙ k .before .if1 .taken,
+      c .file-length-for .ensures,
+      k .of-code .ensures,
+    )
 
 returns-2 : tie.Need-returns-2
 returns-2 c = rw (sym (c .before .known .ensures) ∙ c .if1 .left)

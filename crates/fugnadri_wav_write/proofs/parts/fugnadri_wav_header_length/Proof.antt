@@ -7,7 +7,11 @@ use Rattle.fugnadri_wav_write.proofs.parts.fugnadri_wav_header_length.T
 returns : tie.Need-returns
 returns c =
     let k = c .before in
-    rw (sym (k .before .before .known .ensures) ∙ k .before .if1 .taken, c .header-length-for .ensures, k .of-code .ensures)
+    rw (
+      sym (k .before .before .known .ensures) ∙ k .before .if1 .taken,
+      c .header-length-for .ensures,
+      k .of-code .ensures,
+    )
 
 returns-2 : tie.Need-returns-2
 returns-2 c = rw (sym (c .before .known .ensures) ∙ c .if1 .left)

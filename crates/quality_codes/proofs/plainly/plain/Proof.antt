@@ -27,7 +27,8 @@ returns c =
       d .3,
       d .4,
       none-due (a .lent) (a .max-rate) (decoded s) (a .len) (a .input) (a .delay) (a .playback-rate) (r .0)
-          (le-leb _ _ (d .5)) (placed s (d .0) (d .1) (d .3) (d .6)) (r .1) (r .2) (r .3) (r .4) (l .0) (l .1) (l .2) (l .3),
+          (le-leb _ _ (d .5)) (placed s (d .0) (d .1) (d .3) (d .6)) (r .1) (r .2) (r .3) (r .4) (l .0) (l .1) (l .2)
+          (l .3),
     )
 
 pub plain-spec : {M : Type 1} → statement M

@@ -12,4 +12,5 @@ returns-2 : tie.Need-returns-2
 returns-2 c = rw (c .before .again .ensures) at (c .due .ensures)
 
 pub tested-spec : {M : Type 1} → statement M
-tested-spec = tie.close (tie.spec (λ c κs. search needs) returns (λ c κs. search needs) (λ c κs. search needs) returns-2)
+tested-spec =
+    tie.close (tie.spec (λ c κs. search needs) returns (λ c κs. search needs) (λ c κs. search needs) returns-2)

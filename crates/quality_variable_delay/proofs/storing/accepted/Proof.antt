@@ -31,7 +31,8 @@ store-requires c κs = let t = passed (c .before .before .before) in (room t, ri
 
 add-output : tie.Need-add-output
 add-output c =
-    omega (arith, room (passed (c .before .before .before .before .before .before .before .before .before .before .before)))
+    let k = c .before .before .before .before .before in
+    omega (arith, room (passed (k .before .before .before .before .before .before)))
 
 output-requires : tie.Need-output-requires
 output-requires c κs =

@@ -13,10 +13,12 @@ returns c =
     let s = c .before .before .before .before .before .before in
     let a = s .args in (
       c .over .ensures .0
-          ∙ one-run (now (a .source)) (now (a .one)) (a .blend) (a .taps) (a .phase) (a .place) (a .taps) (s .pre .2) (s .pre .3)
+          ∙ one-run (now (a .source)) (now (a .one)) (a .blend) (a .taps) (a .phase) (a .place) (a .taps) (s .pre .2)
+          (s .pre .3)
           (omega arith),
       c .over .ensures .1
-          ∙ one-run (now (a .source)) (now (a .two)) (a .blend) (a .taps) (a .phase) (a .place) (a .taps) (s .pre .2) (s .pre .3)
+          ∙ one-run (now (a .source)) (now (a .two)) (a .blend) (a .taps) (a .phase) (a .place) (a .taps) (s .pre .2)
+          (s .pre .3)
           (omega arith),
     )
 

@@ -35,8 +35,11 @@ abbrev μ-loop : tie.MeasureT-loop
 
 loop-holds : tie.Need-loop-holds Inv-loop μ-loop
 unfolding fits
-loop-holds c =
-    (omega arith, subst (λ (z : Float). T (fits binary32 z)) (sym (zero-bits binary64)) tt, zero-bits binary64 ∙ none _ _)
+loop-holds c = (
+  omega arith,
+  subst (λ (z : Float). T (fits binary32 z)) (sym (zero-bits binary64)) tt,
+  zero-bits binary64 ∙ none _ _,
+)
 
 tap-after-requires : tie.Need-tap-after-requires Inv-loop μ-loop
 tap-after-requires c κs =
