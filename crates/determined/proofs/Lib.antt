@@ -2,4 +2,3 @@ pub mod ByEquations
 pub mod Readers
 pub mod Openings
 pub mod Builders
-pub mod FollowsRuns
