@@ -2,7 +2,10 @@
 
 use std::{env, path::PathBuf, process::exit};
 
-const LIBRARIES: [&str; 10] = [
+const LIBRARIES: &[&str] = &[
+    "fugnadri_room",
+    "fugnadri_oversampled",
+    "fugnadri_stretches",
     "fugnadri_told",
     "fugnadri_aiff",
     "fugnadri_wav",

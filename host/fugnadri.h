@@ -2,9 +2,9 @@
  *
  * The libraries are x86-64 code for Linux (System V calls), and `rt staticlib NAME` makes each: libfugnadri.a,
  * libfugnadri_wander.a, libfugnadri_numbers.a, libfugnadri_tables.a, libfugnadri_bank.a, libfugnadri_told.a,
- * libfugnadri_wav.a, libfugnadri_wav_write.a, libfugnadri_aiff.a, libfugnadri_residual.a. They want `memset` and
- * nothing else of a C library, allocate nothing, keep nothing between calls, and may be called by any thread that owns
- * what it lends.
+ * libfugnadri_stretches.a, libfugnadri_room.a, libfugnadri_oversampled.a, libfugnadri_wav.a, libfugnadri_wav_write.a,
+ * libfugnadri_aiff.a, libfugnadri_residual.a. They want `memset` and nothing else of a C library, allocate nothing,
+ * keep nothing between calls, and may be called by any thread that owns what it lends.
  *
  * Lent memory: a slice is a pointer to its first element and a length in elements. A pointer is never null; that of an
  * empty slice may be any other aligned address. What is written through must not overlap anything else that is lent in
@@ -12,8 +12,8 @@
  *
  * Answers: where a function returns uint8_t, that is the refusal's number, 0 for none. A refused call writes 0 through
  * each pointer to an answer (a sample, a value, offsets, a choice of sets, a file's part or length). It leaves a state,
- * also one that it was to open, and every lent element as they were. Each function is proved to answer as said for all
- * arguments.
+ * also one that it was to open, and every lent element as they were; of a whole stretch this holds item by item. Each
+ * function is proved to answer as said for all arguments.
  *
  *   1  a setting or an argument is outside its range
  *   2  a lent ring, table, bank or stretch has not the needed length, or more of a file's first bytes are needed
@@ -32,6 +32,8 @@
  *      agree
  *  14  the buffer is shorter than the file or the header that is to be written
  *  15  a sample that is to be written is NaN or does not fit
+ *  16  every slot of the room is held, and none has this rate and mode
+ *  17  the desk does not hold the set that it gives up
  *  18  the RF64 or BW64 file's ds64 is missing or not first
  *  19  a size of the file is above 2^40 bytes
  *  20  the file is not AIFF, or its FORM size is under 4
@@ -72,6 +74,8 @@ enum {
     FUGNADRI_KIND = 13,
     FUGNADRI_ROOM = 14,
     FUGNADRI_SAMPLE = 15,
+    FUGNADRI_ALL_HELD = 16,
+    FUGNADRI_NOT_HELD = 17,
     FUGNADRI_NO_SIZES = 18,
     FUGNADRI_LARGE_SIZE = 19,
     FUGNADRI_NOT_AIFF = 20,
@@ -299,6 +303,43 @@ uint8_t fugnadri_quality_process_rate_aware_bits(size_t maximum, size_t margin, 
     float *ring, size_t ring_len, const float *sets, size_t sets_len, double max_rate, float input, double delay,
     uint8_t quality, double playback_rate, uint32_t *sample);
 
+/* ---- libfugnadri_room.a: one room of tables for two desks -----------------------------------------------------------
+ *
+ * A room is three lent slices: a rate and a mark for each slot, and the 1081648 floats of a set for each. A mark is
+ * 0 for a free slot, otherwise 1, 2 or 3 if desk one, desk two or both hold it, and 4 more in the full mode. Hand all
+ * three on as the last call left them. fugnadri_room_open makes every slot free and leaves the floats; it is refused by
+ * 2 where the three lengths do not agree. */
+uint8_t fugnadri_room_open(double *rates, size_t rates_len, uint8_t *marks, size_t marks_len, const float *slots,
+    size_t slots_len);
+
+/* A desk, 1 or 2, asks for the set of a rate from 1 to 2 in a mode, 0 (ported) or 1 (full), or gives it up. If the set
+ * is there the desk shares it, whoever holds it; otherwise the first free slot is built, which takes a while. Asking
+ * again for a set that the desk holds changes nothing. `*slot` is the number of the granted slot, 0 if refused. A slot
+ * that nobody holds any more is free. No other slot changes. Refused by 1 (rate, desk or mode), 2 (lengths), 3 (a mark
+ * of 4 or above 7, a held slot's rate outside 1 to 2, two held slots of one rate and mode), then asking by 16, giving
+ * up by 17; a refused call changes nothing but `*slot`. Two desks on two threads take turns: one call at a time may
+ * write a room, and none may read it meanwhile. */
+uint8_t fugnadri_room_ask(uint8_t desk, double rate, uint8_t mode, double *rates, size_t rates_len, uint8_t *marks,
+    size_t marks_len, float *slots, size_t slots_len, size_t *slot);
+uint8_t fugnadri_room_give_up(uint8_t desk, double rate, uint8_t mode, const double *rates, size_t rates_len,
+    uint8_t *marks, size_t marks_len, const float *slots, size_t slots_len);
+
+/* A desk's call of the quality reader: `sets` gives way to a room (rates, marks and slots, as for fugnadri_room_open),
+ * of which desk 1 or 2 reads the slots that it holds itself in the mode, 0 or 1. The two sets that max_rate and rate
+ * choose are looked for there by their rates; where one is missing the call is refused by 2, in Draft also, and where
+ * the rate is NaN none is looked for (7). A room whose lengths do not agree is 2, one that is outside its ranges 3, a
+ * desk's or a mode's number that names none 1. Opening and reset are fugnadri_quality_open, _open_returning, _reset. */
+uint8_t fugnadri_desk_process(uint8_t desk, uint8_t mode, size_t maximum, size_t margin, uint64_t *accepted,
+    uint8_t *current, uint8_t *target, uint32_t *crossfade_position, uint32_t crossfade_samples, uint8_t rule,
+    uint8_t *direction, float *ring, size_t ring_len, const double *rates, size_t rates_len, const uint8_t *marks,
+    size_t marks_len, const float *slots, size_t slots_len, double max_rate, float input, double delay,
+    uint8_t quality, float *sample);
+uint8_t fugnadri_desk_process_rate_aware(uint8_t desk, uint8_t mode, size_t maximum, size_t margin, uint64_t *accepted,
+    uint8_t *current, uint8_t *target, uint32_t *crossfade_position, uint32_t crossfade_samples, uint8_t rule,
+    uint8_t *direction, float *ring, size_t ring_len, const double *rates, size_t rates_len, const uint8_t *marks,
+    size_t marks_len, const float *slots, size_t slots_len, double max_rate, float input, double delay,
+    uint8_t quality, double playback_rate, float *sample);
+
 /* ---- libfugnadri_wav.a: WAV files -----------------------------------------------------------------------------------
  *
  * A RIFF WAVE file that lies in memory: `*start` and `*size` are the bytes of its first `data`, `*kind` is 0 for PCM of
@@ -356,9 +397,10 @@ uint8_t fugnadri_wav_whole(uint8_t kind, uint8_t channels, uint8_t channel, cons
 
 /* ---- libfugnadri_told.a: which taps were missing --------------------------------------------------------------------
  *
- * The calls of the delay readers, of libfugnadri.a and libfugnadri_tables.a, that also tell how many of the taps that
- * they read were absent: `*unwritten` below the first sample, `*ahead` of the newest, `*overwritten` by newer ones. All
- * else is as in the call without `_told`; absent taps count as zero there too. A refused call writes three zeros. */
+ * The calls of the readers, of libfugnadri.a, libfugnadri_tables.a and libfugnadri_bank.a, that also tell how many of
+ * the taps that they read were absent: `*unwritten` below the first sample, `*ahead` of the newest, `*overwritten` by
+ * newer ones. All else is as in the call without `_told`; absent taps count as zero there too. A refused call writes
+ * three zeros. */
 uint8_t fugnadri_cubic_process_told(size_t maximum, size_t margin, uint64_t *accepted, double *ring, size_t ring_len,
     double input, double delay, double *sample, uint64_t *unwritten, uint64_t *ahead, uint64_t *overwritten);
 uint8_t fugnadri_farrow8_process_told(size_t maximum, size_t margin, uint64_t *accepted, double *ring, size_t ring_len,
@@ -372,6 +414,70 @@ uint8_t fugnadri_windowed_sinc_process_told(size_t maximum, size_t margin, uint6
 uint8_t fugnadri_windowed_sinc_f32_process_told(size_t maximum, size_t margin, uint64_t *accepted, float *ring,
     size_t ring_len, float input, double delay, const float *table, size_t table_len, size_t taps, size_t phases,
     float *sample, uint64_t *unwritten, uint64_t *ahead, uint64_t *overwritten);
+/* The quality reader's numbers are those of all that a call reads: of both qualities in mid-fade, and of both sets if
+ * its rate lies between two; Draft reads four taps, once. */
+uint8_t fugnadri_quality_process_told(size_t maximum, size_t margin, uint64_t *accepted, uint8_t *current,
+    uint8_t *target, uint32_t *crossfade_position, uint32_t crossfade_samples, uint8_t rule, uint8_t *direction,
+    float *ring, size_t ring_len, const float *sets, size_t sets_len, double max_rate, float input, double delay,
+    uint8_t quality, float *sample, uint64_t *unwritten, uint64_t *ahead, uint64_t *overwritten);
+uint8_t fugnadri_quality_process_rate_aware_told(size_t maximum, size_t margin, uint64_t *accepted, uint8_t *current,
+    uint8_t *target, uint32_t *crossfade_position, uint32_t crossfade_samples, uint8_t rule, uint8_t *direction,
+    float *ring, size_t ring_len, const float *sets, size_t sets_len, double max_rate, float input, double delay,
+    uint8_t quality, double playback_rate, float *sample, uint64_t *unwritten, uint64_t *ahead, uint64_t *overwritten);
+
+/* ---- libfugnadri_stretches.a: a whole stretch per call --------------------------------------------------------------
+ *
+ * As many calls of a delay reader as there are inputs, in order: input k at delay k gives output k, and state, ring and
+ * outputs are those of the single calls. `*done` is the number of items done. Before the first item only 1 to 3 can be
+ * due, with zero done and nothing stored; 2 also if the lengths of inputs, delays and out differ. An item is refused
+ * by 4 to 8 and ends the stretch: the outputs before it are written, its own and the later ones are as they were. An
+ * empty stretch is otherwise zero done, on a full state too. */
+uint8_t fugnadri_cubic_stretch(size_t maximum, size_t margin, uint64_t *accepted, double *ring, size_t ring_len,
+    const double *inputs, size_t inputs_len, const double *delays, size_t delays_len, double *out, size_t out_len,
+    size_t *done);
+uint8_t fugnadri_lagrange_stretch(size_t maximum, size_t margin, uint64_t *accepted, double *ring, size_t ring_len,
+    const double *inputs, size_t inputs_len, const double *delays, size_t delays_len, uint64_t taps, double *out,
+    size_t out_len, size_t *done);
+uint8_t fugnadri_farrow8_stretch(size_t maximum, size_t margin, uint64_t *accepted, double *ring, size_t ring_len,
+    const double *inputs, size_t inputs_len, const double *delays, size_t delays_len, double *out, size_t out_len,
+    size_t *done);
+uint8_t fugnadri_windowed_sinc_stretch(size_t maximum, size_t margin, uint64_t *accepted, double *ring, size_t ring_len,
+    const double *inputs, size_t inputs_len, const double *delays, size_t delays_len, const double *table,
+    size_t table_len, size_t taps, size_t phases, double *out, size_t out_len, size_t *done);
+uint8_t fugnadri_windowed_sinc_f32_stretch(size_t maximum, size_t margin, uint64_t *accepted, float *ring,
+    size_t ring_len, const float *inputs, size_t inputs_len, const double *delays, size_t delays_len,
+    const float *table, size_t table_len, size_t taps, size_t phases, float *out, size_t out_len, size_t *done);
+/* One quality and one rate for the stretch; a fade goes on from item to item as by single calls. A quality's number
+ * above 3 is refused by 1 before the first item, a field's by 3; a rate that is a NaN by 7 at the first item. */
+uint8_t fugnadri_quality_stretch(size_t maximum, size_t margin, uint64_t *accepted, uint8_t *current, uint8_t *target,
+    uint32_t *crossfade_position, uint32_t crossfade_samples, uint8_t rule, uint8_t *direction, float *ring,
+    size_t ring_len, const float *sets, size_t sets_len, double max_rate, const float *inputs, size_t inputs_len,
+    const double *delays, size_t delays_len, uint8_t quality, double playback_rate, float *out, size_t out_len,
+    size_t *done);
+
+/* The same, with the absent taps of all items done, added up by kind, as libfugnadri_told.a tells them. */
+uint8_t fugnadri_cubic_stretch_told(size_t maximum, size_t margin, uint64_t *accepted, double *ring, size_t ring_len,
+    const double *inputs, size_t inputs_len, const double *delays, size_t delays_len, double *out, size_t out_len,
+    size_t *done, uint64_t *unwritten, uint64_t *ahead, uint64_t *overwritten);
+uint8_t fugnadri_lagrange_stretch_told(size_t maximum, size_t margin, uint64_t *accepted, double *ring, size_t ring_len,
+    const double *inputs, size_t inputs_len, const double *delays, size_t delays_len, uint64_t taps, double *out,
+    size_t out_len, size_t *done, uint64_t *unwritten, uint64_t *ahead, uint64_t *overwritten);
+uint8_t fugnadri_farrow8_stretch_told(size_t maximum, size_t margin, uint64_t *accepted, double *ring, size_t ring_len,
+    const double *inputs, size_t inputs_len, const double *delays, size_t delays_len, double *out, size_t out_len,
+    size_t *done, uint64_t *unwritten, uint64_t *ahead, uint64_t *overwritten);
+uint8_t fugnadri_windowed_sinc_stretch_told(size_t maximum, size_t margin, uint64_t *accepted, double *ring,
+    size_t ring_len, const double *inputs, size_t inputs_len, const double *delays, size_t delays_len,
+    const double *table, size_t table_len, size_t taps, size_t phases, double *out, size_t out_len, size_t *done,
+    uint64_t *unwritten, uint64_t *ahead, uint64_t *overwritten);
+uint8_t fugnadri_windowed_sinc_f32_stretch_told(size_t maximum, size_t margin, uint64_t *accepted, float *ring,
+    size_t ring_len, const float *inputs, size_t inputs_len, const double *delays, size_t delays_len,
+    const float *table, size_t table_len, size_t taps, size_t phases, float *out, size_t out_len, size_t *done,
+    uint64_t *unwritten, uint64_t *ahead, uint64_t *overwritten);
+uint8_t fugnadri_quality_stretch_told(size_t maximum, size_t margin, uint64_t *accepted, uint8_t *current,
+    uint8_t *target, uint32_t *crossfade_position, uint32_t crossfade_samples, uint8_t rule, uint8_t *direction,
+    float *ring, size_t ring_len, const float *sets, size_t sets_len, double max_rate, const float *inputs,
+    size_t inputs_len, const double *delays, size_t delays_len, uint8_t quality, double playback_rate, float *out,
+    size_t out_len, size_t *done, uint64_t *unwritten, uint64_t *ahead, uint64_t *overwritten);
 
 /* ---- libfugnadri_aiff.a: AIFF files ---------------------------------------------------------------------------------
  *
@@ -426,6 +532,72 @@ uint8_t fugnadri_wav_header(uint8_t form, uint8_t kind, uint8_t channels, uint32
     size_t out_len);
 uint8_t fugnadri_wav_store(uint8_t kind, const double *samples, size_t samples_len, uint8_t *out, size_t out_len);
 uint8_t fugnadri_wav_store_f32(uint8_t kind, const float *samples, size_t samples_len, uint8_t *out, size_t out_len);
+
+/* ---- libfugnadri_oversampled.a: the oversampled readers and their filters -------------------------------------------
+ *
+ * `taps` is odd, 17 to 129; `factor` is 2 or 4, and for the decimating filter 1; `cutoff` 1/1024 to below 1, `beta` 0
+ * to 20. */
+
+/* The coefficients of a low-pass filter, in all 1, into `out` of as many elements as there are taps. Refused by 1 or 2,
+ * and then nothing is written. */
+uint8_t fugnadri_design_lowpass(size_t taps, double cutoff, double beta, double *out, size_t out_len);
+
+/* How many samples a filter holds, taps / factor rounded up, and by how many two of them delay, (taps - 1) / factor for
+ * a factor of 2 or 4. 0 if the taps or the factor is out of range. */
+size_t fugnadri_filter_history(size_t taps, size_t factor);
+double fugnadri_filter_latency(size_t taps, size_t factor);
+
+/* Writes 0.0 over each coefficient whose magnitude is not above 1.0e-15. A filter leaves these out. */
+void fugnadri_filter_keep(double *coefficients, size_t coefficients_len);
+
+/* One filter, for upsampling by a factor (an output for each phase from 0 to factor - 1) and for decimating (factor 1,
+ * phase 0). Start with a history of zeros and 0 pushes. To a push hand in how many there were before it, to the outputs
+ * after it one more; in place of that number its remainder by the history's length will do. The output is the sum over
+ * the lags, from 0 on, of coefficient number lag * factor + phase times the sample that was pushed so many pushes
+ * before the last one. Coefficients of 0.0 and those past the end are left out, so that they meet no infinity. */
+void fugnadri_filter_push(double *history, size_t history_len, uint64_t pushes, double input);
+double fugnadri_filter_output(const double *coefficients, size_t coefficients_len, const double *history,
+    size_t history_len, uint64_t pushes, size_t factor, size_t phase);
+
+/* The outputs of a phase and of the next one, in one pass, which costs less than two. */
+void fugnadri_filter_outputs(const double *coefficients, size_t coefficients_len, const double *history,
+    size_t history_len, uint64_t pushes, size_t factor, size_t phase, double *first, double *second);
+
+/* The oversampled readers: the direct one with a factor of 2 or 4 and a number of taps, and the cascade, four times in
+ * two stages. A reader's numbers are `accepted`, `inner` (samples accepted by the reader inside) and `previous` (the
+ * last accepted delay); it also has its coefficients, its histories, and the inner ring of the next power of two from
+ * factor * maximum + 2 * margin + 8 on. The direct one has `taps` coefficients, `up` of fugnadri_filter_history(taps,
+ * factor) samples and `down` of `taps`; the cascade 65 of `halfband`, 129 of `last`, 33 of `up1`, 33 of `up2`, 65 of
+ * `down2` and 129 of `down1`. Its latency is 64 samples; the direct one's fugnadri_filter_latency gives.
+ *
+ * A kernel is 0 for the cubic, 1 for Lagrange of `points` taps, 2 for Farrow-8, and 3 for the windowed sinc of `points`
+ * taps and `phases`, whose table is lent; the others have a table of length 0. `points` and `phases` are read where the
+ * kernel has them.
+ *
+ * Refused by 1 (a setting, or a kernel's number above 3), 2 (a length), 3 (the numbers), 4 (the input), 5 or 6 (the
+ * delay, which is at most 2^34) or 8 (2^34 samples were accepted); a refused call changes nothing, and its sample is
+ * 0.0. Opening writes the coefficients; opening and reset write zeros over the rest. */
+uint8_t fugnadri_oversampled_open(size_t maximum, size_t margin, size_t factor, size_t taps, uint64_t *accepted,
+    uint64_t *inner, double *previous, double *coefficients, size_t coefficients_len, double *up, size_t up_len,
+    double *down, size_t down_len, double *ring, size_t ring_len);
+uint8_t fugnadri_oversampled_reset(size_t maximum, size_t margin, size_t factor, size_t taps, uint64_t *accepted,
+    uint64_t *inner, double *previous, double *up, size_t up_len, double *down, size_t down_len, double *ring,
+    size_t ring_len);
+uint8_t fugnadri_oversampled_process(size_t maximum, size_t margin, size_t factor, size_t taps, uint64_t *accepted,
+    uint64_t *inner, double *previous, uint8_t kernel, size_t points, size_t phases, const double *table,
+    size_t table_len, const double *coefficients, size_t coefficients_len, double *up, size_t up_len, double *down,
+    size_t down_len, double *ring, size_t ring_len, double input, double delay, double *sample);
+uint8_t fugnadri_cascaded_open(size_t maximum, size_t margin, uint64_t *accepted, uint64_t *inner, double *previous,
+    double *halfband, size_t halfband_len, double *last, size_t last_len, double *up1, size_t up1_len, double *up2,
+    size_t up2_len, double *down2, size_t down2_len, double *down1, size_t down1_len, double *ring, size_t ring_len);
+uint8_t fugnadri_cascaded_reset(size_t maximum, size_t margin, uint64_t *accepted, uint64_t *inner, double *previous,
+    double *up1, size_t up1_len, double *up2, size_t up2_len, double *down2, size_t down2_len, double *down1,
+    size_t down1_len, double *ring, size_t ring_len);
+uint8_t fugnadri_cascaded_process(size_t maximum, size_t margin, uint64_t *accepted, uint64_t *inner, double *previous,
+    uint8_t kernel, size_t points, size_t phases, const double *table, size_t table_len, const double *halfband,
+    size_t halfband_len, const double *last, size_t last_len, double *up1, size_t up1_len, double *up2, size_t up2_len,
+    double *down2, size_t down2_len, double *down1, size_t down1_len, double *ring, size_t ring_len, double input,
+    double delay, double *sample);
 
 /* ---- libfugnadri_residual.a: the residual in whole numbers ----------------------------------------------------------
  *

@@ -101,7 +101,7 @@ build_original() {
         sed -f "$root/oracle/edits/visibility.sed" "$src" >"$copy/$f.rs"
         sed 's/pub //' "$src" >"$copy/before"
         sed 's/pub //' "$copy/$f.rs" | cmp -s - "$copy/before" || other "visibility.sed changes more than visibility in $f.rs"
-        changed "$f" "$src" 61 22
+        changed "$f" "$src" 69 22
         [ "$elementary" = std ] || {
             mv "$copy/$f.rs" "$copy/before"
             sed -f "$root/oracle/edits/elementary.sed" "$copy/before" >"$copy/$f.rs"

@@ -11,6 +11,7 @@ mod full;
 #[path = "../../oracle/src/random.rs"]
 mod random;
 mod workloads {
+    pub mod desks;
     pub mod elementary;
     pub mod floor;
     pub mod fused32;
@@ -22,6 +23,9 @@ mod workloads {
     pub mod residual;
     pub mod sinc;
     pub mod square_root;
+    pub mod stretches;
+    pub mod stretches_f32;
+    pub mod told;
     pub mod wav;
     pub mod wav_headers;
     pub mod wav_store;
@@ -42,8 +46,12 @@ fn workloads() -> Vec<(&'static str, fn() -> Workload)> {
         elementary::WORKLOADS,
         modulation::WORKLOADS,
         readers::WORKLOADS,
+        told::WORKLOADS,
+        stretches::WORKLOADS,
+        stretches_f32::WORKLOADS,
         sinc::WORKLOADS,
         quality::WORKLOADS,
+        desks::WORKLOADS,
         wav::WORKLOADS,
         residual::WORKLOADS,
         wav_store::WORKLOADS,

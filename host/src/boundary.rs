@@ -10,12 +10,27 @@ pub use aiff::*;
 #[path = "boundary/bank.rs"]
 mod bank;
 pub use bank::*;
+#[path = "boundary/desks.rs"]
+mod desks;
+pub use desks::*;
+#[path = "boundary/oversampled.rs"]
+mod oversampled;
+pub use oversampled::*;
 #[path = "boundary/readers.rs"]
 mod readers;
 pub use readers::*;
 #[path = "boundary/residual.rs"]
 mod residual;
 pub use residual::*;
+#[path = "boundary/room.rs"]
+mod room;
+pub use room::*;
+#[path = "boundary/stretches.rs"]
+mod stretches;
+pub use stretches::*;
+#[path = "boundary/stretches_f32.rs"]
+mod stretches_f32;
+pub use stretches_f32::*;
 #[path = "boundary/tables.rs"]
 mod tables;
 pub use tables::*;

@@ -1,23 +1,30 @@
 //! What a kernel of the port offers: one call over a reader, one over a slice. Closed to other crates; both ways, strict and lenient, go through here.
 
 use crate::{
-    boundary::Reader,
+    boundary::{Absent, Items, ItemsF32, Named, Reader},
     sources::{gather, SampleSource, SampleSourceF32},
     Refusal,
 };
 
-/// A kernel over f64. No method has a name that the original's `Kernel` has, so that `kernel.name()` is one thing where `K: Kernel`.
+/// A kernel over f64: `process_told` also counts its absent taps. No method has a name that the original's `Kernel` has, so that `kernel.name()` is one thing where `K: Kernel`.
 pub trait Door {
     fn taps(&self) -> usize;
     fn called(&self) -> &'static str;
     fn process(&self, reader: &mut Reader, input: f64, delay: f64, sample: &mut f64) -> u8;
+    fn process_told(&self, reader: &mut Reader, input: f64, delay: f64, sample: &mut f64, absent: &mut Absent) -> u8;
+    fn stretch(&self, reader: &mut Reader, items: &mut Items, out: &mut [f64]) -> u8;
     fn read(&self, source: &[f64], count: u64, position: f64, sample: &mut f64) -> u8;
+    /// The kernel by its number, as the oversampled readers take it.
+    fn named(&self) -> Named<'_>;
 }
 
 /// A kernel over f32.
 pub trait DoorF32 {
     fn taps(&self) -> usize;
     fn process(&self, reader: &mut ReaderF32, input: f32, delay: f64, sample: &mut f32) -> u8;
+    #[rustfmt::skip]
+    fn process_told(&self, reader: &mut ReaderF32, input: f32, delay: f64, sample: &mut f32, absent: &mut Absent) -> u8;
+    fn stretch(&self, reader: &mut ReaderF32, items: &mut ItemsF32, out: &mut [f32]) -> u8;
     fn read(&self, source: &[f32], count: u64, position: f64, sample: &mut f32) -> u8;
 }
 

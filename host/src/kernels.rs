@@ -1,7 +1,7 @@
 //! The kernels that are constants: no table, nothing to refuse when they are made.
 
 use crate::{
-    boundary::{cubic_sample, farrow8_sample, lagrange_sample, Reader},
+    boundary::{cubic_sample, farrow8_sample, lagrange_sample, Absent, Items, Named, Reader},
     doors::Door,
 };
 
@@ -33,8 +33,17 @@ impl Door for CubicFarrow {
     fn process(&self, reader: &mut Reader, input: f64, delay: f64, sample: &mut f64) -> u8 {
         reader.cubic(input, delay, sample)
     }
+    fn process_told(&self, reader: &mut Reader, input: f64, delay: f64, sample: &mut f64, absent: &mut Absent) -> u8 {
+        reader.cubic_told(input, delay, sample, absent)
+    }
+    fn stretch(&self, reader: &mut Reader, items: &mut Items, out: &mut [f64]) -> u8 {
+        reader.cubic_stretch(items, out)
+    }
     fn read(&self, source: &[f64], count: u64, position: f64, sample: &mut f64) -> u8 {
         cubic_sample(source, count, position, sample)
+    }
+    fn named(&self) -> Named<'_> {
+        Named { kernel: 0, points: 0, phases: 0, table: &[] }
     }
 }
 
@@ -49,8 +58,17 @@ impl<const TAPS: usize> Door for Lagrange<TAPS> {
     fn process(&self, reader: &mut Reader, input: f64, delay: f64, sample: &mut f64) -> u8 {
         reader.lagrange(input, delay, TAPS as u64, sample)
     }
+    fn process_told(&self, reader: &mut Reader, input: f64, delay: f64, sample: &mut f64, absent: &mut Absent) -> u8 {
+        reader.lagrange_told(input, delay, TAPS as u64, sample, absent)
+    }
+    fn stretch(&self, reader: &mut Reader, items: &mut Items, out: &mut [f64]) -> u8 {
+        reader.lagrange_stretch(items, TAPS as u64, out)
+    }
     fn read(&self, source: &[f64], count: u64, position: f64, sample: &mut f64) -> u8 {
         lagrange_sample(source, count, position, TAPS as u64, sample)
+    }
+    fn named(&self) -> Named<'_> {
+        Named { kernel: 1, points: TAPS, phases: 0, table: &[] }
     }
 }
 
@@ -65,7 +83,16 @@ impl Door for Farrow8 {
     fn process(&self, reader: &mut Reader, input: f64, delay: f64, sample: &mut f64) -> u8 {
         reader.farrow8(input, delay, sample)
     }
+    fn process_told(&self, reader: &mut Reader, input: f64, delay: f64, sample: &mut f64, absent: &mut Absent) -> u8 {
+        reader.farrow8_told(input, delay, sample, absent)
+    }
+    fn stretch(&self, reader: &mut Reader, items: &mut Items, out: &mut [f64]) -> u8 {
+        reader.farrow8_stretch(items, out)
+    }
     fn read(&self, source: &[f64], count: u64, position: f64, sample: &mut f64) -> u8 {
         farrow8_sample(source, count, position, sample)
+    }
+    fn named(&self) -> Named<'_> {
+        Named { kernel: 2, points: 0, phases: 0, table: &[] }
     }
 }

@@ -3,15 +3,18 @@
 
 mod delays;
 pub mod modulation;
+mod oversampled;
 mod quality;
 mod sinc;
 
 pub use crate::{
+    boundary::Absent,
     kernels::{CubicFarrow, Farrow8, Lagrange},
     quality_mode::QualityMode,
     sources::{SampleSource, SampleSourceF32, SliceSource},
 };
 pub use delays::{VariableDelay, VariableDelayF32};
+pub use oversampled::{CascadedOversampledVariableDelay4x, OversampledVariableDelay};
 pub use quality::{QualityVariableDelayF32, SincBankF32};
 pub use sinc::{WindowedSinc, WindowedSincF32};
 

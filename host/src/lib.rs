@@ -7,9 +7,9 @@
 //!   one line of Cargo.toml: `wow-dsp = { package = "fugnadri-host", path = "fugnadri/host" }`.
 //! - [`strict`]: the same names, and a `Result` with a [`Refusal`] wherever a call can be refused. After a refusal everything is as it was.
 //!
-//! Beyond the original: [`wav`] reads the transfer desk's files, and [`aiff`] the lender's.
+//! Beyond the original: every reader has calls whose names end in `_told`, which also give the number of [`Absent`] taps; [`wav`] reads the transfer desk's files, and [`aiff`] the lender's.
 //!
-//! Not taken over: the two oversampled readers and their filters, and kernels that a user writes ([`Kernel`] is closed; a source may be anyone's).
+//! Not taken over: the oversampled readers' filters by themselves, and kernels that a user writes ([`Kernel`] is closed; a source may be anyone's).
 //! Sine, cosine and powers of two are the port's own (docs/ELEMENTARY.md); docs/DIFFERENCES.md lists every difference.
 //!
 //! What is proved is what the libraries do with what they are handed. This crate itself is plain Rust: it chooses lengths, lends, and hands on.
@@ -19,6 +19,7 @@ pub mod aiff;
 mod boundary;
 #[cfg(compare)]
 pub mod compare;
+mod desk;
 mod doors;
 mod kernels;
 pub mod lenient;
@@ -27,11 +28,16 @@ mod params;
 mod quality_mode;
 mod refusal;
 mod residual;
+mod room;
 mod sources;
+mod stretch;
 pub mod strict;
 pub mod wav;
 
+pub use desk::{build_set, Desk, DeskDelay, RoomRead, SET_LENGTH};
 pub use lenient::*;
 pub use mode::Mode;
 pub use refusal::Refusal;
 pub use residual::Residual;
+pub use room::Room;
+pub use stretch::Stopped;

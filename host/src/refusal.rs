@@ -1,5 +1,5 @@
-//! Why a call was refused: 01's numbers 1 to 8, and those of document 02's Wishes: 9 to 15, 18 and 19 of WAV files, 20 to 22 of
-//! AIFF.
+//! Why a call was refused: 01's numbers 1 to 8, and those of document 02's Wishes: 9 to 15, 18 and 19 of WAV files, 16 and
+//! 17 of a room, 20 to 22 of AIFF.
 
 use std::{error::Error, fmt};
 
@@ -9,7 +9,7 @@ use std::{error::Error, fmt};
 pub enum Refusal {
     /// A setting or an argument is outside its range.
     Setting = 1,
-    /// A lent ring or table has not the length that the settings need.
+    /// A lent ring or table has not the length that the settings need, or the slices of a stretch differ in length.
     Length = 2,
     /// A field of the state is outside its range.
     State = 3,
@@ -37,6 +37,10 @@ pub enum Refusal {
     Room = 14,
     /// A sample that is to be written is out of range or NaN.
     Sample = 15,
+    /// Every slot of the room is held, and none has this rate and mode.
+    AllHeld = 16,
+    /// The desk does not hold the set that it gives up.
+    NotHeld = 17,
     /// The RF64 or BW64 file's `ds64` is missing or not first.
     NoSizes = 18,
     /// A size in the file's `ds64`, or of the samples that are to be written, is above 2^40 bytes.
@@ -76,13 +80,15 @@ impl Refusal {
             13 => Kind,
             14 => Room,
             15 => Sample,
+            16 => AllHeld,
+            17 => NotHeld,
             18 => NoSizes,
             19 => LargeSize,
             20 => NotAiff,
             21 => Sound,
             22 => SoundRate,
             other => unreachable!(
-                "the static libraries refuse by 1 to 15 and 18 to 22, not by {other}: this crate was written for others"
+                "the static libraries refuse by 1 to 22, not by {other}: this crate was written for others"
             ),
         })
     }
@@ -92,7 +98,7 @@ impl fmt::Display for Refusal {
     fn fmt(&self, f: &mut fmt::Formatter) -> fmt::Result {
         let why = match self {
             Setting => "a setting or an argument is outside its range: fugnadri.h lists the ranges; choose one inside",
-            Length => "a lent ring or table has not the length that its settings need: lend one of exactly that length",
+            Length => "a lent ring or table has not the length that its settings need, or a stretch's slices differ in length: lend exactly that length",
             State => "a field of the state is outside its range: hand the state on as the last call left it",
             Input => "the input sample is NaN or infinite: leave it out or replace it, then go on with this reader",
             Delay => "the delay is NaN, infinite or below zero: give one from 0 on",
@@ -108,6 +114,8 @@ impl fmt::Display for Refusal {
                  what it tells): save it as PCM of 16 or 24 bits or float of 32, one or two channels"
             }
             Room => "the buffer is shorter than the file: lend as many bytes as `wav::file_length` says",
+            AllHeld => "every slot of the room is held, and none has this rate and mode: give up a set, or lend more slots",
+            NotHeld => "the desk does not hold this set: it holds one from its grant on until it gives it up",
             NoSizes => "the RF64 file's `ds64` is missing or not its first chunk: save the transfer anew",
             LargeSize => "a size of the file is above 2^40 bytes: cut the side in two",
             NotAiff => "the file is not AIFF: hand in an AIFF file from its first byte on, and no AIFC",

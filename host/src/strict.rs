@@ -4,19 +4,22 @@ mod bank;
 mod delays;
 mod fading;
 pub mod modulation;
+mod oversampled;
 mod quality;
 mod sinc;
 pub(crate) mod table;
 
 pub use crate::{
+    boundary::Absent,
     kernels::{CubicFarrow, Farrow8, Lagrange},
     quality_mode::QualityMode,
     sources::{SampleSource, SampleSourceF32, SliceSource},
-    Refusal,
+    Refusal, Stopped,
 };
 pub use bank::SincBankF32;
 pub use delays::{VariableDelay, VariableDelayF32};
 pub(crate) use fading::Fading;
+pub use oversampled::{CascadedOversampledVariableDelay4x, OversampledVariableDelay};
 pub use quality::QualityVariableDelayF32;
 pub use sinc::{WindowedSinc, WindowedSincF32};
 

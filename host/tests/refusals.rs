@@ -15,10 +15,9 @@ fn each_says_its_number_and_what_to_do() {
     use Refusal::*;
     let all = [
         Setting, Length, State, Input, Delay, LongDelay, Rate, Full, NotWave, Overrun, NoFormat, NoData, Kind, Room,
-        Sample,
+        Sample, AllHeld, NotHeld, NoSizes, LargeSize, NotAiff, Sound, SoundRate,
     ];
-    let files = [NoSizes, LargeSize, NotAiff, Sound, SoundRate];
-    for (number, refusal) in (1..=15).zip(all).chain((18..=22).zip(files)) {
+    for (number, refusal) in (1..=22).zip(all) {
         assert_eq!(refusal.number(), number);
         assert!(refusal.to_string().starts_with(&format!("refused by {number}: ")));
     }

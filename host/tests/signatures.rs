@@ -21,6 +21,17 @@ fn reader_f32<K: KernelF32, S: SampleSourceF32>() {
     let _: fn(&K, &S, f64) -> f32 = K::sample_f32;
 }
 
+fn oversampled<K: Kernel>() {
+    let _: fn(usize, usize, usize, K) -> OversampledVariableDelay<K, 4> = OversampledVariableDelay::new;
+    let _: Process<OversampledVariableDelay<K, 4>> = OversampledVariableDelay::process_sample;
+    let _: fn(&OversampledVariableDelay<K, 4>) -> f64 = OversampledVariableDelay::latency_samples;
+    let _: fn(&mut OversampledVariableDelay<K, 4>) = OversampledVariableDelay::reset;
+    let _: fn(usize, usize, K) -> CascadedOversampledVariableDelay4x<K> = CascadedOversampledVariableDelay4x::new;
+    let _: Process<CascadedOversampledVariableDelay4x<K>> = CascadedOversampledVariableDelay4x::process_sample;
+    let _: fn(&CascadedOversampledVariableDelay4x<K>) -> f64 = CascadedOversampledVariableDelay4x::latency_samples;
+    let _: fn(&mut CascadedOversampledVariableDelay4x<K>) = CascadedOversampledVariableDelay4x::reset;
+}
+
 struct Silence;
 
 impl SampleSourceF32 for Silence {
@@ -35,6 +46,8 @@ fn readers_and_tables() {
     reader::<Lagrange<6>>();
     reader::<Farrow8>();
     reader::<WindowedSinc>();
+    oversampled::<CubicFarrow>();
+    oversampled::<WindowedSinc>();
     reader_f32::<WindowedSincF32, Silence>();
     let _: fn(usize, usize, f64, f64) -> WindowedSinc = WindowedSinc::new;
     let _: fn(usize, usize, f64, f64, f64) -> WindowedSinc = WindowedSinc::for_max_rate;

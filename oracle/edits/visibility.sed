@@ -4,6 +4,8 @@
 # every struct and every free function
 s/^struct /pub struct /
 s/^fn /pub fn /
-# the methods of the bank and of the generator
+# the methods of the bank, of the generator and of the filters
 /^impl SincBankF32 {$/,/^}/s/^    fn /    pub fn /
 /^impl SmoothRandom {$/,/^}/s/^    fn /    pub fn /
+/^impl<const FACTOR: usize> PolyphaseUpsampler<FACTOR> {$/,/^}/s/^    fn /    pub fn /
+/^impl DecimatingFir {$/,/^}/s/^    fn /    pub fn /

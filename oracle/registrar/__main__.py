@@ -6,6 +6,7 @@ import os
 import random
 import tempfile
 
+import absence
 import other_layouts
 import pages
 import rightly
@@ -16,7 +17,7 @@ from wave_files import wav
 
 def build_all():
     trial.save("any.wav", wav("pcm24", 1, 48000, b"\0" * 30))
-    each = ("look any.wav", "plain any.wav -", "imitate any.wav -", "residual any.wav any.wav", "trace", "render")
+    each = ("look any.wav", "plain any.wav -", "imitate --help", "residual any.wav any.wav", "trace", "render")
     for command in each:
         trial.build(*command.split())
 
@@ -29,6 +30,7 @@ def main():
         rightly.looks(dice)
         rightly.others(dice)
         rightly.imitations(dice)
+        absence.absences(dice)
         rightly.residuals(dice)
         other_layouts.aiffs(dice)
         other_layouts.longs(dice)

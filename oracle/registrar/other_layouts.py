@@ -4,6 +4,7 @@ import shutil
 import struct
 import subprocess
 
+import absence
 from other_files import aiff, long_head, piece, put, room, sparse
 from reckoned import Side, clock, described, report
 from trial import ROOT, check, load, run, save
@@ -17,8 +18,9 @@ def alike(layout, name, kind, channels, rate, numbers):
     check(f"{layout}, looked at", run("look", name), (0, told.encode(), ""))
     check(f"{layout}, plain", run("plain", name, "alike-plain.wav"), (0, b"", ""))
     check(f"{layout}, plain's file", load("alike-plain.wav"), load("same.wav"))
+    said = absence.said(frames, channels, rate)
     for source, like in ((name, "alike.wav"), ("same.wav", "alike-same.wav")):
-        check(f"{layout}, imitated", run("imitate", source, like, "kind=float32"), (0, b"", ""))
+        check(f"{layout}, imitated", run("imitate", source, like, "kind=float32"), (0, b"", said))
     check(f"{layout}, imitate's file", load("alike.wav"), load("alike-same.wav"))
     sides = [Side(each, kind, channels, rate, numbers) for each in ("same.wav", name)]
     check(f"{layout}, compared", run("residual", "same.wav", name), (0, report(*sides).encode(), ""))

@@ -26,7 +26,9 @@ def blocks(name):
 
 
 def said_by(command, folder):
-    done = subprocess.run(command, shell=True, cwd=folder, stdout=subprocess.PIPE, check=True)
+    """What a command writes, as a terminal shows it: standard output and standard error."""
+    both = {"stdout": subprocess.PIPE, "stderr": subprocess.STDOUT}
+    done = subprocess.run(command, shell=True, cwd=folder, check=True, **both)
     return done.stdout.decode()
 
 

@@ -2,6 +2,7 @@
 import os
 import struct
 
+import absence
 import pictured
 from reckoned import Side, clock, described, report, unwrapped
 from trial import check, load, run, save
@@ -37,7 +38,8 @@ def others(dice):
         check("look at another program's file", run("look", name), (0, told, ""))
         check("plain", run("plain", name, "plain.wav"), (0, b"", unwrapped("plain", name, "pcm24")))
         check("plain, its file", load("plain.wav"), wav("pcm24", 1, 44100, body))
-        check("imitate", run("imitate", name, "like.wav"), (0, b"", unwrapped("imitate", name, "pcm24")))
+        said = unwrapped("imitate", name, "pcm24") + absence.said(44, rate=44100)
+        check("imitate", run("imitate", name, "like.wav"), (0, b"", said))
         sides = Side(name, "pcm24", 1, 44100, numbers), Side("plain.wav", "pcm24", 1, 44100, numbers)
         said = unwrapped("residual", name, "pcm24")
         check("residual", run("residual", name, "plain.wav"), (0, report(*sides).encode(), said))
@@ -56,24 +58,26 @@ def imitations(dice):
     """imitate's samples are render's, as float and rounded as W2 rounds them, in one channel and in both."""
     one, two = ([single(dice.uniform(-0.5, 0.5)) for _ in range(9001)] for _ in range(2))
     save("one.wav", wav("float32", 1, 48000, stored("float32", one)))
-    check("imitate", run("imitate", "one.wav", "like.wav"), (0, b"", ""))
+    lacking = absence.said(9001)
+    check("imitate", run("imitate", "one.wav", "like.wav"), (0, b"", lacking))
     beside = rendered(one)
     check("imitate, samples as render's", load("like.wav"), wav("float32", 1, 48000, stored("float32", beside)))
     status, out, said = run("imitate", "one.wav", "-", "seed=1", "delay=512")
-    check("imitate to standard output", (status, out, said), (0, load("like.wav"), ""))
+    check("imitate to standard output", (status, out, said), (0, load("like.wav"), lacking))
     for kind in ("pcm16", "pcm24"):
-        check("imitate", run("imitate", "one.wav", f"{kind}.wav", f"kind={kind}"), (0, b"", ""))
+        check("imitate", run("imitate", "one.wav", f"{kind}.wav", f"kind={kind}"), (0, b"", lacking))
         numbers = [nearest(x, WIDTH[kind]) for x in beside]
         check("imitate, rounded", load(f"{kind}.wav"), wav(kind, 1, 48000, stored(kind, numbers)))
     both = [x for pair in zip(one, two) for x in pair]
     save("both.wav", wav("float32", 2, 48000, stored("float32", both)))
-    check("imitate", run("imitate", "both.wav", "likes.wav"), (0, b"", ""))
+    check("imitate", run("imitate", "both.wav", "likes.wav"), (0, b"", absence.said(9001, channels=2)))
     pairs = [x for pair in zip(beside, rendered(two)) for x in pair]
     check("imitate, two channels", load("likes.wav"), wav("float32", 2, 48000, stored("float32", pairs)))
     # another seed changes nothing without drift, and something with it
-    check("imitate", run("imitate", "one.wav", "seeded.wav", "seed=7"), (0, b"", ""))
+    check("imitate", run("imitate", "one.wav", "seeded.wav", "seed=7"), (0, b"", lacking))
     check("imitate, a seed without drift", load("seeded.wav"), load("like.wav"))
-    check("imitate", run("imitate", "one.wav", "drifted.wav", "seed=7", "drift_amount=1"), (0, b"", ""))
+    status, out, said = run("imitate", "one.wav", "drifted.wav", "seed=7", "drift_amount=1")
+    check("imitate", (status, out, said.count(" read absent taps, last at frame ")), (0, b"", 1))
     check("imitate, a seed with drift", load("drifted.wav") == load("like.wav"), False)
 
 

@@ -11,6 +11,7 @@ mod hostile {
     pub mod aiff;
     pub mod aiff_files;
     pub mod bank;
+    pub mod desks;
     pub mod draw;
     pub mod header_files;
     pub mod headers;
@@ -18,10 +19,15 @@ mod hostile {
     pub mod numbers;
     pub mod on_purpose;
     pub mod outside;
+    pub mod oversampled;
+    pub mod oversampled_readers;
     pub mod pool;
     pub mod readers;
     pub mod residual;
+    pub mod rooms;
     pub mod shapes;
+    pub mod stretches;
+    pub mod stretches_f32;
     pub mod tables;
     pub mod tally;
     pub mod told;
@@ -34,16 +40,17 @@ mod hostile {
     pub mod wav_write;
 }
 
-use hostile::{aiff, bank, headers, numbers, on_purpose, outside, pool::Memory, readers, residual, tables, tally::Tally, told, turn::Turn, wander, watch, wav, wav_write};
+use hostile::{aiff, bank, desks, headers, numbers, on_purpose, outside, oversampled, oversampled_readers, pool::Memory, readers, residual, rooms, stretches, stretches_f32, tables, tally::Tally, told, turn::Turn, wander, watch, wav, wav_write};
 use std::time::{Duration, Instant};
 
 /// An export, and one hostile call of it, which gives the number that it answered: 0 for none, and where there is none.
 pub type Export = (&'static str, fn(&mut Turn) -> u8);
 
 fn exports() -> Vec<Export> {
-    let readers = [wander::EXPORTS, readers::EXPORTS, tables::EXPORTS, bank::EXPORTS, told::EXPORTS].concat();
+    let readers = [wander::EXPORTS, readers::EXPORTS, tables::EXPORTS, bank::EXPORTS].concat();
+    let wished = [rooms::EXPORTS, desks::EXPORTS, told::EXPORTS, oversampled::EXPORTS, oversampled_readers::EXPORTS, stretches::EXPORTS, stretches_f32::EXPORTS].concat();
     let files = [wav::EXPORTS, headers::EXPORTS, aiff::EXPORTS, residual::EXPORTS, wav_write::EXPORTS].concat();
-    [numbers::EXPORTS, outside::EXPORTS, &readers, &files].concat()
+    [numbers::EXPORTS, outside::EXPORTS, &readers, &wished, &files].concat()
 }
 
 #[no_mangle]

@@ -1,7 +1,7 @@
 //! The port by the types of host/, in both ways: `strict` refuses by a number; `lenient` is 0.0 where the original is, and panics where the original does or
 //! where the port is not proved.
 
-use host::{lenient, strict, Refusal, SampleSource, SampleSourceF32};
+use host::{lenient, strict, Absent, Refusal, SampleSource, SampleSourceF32};
 use std::convert::identity;
 use std::panic::{catch_unwind, set_hook, take_hook, AssertUnwindSafe};
 use std::sync::atomic::{AtomicBool, Ordering::Relaxed};
@@ -47,6 +47,18 @@ pub fn caught<T: Default>(call: impl FnOnce() -> T) -> (u8, T) {
 /// What a strict call gives likewise.
 pub fn asked<T: Default>(call: impl FnOnce() -> Result<T, Refusal>) -> (u8, T) {
     refused(call())
+}
+
+/// A strict call that tells its absent taps, and a lenient one: none where it panics.
+pub fn asked_told<T: Default>(call: impl FnOnce() -> (Result<T, Refusal>, Absent)) -> (u8, T, Absent) {
+    let (answer, absent) = call();
+    let (number, value) = refused(answer);
+    (number, value, absent)
+}
+
+pub fn caught_told<T: Default>(call: impl FnOnce() -> (T, Absent)) -> (u8, T, Absent) {
+    let (number, (value, absent)) = caught(call);
+    (number, value, absent)
 }
 
 /// The number that a lenient reader tells where this one is due: an input or a delay that the original answers by 0.0 is no panic.

@@ -23,6 +23,8 @@ mod sinc;
 mod triples;
 mod subjects {
     pub mod bank;
+    pub mod desks;
+    pub mod filters;
     pub mod fused;
     pub mod integer_part;
     pub mod modes;
@@ -30,6 +32,7 @@ mod subjects {
     pub mod narrow;
     pub mod order;
     pub mod oscillators;
+    pub mod oversampled;
     pub mod patterns;
     pub mod quality;
     pub mod readers;
@@ -37,6 +40,8 @@ mod subjects {
     pub mod sinc;
     pub mod slices;
     pub mod square_root;
+    pub mod stretches;
+    pub mod stretches_f32;
     pub mod tables;
     pub mod told;
     pub mod words;
@@ -57,12 +62,17 @@ const SUBJECTS: &[fn(&mut Context)] = &[
     subjects::slices::run,
     subjects::readers::run,
     subjects::told::run,
+    subjects::stretches::run,
+    subjects::stretches_f32::run,
     subjects::tables::run,
     subjects::modes::run,
     subjects::sinc::run,
+    subjects::filters::run,
+    subjects::oversampled::run,
     subjects::bank::run,
     subjects::quality::run,
     subjects::returning::run,
+    subjects::desks::run,
     subjects::oscillators::run,
     subjects::modulation::run,
 ];

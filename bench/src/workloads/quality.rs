@@ -16,21 +16,21 @@ pub const WORKLOADS: &[(&str, fn() -> Workload)] = &[
     ("quality_returning", returning),
 ];
 
-const MAX: f64 = 1.02;
-const MODES: [QualityMode; 4] = [QualityMode::Draft, QualityMode::Normal, QualityMode::Hq, QualityMode::Ultra];
+pub const MAX: f64 = 1.02;
+pub const MODES: [QualityMode; 4] = [QualityMode::Draft, QualityMode::Normal, QualityMode::Hq, QualityMode::Ultra];
 
 fn inputs() -> Vec<(f32, f64)> {
     let mut random = Random::new(1);
     (0..20000).map(|i| ((random.unit() * 2.0 - 1.0) as f32, 200.0 + (i % 777) as f64 * 0.25 + random.unit() * 3.0)).collect()
 }
 
-fn sets() -> Vec<f32> {
+pub fn sets() -> Vec<f32> {
     let mut sets = vec![0.0; boundary::bank_length(MAX)];
     assert_eq!(boundary::bank_build(MAX, &mut sets), 0);
     sets
 }
 
-fn closed(fade: u32) -> QualityReader {
+pub fn closed(fade: u32) -> QualityReader {
     QualityReader {
         maximum: 1000,
         margin: 0,

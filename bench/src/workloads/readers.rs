@@ -13,11 +13,14 @@ pub const WORKLOADS: &[(&str, fn() -> Workload)] = &[
     ("farrow8", farrow8),
 ];
 
-fn workload<K: Kernel + 'static>(kernel: K, port: impl Fn(&mut Reader, f64, f64, &mut f64) -> u8 + 'static) -> Workload {
+/// A sample and a delay for each call.
+pub fn inputs() -> Vec<[f64; 2]> {
     let mut random = Random::new(1);
-    let inputs: Vec<[f64; 2]> = (0..20000)
-        .map(|i| [random.unit() * 2.0 - 1.0, 100.0 + (i % 777) as f64 * 0.25 + random.unit() * 3.0])
-        .collect();
+    (0..20000).map(|i| [random.unit() * 2.0 - 1.0, 100.0 + (i % 777) as f64 * 0.25 + random.unit() * 3.0]).collect()
+}
+
+fn workload<K: Kernel + 'static>(kernel: K, port: impl Fn(&mut Reader, f64, f64, &mut f64) -> u8 + 'static) -> Workload {
+    let inputs = inputs();
     let samples = inputs.clone();
     let mut theirs = VariableDelay::new(1000, 0, kernel);
     let mut ours = Reader { maximum: 1000, margin: 0, accepted: 0, ring: vec![0.0; 1024] };

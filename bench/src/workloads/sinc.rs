@@ -19,10 +19,10 @@ pub const WORKLOADS: &[(&str, fn() -> Workload)] = &[
     ("table_f32_full", table_f32_full),
 ];
 
-const CUTOFF: f64 = 0.9;
-const BETA: f64 = 12.0;
+pub const CUTOFF: f64 = 0.9;
+pub const BETA: f64 = 12.0;
 
-fn inputs() -> Vec<(f64, f64)> {
+pub fn inputs() -> Vec<(f64, f64)> {
     let mut random = Random::new(1);
     (0..20000).map(|i| (random.unit() * 2.0 - 1.0, 200.0 + (i % 777) as f64 * 0.25 + random.unit() * 3.0)).collect()
 }

@@ -20,7 +20,7 @@ use Rattle.quality_mode.specs.declared.QualityMode.the-variants.{Draft, Normal,
 use Rattle.quality_mode.specs.Quality.{tapsOf, phasesOf}
 use Rattle.bank_read.specs.Bank.{tableAt, blended}
 
-lent-whole : (q : QualityMode) (set : List Float) → length set ≡ setLength → lentOf q set ≡ partOf q set
+pub lent-whole : (q : QualityMode) (set : List Float) → length set ≡ setLength → lentOf q set ≡ partOf q set
 lent-whole q set l = rw (eq-eqb (length set) setLength l)
 
 module _ (xs : List Float) (count : ℕ) (p : Float) (h : positionOk p ≡ true) where

@@ -1,2 +1,3 @@
 pub mod Bank
 pub mod Inner
+pub mod OneTable

@@ -5,7 +5,7 @@ ghost use Prim.Native.Nat.{_+_, _*_, _≤_};
 ghost use lib.ListN.{length};
 ghost use Rattle.ring.specs.Places.{positionOk};
 ghost use Rattle.sinc_bank_f32.specs.Sets.{setLength};
-ghost use Rattle.sinc_bank_f32.specs.Parts.{pickSlice};
+ghost use Rattle.sinc_bank_f32.specs.Parts.{pickSlice, lentOf};
 ghost use Rattle.bank_read.specs.Bank.{setAt, tableAt, blended, tablesAt};
 ghost use Rattle.bank_read.specs.Inner.{setsOk};
 use bank_choice::Choice;
@@ -87,6 +87,15 @@ fn set_at(sets: &[f32], k: usize) -> &[f32]
     let a = k * SET_LENGTH;
     let e = a + SET_LENGTH;
     &sets[a..e]
+}
+
+// The quality's table in set k.
+pub(crate) fn table_in<'a>(sets: &'a [f32], k: usize, quality: QualityMode) -> &'a [f32]
+    requires { ⌜ (k + 1) * 1081648 ≤ length (now sets) ⌝ }
+    ensures { λ r. ⌜ now r ≡ lentOf quality (setAt (now (sets .entry)) k) ⌝ }
+{
+    let set = set_at(sets, k);
+    sinc_bank_f32::chosen(set, set, true, quality)
 }
 
 // Lends the two sets of the choice.

@@ -5,6 +5,7 @@ ghost use mathlib.Core.Path.{_≡_};
 ghost use mathlib.Core.Bool.{_&&_};
 ghost use Rattle.bank_read.specs.Bank.{sampleVerdict, sampledOf};
 ghost use Rattle.bank_read.specs.Inner.{setsOk, readOf};
+ghost use Rattle.bank_read.specs.OneTable.{oneTable};
 use answer::AnswerF32;
 use bank_choice::Choice;
 use constants::SET_LENGTH;
@@ -43,6 +44,23 @@ pub fn read<'a>(
         }
     }
     0.0
+}
+
+// The one table that a quality reads by a choice of sets. It is empty if the quality reads two sets or none, or if the
+// bank does not have the sets.
+pub fn one_table<'a>(sets: &'a [f32], choice: Choice, quality: QualityMode) -> &'a [f32]
+    ensures { λ r. ⌜ now r ≡ oneTable choice quality (now (sets .entry)) ⌝ }
+{
+    if !sets_ok(choice, sets.len()) {
+        return &sets[0..0];
+    }
+    if choice.which == 0 {
+        return lent::table_in(sets, choice.safe, quality);
+    }
+    if choice.which == 1 {
+        return lent::table_in(sets, choice.tighter, quality);
+    }
+    &sets[0..0]
 }
 
 // N1, N2, N7. The number of the refusal, 0 for none: the bank's rate and the position must be in range, the bank must

@@ -1,10 +1,12 @@
 // The program `imitate FROM TO [NAME=VALUE …]`: it reads FROM back at a wandering delay and writes that to TO.
+mod absences; // which samples read absent taps
 mod asking; // what the arguments ask for
 mod hearing; // a block's samples
 mod running; // block after block
 mod sayings; // what is said of settings and samples
 mod storing; // a block's bytes
 
+use absences::Absences;
 use arguments::Kind;
 use asked::Imitation;
 use asking::help_asked;
@@ -16,10 +18,12 @@ use file_words::say_unopened;
 use file_words::say_wrapped;
 use libc::STDERR_FILENO;
 use libc::STDOUT_FILENO;
+use outcomes::Outcome;
 use outcomes::is_well;
 use part_file::Made;
 use running::Job;
 use sample_kind::SampleKind;
+use sayings::say_absent;
 use sayings::say_outcome;
 use sayings::suits;
 use sizes::times;
@@ -28,6 +32,12 @@ use wave_file::WaveFile;
 use wave_output::can_be_written;
 use wave_output::write_header;
 use wave_output::write_pad;
+
+// Whether everything was written, and which samples read absent taps.
+struct Written {
+    well: bool,
+    absent: Absences,
+}
 
 fn main() {
     if help_asked() {
@@ -79,7 +89,7 @@ fn imitate_of(settings: Imitation, from: &[u8], to: &[u8], file: WaveFile) -> bo
     match made {
         Made::Open(fd) => {
             say_wrapped(b"imitate", from, file);
-            let well = write_all(
+            let written = write_all(
                 from,
                 to,
                 Job {
@@ -90,10 +100,20 @@ fn imitate_of(settings: Imitation, from: &[u8], to: &[u8], file: WaveFile) -> bo
                 },
                 count,
             );
-            part_file::finish(b"imitate", to, fd, well)
+            finish(to, fd, file.channels, written)
         }
         Made::Failed => false,
     }
+}
+
+// What the samples lacked is said once the file is whole.
+fn finish(to: &[u8], fd: i32, channels: u8, written: Written) -> bool {
+    let absent = written.absent;
+    let whole = part_file::finish(b"imitate", to, fd, written.well);
+    if whole {
+        say_absent(channels, absent);
+    }
+    whole
 }
 
 fn kind_of(asked: Kind, same: SampleKind) -> SampleKind {
@@ -103,7 +123,7 @@ fn kind_of(asked: Kind, same: SampleKind) -> SampleKind {
     }
 }
 
-fn write_all(from: &[u8], to: &[u8], job: Job, count: usize) -> bool {
+fn write_all(from: &[u8], to: &[u8], job: Job, count: usize) -> Written {
     let file = job.file;
     let kind = job.kind;
     if !write_header(
@@ -115,9 +135,23 @@ fn write_all(from: &[u8], to: &[u8], job: Job, count: usize) -> bool {
         file.rate,
         count,
     ) {
-        return false;
+        let absent = absences::none_absent();
+        return Written {
+            well: false,
+            absent: absent,
+        };
     }
-    let outcome = running::imitate(job);
+    let ran = running::imitate(job);
+    let outcome = ran.outcome;
+    let absent = ran.absent;
+    Written {
+        well: ended_well(from, to, job, count, outcome),
+        absent: absent,
+    }
+}
+
+fn ended_well(from: &[u8], to: &[u8], job: Job, count: usize, outcome: Outcome) -> bool {
+    let kind = job.kind;
     if is_well(outcome) {
         progress::clear(libc::isatty(STDERR_FILENO) == 1);
         return write_pad(

@@ -1,6 +1,8 @@
-// The lines about settings, delays and samples that cannot be used.
+// The lines about settings, delays and samples that cannot be used, and about samples that read absent taps.
+use crate::absences::Absences;
 use delay_words::put_delays;
 use delay_words::whole_above;
+use error_lines::say;
 use error_lines::say_plain;
 use file_words::say_place;
 use file_words::say_unread;
@@ -48,6 +50,15 @@ fn say_delays(reach: f64) {
     let mut line = [0u8; 128];
     let n = put_delays(&mut line, 0, whole_above(reach));
     say_plain(b"imitate", begun(&line, n));
+}
+
+// Two lines have at most 440 bytes (`short-lines` in absent_words).
+pub(crate) fn say_absent(channels: u8, absent: Absences) {
+    let mut lines = [0u8; 512];
+    let one = absent.one;
+    let two = absent.two;
+    let n = absent_words::put_lines(&mut lines, 0, channels, one, two);
+    say(begun(&lines, n));
 }
 
 pub(crate) fn say_outcome(from: &[u8], to: &[u8], outcome: Outcome) {

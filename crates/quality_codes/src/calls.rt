@@ -11,7 +11,8 @@ use super::codes::odd;
 use quality_variable_delay::ProcessedQ;
 use refusal_order::both;
 
-fn apart(p: ProcessedQ) -> Called
+// What a reader's call answers, as plain numbers.
+pub fn apart(p: ProcessedQ) -> Called
     ensures { λ r. ⌜ r ≡ takenApart p ⌝ }
 {
     let d = p.state;

@@ -96,7 +96,7 @@ fn number(test: bool, a: u8, b: u8) -> u8
 
 // The refusal when a number names nothing: 1 if it is the requested quality's; otherwise 3, unless `v`, the refusal
 // without it, is already 1 or 2.
-pub(crate) fn odd(asked: bool, v: u8) -> u8
+pub fn odd(asked: bool, v: u8) -> u8
     ensures { λ r. ⌜ r ≡ oddNumber asked v ⌝ }
 {
     let early = number(both(1 <= v, v <= 2), v, 3);

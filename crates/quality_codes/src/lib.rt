@@ -9,7 +9,13 @@ mod plainly; // the tests of that fast path
 mod renewing; // opening and reset
 mod through; // a call whose numbers come and go through pointers
 
+pub use calls::apart;
 pub use calls::call;
+pub use codes::decode;
+pub use codes::encode;
+pub use codes::fields_ok;
+pub use codes::mode;
+pub use codes::odd;
 pub use draft::call_at_once;
 pub use renewing::renew;
 pub use through::call_through;

@@ -3,3 +3,4 @@ pub mod Refused
 pub mod BankTests
 pub mod Readings
 pub mod CommonCall
+pub mod ChosenCall

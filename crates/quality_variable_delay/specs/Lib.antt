@@ -1,4 +1,5 @@
 pub mod State
 pub mod Reader
 pub mod Bank
+pub mod Chosen
 pub mod Opening

@@ -33,7 +33,7 @@ pub fn due(
 }
 
 // The same state, made anew. `due` takes a state in memory, and a call on the fast path need not put it there.
-fn again(state: QualityVariableDelayF32) -> QualityVariableDelayF32
+pub(crate) fn again(state: QualityVariableDelayF32) -> QualityVariableDelayF32
     ensures { λ r. ⌜ r ≡ state ⌝ }
 {
     let current = state.current_quality;

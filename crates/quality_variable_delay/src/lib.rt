@@ -1,6 +1,8 @@
 // The original's QualityVariableDelayF32 (000): a delay reader over a ring of f32 whose quality may change from call to
 // call, with a fade from the old quality to the new one, by 000's rule or by one that goes back without a jump (W9).
 mod calls; // process_sample and process_sample_rate_aware
+mod chosen; // the same over two sets that the caller chose
+mod cleared; // the tests of that
 mod opening; // new, by either rule, and reset
 mod refusing; // the refusal that is due
 mod served; // a call of which nothing is to be refused
@@ -12,6 +14,7 @@ use answer::AnswerF32;
 pub use calls::due;
 pub use calls::process_sample;
 pub use calls::process_sample_rate_aware;
+pub use chosen::process_chosen;
 pub use opening::open;
 pub use opening::open_returning;
 pub use opening::reset;

@@ -17,7 +17,7 @@ use quality_mode::QualityMode;
 use returning_fade::Direction;
 
 // F1. The state is made anew, with one sample more and the qualities that the turn leaves.
-fn after(
+pub(crate) fn after(
     state: QualityVariableDelayF32,
     direction: Direction,
     fade: Fade,
@@ -44,7 +44,7 @@ fn after(
 }
 
 // K1. Stores sample i at its place, and gives the position to be read.
-fn store(i: u64, ring: &mut [f32], input: f32, delay: f64) -> f64
+pub(crate) fn store(i: u64, ring: &mut [f32], input: f32, delay: f64) -> f64
     requires { ⌜ (i < 2 ^ 36) × (0 < length (now ring)) ⌝ }
     ensures { λ r. ⌜ r ≡ positionOf i delay ⌝ }
     ensures { λ r. ⌜ now (ring .exit) ≡ stored i (now (ring .entry)) input ⌝ }

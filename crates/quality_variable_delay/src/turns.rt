@@ -12,7 +12,7 @@ use quality_fade::Turn;
 use quality_mode::QualityMode;
 
 // 000's `from + (to - from) * mix.min(1.0)`.
-fn mix(from: f32, to: f32, weight: u32, crossfade_samples: u32) -> f32
+pub(crate) fn mix(from: f32, to: f32, weight: u32, crossfade_samples: u32) -> f32
     ensures { λ r. ⌜ r ≡ mixedOf from to (weightOf weight «crossfade_samples») ⌝ }
 {
     let share = std::num::nearest_u32_to_f32(weight)

@@ -25,13 +25,13 @@ pub exact : (n : ℕ) → n ≤ 4096 → T (inFloat binary64 (pos n))
 unfolding inFloat
 exact n h = le→leb n (2 ^ 53) (le-trans h (lit≤ tt))
 
-value : (n : ℕ) → n ≤ 4096 → HasValue (num n) false n 1
+pub value : (n : ℕ) → n ≤ 4096 → HasValue (num n) false n 1
 value n h = whole-value binary64 (pos n) (le-trans h (lit≤ tt))
 
 not-below : (a b : ℕ) → b ≤ a → subℕ a b ≡ pos (a - b)
 not-below a b h = rw (le-ltb a b h)
 
-apart : (a b c : ℕ) → a ≤ b + c → b ≤ a + c → natAbs (subℕ a b) ≤ c
+pub apart : (a b c : ℕ) → a ≤ b + c → b ≤ a + c → natAbs (subℕ a b) ≤ c
 apart a b c p q = go (ltb a b) refl
   where
     go : (t : Bool) → ltb a b ≡ t → natAbs (cond t (negsuc (b - suc a)) (pos (a - b))) ≤ c

@@ -1,9 +1,9 @@
 -- K4, T1. 000's sinc, Kaiser's window, and a coefficient before it is divided by the sum of its row: each step rounded,
 -- in 000's order. Definitions only.
 use Prim.Native.Nat.{ℕ, _-_, _^_}
-use mathlib.Core.Bool.{Bool, false, cond}
+use mathlib.Core.Bool.{Bool, true, false, cond, _&&_}
 use lib.IntN.{pos, negsuc}
-use lib.Ieee.{Float, nan, inf, fin, binary64, round, sub, mul, div, lt, ofInt}
+use lib.Ieee.{Float, nan, inf, fin, binary64, round, sub, mul, div, lt, le, ofInt}
 use Rattle.rounding.specs.Operations.{root}
 use Rattle.min_max.specs.Choice.{larger}
 use Rattle.elementary.specs.Answers.{sineAt}
@@ -64,3 +64,10 @@ distanceOf s phase k = sub binary64 (sub binary64 (num k) (centerOf (s .taps))) 
 -- In 000: `cutoff * sinc(cutoff * distance) * window`.
 abbrev pub coefficientOf : Float → Float → Float → Float
 coefficientOf cutoff distance window = mul binary64 (mul binary64 cutoff (sincOf (mul binary64 cutoff distance))) window
+
+-- W11a. The same for any arguments. If the sinc's argument lies beyond 65, where no table and no filter comes, it is
+-- 0.0.
+abbrev pub coefficientAt : Float → Float → Float → Float
+coefficientAt cutoff distance window =
+    let x = mul binary64 cutoff distance in
+    cond (le (fin true 65 (pos 0)) x && le x (fin false 65 (pos 0))) (coefficientOf cutoff distance window) zero-f

@@ -13,7 +13,7 @@ ghost use lib.Ieee.{Float, binary64, mul, div};
 ghost use Rattle.loop_laws.specs.Loops.{listOf};
 ghost use Rattle.magnitude.specs.Bounds.{AtMost};
 ghost use Rattle.sinc_settings.specs.Ranges.{settingsOk};
-ghost use Rattle.sinc_row.specs.Coefficient.{smallOf, sincOf, coefficientOf};
+ghost use Rattle.sinc_row.specs.Coefficient.{smallOf, sincOf, coefficientOf, coefficientAt};
 ghost use Rattle.sinc_row.specs.Row.{at, rawOf, gainOf, rowReady, rowAfter};
 use sinc_settings::Settings;
 use window::window_ready;
@@ -46,6 +46,16 @@ fn coefficient(cutoff: f64, distance: f64, window: f64) -> f64
     ensures { λ r. ⌜ r ≡ coefficientOf cutoff distance window ⌝ }
 {
     cutoff * sinc(cutoff * distance) * window
+}
+
+// W11a. `coefficient` for any arguments: 0.0 if the argument of the sinc lies beyond 65.
+pub fn coefficient_at(cutoff: f64, distance: f64, window: f64) -> f64
+    ensures { λ r. ⌜ r ≡ coefficientAt cutoff distance window ⌝ }
+{
+    if !magnitude::within(cutoff * distance, -65.0, 65.0) {
+        return 0.0;
+    }
+    coefficient(cutoff, distance, window)
 }
 
 // Writes a row's coefficients and returns their sum.
@@ -86,7 +96,8 @@ fn quotient(x: f64, gain: f64, plain: bool) -> f64
     if plain { y } else { bit_patterns::one_nan(y) }
 }
 
-fn divide(row: &mut [f64], gain: f64)
+// Divides each element.
+pub fn divide(row: &mut [f64], gain: f64)
     ensures { λ _. ⌜ now (row .exit) ≡ map (λ (x : Float). div binary64 x gain) (now (row .entry)) ⌝ }
 {
     let plain = plain(gain);

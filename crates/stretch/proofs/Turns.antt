@@ -1,114 +1,57 @@
--- W3a. A stretch step by step, in place: the answers so far stand in front of the place k, what is still to come is as
--- it was, and together they are the whole stretch. Assumes nothing.
-use mathlib.Core.Path.{_≡_, refl, sym, ap, _∙_}
-use mathlib.Core.Bool.{Bool, true, false}
-use mathlib.Core.List.{List, [], _∷_, _++_, append-assoc, append-nil}
-use Prim.Native.Nat.{ℕ, zero, suc, _+_, _≤_, _<_, min}
-use native.Mathlib.Numerals.{add-one}
+-- W3a. A stretch step by step in place: the samples are written where the inputs stood. It is the stretch of Going.antt
+-- whose lent output is the inputs, so what a call finds at the place is what was lent. Assumes nothing.
+use mathlib.Core.Path.{_≡_, sym, ap, _∙_}
+use mathlib.Core.List.{List}
+use Prim.Native.Nat.{ℕ, _+_, _≤_, _<_, min}
 use native.Mathlib.Omega.{arith}
-use borrow.Author.Tests.{leb-true, leb-false}
-use lib.Dec.{leb}
-use lib.ListN.{length, take, drop, getD, set, length-set, take-append-drop, drop-of-length-le}
-use lib.Seq.{drop-cons, drop-drop, drop-set-lt, length-take-le, take-suc-set}
+use lib.ListN.{length, take, drop, getD, set}
+use mathlib.Core.List.{_++_}
+use lib.Seq.{drop-cons}
 use lib.Ieee.{Float}
-use Rattle.stretch.specs.Stretch.{Called, Call, Ran, nothing, andThen, stretchOf}
+use Rattle.stretch.specs.Stretch.{Called, Call, Ran, stretchOf}
+use Rattle.stretch.proofs.Going as going
 
-module _ {S : Type 0} where
-  -- What a stretch leaves, with samples in front.
-  abbrev pub behind : List Float → Ran S → Ran S
-  behind ys o = record { state = o .state; ring = o .ring; number = o .number; samples = ys ++ o .samples }
+module _ {S : Type 0} (call : Call S) (s₀ : S) (ring₀ xs ds : List Float) where
+  abbrev pub Half : S → List Float → List Float → ℕ → Type 0
+  Half s ring ys k = going.Half call s₀ ring₀ xs ds xs s ring ys k
 
-  module _ (call : Call S) (s₀ : S) (ring₀ xs ds : List Float) where
-    -- The state up to a place: s, ring and ys are what the loop has, the others what it began with.
-    pub record Half (s : S) (ring ys : List Float) (k : ℕ) : Type 0 where
-      pub long : length ys ≡ length xs
-      pub rest : drop k ys ≡ drop k xs
-      pub whole : stretchOf call s₀ ring₀ xs ds ≡ behind (take k ys) (stretchOf call s ring (drop k xs) (drop k ds))
+  pub begun : Half s₀ ring₀ xs 0
+  begun = going.begun call s₀ ring₀ xs ds xs
 
-    pub begun : Half s₀ ring₀ xs 0
-    begun = record { long = refl; rest = refl; whole = refl }
+  module _ {s : S} {ring ys : List Float} {k : ℕ} (h : Half s ring ys k) (z : Float) (l : k < length xs)
+      (m : k < length ds) where
+    abbrev pub called : Called S
+    called = call s ring (getD ys k z) (getD ds k z)
 
-    module _ {s : S} {ring ys : List Float} {k : ℕ} (h : Half s ring ys k) (z : Float) (l : k < length xs)
-        (m : k < length ds) where
-      -- The call of the loop: what it finds at the place is what was lent.
-      abbrev pub called : Called S
-      called = call s ring (getD ys k z) (getD ds k z)
+    as-lent : getD ys k z ≡ getD xs k z
+    as-lent =
+        ap (λ (t : List Float). getD t 0 z)
+        (sym (drop-cons ys k z (omega (arith, h .long))) ∙ h .rest ∙ drop-cons xs k z l)
 
-      as-lent : getD ys k z ≡ getD xs k z
-      as-lent =
-          ap (λ (t : List Float). getD t 0 z)
-          (sym (drop-cons ys k z (omega (arith, h .long))) ∙ h .rest ∙ drop-cons xs k z l)
+    same-call : called ≡ call s ring (getD xs k z) (getD ds k z)
+    same-call = ap (λ (x : Float). call s ring x (getD ds k z)) as-lent
 
-      one-call : stretchOf call s ring (drop k xs) (drop k ds)
-          ≡ andThen (called .number) called
-          (stretchOf call (called .state) (called .ring) (drop (suc k) xs) (drop (suc k) ds))
-      unfolding stretchOf
-      one-call = rw (drop-cons xs k z l, drop-cons ds k z m) (ap of-input (sym as-lent))
-        where
-          of-input : Float → Ran S
-          of-input x =
-              let c = call s ring x (getD ds k z) in
-              andThen (c .number) c (stretchOf call (c .state) (c .ring) (drop (suc k) xs) (drop (suc k) ds))
+    pub turn : {n : ℕ} {t : S} {r : List Float} {y : Float} → n ≡ called .number → n ≡ 0 → t ≡ called .state
+        → r ≡ called .ring
+        → y ≡ called .sample → Half t r (set ys k y) (k + 1)
+    turn a e p q v =
+        going.turn call s₀ ring₀ xs ds xs h z l m l (a ∙ ap (λ c. c .number) same-call) e
+        (p ∙ ap (λ c. c .state) same-call) (q ∙ ap (λ c. c .ring) same-call) (v ∙ ap (λ c. c .sample) same-call)
 
-      -- A call that is not refused.
-      pub turn : {n : ℕ} {t : S} {r : List Float} {y : Float} → n ≡ called .number → n ≡ 0 → t ≡ called .state
-          → r ≡ called .ring
-          → y ≡ called .sample → Half t r (set ys k y) (k + 1)
-      turn {n} {t} {r} {y} a e p q v =
-          let here : k < length ys = omega (arith, h .long) in
-          record {
-            long = simp length-set (h .long);
-            rest = rw add-one (drop-set-lt (suc k) ys k y (omega arith) ∙ drop-rest);
-            whole =
-                h .whole ∙ ap (behind (take k ys)) one-call
-                ∙ rw (sym a ∙ e, add-one k, take-suc-set ys k y here, p, q, v) (more (take k ys) (called .sample) _);
-          }
-        where
-          drop-rest : drop (suc k) ys ≡ drop (suc k) xs
-          drop-rest = rw add-one at (sym (drop-drop 1 k ys) ∙ ap (drop 1) (h .rest) ∙ drop-drop 1 k xs)
+    pub stopped : (n : ℕ) {t : S} {r : List Float} → n ≡ called .number → (n ≡ 0 → ⊥) → t ≡ called .state
+        → r ≡ called .ring
+        → stretchOf call s₀ ring₀ xs ds ≡ record { state = t; ring = r; number = n; samples = take k ys }
+    stopped n a e p q =
+        going.stopped call s₀ ring₀ xs ds xs h z l m n (a ∙ ap (λ c. c .number) same-call) e
+        (p ∙ ap (λ c. c .state) same-call) (q ∙ ap (λ c. c .ring) same-call)
 
-          more : (us : List Float) (u : Float) (o : Ran S)
-              → behind us (record { state = o .state; ring = o .ring; number = o .number; samples = u ∷ o .samples })
-              ≡ behind (us ++ (u ∷ [])) o
-          more us u o = rw (append-assoc us (u ∷ []) (o .samples))
+  module _ {s : S} {ring ys : List Float} {k : ℕ} (h : Half s ring ys k) where
+    pub ended : min (length xs) (length ds) ≤ k
+        → stretchOf call s₀ ring₀ xs ds ≡ record { state = s; ring = ring; number = 0; samples = take k ys }
+    ended = going.ended call s₀ ring₀ xs ds xs h
 
-      -- A call that is refused ends the stretch.
-      pub stopped : (n : ℕ) {t : S} {r : List Float} → n ≡ called .number → (n ≡ 0 → ⊥) → t ≡ called .state
-          → r ≡ called .ring
-          → stretchOf call s₀ ring₀ xs ds ≡ record { state = t; ring = r; number = n; samples = take k ys }
-      stopped zero a e p q = absurd (e refl)
-      stopped (suc n) a e p q = h .whole ∙ ap (behind (take k ys)) one-call ∙ rw (sym a, p, q, append-nil (take k ys))
+    pub done : k ≤ length xs → length (take k ys) ≡ k
+    done = going.done call s₀ ring₀ xs ds xs h
 
-    module _ {s : S} {ring ys : List Float} {k : ℕ} (h : Half s ring ys k) where
-      abbrev all-done : Ran S
-      all-done = record { state = s; ring = ring; number = 0; samples = take k ys }
-
-      no-inputs : length xs ≤ k → stretchOf call s₀ ring₀ xs ds ≡ all-done
-      unfolding stretchOf
-      no-inputs e = h .whole ∙ rw (drop-of-length-le xs e, append-nil (take k ys))
-
-      no-delays : length ds ≤ k → stretchOf call s₀ ring₀ xs ds ≡ all-done
-      unfolding stretchOf
-      no-delays e = h .whole ∙ ap (behind (take k ys)) (none (drop k xs)) ∙ rw (append-nil (take k ys))
-        where
-          none : (us : List Float) → stretchOf call s ring us (drop k ds) ≡ nothing s ring
-          none [] = refl
-          none (u ∷ us) = rw (drop-of-length-le ds e)
-
-      -- The end of the shorter list.
-      pub ended : min (length xs) (length ds) ≤ k
-          → stretchOf call s₀ ring₀ xs ds ≡ record { state = s; ring = ring; number = 0; samples = take k ys }
-      ended e = by (leb (length xs) k) refl
-        where
-          by : (t : Bool) → leb (length xs) k ≡ t → stretchOf call s₀ ring₀ xs ds ≡ all-done
-          by true p = no-inputs (leb-true (length xs) k p)
-          by false p = no-delays (omega (arith, leb-false (length xs) k p))
-
-      pub done : k ≤ length xs → length (take k ys) ≡ k
-      done l = length-take-le k ys (omega (arith, h .long))
-
-      -- What the loop leaves of the list: answers, then what was lent.
-      pub in-place : k ≤ length xs → ys ≡ take k ys ++ drop (length (take k ys)) xs
-      in-place l =
-          sym (take-append-drop k ys)
-          ∙ ap (λ (t : List Float). take k ys ++ t) (h .rest ∙ ap (λ (n : ℕ). drop n xs) (sym (done l)))
+    pub in-place : k ≤ length xs → ys ≡ take k ys ++ drop (length (take k ys)) xs
+    in-place = going.in-place call s₀ ring₀ xs ds xs h

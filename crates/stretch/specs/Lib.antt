@@ -1,1 +1,4 @@
 pub mod Stretch
+pub mod Whole
+pub mod Counts
+pub mod Singles

@@ -45,12 +45,12 @@ module _ (c : Choice) (xs ys : List Float) (e : length xs ≡ length ys) (count 
 
 module _ (n : ℕ) (max-rate : Float) (d : QualityVariableDelayF32) (xs : List Float) (x y : Float) (q : QualityMode)
     (rate : Float) where
-  abbrev counted : ℕ → Absent
+  abbrev pub counted : ℕ → Absent
   counted v =
       countedOf (length xs) (d .accepted) (stateAfter v d q .accepted) y (choiceOf max-rate rate)
       (stepOf (fadePart d) q .turn)
 
-  by-verdict : (v : ℕ) → dueOf n max-rate d (length xs) x y rate ≡ v
+  pub by-verdict : (v : ℕ) → dueOf n max-rate d (length xs) x y rate ≡ v
       → counted v ≡ unlessRefused v (absentOfCall max-rate d xs x y q rate)
   by-verdict zero h =
       let t = taken (bankOk max-rate) (eqb n (stepsOf max-rate * setLength)) d (length xs) x y rate h in
@@ -61,11 +61,10 @@ module _ (n : ℕ) (max-rate : Float) (d : QualityVariableDelayF32) (xs : List F
   by-verdict (suc k) h = rw (eq-eqb (d .accepted) (d .accepted) refl)
 
 pub told : (sets : List Float) (max-rate : Float) (d : QualityVariableDelayF32) (xs : List Float) (x y : Float)
-    (q : QualityMode) (rate : Float) (p : ProcessedQ) (c : Choice) (t : Turn) (s : Absent)
-    → p ≡ processed sets max-rate d xs x y q rate → c ≡ choiceOf max-rate rate → t ≡ stepOf (fadePart d) q .turn
-    → s ≡ countedOf (length xs) (d .accepted) (p .state .accepted) y c t
-    → withAbsent p s ≡ toldOf sets max-rate d xs x y q rate
-told sets max-rate d xs x y q rate p c t s e f g h =
-    rw (h, e, f, g)
+    (q : QualityMode) (rate : Float) (p : ProcessedQ) (s : Absent) → p ≡ processed sets max-rate d xs x y q rate
+    → s ≡ countedOf (length xs) (d .accepted) (p .state .accepted) y (choiceOf max-rate rate)
+    (stepOf (fadePart d) q .turn) → withAbsent p s ≡ toldOf sets max-rate d xs x y q rate
+told sets max-rate d xs x y q rate p s e h =
+    rw (h, e)
     (ap (withAbsent (processed sets max-rate d xs x y q rate))
     (by-verdict (length sets) max-rate d xs x y q rate _ refl))

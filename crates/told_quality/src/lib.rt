@@ -2,6 +2,7 @@
 // reader as it is and counts beside it, so that a call that does not need the numbers pays nothing.
 mod counting; // the numbers of one call
 
+pub use counting::of_call;
 ghost use mathlib.Core.Path.{_≡_};
 ghost use Rattle.quality_variable_delay.specs.Bank.{ringLeft};
 ghost use Rattle.told_quality.specs.Told.{toldOf};
@@ -33,7 +34,6 @@ pub fn process_sample_rate_aware_told<'a>(
         ringLeft (now (sets .entry)) «max_rate» state (now (ring .entry)) input delay «playback_rate» ⌝ }
 {
     let len = ring.len();
-    let turn = counting::turn(state, quality);
     let p = quality_variable_delay::process_sample_rate_aware(
         state,
         &mut ring[..],
@@ -46,17 +46,46 @@ pub fn process_sample_rate_aware_told<'a>(
     );
     let after = p.state;
     let answer = p.answer;
-    let absent = counting::of_call(
+    let absent = of_call(
+        state,
         len,
-        state.accepted,
         after.accepted,
+        max_rate,
         delay,
-        bank_choice::choice_or_zero(max_rate, playback_rate),
-        turn,
+        quality,
+        playback_rate,
     );
     ToldQ {
         state: after,
         answer: answer,
         absent: absent,
     }
+}
+
+// The call without a rate, which reads at the bank's maximum rate, as the reader's own does.
+pub fn process_sample_told<'a>(
+    state: QualityVariableDelayF32,
+    ring: &mut [f32],
+    sets: &'a [f32],
+    max_rate: f64,
+    input: f32,
+    delay: f64,
+    quality: QualityMode,
+) -> ToldQ
+    ensures { λ r. ⌜ r ≡
+        toldOf (now (sets .entry)) «max_rate» state (now (ring .entry)) input delay quality «max_rate» ⌝ }
+    ensures { λ r. ⌜ now (ring .exit) ≡
+        ringLeft (now (sets .entry)) «max_rate» state (now (ring .entry)) input delay «max_rate» ⌝ }
+{
+    let playback_rate = max_rate;
+    process_sample_rate_aware_told(
+        state,
+        &mut ring[..],
+        sets,
+        max_rate,
+        input,
+        delay,
+        quality,
+        playback_rate,
+    )
 }

@@ -1,7 +1,11 @@
 //! The bank of tables, and the reader whose quality may change, as the original has them.
 
-use super::{or_panic, or_silence};
-use crate::{quality_mode::QualityMode, strict, Mode};
+use super::{delays::silence, or_panic, or_silence};
+use crate::{
+    boundary::{Absent, ItemsF32},
+    quality_mode::QualityMode,
+    strict, Mode,
+};
 use std::sync::Arc;
 
 /// Prebuilt interpolation tables for allocation-free quality switching.
@@ -79,6 +83,57 @@ impl QualityVariableDelayF32 {
         let answer =
             self.reader.process_rate_aware(&self.kernels.0, input, delay_samples, requested_quality, playback_rate);
         or_silence(answer, input.is_finite(), delay_samples)
+    }
+
+    /// `process_sample` with the number of its absent taps, by kind, which the original does not count: those of every
+    /// reading that it makes; three zeros where it does not advance.
+    #[track_caller]
+    pub fn process_sample_told(
+        &mut self,
+        input: f32,
+        delay_samples: f64,
+        requested_quality: QualityMode,
+    ) -> (f32, Absent) {
+        let (answer, absent) = self.reader.process_told(&self.kernels.0, input, delay_samples, requested_quality, None);
+        (or_silence(answer, input.is_finite(), delay_samples), absent)
+    }
+
+    /// `process_sample_rate_aware` with them.
+    #[track_caller]
+    pub fn process_sample_rate_aware_told(
+        &mut self,
+        input: f32,
+        delay_samples: f64,
+        requested_quality: QualityMode,
+        playback_rate: f64,
+    ) -> (f32, Absent) {
+        let rate = Some(playback_rate);
+        let (answer, absent) = self.reader.process_told(&self.kernels.0, input, delay_samples, requested_quality, rate);
+        (or_silence(answer, input.is_finite(), delay_samples), absent)
+    }
+
+    /// `process_sample_rate_aware` item by item, in one call, with one quality and one rate, which the original does not
+    /// have. A bad item gives 0.0 and does not advance, as there; it panics where the three lengths differ.
+    #[track_caller]
+    pub fn process_stretch(
+        &mut self,
+        inputs: &[f32],
+        delays: &[f64],
+        requested_quality: QualityMode,
+        playback_rate: f64,
+        out: &mut [f32],
+    ) {
+        let mut at = 0;
+        loop {
+            let items = ItemsF32 { inputs: &inputs[at..], delays: &delays[at..], done: 0 };
+            match self.reader.stretch(&self.kernels.0, items, requested_quality, playback_rate, &mut out[at..]) {
+                Ok(()) => return,
+                Err(stopped) => {
+                    out[at + stopped.done] = silence(stopped.refusal);
+                    at += stopped.done + 1;
+                }
+            }
+        }
     }
 
     pub fn reset(&mut self) {

@@ -2,7 +2,7 @@
 
 use super::or_panic;
 use crate::{
-    boundary::Reader,
+    boundary::{Absent, Items, ItemsF32, Named, Reader},
     doors::{Door, DoorF32, ReaderF32},
     strict, Mode,
 };
@@ -58,8 +58,18 @@ impl Door for WindowedSinc {
     fn process(&self, reader: &mut Reader, input: f64, delay: f64, sample: &mut f64) -> u8 {
         self.0.process(reader, input, delay, sample)
     }
+    #[rustfmt::skip]
+    fn process_told(&self, reader: &mut Reader, input: f64, delay: f64, sample: &mut f64, absent: &mut Absent) -> u8 {
+        self.0.process_told(reader, input, delay, sample, absent)
+    }
+    fn stretch(&self, reader: &mut Reader, items: &mut Items, out: &mut [f64]) -> u8 {
+        self.0.stretch(reader, items, out)
+    }
     fn read(&self, source: &[f64], count: u64, position: f64, sample: &mut f64) -> u8 {
         self.0.read(source, count, position, sample)
+    }
+    fn named(&self) -> Named<'_> {
+        self.0.named()
     }
 }
 
@@ -101,6 +111,13 @@ impl DoorF32 for WindowedSincF32 {
     #[inline]
     fn process(&self, reader: &mut ReaderF32, input: f32, delay: f64, sample: &mut f32) -> u8 {
         self.0.process(reader, input, delay, sample)
+    }
+    #[rustfmt::skip]
+    fn process_told(&self, reader: &mut ReaderF32, input: f32, delay: f64, sample: &mut f32, absent: &mut Absent) -> u8 {
+        self.0.process_told(reader, input, delay, sample, absent)
+    }
+    fn stretch(&self, reader: &mut ReaderF32, items: &mut ItemsF32, out: &mut [f32]) -> u8 {
+        self.0.stretch(reader, items, out)
     }
     fn read(&self, source: &[f32], count: u64, position: f64, sample: &mut f32) -> u8 {
         self.0.read(source, count, position, sample)

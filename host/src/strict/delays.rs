@@ -1,9 +1,9 @@
 //! The delay readers of one kernel: each owns its ring.
 
 use crate::{
-    boundary::{Reader, Width},
+    boundary::{Absent, Items, ItemsF32, Reader, Width},
     doors::{ring_length, Door, DoorF32, ReaderF32},
-    Refusal,
+    Refusal, Stopped,
 };
 
 /// Circular-buffer variable-delay reader. Allocates only when it is made.
@@ -27,6 +27,22 @@ impl<K: Door> VariableDelay<K> {
         let mut sample = 0.0;
         let number = self.kernel.process(&mut self.reader, input, delay_samples, &mut sample);
         Refusal::of(number).map(|()| sample)
+    }
+
+    /// The same with the number of its absent taps, by kind: three zeros if it is refused.
+    #[inline]
+    pub fn process_sample_told(&mut self, input: f64, delay_samples: f64) -> (Result<f64, Refusal>, Absent) {
+        let (mut sample, mut absent) = (0.0, Absent::default());
+        let number = self.kernel.process_told(&mut self.reader, input, delay_samples, &mut sample, &mut absent);
+        (Refusal::of(number).map(|()| sample), absent)
+    }
+
+    /// Writes the inputs in order and reads each one's delay behind it: `process_sample` item by item, in one call. It
+    /// stops at the first item that is refused. Refused by 2 before the first item where the three lengths differ.
+    pub fn process_stretch(&mut self, inputs: &[f64], delays: &[f64], out: &mut [f64]) -> Result<(), Stopped> {
+        let mut items = Items { inputs, delays, done: 0 };
+        let number = self.kernel.stretch(&mut self.reader, &mut items, out);
+        Stopped::of(items.done, number)
     }
 
     /// Zeroes the ring and the count. Never refused: the settings were accepted, and the state is the port's own.
@@ -57,6 +73,22 @@ impl<K: DoorF32> VariableDelayF32<K> {
         let mut sample = 0.0;
         let number = self.kernel.process(&mut self.reader, input, delay_samples, &mut sample);
         Refusal::of(number).map(|()| sample)
+    }
+
+    /// The same with the number of its absent taps, by kind: three zeros if it is refused.
+    #[inline]
+    pub fn process_sample_told(&mut self, input: f32, delay_samples: f64) -> (Result<f32, Refusal>, Absent) {
+        let (mut sample, mut absent) = (0.0, Absent::default());
+        let number = self.kernel.process_told(&mut self.reader, input, delay_samples, &mut sample, &mut absent);
+        (Refusal::of(number).map(|()| sample), absent)
+    }
+
+    /// `process_sample` item by item, in one call, up to the first item that is refused. Refused by 2 before the first
+    /// item where the three lengths differ.
+    pub fn process_stretch(&mut self, inputs: &[f32], delays: &[f64], out: &mut [f32]) -> Result<(), Stopped> {
+        let mut items = ItemsF32 { inputs, delays, done: 0 };
+        let number = self.kernel.stretch(&mut self.reader, &mut items, out);
+        Stopped::of(items.done, number)
     }
 
     /// Zeroes the ring and the count. Never refused, as above.

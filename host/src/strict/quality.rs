@@ -1,7 +1,11 @@
 //! The reader whose quality may change, with the bank that it shares.
 
 use super::{Fading, SincBankF32};
-use crate::{quality_mode::QualityMode, Refusal};
+use crate::{
+    boundary::{Absent, ItemsF32},
+    quality_mode::QualityMode,
+    Refusal, Stopped,
+};
 use std::sync::Arc;
 
 /// Shared-table variable delay with click-free, allocation-free quality changes.
@@ -56,6 +60,42 @@ impl QualityVariableDelayF32 {
         playback_rate: f64,
     ) -> Result<f32, Refusal> {
         self.reader.process_rate_aware(&self.kernels, input, delay_samples, requested_quality, playback_rate)
+    }
+
+    /// `process_sample` with the number of its absent taps, by kind: those of every reading that it makes, both
+    /// qualities' during a fade and both sets' of a blend; three zeros if it is refused.
+    pub fn process_sample_told(
+        &mut self,
+        input: f32,
+        delay_samples: f64,
+        requested_quality: QualityMode,
+    ) -> (Result<f32, Refusal>, Absent) {
+        self.reader.process_told(&self.kernels, input, delay_samples, requested_quality, None)
+    }
+
+    /// `process_sample_rate_aware` with them.
+    pub fn process_sample_rate_aware_told(
+        &mut self,
+        input: f32,
+        delay_samples: f64,
+        requested_quality: QualityMode,
+        playback_rate: f64,
+    ) -> (Result<f32, Refusal>, Absent) {
+        self.reader.process_told(&self.kernels, input, delay_samples, requested_quality, Some(playback_rate))
+    }
+
+    /// `process_sample_rate_aware` item by item, in one call, with one quality and one rate, up to the first item that is
+    /// refused. Refused by 2 before the first item where the three lengths differ.
+    pub fn process_stretch(
+        &mut self,
+        inputs: &[f32],
+        delays: &[f64],
+        requested_quality: QualityMode,
+        playback_rate: f64,
+        out: &mut [f32],
+    ) -> Result<(), Stopped> {
+        let items = ItemsF32 { inputs, delays, done: 0 };
+        self.reader.stretch(&self.kernels, items, requested_quality, playback_rate, out)
     }
 
     pub fn reset(&mut self) {

@@ -2,7 +2,9 @@
 
 use super::table::Table;
 use crate::{
-    boundary::{Reader, Width},
+    boundary::{
+        sinc_f32_process_told, sinc_f32_stretch, sinc_process_told, Absent, Items, ItemsF32, Lent, LentF32, Named, Reader, Width,
+    },
     doors::{Door, DoorF32, ReaderF32},
     Mode, Refusal,
 };
@@ -75,9 +77,23 @@ impl Door for WindowedSinc {
             sample,
         )
     }
+    #[rustfmt::skip]
+    fn process_told(&self, r: &mut Reader, input: f64, delay: f64, sample: &mut f64, absent: &mut Absent) -> u8 {
+        let Table { taps, phases, values, .. } = &self.table;
+        let (accepted, ring) = (&mut r.accepted, &mut r.ring);
+        sinc_process_told(r.maximum, r.margin, accepted, ring, input, delay, values, *taps, *phases, sample, absent)
+    }
+    fn stretch(&self, reader: &mut Reader, items: &mut Items, out: &mut [f64]) -> u8 {
+        let Table { taps, phases, values, .. } = &self.table;
+        reader.sinc_stretch(items, Lent { table: values, taps: *taps, phases: *phases }, out)
+    }
     fn read(&self, source: &[f64], count: u64, position: f64, sample: &mut f64) -> u8 {
         let Table { taps, phases, values, .. } = &self.table;
         f64::sinc_sample(values, *taps, *phases, source, count, position, sample)
+    }
+    fn named(&self) -> Named<'_> {
+        let Table { taps, phases, values, .. } = &self.table;
+        Named { kernel: 3, points: *taps, phases: *phases, table: values }
     }
 }
 
@@ -134,6 +150,17 @@ impl DoorF32 for WindowedSincF32 {
             *phases,
             sample,
         )
+    }
+    #[rustfmt::skip]
+    fn process_told(&self, r: &mut ReaderF32, input: f32, delay: f64, sample: &mut f32, absent: &mut Absent) -> u8 {
+        let Table { taps, phases, values, .. } = &self.table;
+        let (accepted, ring) = (&mut r.accepted, &mut r.ring);
+        sinc_f32_process_told(r.maximum, r.margin, accepted, ring, input, delay, values, *taps, *phases, sample, absent)
+    }
+    fn stretch(&self, r: &mut ReaderF32, items: &mut ItemsF32, out: &mut [f32]) -> u8 {
+        let Table { taps, phases, values, .. } = &self.table;
+        let lent = LentF32 { table: values, taps: *taps, phases: *phases };
+        sinc_f32_stretch(r.maximum, r.margin, &mut r.accepted, &mut r.ring, items, lent, out)
     }
     fn read(&self, source: &[f32], count: u64, position: f64, sample: &mut f32) -> u8 {
         let Table { taps, phases, values, .. } = &self.table;

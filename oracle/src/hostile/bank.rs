@@ -31,13 +31,13 @@ pub const EXPORTS: &[Export] = &[
         number
     }),
     ("fugnadri_quality_reset", |t| opened(t, |reader| reader.reset())),
-    ("fugnadri_quality_process", |t| process(t, |r, c, _, v: &mut f32| r.process(c.sets, c.max_rate, c.input, c.delay, c.quality, v))),
-    ("fugnadri_quality_process_bits", |t| process(t, |r, c, _, v: &mut u32| r.process_bits(c.sets, c.max_rate, c.input, c.delay, c.quality, v))),
+    ("fugnadri_quality_process", |t| process(t, |_, r, c, _, v: &mut f32| r.process(c.sets, c.max_rate, c.input, c.delay, c.quality, v))),
+    ("fugnadri_quality_process_bits", |t| process(t, |_, r, c, _, v: &mut u32| r.process_bits(c.sets, c.max_rate, c.input, c.delay, c.quality, v))),
     ("fugnadri_quality_process_rate_aware", |t| {
-        process(t, |r, c, rate, v: &mut f32| r.process_rate_aware(c.sets, c.max_rate, c.input, c.delay, c.quality, rate, v))
+        process(t, |_, r, c, rate, v: &mut f32| r.process_rate_aware(c.sets, c.max_rate, c.input, c.delay, c.quality, rate, v))
     }),
     ("fugnadri_quality_process_rate_aware_bits", |t| {
-        process(t, |r, c, rate, v: &mut u32| r.process_rate_aware_bits(c.sets, c.max_rate, c.input, c.delay, c.quality, rate, v))
+        process(t, |_, r, c, rate, v: &mut u32| r.process_rate_aware_bits(c.sets, c.max_rate, c.input, c.delay, c.quality, rate, v))
     }),
 ];
 
@@ -76,7 +76,7 @@ fn build_in(t: &mut Turn, most: f64, call: fn(f64, u8, &mut [f32]) -> u8) -> u8 
 }
 
 /// A state that is mostly an open reader's, over a ring that is lent.
-fn reader(t: &mut Turn) -> (ManuallyDrop<QualityReader>, Lent<f32>) {
+pub fn reader(t: &mut Turn) -> (ManuallyDrop<QualityReader>, Lent<f32>) {
     let Shape { maximum, margin, accepted, length } = t.random.shape();
     let ring = t.memory.ring.lend(&mut t.random, t.memory.floats, length);
     let r = &mut t.random;
@@ -94,13 +94,13 @@ fn reader(t: &mut Turn) -> (ManuallyDrop<QualityReader>, Lent<f32>) {
 }
 
 /// Every number of the state.
-fn numbers(r: &QualityReader) -> ([usize; 3], u64, u32, u8, Fade) {
+pub fn numbers(r: &QualityReader) -> ([usize; 3], u64, u32, u8, Fade) {
     ([r.maximum, r.margin, r.ring.len()], r.accepted, r.crossfade_samples, r.rule, Fade::of(r))
 }
 
 /// What a call changes of the qualities.
 #[derive(Clone, Copy, PartialEq)]
-struct Fade {
+pub struct Fade {
     current: u8,
     target: u8,
     place: u32,
@@ -108,7 +108,7 @@ struct Fade {
 }
 
 impl Fade {
-    fn of(r: &QualityReader) -> Self {
+    pub fn of(r: &QualityReader) -> Self {
         Fade { current: r.current, target: r.target, place: r.crossfade_position, direction: r.direction }
     }
 
@@ -122,6 +122,16 @@ impl Fade {
                 (0, false) => direction == 0 && place < length,
                 (_, false) => 0 < place && place < length,
             }
+    }
+
+    /// The qualities that an accepted call reads: both of a mixed one, else the only one twice.
+    pub fn read(self, rule: u8, length: u32, asked: u8) -> (u8, u8) {
+        let Fade { current, target, place, direction } = self;
+        if rule == 1 && current != target {
+            let back = asked != target && (asked == current || direction == 1);
+            return (current, if back && place == 1 { current } else { target });
+        }
+        (if length == 0 { asked } else { current }, asked)
     }
 
     /// What an accepted call that asks for a quality leaves, in plain steps.
@@ -168,15 +178,15 @@ fn opened(t: &mut Turn, call: impl FnOnce(&mut QualityReader) -> u8) -> u8 {
 }
 
 /// What every call is handed beside the reader.
-struct Call<'a> {
-    sets: &'a [f32],
-    max_rate: f64,
-    input: f32,
-    delay: f64,
-    quality: u8,
+pub struct Call<'a> {
+    pub sets: &'a [f32],
+    pub max_rate: f64,
+    pub input: f32,
+    pub delay: f64,
+    pub quality: u8,
 }
 
-fn process<V: Value>(t: &mut Turn, call: impl FnOnce(&mut QualityReader, Call, f64, &mut V) -> u8) -> u8 {
+pub fn process<V: Value>(t: &mut Turn, call: impl FnOnce(&mut Turn, &mut QualityReader, Call, f64, &mut V) -> u8) -> u8 {
     let (mut reader, ring) = reader(t);
     let before = numbers(&reader);
     let r = &mut t.random;
@@ -191,7 +201,7 @@ fn process<V: Value>(t: &mut Turn, call: impl FnOnce(&mut QualityReader, Call, f
     };
     let (delay, quality) = (r.delay(ring.slice().len()), r.count(0, 3) as u8);
     let rate = if r.one_in(16) { r.float() } else { r.ranged(1.0, max_rate) };
-    let number = t.value(|_, v| call(&mut reader, Call { sets, max_rate, input, delay, quality }, rate, v));
+    let number = t.value(|t, v| call(t, &mut reader, Call { sets, max_rate, input, delay, quality }, rate, v));
     let after = numbers(&reader);
     t.hold((after.0, after.2, after.3) == (before.0, before.2, before.3), "something beside the state is written");
     t.hold(number == 0 || after == before, "a refused call has changed the state");

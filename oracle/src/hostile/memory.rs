@@ -1,7 +1,7 @@
 //! Memory to lend: up to the end of a page or from the start of one, with a page behind that nobody may touch, and written bytes on the other side.
 
 use crate::random::Random;
-use std::{ffi::c_void, ptr, slice};
+use std::{ffi::c_void, ops::Range, ptr, slice};
 
 extern "C" {
     fn mmap(at: *mut c_void, length: usize, protection: i32, flags: i32, file: i32, offset: i64) -> *mut c_void;
@@ -46,6 +46,13 @@ impl Region {
         let bytes = length * size_of::<T>();
         assert!(bytes <= self.bytes);
         unsafe { slice::from_raw_parts(self.at.add(self.bytes - bytes).cast(), length) }
+    }
+
+    /// The same, for a call that takes a slice that it may write, and must not: a write is a crash.
+    #[allow(clippy::mut_from_ref)]
+    pub fn last_mut<T>(&self, length: usize) -> &mut [T] {
+        let last = self.last::<T>(length);
+        unsafe { slice::from_raw_parts_mut(last.as_ptr().cast_mut(), last.len()) }
     }
 
     /// Lends so many elements, filled from a place of the pool on.
@@ -103,6 +110,17 @@ impl<T: Copy> Lent<T> {
     pub fn kept(&self) -> bool {
         let (now, mut same) = (self.slice(), self.zone_kept());
         self.parts(|k, part| same &= bytes(part) == bytes(&now[k..k + part.len()]));
+        same
+    }
+
+    /// The same but for a range of elements.
+    pub fn kept_but(&self, range: Range<usize>) -> bool {
+        let (now, mut same) = (self.slice(), self.zone_kept());
+        self.parts(|k, part| {
+            let (from, to) = (range.start.clamp(k, k + part.len()), range.end.clamp(k, k + part.len()));
+            same &= bytes(&part[..from - k]) == bytes(&now[k..from]);
+            same &= bytes(&part[to - k..]) == bytes(&now[to..k + part.len()]);
+        });
         same
     }
 

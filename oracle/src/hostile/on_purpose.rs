@@ -4,8 +4,10 @@
 //! readings overflow: two sets of a bank that both read an infinity differ by a NaN.
 
 mod numbers;
+mod oversampled;
 mod quality;
 mod readers;
+mod stretches;
 
 use super::{
     draw::{NANS, NANS32},
@@ -30,6 +32,8 @@ pub fn run() {
     }
     for odd in NANS.map(f64::from_bits).into_iter().chain(infinities) {
         made.readers(odd);
+        made.filters(odd);
+        made.stretches(odd);
         made.sinc("", odd, 1.0, -1.0);
     }
     let bank = quality::bank(1.04);

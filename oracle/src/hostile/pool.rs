@@ -9,6 +9,11 @@ pub struct Memory {
     pub table: Region,
     pub source: Region,
     pub words: Region,
+    /// The inputs and the delays of a stretch.
+    pub inputs: Region,
+    pub delays: Region,
+    /// The coefficients and histories of an oversampled reader.
+    pub filters: [Region; 6],
     /// Sets of a bank, of anything.
     pub sets: Region,
     pub doubles: &'static [f64],
@@ -37,6 +42,9 @@ impl Memory {
             table: Region::new(8 * 4097 * 128),
             source: Region::new(8 << 16),
             words: Region::new(8 * 16),
+            inputs: Region::new(8 * 256),
+            delays: Region::new(8 * 256),
+            filters: std::array::from_fn(|_| Region::new(8 * 256)),
             sets: Region::new(4 * (SETS * SET + 1)).only_read(&floats[..POOL / 2]),
             doubles,
             floats,

@@ -39,11 +39,17 @@ impl<'a> Turn<'a> {
     /// is written.
     #[inline]
     pub fn value<T: Value>(&mut self, call: impl FnOnce(&mut Self, &mut T) -> u8) -> u8 {
+        self.value_by(8, call)
+    }
+
+    /// The same for a call whose refusals have numbers up to `most`.
+    #[inline]
+    pub fn value_by<T: Value>(&mut self, most: u8, call: impl FnOnce(&mut Self, &mut T) -> u8) -> u8 {
         let word = self.random.word();
         let mut around = [T::of(word), T::of(!word), T::of(word)];
         let [low, value, high] = &mut around;
         let number = call(self, value);
-        self.hold(number <= 8, "the answer is no refusal's number");
+        self.hold(number <= most, "the answer is no refusal's number");
         self.hold(low.bits() == T::of(word).bits() && high.bits() == T::of(word).bits(), "something beside the value is written");
         self.hold(number == 0 || value.bits() == 0, "a refused call's value is not 0.0");
         let value = *value;

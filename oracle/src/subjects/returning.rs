@@ -14,18 +14,18 @@ use host::{lenient, strict};
 use std::iter::repeat;
 use wow_dsp::{QualityMode, QualityVariableDelayF32};
 
-const MODES: [QualityMode; 4] = [QualityMode::Draft, QualityMode::Normal, QualityMode::Hq, QualityMode::Ultra];
+pub const MODES: [QualityMode; 4] = [QualityMode::Draft, QualityMode::Normal, QualityMode::Hq, QualityMode::Ultra];
 
 /// What is read: plain in `to`, or from one to the other by a weight out of the length.
 #[derive(Clone, Copy)]
-struct Read {
-    from: u8,
-    to: u8,
-    weight: Option<u32>,
+pub struct Read {
+    pub from: u8,
+    pub to: u8,
+    pub weight: Option<u32>,
 }
 
 /// The fade as a reader holds it.
-struct Reckoned {
+pub struct Reckoned {
     returning: bool,
     length: u32,
     current: u8,
@@ -35,7 +35,12 @@ struct Reckoned {
 }
 
 impl Reckoned {
-    fn call(&mut self, asked: u8) -> Read {
+    /// What a reader that is opened with a quality holds.
+    pub fn new(returning: bool, length: u32, quality: u8) -> Self {
+        Reckoned { returning, length, current: quality, target: quality, place: length, back: false }
+    }
+
+    pub fn call(&mut self, asked: u8) -> Read {
         let fading = self.current != self.target;
         if self.returning && fading {
             self.back = asked != self.target && (asked == self.current || self.back);
@@ -73,6 +78,32 @@ impl Reckoned {
     }
 }
 
+/// A reader of host/ by either rule, lenient where that is asked for and its bank is there.
+pub fn opened(
+    bank: &'static Bank,
+    leniently: bool,
+    returning: bool,
+    maximum: usize,
+    margin: usize,
+    mode: host::QualityMode,
+    length: u32,
+) -> Box<dyn Port> {
+    match bank.lenient.clone().filter(|_| leniently) {
+        Some(bank) => Box::new(match returning {
+            false => lenient::QualityVariableDelayF32::new(maximum, margin, bank, mode, length),
+            true => lenient::QualityVariableDelayF32::new_returning(maximum, margin, bank, mode, length),
+        }),
+        None => {
+            let bank = bank.strict.clone();
+            let port = match returning {
+                false => strict::QualityVariableDelayF32::new(maximum, margin, bank, mode, length),
+                true => strict::QualityVariableDelayF32::new_returning(maximum, margin, bank, mode, length),
+            };
+            Box::new(port.expect("settings in range"))
+        }
+    }
+}
+
 struct Session {
     plain: Vec<QualityVariableDelayF32>,
     port: Box<dyn Port>,
@@ -86,21 +117,8 @@ impl Session {
         let quality = random.within(0, 3) as u8;
         let plain = MODES.iter().map(|mode| QualityVariableDelayF32::new(maximum, margin, bank.rust.clone(), *mode, 0));
         let mode = HOSTS[quality as usize];
-        let port: Box<dyn Port> = match bank.lenient.clone().filter(|_| random.coin()) {
-            Some(bank) => Box::new(match returning {
-                false => lenient::QualityVariableDelayF32::new(maximum, margin, bank, mode, length),
-                true => lenient::QualityVariableDelayF32::new_returning(maximum, margin, bank, mode, length),
-            }),
-            None => {
-                let bank = bank.strict.clone();
-                let port = match returning {
-                    false => strict::QualityVariableDelayF32::new(maximum, margin, bank, mode, length),
-                    true => strict::QualityVariableDelayF32::new_returning(maximum, margin, bank, mode, length),
-                };
-                Box::new(port.expect("settings in range"))
-            }
-        };
-        let fade = Reckoned { returning, length, current: quality, target: quality, place: length, back: false };
+        let port = opened(bank, random.coin(), returning, maximum, margin, mode, length);
+        let fade = Reckoned::new(returning, length, quality);
         let mut session = Session { plain: plain.collect(), port, fade, last: None };
         session.same("opening", None);
         session

@@ -1,10 +1,14 @@
 //! W7. The numbers of absent taps, beside the original's own kernels over a source that notes which index they ask for:
 //! each index noted is not yet written, ahead of the newest, overwritten or held, by the ring's rule. The sample, the
-//! count and the ring are those of the call that does not tell.
+//! count and the ring are those of the call that does not tell. For the quality reader, by either rule, 000's bank is
+//! asked for each quality that the call reads, and asks for the taps of each set that it reads.
 
+use crate::banks::{self, Bank};
 use crate::context::Context;
 use crate::delays;
-use crate::shape::bits64;
+use crate::qualities::{Call, HOSTS};
+use crate::shape::{bits32, bits64};
+use crate::subjects::returning::{opened, Reckoned, MODES};
 use boundary::{Absent, Reader};
 use std::cell::RefCell;
 use wow_dsp::{CubicFarrow, Farrow8, Kernel, KernelF32, Lagrange, SampleSource, SampleSourceF32, WindowedSinc, WindowedSincF32};
@@ -150,10 +154,68 @@ macro_rules! sinc {
 sinc!(sinc, "sinc, told", f64, WindowedSinc, sample, boundary::sinc_process_told);
 sinc!(sinc_f32, "sinc f32, told", f32, WindowedSincF32, sample_f32, boundary::sinc_f32_process_told);
 
+/// Runs of the quality reader, in one of host/'s two ways: qualities change, and refused calls stand in between.
+fn qualities(context: &mut Context, bank: &'static Bank, returning: bool, length: u32) {
+    const NAME: &str = "quality reader, told";
+    let random = &mut context.random;
+    let (mut compared, mut missing) = (0, 0);
+    for _ in 0..4 {
+        let (maximum, margin) = delays::settings(random);
+        let (leniently, mut quality) = (random.coin(), random.within(0, 3) as u8);
+        let open = || opened(bank, leniently, returning, maximum, margin, HOSTS[quality as usize], length);
+        let (mut told, mut plain, mut fade) = (open(), open(), Reckoned::new(returning, length, quality));
+        let ring = told.state().ring.len();
+        for _ in 0..128 {
+            if random.within(0, 2) == 0 {
+                quality = random.within(0, 3) as u8;
+            }
+            let rate = match random.within(0, 9) {
+                0 => None,
+                1 => Some(f64::NAN),
+                2 => Some(bank.max_rate),
+                _ => Some(1.0 + 1.2 * (bank.max_rate - 1.0) * random.unit()),
+            };
+            let (input, delay) = (delays::hostile(random) as f32, delays::delay(random, ring, true));
+            let (call, newest) = (Call { input, delay, quality, rate }, told.state().accepted);
+            let (number, sample, host::Absent { unwritten, ahead, overwritten }) = told.process_told(&call);
+            let absent = Absent { unwritten, ahead, overwritten };
+            let beside = plain.process(&call);
+            let asked = Noting::default();
+            if told.state().accepted != newest {
+                let (read, rate) = (fade.call(quality), rate.unwrap_or(bank.max_rate));
+                let ask = |quality: u8| {
+                    bank.rust.sample(&asked, newest as f64 - delay, MODES[quality as usize], rate);
+                };
+                if read.weight.is_some() {
+                    ask(read.from);
+                }
+                ask(read.to);
+            }
+            let right = counted(&asked, newest, ring);
+            let (t, p) = (told.state(), plain.state());
+            let alike = (number, bits32(sample)) == (beside.0, bits32(beside.1))
+                && (t.accepted, t.current, t.target, t.crossfade_position, t.direction)
+                    == (p.accepted, p.current, p.target, p.crossfade_position, p.direction)
+                && t.ring == p.ring;
+            if !alike || absent != right {
+                stop(NAME, newest, ring, delay, right, absent);
+            }
+            missing += (right != Absent::default()) as u64;
+            compared += 1;
+        }
+    }
+    let kind = if returning { "calls by the second rule" } else { "calls by the ported rule" };
+    context.count(NAME, kind, compared, Some(missing));
+}
+
 pub fn run(context: &mut Context) {
     for kernel in &KERNELS {
         readers(context, kernel);
     }
     sinc(context);
     sinc_f32(context);
+    let bank = banks::bank(banks::SMALL[context.round as usize % 3]);
+    for (returning, length) in [false, true].into_iter().flat_map(|rule| [0, 1, 3, 40].map(|n| (rule, n))) {
+        qualities(context, bank, returning, length);
+    }
 }

@@ -9,8 +9,7 @@ returns : tie.Need-returns
 returns c = c .nothing .ensures ∙ rw (eq-eqb _ _ (c .before .if1 .taken))
 
 returns-2 : tie.Need-returns-2
-returns-2 c =
-    c .missing .ensures ∙ rw (c .before .nearest-u64-to-f64 .ensures, ne-eqb _ _ (c .before .before .if1 .left))
+returns-2 c = c .missing .ensures ∙ rw (c .before .position-of .ensures, ne-eqb _ _ (c .before .before .if1 .left))
 
 pub of-call-spec : {M : Type 1} → statement M
 of-call-spec =

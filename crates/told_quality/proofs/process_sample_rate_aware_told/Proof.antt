@@ -8,19 +8,14 @@ use Rattle.told_quality.proofs.process_sample_rate_aware_told.Tie as ti
 
 returns : tie.Need-returns
 returns c =
-    let k = c .before in
-    let p = k .before .before .before .before in
-    let t = p .before .before in
-    let s = t .before .before .before .args in (
+    let p = c .before .before .before .before in
+    let s = p .before .before .before .before .args in (
       told (now (s .sets)) (s .max-rate) (s .state) (now (s .ring)) (s .input) (s .delay) (s .quality)
-          (s .playback-rate)
-          (p .process-sample-rate-aware .result) (k .choice-or-zero .result) (t .turn .result) (c .of-call .result)
-          (p .process-sample-rate-aware .ensures .0) (k .choice-or-zero .ensures) (t .turn .ensures)
-          (c .of-call .ensures),
+          (s .playback-rate) (p .process-sample-rate-aware .result) (c .of-call .result)
+          (p .process-sample-rate-aware .ensures .0) (c .of-call .ensures),
       p .process-sample-rate-aware .ensures .1,
     )
 
 pub process-sample-rate-aware-told-spec : {M : Type 1} → statement M
 process-sample-rate-aware-told-spec =
-    tie.close (tie.spec (λ c κs. search needs) (λ c κs. search needs) (λ c κs. search needs) (λ c κs. search needs)
-    (λ c. search needs) returns)
+    tie.close (tie.spec (λ c κs. search needs) (λ c κs. search needs) (λ c. search needs) returns)

@@ -1,8 +1,17 @@
 //! NaNs of the reader whose quality may change.
 
 use super::{fault, Made};
-use boundary::{self as b, QualityReader};
+use boundary::{self as b, Absent, Caller, QualityReader, RoomRead};
 use std::iter::repeat_with;
+
+const ONE: Caller = Caller { desk: 1, mode: 0 };
+
+/// The bank for 1.04 as a room that desk one holds.
+fn room(bank: &[f32]) -> RoomRead<'_> {
+    let sets = b::bank_steps(1.04);
+    let rates: Vec<f64> = (0..sets).map(|set| b::bank_set_rate(1.04, set)).collect();
+    RoomRead { rates: rates.leak(), marks: vec![1; sets].leak(), slots: bank }
+}
 
 pub fn bank(max_rate: f64) -> Vec<f32> {
     let mut sets = vec![0.0; b::bank_length(max_rate)];
@@ -33,8 +42,17 @@ impl Made {
             self.by("quality_process_rate_aware", |v| {
                 reader().process_rate_aware(bank, 1.04, 0.5, 500.3, asked, 1.013, v)
             });
+            self.by("desk_process", |v| reader().desk_process(ONE, room(bank), 1.04, 0.5, 500.3, asked, v));
+            self.by("desk_process_rate_aware", |v| {
+                reader().desk_process_rate_aware(ONE, room(bank), 1.04, 0.5, 500.3, asked, 1.013, v)
+            });
             self.by("quality_process_rate_aware_bits", |v| {
                 reader().process_rate_aware_bits(bank, 1.04, 0.5, 500.3, asked, 1.013, v)
+            });
+            let mut absent = Absent::default();
+            self.by("quality_process_told", |v| reader().process_told(bank, 1.04, 0.5, 500.3, asked, v, &mut absent));
+            self.by("quality_process_rate_aware_told", |v| {
+                reader().process_rate_aware_told(bank, 1.04, 0.5, 500.3, asked, 1.013, v, &mut absent)
             });
         }
     }

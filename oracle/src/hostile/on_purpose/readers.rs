@@ -2,7 +2,7 @@
 
 use super::{Made, Value};
 use crate::hostile::readers::{Kernel, KERNELS};
-use boundary::{Reader, Width};
+use boundary::{sinc_f32_process_told, sinc_process_told, Absent, Reader, Width};
 
 impl Made {
     /// Rings and slices that hold nothing else: the weights have both signs, so that infinities make a NaN too.
@@ -17,6 +17,17 @@ impl Made {
                 self.by(&format!("{name}_sample_bits"), |v| sample_bits(&source, 16, 7.3, taps, v));
             }
         }
+        let a = &mut Absent::default();
+        self.by("cubic_process_told", |v| reader().cubic_told(0.5, 6.3, v, a));
+        self.by("farrow8_process_told", |v| reader().farrow8_told(0.5, 6.3, v, a));
+        self.by("lagrange_process_told", |v| reader().lagrange_told(0.5, 6.3, 6, v, a));
+        let (ring, single) = (&mut [odd; 16], &mut [odd as f32; 16]);
+        let table: Vec<f64> = [1.0, -1.0].into_iter().cycle().take(40).collect();
+        let narrow: Vec<f32> = table.iter().map(|x| *x as f32).collect();
+        self.by("windowed_sinc_process_told", |v| sinc_process_told(8, 0, &mut 40, ring, 0.5, 6.3, &table, 8, 4, v, a));
+        self.by("windowed_sinc_f32_process_told", |v| {
+            sinc_f32_process_told(8, 0, &mut 40, single, 0.5, 6.3, &narrow, 8, 4, v, a)
+        });
     }
 
     /// A table of 1 and -1 over what is odd, and a table of what is odd over samples of 1: it is lent as such.

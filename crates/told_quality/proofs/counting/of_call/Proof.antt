@@ -10,8 +10,17 @@ returns c = c .nothing .ensures ∙ rw (eq-eqb _ _ (c .before .if1 .taken))
 
 returns-2 : tie.Need-returns-2
 returns-2 c =
-    c .of-turn .ensures ∙ rw (c .before .nearest-u64-to-f64 .ensures, ne-eqb _ _ (c .before .before .if1 .left))
+    let t = c .before in
+    let b = t .before in
+    c .of-turn .ensures
+    ∙ rw (
+      t .turn .ensures,
+      b .choice-or-zero .ensures,
+      b .before .nearest-u64-to-f64 .ensures,
+      ne-eqb _ _ (b .before .before .if1 .left),
+    )
 
 pub of-call-spec : {M : Type 1} → statement M
 of-call-spec =
-    tie.close (tie.spec (λ c κs. search needs) returns (λ c κs. search needs) (λ c κs. search needs) returns-2)
+    tie.close (tie.spec (λ c κs. search needs) returns (λ c κs. search needs) (λ c κs. search needs)
+    (λ c κs. search needs) (λ c κs. search needs) returns-2)

@@ -1,0 +1,4 @@
+pub mod Cutting
+pub mod Told
+pub mod Worked
+mod Steps

@@ -1,0 +1,2 @@
+pub mod MarkNumbers
+pub mod Searching

@@ -1,0 +1,4 @@
+pub mod Marks
+pub mod Slots
+pub mod Asking
+pub mod Search

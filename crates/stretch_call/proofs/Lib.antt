@@ -1,0 +1,4 @@
+pub mod Tests
+pub mod Items
+pub mod Loops
+pub mod Ends
