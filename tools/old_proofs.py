@@ -1,0 +1,487 @@
+#!/usr/bin/env python3
+"""Turns proofs that walk the older names (Proof.antt over Tie) to this Rattle's.
+
+usage: answers.py CRATE_DIR [FUNCTION_PATH ..]
+
+It asks `rt check --generated DIR --old-names` for the old and new name of each goal, place and step, and then writes
+  Answers.antt (and Invariants.antt)   where no helper of the file speaks of a place of the walk
+  Proof.antt, in the new names         where one does
+A file that it cannot turn is left, and named. Run it in a crate whose lower crates are proved.
+"""
+import json
+import os
+import re
+import subprocess
+import sys
+import tempfile
+
+IDC = r"A-Za-z0-9_'₀-₉\-"
+
+
+def norm(s):
+    s = s.replace("_", "-")
+    return re.sub(r"^(overflow|offset-bounds|bounds|nonzero-div|nonzero-rem)-", "", s) if False else re.sub(r"^overflow-", "", s)
+
+
+def names_of(crate):
+    d = tempfile.mkdtemp(prefix="names-")
+    r = subprocess.run(["rt", "check", "--generated", d, "--old-names"], cwd=crate, capture_output=True, text=True)
+    p = os.path.join(d, "names.json")
+    if not os.path.exists(p):
+        print(r.stdout[-3000:], r.stderr[-2000:])
+        raise SystemExit("no names.json for " + crate)
+    with open(p) as f:
+        return json.load(f)
+
+
+LABELS = {}
+
+
+def labels(root):
+    """name of a function -> {('ensures', labels), ('requires', labels)} over all sources of the repository."""
+    import glob
+    for p in glob.glob(os.path.join(root, "crates", "*", "src", "**", "*.rt"), recursive=True):
+        with open(p) as f:
+            lines = f.read().split("\n")
+        cur = None
+        for l in lines:
+            m = re.match(r"^\s*(?:pub )?(?:unsafe )?(?:extern \"C\" )?fn (\w+)", l)
+            if m:
+                cur = (p.split("/crates/")[1].split("/")[0], m[1])
+                LABELS.setdefault(cur, []).append({"ensures": [], "requires": []})
+            m = re.match(r"^\s+(ensures|requires) (\w+ )?\{", l)
+            if m and cur:
+                LABELS[cur][-1][m[1]].append((m[2] or "").strip())
+
+
+def labels_of(crate, name, kind):
+    """The labels, where every function of that name that can be meant agrees."""
+    got = LABELS.get((crate, name)) or [x for (c, n), xs in LABELS.items() if n == name for x in xs]
+    sets = {tuple(x[kind]) for x in got}
+    return list(next(iter(sets))) if len(sets) == 1 else None
+
+
+def as_record(t, ls):
+    """The last tuple of a text, as a record of these labels."""
+    if not ls or len(ls) < 2 or not all(ls):
+        return t
+    s = t.rstrip()
+    if not s.endswith(")"):
+        return t
+    depth = 0
+    for i in range(len(s) - 1, -1, -1):
+        if s[i] == ")":
+            depth += 1
+        elif s[i] == "(":
+            depth -= 1
+            if depth == 0:
+                break
+    inner = s[i + 1:-1]
+    parts, depth, cur = [], 0, ""
+    for ch in inner:
+        if ch in "([{":
+            depth += 1
+        if ch in ")]}":
+            depth -= 1
+        if ch == "," and depth == 0:
+            parts.append(cur)
+            cur = ""
+        else:
+            cur += ch
+    if cur.strip():
+        parts.append(cur)
+    if len(parts) < 2 or len(parts) != len(ls):
+        return t
+    return s[:i] + "record { " + "; ".join(f"{l} = {p.strip()}" for l, p in zip(ls, parts)) + " }" + "\n"
+
+
+class Fn:
+    def __init__(self, key, v):
+        self.key, self.v = key, v
+        self.needs = [tuple(x) for x in v["needs"]]
+        self.need = {}
+        for old, new in self.needs:
+            for k in (norm(old), norm(new)):
+                self.need.setdefault(k, new)
+        for old, new in self.needs:
+            self.need[norm(old)] = new
+        self.place, self.step = {}, {}
+        for pl, newname in zip(v["places"], v["places_by_name"]):
+            self.place[norm(pl[0])] = newname
+            old, new = pl[2]
+            if old:
+                self.step.setdefault(norm(old), set()).add(new)
+        for pl in v["places"]:
+            for o, n in pl[4]:
+                self.step.setdefault(norm(o), set()).add(n)
+        self.clauses = {}
+        for pl, cl in zip(v["places"], v["clauses"]):
+            if cl and cl.get("fields") and pl[2][1]:
+                self.clauses[pl[2][1]] = cl["fields"]
+        self.loops = [(a, b) for a, b in v["loops"]]
+        self.changed = v["changed"]
+
+
+def decls(text):
+    """Top-level pieces: comments and blank lines go with what follows."""
+    out, cur = [], []
+    for line in text.split("\n"):
+        top = bool(line) and not line[0].isspace() and not line.startswith("--")
+        if top and re.match(rf"^(abbrev |unfoldable )*(pub )?[^\s(){{}}]+ :(\s|$)", line) and not line.startswith("use "):
+            # a signature begins a new piece; comments just above belong to it
+            back = []
+            while cur and (cur[-1].startswith("--") or not cur[-1].strip()):
+                back.insert(0, cur.pop())
+            out.append(cur)
+            cur = back + [line]
+        else:
+            cur.append(line)
+    out.append(cur)
+    return ["\n".join(c) for c in out]
+
+
+def split_args(s):
+    """Splits juxtaposed arguments at top level."""
+    out, depth, cur = [], 0, ""
+    for ch in s:
+        if ch in "([{":
+            depth += 1
+        if ch in ")]}":
+            depth -= 1
+        if ch.isspace() and depth == 0:
+            if cur:
+                out.append(cur)
+            cur = ""
+        else:
+            cur += ch
+    if cur:
+        out.append(cur)
+    return out
+
+
+def word(w):
+    return re.compile(rf"(?<![{IDC}.]){re.escape(w)}(?![{IDC}])")
+
+
+TRIVIAL = re.compile(r"^\(λ [^.]*\. search (rules|\(rules\))\)$")
+
+
+def flatten(t):
+    # aliases of places
+    while True:
+        m = re.search(rf"\blet ([^\s:=]+) = ([a-z]+[0-9'₀-₉]*)((?:\.before)+) in[ \n]", t)
+        if not m:
+            break
+        name, base = m[1], m[2]
+        end = m.end()
+        rest = t[end:]
+        ws = ""
+        if m[0].endswith("\n"):
+            mm = re.match(r"\s*", rest)
+            rest = rest[mm.end():]
+            # keep the layout: drop the let line only
+            start = t.rfind("\n", 0, m.start()) + 1
+            indent = t[start:m.start()]
+            if indent.strip():
+                head = t[:m.start()].rstrip()
+                rest = "\n    " + rest
+            else:
+                head = t[:m.start()]
+            t = head + word(name).sub(base, rest)
+        else:
+            t = t[:m.start()] + word(name).sub(base, rest)
+    t = re.sub(r"(?:\.before)+(?=\.)", "", t)
+    return t
+
+
+def steps(fn, t, say):
+    def sub(m):
+        k = norm(m[1])
+        s = fn.step.get(k)
+        if not s:
+            return m[0]
+        if len(s) > 1:
+            say(f"step {m[1]} is one of {sorted(s)}")
+            return m[0]
+        return "." + next(iter(s))
+    t = re.sub(rf"\.([A-Za-z][{IDC}]*)", sub, t)
+    for st, fields in fn.clauses.items():
+        def cl(m):
+            if len(fields) == 1:
+                return m[1] + "." + fields[0]
+            n = m[2] or ""
+            idx = None
+            if n:
+                ds = n.strip(".").split(".")
+                # a .1.1.0 of nested pairs, or a plain index
+                if ds[0] == "0":
+                    idx, rest = 0, ds[1:]
+                else:
+                    k = 0
+                    while k < len(ds) and ds[k] == "1" and k < len(fields) - 1:
+                        k += 1
+                    if len(ds) == 1 and int(ds[0]) > 1:
+                        k, rest = int(ds[0]), []
+                    else:
+                        rest = ds[k:]
+                        if k < len(fields) - 1:
+                            if rest and rest[0] == "0":
+                                rest = rest[1:]
+                            elif len(fields) > 2 and not rest:
+                                pass
+                    idx = k
+                return m[1] + "." + fields[idx] + "".join("." + r for r in rest)
+            return m[0]
+        t = re.sub(rf"(\.{re.escape(st)}\.ensures)((?:\.[0-9]+)*)(?![{IDC}.])", cl, t)
+    t = re.sub(r"\.well-formed\b", ".well_formed", t)
+    t = re.sub(r"\.type-inv\b", ".type_inv", t)
+    return t
+
+
+def turn(crate, fn, path, mode=None):
+    """path: the folder of the function's proof."""
+    said = []
+    say = said.append
+    p = os.path.join(path, "Proof.antt")
+    with open(p) as f:
+        text = f.read()
+    ds = decls(text)
+    head, ds = ds[0], ds[1:]
+    # the last piece that closes
+    spec = [d for d in ds if re.search(r"tie\.close", d)]
+    if len(spec) != 1:
+        say("no single tie.close")
+        return None, said
+    ds = [d for d in ds if d is not spec[0]]
+    m = re.search(r"tie\.close \(tie\.spec((?:.|\n)*)\)\s*$", spec[0])
+    if not m:
+        say("tie.close of another form")
+        return None, said
+    args = split_args(m[1])
+    named, rest, invs = {}, [], []
+    for d in ds:
+        s = re.search(rf"^(abbrev |unfoldable )*(?:pub )?([^\s]+) :\s+tie\.(Need-[{IDC}]+|invariant-[{IDC}]+|decreases-[{IDC}]+)([^\n]*)$", d, re.M)
+        if s and s[3].startswith("Need-"):
+            named[s[2]] = (d, s[3][5:])
+        elif s:
+            invs.append((s[2], s[3], d))
+        else:
+            rest.append(d)
+    inv_names = [i[0] for i in invs]
+    while args and args[0] in inv_names:
+        args.pop(0)
+    places_used = any(re.search(r"\btie\.(?!Need-|spec|close|invariant|decreases)[A-Z]", d) for d in ds)
+    # goals of the arguments
+    goal_of = {}
+    for n, (d, need) in named.items():
+        g = fn.need.get(norm(need))
+        if g is None and fn.need.get(norm(n)):
+            g = fn.need.get(norm(n))
+        goal_of[n] = g
+        if g is None:
+            say(f"need {need} ({n}) is not known")
+    # align inline arguments
+    new = [b for a, b in fn.needs]
+    inline = {}
+    anchors = [(i, new.index(goal_of[a])) for i, a in enumerate(args) if a in named and goal_of[a] in new]
+    bounds = [(-1, -1)] + anchors + [(len(args), len(new))]
+    for (i0, j0), (i1, j1) in zip(bounds, bounds[1:]):
+        seg = [a for a in args[i0 + 1:i1] if not (a in named)]
+        gs = new[j0 + 1:j1]
+        hard = [a for a in seg if not TRIVIAL.match(a)]
+        if not hard:
+            continue
+        if len(seg) == len(gs):
+            for a, g in zip(seg, gs):
+                if not TRIVIAL.match(a):
+                    inline[g] = a
+        elif len(hard) == len(gs):
+            for a, g in zip(hard, gs):
+                inline[g] = a
+        else:
+            say(f"inline {hard} fit none or several of {gs}")
+    unanswered = [g for g in new if g not in inline and g not in goal_of.values()]
+    fnpath = fn.key.split("-proofs.", 1)[1].rsplit(".Lts", 1)[0]
+    cratename = os.path.basename(crate)
+    own = fnpath.split(".")[-1]
+
+    def goal_labels(g):
+        if g and g.startswith("returns"):
+            return labels_of(cratename, own, "ensures")
+        m = re.match(r"^(\w+)(-\w+)*-requires", g or "")
+        if m:
+            return labels_of(cratename, m[1], "requires")
+        return None
+
+    def own_requires(t):
+        ls = labels_of(cratename, own, "requires")
+        if not ls or len(ls) < 2 or not all(ls):
+            return t
+        def one(m):
+            ds = m[1].strip(".").split(".")
+            k = 0
+            while k < len(ds) and ds[k] == "1" and k < len(ls) - 1:
+                k += 1
+            rest = ds[k:]
+            if k < len(ls) - 1 and rest and rest[0] == "0":
+                rest = rest[1:]
+            return ".requires." + ls[k] + "".join("." + r for r in rest)
+        return re.sub(r"(?<=c)\.requires((?:\.[0-9]+)+)", one, t)
+    if mode is None:
+        mode = "A" if places_used else "B"
+    head = "\n".join(l for l in head.split("\n") if not re.match(r"^use Rattle\.[^ ]*\.Statement\.", l))
+    if mode == "B":
+        head = re.sub(r"^use Rattle\.([^\s]*)\.Tie as tie$", r"use Rattle.\1.Goals as goal", head, flags=re.M)
+        rename = {n: g for n, g in goal_of.items() if g}
+        body = []
+        for d in ds:
+            if any(d is i[2] for i in invs):
+                continue
+            t = d
+            n = next((n for n in named if named[n][0] is d), None)
+            if n is not None:
+                g = goal_of[n]
+                if g is None:
+                    others = [o for o in ds if o is not d] + args
+                    # kept as a note
+                    body.append("-- not turned: " + t.replace("\n", "\n-- "))
+                    continue
+                t = re.sub(rf"^(abbrev |unfoldable )*(?:pub )?{re.escape(n)} :\s+tie\.Need-[^\n]*$", f"pub {g} : goal.{g}", t, flags=re.M)
+                t = re.sub(rf"^{re.escape(n)} (\w+) κs =", rf"{n} \1 =", t, flags=re.M)
+                t = re.sub(rf"^{re.escape(n)} (\w+) κs\b", rf"{n} \1", t, flags=re.M)
+            for a, b in rename.items():
+                if a != b:
+                    t = re.sub(rf"(?<![{IDC}.]){re.escape(a)}(?![{IDC}])", b, t) if a not in ("returns",) else re.sub(rf"^{a}(?= [a-z])", b, t, flags=re.M) if n == a else t
+            t = flatten(t)
+            t = steps(fn, t, say)
+            if n is not None:
+                t = as_record(t, goal_labels(goal_of[n]))
+            t = own_requires(t)
+            body.append(t.rstrip("\n"))
+        for g, a in inline.items():
+            mm = re.match(r"^\(λ (\w+)( κs)?\. ((?:.|\n)*)\)$", a)
+            mm2 = None if mm else a
+            if mm:
+                e = own_requires(as_record(steps(fn, flatten(mm[3]), say), goal_labels(g))).rstrip("\n")
+                body.append(f"\npub {g} : goal.{g}\n{g} {mm[1]} = {e}")
+            else:
+                body.append(f"\npub {g} : goal.{g}\n{g} = {a}")
+        text = (head.rstrip("\n") + "\n" + "\n".join(body)).rstrip("\n") + "\n"
+        if not body:
+            text = None
+        inv_text = None
+        if invs:
+            uses = "\n".join(l for l in head.split("\n") if l.startswith("use ") and not l.endswith(".Goals as goal"))
+            parts = []
+            for name, kind, d in invs:
+                # kind: invariant-loop, decreases-loop2 ..
+                base = kind.split("-", 1)
+                li = next((k for k, (ln, vs) in enumerate(fn.loops) if norm(ln[0]) == norm(base[1])), None)
+                if li is None:
+                    say(f"loop {kind} is not known")
+                    continue
+                ln, vs = fn.loops[li]
+                ch = fn.changed[li]
+                mm = re.search(rf"^{re.escape(name)} ([^=]*)=((?:.|\n)*)$", d, re.M)
+                if not mm:
+                    say(f"{kind}: no equation")
+                    continue
+                ps = mm[1].split()
+                want = len(vs) + sum(ch)
+                if len(ps) != want:
+                    say(f"{kind}: {len(ps)} parameters, {want} wanted: {vs} {ch}")
+                    continue
+                expr = mm[2]
+                sub = {}
+                for q, vname, c in zip(ps, vs, ch):
+                    sub[q] = f"l.initial.{vname}" if c else f"l.{vname}"
+                for q, vname in zip(ps[len(vs):], [x for x, c in zip(vs, ch) if c]):
+                    sub[q] = f"l.{vname}"
+                def one(m2):
+                    return sub.get(m2[0], m2[0])
+                expr = re.sub(rf"(?<![{IDC}.])[A-Za-z][{IDC}]*", one, expr)
+                comment = "\n".join(l for l in d.split("\n") if l.startswith("--"))
+                unf = "\n".join(l for l in d.split("\n") if l.startswith("unfolding"))
+                nm = f"{base[0]}-{ln[1]}"
+                parts.append((comment + "\n" if comment else "") + f"abbrev pub {nm} : goal.{nm}\n" + (unf + "\n" if unf else "") + f"{nm} l ={expr}".rstrip())
+            inv_text = uses + f"\nuse Rattle.{cratename}.proofs.{fnpath}.Given as goal\n\n" + "\n\n".join(parts) + "\n"
+        return ("B", text, inv_text, unanswered), said
+    # mode A
+    t = head + "\n" + "\n".join(ds)
+    for n, g in goal_of.items():
+        if g:
+            t = re.sub(rf"^((?:abbrev |unfoldable )*(?:pub )?{re.escape(n)} :\s+)tie\.Need-[{IDC}]+", rf"\1tie.Need-{g}", t, flags=re.M)
+    def pl(m):
+        k = norm(m[1])
+        return "tie." + fn.place[k] if k in fn.place else m[0]
+    t = re.sub(rf"\btie\.(?!Need-|spec|close|invariant|decreases)([A-Z][{IDC}]*)", pl, t)
+    loopsub = []
+    for ln, vs in fn.loops:
+        for w in ("invariant", "decreases"):
+            loopsub.append((f"{w}-{ln[0]}", f"{w}-{ln[1]}"))
+    for a, b in loopsub:
+        t = re.sub(rf"\btie\.{re.escape(a)}(?![{IDC}])", f"tie.{b}", t)
+    t = steps(fn, t, say)
+    kept = []
+    for old, g in fn.needs:
+        n = next((n for n in named if goal_of[n] == g), None)
+        if n:
+            kept.append(n)
+        elif g in inline:
+            kept.append(steps(fn, inline[g], say))
+        else:
+            kept.append("(λ c κs. search rules)" if g.endswith("-requires") or re.search(r"-requires-\d+$", g) or "-requires-" in g else "(λ c. search rules)")
+    sname = fnpath.split(".")[-1] + "_spec"
+    stm = f"use Rattle.{cratename}.proofs.{fnpath}.Statement.{{statement}}\n"
+    t = re.sub(r"^(use Rattle\.[^\s]*\.Tie as tie)$", stm + r"\1", t, count=1, flags=re.M)
+    t = t.rstrip("\n") + f"\n\npub {sname} : {{M : Type 1}} → statement M\n{sname} =\n    tie.close (tie.spec {' '.join(inv_names)} " + " ".join(kept) + ")\n"
+    return ("A", t, None, unanswered), said
+
+
+def main():
+    crate = os.path.abspath(sys.argv[1])
+    only = sys.argv[2:]
+    mode = None
+    if only and only[0] in ("A", "B"):
+        mode = only.pop(0)
+    names = names_of(crate)
+    labels(os.path.dirname(os.path.dirname(crate)))
+    n = {"A": 0, "B": 0}
+    for key, v in names.items():
+        if not key.endswith(".Lts") or not isinstance(v, dict):
+            continue
+        fnpath = key.split("-proofs.", 1)[1].rsplit(".Lts", 1)[0]
+        if only and fnpath not in only:
+            continue
+        path = os.path.join(crate, "proofs", *fnpath.split("."))
+        if not os.path.exists(os.path.join(path, "Proof.antt")):
+            continue
+        fn = Fn(key, v)
+        try:
+            got, said = turn(crate, fn, path, mode)
+        except Exception as e:
+            print(f"{fnpath}: {type(e).__name__} {e}")
+            continue
+        for s in said:
+            print(f"{fnpath}: {s}")
+        if got is None:
+            continue
+        kind, text, inv, left = got
+        n[kind] += 1
+        if kind == "A":
+            with open(os.path.join(path, "Proof.antt"), "w") as f:
+                f.write(text)
+        else:
+            os.remove(os.path.join(path, "Proof.antt"))
+            if text:
+                with open(os.path.join(path, "Answers.antt"), "w") as f:
+                    f.write(text)
+            if inv:
+                with open(os.path.join(path, "Invariants.antt"), "w") as f:
+                    f.write(inv)
+            if not os.listdir(path):
+                os.rmdir(path)
+    print(f"turned to Answers.antt: {n['B']}, Proof.antt renamed: {n['A']}")
+
+
+main()
