@@ -1,6 +1,5 @@
 -- C4. What an answer says in 01's terms: a number (0 for a sample) and a value. Definitions only.
-use Rattle.std.specs.Prelude.{ℕ, zero, suc, false, Float, pos}
-use Rattle.std.specs.Float.{fin}
+use Rattle.std.specs.Prelude.{ℕ, zero, suc, Float}
 pub use Rattle.constants.specs.Numbers.{zero-f}
 use Rattle.answer.specs.declared.Answer.{Answer}
 use Rattle.answer.specs.declared.AnswerF32.{AnswerF32}
