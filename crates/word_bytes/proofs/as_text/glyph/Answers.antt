@@ -1,0 +1,9 @@
+-- `word_bytes::glyph` meets its contract: the test of the code is the definition's. Assumes nothing.
+use borrow.Author.Tests.{lt-ltb, le-ltb}
+use Rattle.word_bytes.proofs.as_text.glyph.Goals as goal
+
+pub returns-then-d-lt10 : goal.returns-then-d-lt10
+returns-then-d-lt10 c = simp (lt-ltb _ _ c.if-d-lt10.true)
+
+pub returns-else-d-lt10 : goal.returns-else-d-lt10
+returns-else-d-lt10 c = simp (le-ltb _ _ c.if-d-lt10.false)
