@@ -6,10 +6,10 @@ use Rattle.fused32.proofs.fused32.Statement.{statement}
 use Rattle.fused32.proofs.fused32.Tie as tie
 
 held-a : (c : tie.Start) → T (fits binary32 c.args.a)
-held-a c = subst T (sym c.well-formed.0.1) tt
+held-a c = subst T (sym c.well_formed.0.1) tt
 
 held-b : (c : tie.Start) → T (fits binary32 c.args.b)
-held-b c = subst T (sym c.well-formed.1.0.1) tt
+held-b c = subst T (sym c.well_formed.1.0.1) tt
 
 returns : tie.Need-returns
 returns c =
@@ -17,13 +17,12 @@ returns c =
     let s = k.before.before.before in
     c.sum32.ensures
     ∙ rw (
-      k.before.before.f32-to-f64-with-nan.ensures,
-      k.before.f32-to-f64-with-nan2.ensures,
-      k.f32-to-f64-with-nan3.ensures,
+      k.before.before.f32_to_f64_with_nan-x.ensures,
+      k.before.f32_to_f64_with_nan-y.ensures,
+      k.f32_to_f64_with_nan-z.ensures,
     )
     (fused-is s.args.a s.args.b s.args.c (held-a s) (held-b s))
 
-pub fused32-spec : {M : Type 1} → statement M
-fused32-spec =
-    tie.close (tie.spec (λ c κs. search rules) (λ c κs. search rules) (λ c κs. search rules)
-    (λ c κs. search rules) returns)
+pub fused32_spec : {M : Type 1} → statement M
+fused32_spec =
+    tie.close (tie.spec (λ c κs. search rules) (λ c κs. search rules) (λ c κs. search rules) (λ c κs. search rules) returns)

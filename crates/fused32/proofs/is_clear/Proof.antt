@@ -7,23 +7,24 @@ use Rattle.fused32.proofs.is_clear.Statement.{statement}
 use Rattle.fused32.proofs.is_clear.Tie as tie
 
 held : (c : tie.Start) → T (fits binary64 c.args.s)
-held c = subst T (sym c.well-formed.0.1) tt
+held c = subst T (sym c.well_formed.0.1) tt
 
-returns : tie.Need-returns
-returns c = nan-tested c.before.args.s c.if1.true
+returns : tie.Need-returns-then-s
+returns c = nan-tested c.before.args.s c.if-s.true
 
-float-to-bits-m : tie.Need-float-to-bits-m
-float-to-bits-m c = differs-no-nan c.before.args.s c.if1.false
+float-to-bits-m : tie.Need-float_to_bits-m
+float-to-bits-m c = differs-no-nan c.before.args.s c.if-s.false
 
-returns-2 : tie.Need-returns-2
+returns-2 : tie.Need-returns-then-m-lt4039728865751334912
 returns-2 c =
     let a = c.before.before in
-    small-tested a.args.s (held a) c.before.if1.false (omega arith)
+    small-tested a.args.s (held a) c.before.if-s.false (omega arith)
 
-returns-3 : tie.Need-returns-3
+returns-3 : tie.Need-returns
 returns-3 c =
     let a = c.before.before in
-    other-tested a.args.s (held a) c.before.if1.false (omega arith)
+    other-tested a.args.s (held a) c.before.if-s.false (omega arith)
 
-pub is-clear-spec : {M : Type 1} → statement M
-is-clear-spec = tie.close (tie.spec returns float-to-bits-m returns-2 returns-3)
+pub is_clear_spec : {M : Type 1} → statement M
+is_clear_spec =
+    tie.close (tie.spec returns float-to-bits-m returns-2 returns-3)
