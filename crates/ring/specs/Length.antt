@@ -1,6 +1,5 @@
 -- G1, K1. How long a lent ring must be, and what it holds when a reader is opened. Definitions only.
-use Rattle.std.specs.Prelude.{ℕ, ◌+◌, ◌-◌, ◌*◌, ◌^◌, Bool, false, List, leb, pos, replicate, Float}
-use Rattle.std.specs.Float.{fin}
+use Rattle.std.specs.Prelude.{ℕ, ◌+◌, ◌-◌, ◌*◌, ◌^◌, Bool, List, leb, replicate, Float}
 use Rattle.std.specs.Float.Ieee.{size}
 use Rattle.constants.specs.Numbers.{zero-f}
 

@@ -1,7 +1,7 @@
 -- K2. What a tap reads in a ring of any length that has accepted `count` samples, the last of them number count - 1. A
 -- plain slice of length n is a ring of length n with the count n (G3). Definitions only.
 use Rattle.std.specs.Prelude.{ℕ, ◌+◌, ◌%◌, Bool, true, false, List, leb, ltb, ℤ, pos, negsuc, length, get_or, Float}
-use Rattle.std.specs.Float.{nan, fin}
+use Rattle.std.specs.Float.{nan}
 use Rattle.constants.specs.Numbers.{zero-f}
 
 -- Where a tap lies: held with its value, not yet written, ahead of the newest, or overwritten.

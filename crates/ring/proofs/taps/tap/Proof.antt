@@ -7,26 +7,25 @@ use Rattle.ring.proofs.OneTap.{One, one-absent, one_inside, one_kept}
 use Rattle.ring.proofs.taps.tap.Statement.{statement}
 use Rattle.ring.proofs.taps.tap.Tie as tie
 
-said : (c : tie.After-tap-place) → let a = c.before.before.args in
-    One a.source.now a.count a.index c.tap-place.result
+said : (c : tie.After-tap_place-start) → let a = c.before.before.args in
+    One a.source.now a.count a.index c.tap_place-start.result
 said c =
     record {
       start =
-          rw (to_z-of_z w64 c.before.before.args.index c.before.before.ranges.index) at c.tap-place.ensures;
+          rw (to_z-of_z w64 c.before.before.args.index c.before.before.ranges.index) at c.tap_place-start.ensures;
     }
 
-mul-result : tie.Need-overflow-mul-result
+mul-result : tie.Need-offset_bounds-source-at
 mul-result c =
-    let t = c.before in scaled_Fits _ _ 8 (one_inside (said t) c.if1.true) t.before.before.well-formed.0.1
+    let t = c.before in scaled_Fits _ _ 8 (one_inside (said t) c.if-start.true) t.before.before.well_formed.0.1
 
-returns : tie.Need-returns
-returns c = one_kept (said c.before.before) c.before.if1.true
+returns : tie.Need-returns-then-start
+returns c = one_kept (said c.before.before) c.before.if-start.true
 
-returns-2 : tie.Need-returns-2
+returns-2 : tie.Need-returns
 unfolding of_bits
-returns-2 c = one-absent (said c.before) c.if1.false
+returns-2 c = one-absent (said c.before) c.if-start.false
 
-pub tap-spec : {M : Type 1} → statement M
-tap-spec =
-    tie.close (tie.spec (λ c κs. search rules) mul-result
-    (λ c. one_inside (said c.before.before) c.before.if1.true) returns returns-2)
+pub tap_spec : {M : Type 1} → statement M
+tap_spec =
+    tie.close (tie.spec (λ c κs. search rules) mul-result (λ c. one_inside (said c.before.before) c.before.if-start.true) returns returns-2)

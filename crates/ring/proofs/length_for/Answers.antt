@@ -1,6 +1,5 @@
 -- `ring::length_for` meets its contract: the digits below the leading zeros are those of need - 1, at most 24 of them.
 -- Assumes nothing.
-use borrow.Author.Rules.{rules}
 use borrow.Author.Tests.{le-leb, lt-leb}
 use mathlib.Core.Path.{◌≡◌, ap, ◌∙◌}
 use mathlib.Core.Bool.{cond}
@@ -14,8 +13,7 @@ use lib.Ieee.{size}
 use lib.Ieee.Digits.{size-le, size-lt}
 use Rattle.ring.specs.Length.{need, length_for, settings_ok}
 use Rattle.ring.proofs.Masks.{digits-size}
-use Rattle.ring.proofs.length_for.Statement.{statement}
-use Rattle.ring.proofs.length_for.Tie as tie
+use Rattle.ring.proofs.length_for.Goals as goal
 
 -- How many digits need - 1 has.
 abbrev digits : ℕ → ℕ → ℕ
@@ -56,28 +54,23 @@ raised m g h =
 too_long : (m g : ℕ) → 2 ^ 24 < need m g → 0 ≡ cond (settings_ok m g) (length_for m g) 0
 too_long m g h = rw (lt-leb (need m g) (2 ^ 24) h)
 
-returns : tie.Need-returns
-returns c = let a = c.before.args in too_long a.maximum a.margin (omega arith)
+pub returns-then-maximum-gt16777216 : goal.returns-then-maximum-gt16777216
+returns-then-maximum-gt16777216 c = let a = c.args in too_long a.maximum a.margin (omega arith)
 
-returns-2 : tie.Need-returns-2
-returns-2 c = let a = c.before.before.args in too_long a.maximum a.margin (omega arith)
+pub returns-then-margin-gt16777216 : goal.returns-then-margin-gt16777216
+returns-then-margin-gt16777216 c = let a = c.args in too_long a.maximum a.margin (omega arith)
 
-returns-3 : tie.Need-returns-3
-returns-3 c = let a = c.before.before.before.args in too_long a.maximum a.margin (omega arith)
+pub returns-then-need-gt16777216 : goal.returns-then-need-gt16777216
+returns-then-need-gt16777216 c = let a = c.args in too_long a.maximum a.margin (omega arith)
 
-cast-last : tie.Need-overflow-cast-last
-cast-last c = record { fits = lt_of_le_of_lt (leading_le 64 _) (lit< tt) }
+pub overflow_cast-last : goal.overflow_cast-last
+overflow_cast-last c = record { fits = lt_of_le_of_lt (leading_le 64 _) (lit< tt) }
 
-sub-last-2 : tie.Need-overflow-sub-last-2
-sub-last-2 c = let a = c.before.before.before.args in omega (arith, one a.maximum a.margin (omega arith))
+pub overflow_sub-last-2 : goal.overflow_sub-last-2
+overflow_sub-last-2 c = let a = c.args in omega (arith, one a.maximum a.margin (omega arith))
 
-shl-result : tie.Need-overflow-shl-result
-shl-result c = let a = c.before.before.before.args in omega (arith, few a.maximum a.margin (omega arith))
+pub overflow_shl-result : goal.overflow_shl-result
+overflow_shl-result c = let a = c.args in omega (arith, few a.maximum a.margin (omega arith))
 
-returns-4 : tie.Need-returns-4
-returns-4 c = let a = c.before.before.before.args in raised a.maximum a.margin (omega arith)
-
-pub length-for-spec : {M : Type 1} → statement M
-length-for-spec =
-    tie.close (tie.spec returns returns-2 (λ c. search rules) (λ c. search rules) (λ c. search rules) returns-3
-    (λ c. search rules) cast-last sub-last-2 shl-result returns-4)
+pub returns : goal.returns
+returns c = let a = c.args in raised a.maximum a.margin (omega arith)
