@@ -253,7 +253,7 @@ def turn(crate, fn, path, mode=None):
         say("no single tie.close")
         return None, said
     ds = [d for d in ds if d is not spec[0]]
-    m = re.search(r"tie\.close \(tie\.spec((?:.|\n)*)\)\s*$", spec[0])
+    m = re.search(r"tie\.close\s+\(tie\.spec((?:.|\n)*)\)\s*$", spec[0])
     if not m:
         say("tie.close of another form")
         return None, said
