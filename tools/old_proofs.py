@@ -61,6 +61,37 @@ def labels_of(crate, name, kind):
     return list(next(iter(sets))) if len(sets) == 1 else None
 
 
+def tuple_parts(inner):
+    """The parts of a tuple, at its top level."""
+    parts, depth, cur = [], 0, ""
+    for ch in inner:
+        if ch in "([{":
+            depth += 1
+        if ch in ")]}":
+            depth -= 1
+        if ch == "," and depth == 0:
+            parts.append(cur)
+            cur = ""
+        else:
+            cur += ch
+    if cur.strip():
+        parts.append(cur)
+    return parts
+
+
+def closes_at_end(s):
+    """Whether the parenthesis that begins s is closed by its last character."""
+    depth = 0
+    for i, ch in enumerate(s):
+        if ch == "(":
+            depth += 1
+        elif ch == ")":
+            depth -= 1
+            if depth == 0:
+                return i == len(s) - 1
+    return False
+
+
 def as_record(t, ls):
     """The last tuple of a text, as a record of these labels."""
     if not ls or len(ls) < 2 or not all(ls):
@@ -76,20 +107,16 @@ def as_record(t, ls):
             depth -= 1
             if depth == 0:
                 break
-    inner = s[i + 1:-1]
-    parts, depth, cur = [], 0, ""
-    for ch in inner:
-        if ch in "([{":
-            depth += 1
-        if ch in ")]}":
-            depth -= 1
-        if ch == "," and depth == 0:
-            parts.append(cur)
-            cur = ""
-        else:
-            cur += ch
-    if cur.strip():
-        parts.append(cur)
+    parts = tuple_parts(s[i + 1:-1])
+    # a nested tuple (a, (b, c)) of three clauses
+    while 2 <= len(parts) < len(ls):
+        last = parts[-1].strip()
+        if not (last.startswith("(") and last.endswith(")") and closes_at_end(last)):
+            break
+        more = tuple_parts(last[1:-1])
+        if len(more) < 2:
+            break
+        parts = parts[:-1] + more
     if len(parts) < 2 or len(parts) != len(ls):
         return t
     return s[:i] + "record { " + "; ".join(f"{l} = {p.strip()}" for l, p in zip(ls, parts)) + " }" + "\n"

@@ -13,45 +13,44 @@ use Rattle.biased_sum.proofs.BiasTests.{nan-without, low-without, high-without, 
 use Rattle.biased_sum.proofs.with_bias.Statement.{statement}
 use Rattle.biased_sum.proofs.with_bias.Tie as tie
 
-number : (c : tie.Else1) → T (not (is_nan c.before.args.sum))
-number c = differs-no-nan c.before.args.sum c.if1.false
+number : (c : tie.Else-sum) → T (not (is_nan c.before.args.sum))
+number c = differs-no-nan c.before.args.sum c.if-sum.false
 
-room : (c : tie.Else1) → to_bits binary64 c.before.args.sum + 0x0009_5f62_0000_0000 < 2 ^ 64
+room : (c : tie.Else-sum) → to_bits binary64 c.before.args.sum + 0x0009_5f62_0000_0000 < 2 ^ 64
 room c =
     let x = c.before.args.sum in
-    let held = subst T (sym c.before.well-formed.0.1) tt in
+    let held = subst T (sym c.before.well_formed.0.1) tt in
     omega (
       arith,
       to_bits-lt binary64 x held,
       no-nan-rest binary64 (to_bits binary64 x) (value-bits binary64 x held (number c)),
     )
 
-returns : tie.Need-returns
-returns c = nothing _ _ (nan-without _ c.before.if1.true) c.no-bias.ensures
+returns : tie.Need-returns-then-sum
+returns c = nothing _ _ (nan-without _ c.before.if-sum.true) c.no_bias.ensures
 
-float-to-bits-h : tie.Need-float-to-bits-h
+float-to-bits-h : tie.Need-float_to_bits-h
 float-to-bits-h c = number c
 
-add-h : tie.Need-overflow-add-h
+add-h : tie.Need-overflow_add-h
 add-h c = omega (arith, room c)
 
-returns-2 : tie.Need-returns-2
-returns-2 c = nothing _ _ (low-without _ c.before.if2.true) c.no-bias2.ensures
+returns-2 : tie.Need-returns-then-f-lt899
+returns-2 c = nothing _ _ (low-without _ c.before.if-f-lt899.true) c.no_bias-then-f-lt899.ensures
 
-returns-3 : tie.Need-returns-3
-returns-3 c = nothing _ _ (high-without _ c.before.if3.true) c.no-bias3.ensures
+returns-3 : tie.Need-returns-then-f-gt1148
+returns-3 c = nothing _ _ (high-without _ c.before.if-f-gt1148.true) c.no_bias-then-f-gt1148.ensures
 
-ends-of-requires : tie.Need-ends-of-requires
+ends-of-requires : tie.Need-ends_of-e-requires
 ends-of-requires c κs = (omega (arith, room c.before.before), omega arith, omega arith)
 
-returns-4 : tie.Need-returns-4
+returns-4 : tie.Need-returns
 returns-4 c =
     let e = c.before.before.before.before in
     let n = e.before.before.before in
-    something n.before.args.sum c.both.result e.ends_of.result (number n) (omega arith) (omega arith)
-    e.ends_of.ensures c.both.ensures
+    something n.before.args.sum c.both.result e.ends_of-e.result (number n) (omega arith) (omega arith)
+    e.ends_of-e.ensures c.both.ensures
 
-pub with-bias-spec : {M : Type 1} → statement M
-with-bias-spec =
-    tie.close (tie.spec (λ c κs. search rules) returns float-to-bits-h add-h (λ c κs. search rules) returns-2
-    (λ c κs. search rules) returns-3 ends-of-requires (λ c κs. search rules) returns-4)
+pub with_bias_spec : {M : Type 1} → statement M
+with_bias_spec =
+    tie.close (tie.spec (λ c κs. search rules) returns float-to-bits-h add-h (λ c κs. search rules) returns-2 (λ c κs. search rules) returns-3 ends-of-requires (λ c κs. search rules) returns-4)
