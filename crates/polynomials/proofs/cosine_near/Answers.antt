@@ -3,12 +3,8 @@
 use mathlib.Core.Path.{refl}
 use lib.Ieee.{round, of_bits}
 use Rattle.polynomials.specs.Horner.{cosine_near}
-use Rattle.polynomials.proofs.cosine_near.Statement.{statement}
-use Rattle.polynomials.proofs.cosine_near.Tie as tie
+use Rattle.polynomials.proofs.cosine_near.Goals as goal
 
-returns : tie.Need-returns
+pub returns : goal.returns
 unfolding cosine_near round of_bits
 returns c = refl
-
-pub cosine-near-spec : {M : Type 1} → statement M
-cosine-near-spec = tie.close (tie.spec returns)

@@ -3,12 +3,8 @@
 use mathlib.Core.Path.{refl}
 use lib.Ieee.{round, of_bits}
 use Rattle.polynomials.specs.Horner.{power_near}
-use Rattle.polynomials.proofs.power_near.Statement.{statement}
-use Rattle.polynomials.proofs.power_near.Tie as tie
+use Rattle.polynomials.proofs.power_near.Goals as goal
 
-returns : tie.Need-returns
+pub returns : goal.returns
 unfolding power_near round of_bits
 returns c = refl
-
-pub power-near-spec : {M : Type 1} → statement M
-power-near-spec = tie.close (tie.spec returns)

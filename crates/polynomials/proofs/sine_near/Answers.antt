@@ -3,12 +3,8 @@
 use mathlib.Core.Path.{refl}
 use lib.Ieee.{round, of_bits}
 use Rattle.polynomials.specs.Horner.{sine_near}
-use Rattle.polynomials.proofs.sine_near.Statement.{statement}
-use Rattle.polynomials.proofs.sine_near.Tie as tie
+use Rattle.polynomials.proofs.sine_near.Goals as goal
 
-returns : tie.Need-returns
+pub returns : goal.returns
 unfolding sine_near round of_bits
 returns c = refl
-
-pub sine-near-spec : {M : Type 1} → statement M
-sine-near-spec = tie.close (tie.spec returns)
