@@ -221,7 +221,7 @@ def flatten(t):
     return t
 
 
-def steps(fn, t, say):
+def steps(fn, t, say, by_label=True):
     def sub(m):
         k = norm(m[1])
         s = fn.step.get(k)
@@ -232,7 +232,7 @@ def steps(fn, t, say):
             return m[0]
         return "." + next(iter(s))
     t = re.sub(rf"\.([A-Za-z][{IDC}]*)", sub, t)
-    for st, fields in fn.clauses.items():
+    for st, fields in fn.clauses.items() if by_label else ():
         def cl(m):
             if len(fields) == 1:
                 return m[1] + "." + fields[0]
@@ -448,14 +448,14 @@ def turn(crate, fn, path, mode=None):
             loopsub.append((f"{w}-{ln[0]}", f"{w}-{ln[1]}"))
     for a, b in loopsub:
         t = re.sub(rf"\btie\.{re.escape(a)}(?![{IDC}])", f"tie.{b}", t)
-    t = steps(fn, t, say)
+    t = steps(fn, t, say, False)
     kept = []
     for old, g in fn.needs:
         n = next((n for n in named if goal_of[n] == g), None)
         if n:
             kept.append(n)
         elif g in inline:
-            kept.append(steps(fn, inline[g], say))
+            kept.append(steps(fn, inline[g], say, False))
         else:
             kept.append("(λ c κs. search rules)" if g.endswith("-requires") or re.search(r"-requires-\d+$", g) or "-requires-" in g else "(λ c. search rules)")
     sname = fnpath.split(".")[-1] + "_spec"
