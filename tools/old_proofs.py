@@ -260,6 +260,14 @@ def steps(fn, t, say, by_label=True):
                 return m[1] + "." + fields[idx] + "".join("." + r for r in rest)
             return m[0]
         t = re.sub(rf"(\.{re.escape(st)}\.ensures)((?:\.[0-9]+)*)(?![{IDC}.])", cl, t)
+        # the same where a `let` names the clauses
+        for al in re.findall(rf"\blet ([^\s:=]+) = [^\s]*\.{re.escape(st)}\.ensures\s+in\b", t):
+            if len(fields) > 1:
+                t = re.sub(rf"(?<![{IDC}.]){re.escape(al)}\.([0-9]+)(?![{IDC}])",
+                           lambda m: al + "." + fields[int(m[1])] if int(m[1]) < len(fields) else m[0], t)
+    # an argument has its own name, though a step may be named after it
+    for al in ["c.args"] + re.findall(r"\blet ([^\s:=]+) = c\.args in\b", t):
+        t = re.sub(rf"(?<![{IDC}.])({re.escape(al)}\.[a-z_0-9]+)-[0-9]+(?=\.(?:now|new)\b)", r"\1", t)
     t = re.sub(r"\.well-formed\b", ".well_formed", t)
     t = re.sub(r"\.type-inv\b", ".type_inv", t)
     return t

@@ -29,27 +29,29 @@ put_both (c ∷ cs) b xs at =
 
 -- The place r and the bytes ys are what putting a text at a place of xs leaves.
 abbrev pub Puts : List ℕ → ℕ → List ℕ → ℕ → List ℕ → Type 0
-Puts xs at text r ys = (r ≡ place_after (length xs) at text) × (ys ≡ put_at xs at text)
+Puts xs at text r ys = record { value : r ≡ place_after (length xs) at text; out_after : ys ≡ put_at xs at text }
 
 pub then : (xs a b : List ℕ) (at : ℕ) {r q : ℕ} {ys zs : List ℕ} → Puts xs at a r ys → Puts ys r b q zs
     → Puts xs at (a ++ b) q zs
 then xs a b at {r} {q} {ys} {zs} p s = by (leb (at + length a) (length xs)) refl
   where
     long : length ys ≡ length xs
-    long = rw p.1 (length-sets xs at a)
+    long = rw p.out_after (length-sets xs at a)
 
     by : (t : Bool) → leb (at + length a) (length xs) ≡ t → Puts xs at (a ++ b) q zs
     by true e =
         let h : at + length a ≤ length xs = leb-true (at + length a) (length xs) e in
-        let here : r ≡ at + length a = p.0 ∙ min-eq_right h in (
-          s.0 ∙ rw (long, here, length-append a b, add_assoc at (length a) (length b)),
-          s.1 ∙ rw (p.1, here) (sym (put_both a b xs at)),
-        )
+        let here : r ≡ at + length a = p.value ∙ min-eq_right h in record {
+          value = s.value ∙ rw (long, here, length-append a b, add_assoc at (length a) (length b));
+          out_after = s.out_after ∙ rw (p.out_after, here) (sym (put_both a b xs at));
+        }
     by false e =
         let h : length xs ≤ at + length a = omega (arith, leb-false (at + length a) (length xs) e) in
-        let end : r ≡ length xs = p.0 ∙ min-eq_left h in
+        let end : r ≡ length xs = p.value ∙ min-eq_left h in
         let past : (k : ℕ) → length xs ≤ k → put_at (put_at xs at a) k b ≡ put_at xs at a =
-        λ k g. put-out b (put_at xs at a) k (rw (length-sets xs at a) g) in (
-          s.0 ∙ rw (long, end, length-append a b) (min-eq_left (omega arith) ∙ sym (min-eq_left (omega arith))),
-          s.1 ∙ rw (p.1, end) (past (length xs) (omega arith) ∙ sym (put_both a b xs at ∙ past (at + length a) h)),
-        )
+        λ k g. put-out b (put_at xs at a) k (rw (length-sets xs at a) g) in record {
+          value = s.value ∙ rw (long, end, length-append a b) (min-eq_left (omega arith) ∙ sym (min-eq_left (omega arith)));
+          out_after =
+          s.out_after
+          ∙ rw (p.out_after, end) (past (length xs) (omega arith) ∙ sym (put_both a b xs at ∙ past (at + length a) h));
+        }
