@@ -231,7 +231,7 @@ def steps(fn, t, say, by_label=True):
             say(f"step {m[1]} is one of {sorted(s)}")
             return m[0]
         return "." + next(iter(s))
-    t = re.sub(rf"\.([A-Za-z][{IDC}]*)", sub, t)
+    t = re.sub(rf"(?<!\))\.([A-Za-z][{IDC}]*)", sub, t)
     for st, fields in fn.clauses.items() if by_label else ():
         def cl(m):
             if len(fields) == 1:

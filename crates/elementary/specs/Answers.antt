@@ -1,5 +1,5 @@
 -- E2 to E4. The three functions for every argument: a value, or a refusal by number. Definitions only.
-use Rattle.std.specs.Prelude.{false, cond, ℕ, ◌+◌, ◌%◌, pos, negsuc, Float}
+use Rattle.std.specs.Prelude.{false, cond, ℕ, ◌+◌, ◌%◌, negsuc, Float}
 use Rattle.std.specs.Float.{fin, binary64}
 use Rattle.std.specs.Float.Ieee.{neg, add, sub, mul, lt, of_bits}
 pub use Rattle.constants.specs.Numbers.{one-f as one, two-f as two}

@@ -13,19 +13,20 @@ tested : (c : tie.After-inside) → c.inside.result ≡ at_most 256 c.before.arg
 unfolding of_bits
 tested c = c.inside.ensures ∙ inside_is 8 c.before.args.x
 
-cosine-at-requires : tie.Need-cosine-at-requires
-cosine-at-requires c κs = subst T (sym c.if1.true ∙ tested c.before) tt
+cosine-at-requires : tie.Need-cosine_at-requires
+cosine-at-requires c κs = subst T (sym c.if-inside.true ∙ tested c.before) tt
 
-returns : tie.Need-returns
+returns : tie.Need-returns-then-inside
 unfolding cosine_of
 returns c =
-    given (at_most 256 c.before.before.before.args.x) (sym (tested c.before.before) ∙ c.before.if1.true)
-    c.cosine-at.ensures.0 c.cosine-at.ensures.1
+    given (at_most 256 c.before.before.before.args.x) (sym (tested c.before.before) ∙ c.before.if-inside.true)
+    c.cosine_at.ensures.0 c.cosine_at.ensures.1
 
-returns-2 : tie.Need-returns-2
+returns-2 : tie.Need-returns-else-inside
 unfolding cosine_of
 returns-2 c =
-    let x = c.before.before.args.x in refused (at_most 256 x) (cosine_at x) (sym (tested c.before) ∙ c.if1.false)
+    let x = c.before.before.args.x in refused (at_most 256 x) (cosine_at x) (sym (tested c.before) ∙ c.if-inside.false)
 
-pub cosine-spec : {M : Type 1} → statement M
-cosine-spec = tie.close (tie.spec (λ c κs. search rules) cosine-at-requires returns returns-2)
+pub cosine_spec : {M : Type 1} → statement M
+cosine_spec =
+    tie.close (tie.spec (λ c κs. search rules) cosine-at-requires returns returns-2)

@@ -12,20 +12,21 @@ tested : (c : tie.After-inside) → c.inside.result ≡ at_most 256 c.before.arg
 unfolding of_bits
 tested c = c.inside.ensures ∙ inside_is 8 c.before.args.x
 
-cosine-at-requires : tie.Need-cosine-at-requires
-cosine-at-requires c κs = subst T (sym c.if1.true ∙ tested c.before) tt
+cosine-at-requires : tie.Need-cosine_at-requires
+cosine-at-requires c κs = subst T (sym c.if-inside.true ∙ tested c.before) tt
 
-returns : tie.Need-returns
+returns : tie.Need-returns-then-inside
 unfolding cosine_of
 returns c =
     value-given (at_most 256 c.before.before.before.args.x)
-    (sym (tested c.before.before) ∙ c.before.if1.true) c.cosine-at.ensures.0
+    (sym (tested c.before.before) ∙ c.before.if-inside.true) c.cosine_at.ensures.0
 
-returns-2 : tie.Need-returns-2
+returns-2 : tie.Need-returns-else-inside
 unfolding cosine_of
 returns-2 c =
     let x = c.before.before.args.x in
-    value-refused (at_most 256 x) (cosine_at x) (sym (tested c.before) ∙ c.if1.false)
+    value-refused (at_most 256 x) (cosine_at x) (sym (tested c.before) ∙ c.if-inside.false)
 
-pub cosine-or-zero-spec : {M : Type 1} → statement M
-cosine-or-zero-spec = tie.close (tie.spec (λ c κs. tt) cosine-at-requires returns returns-2)
+pub cosine_or_zero_spec : {M : Type 1} → statement M
+cosine_or_zero_spec =
+    tie.close (tie.spec (λ c κs. tt) cosine-at-requires returns returns-2)

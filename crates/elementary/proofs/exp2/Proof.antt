@@ -13,19 +13,20 @@ tested : (c : tie.After-inside) → c.inside.result ≡ at_most 1 c.before.args.
 unfolding of_bits
 tested c = c.inside.ensures ∙ inside_is 0 c.before.args.x
 
-power-at-requires : tie.Need-power-at-requires
-power-at-requires c κs = subst T (sym c.if1.true ∙ tested c.before) tt
+power-at-requires : tie.Need-power_at-requires
+power-at-requires c κs = subst T (sym c.if-inside.true ∙ tested c.before) tt
 
-returns : tie.Need-returns
+returns : tie.Need-returns-then-inside
 unfolding exp2_of
 returns c =
-    given (at_most 1 c.before.before.before.args.x) (sym (tested c.before.before) ∙ c.before.if1.true)
+    given (at_most 1 c.before.before.before.args.x) (sym (tested c.before.before) ∙ c.before.if-inside.true)
     c.power_at.ensures.0 c.power_at.ensures.1
 
-returns-2 : tie.Need-returns-2
+returns-2 : tie.Need-returns-else-inside
 unfolding exp2_of
 returns-2 c =
-    let x = c.before.before.args.x in refused (at_most 1 x) (power_at x) (sym (tested c.before) ∙ c.if1.false)
+    let x = c.before.before.args.x in refused (at_most 1 x) (power_at x) (sym (tested c.before) ∙ c.if-inside.false)
 
-pub exp2-spec : {M : Type 1} → statement M
-exp2-spec = tie.close (tie.spec (λ c κs. search rules) power-at-requires returns returns-2)
+pub exp2_spec : {M : Type 1} → statement M
+exp2_spec =
+    tie.close (tie.spec (λ c κs. search rules) power-at-requires returns returns-2)

@@ -18,29 +18,28 @@ tested : (c : tie.After-inside) → c.inside.result ≡ at_most 1 c.before.args.
 unfolding of_bits
 tested c = c.inside.ensures ∙ inside_is 0 c.before.args.x
 
-returns : tie.Need-returns
+returns : tie.Need-returns-then-inside
 returns c =
     cosine-short c.before.before.before.args.x
-    (subst T (sym c.before.if1.true ∙ tested c.before.before) tt) c.cosine-near.ensures
+    (subst T (sym c.before.if-inside.true ∙ tested c.before.before) tt) c.cosine_near.ensures
 
-beyond : (c : tie.Else1) → T (not (at_most 1 c.before.before.args.x))
-beyond c = subst (λ (b : Bool). T (not b)) (sym c.if1.false ∙ tested c.before) tt
+beyond : (c : tie.Else-inside) → T (not (at_most 1 c.before.before.args.x))
+beyond c = subst (λ (b : Bool). T (not b)) (sym c.if-inside.false ∙ tested c.before) tt
 
-turn-requires : tie.Need-turn-requires
+turn-requires : tie.Need-turn-t-requires
 turn-requires c κs = (beyond c, c.before.before.requires)
 
-add-choose : tie.Need-overflow-add-choose
+add-choose : tie.Need-overflow_add-t
 add-choose c =
-    let e = c.before.turn.ensures.quarter in
+    let e = c.before.turn-t.ensures.quarter in
     let l = fourth-small (turns c.before.before.before.before.args.x) in
     omega arith
 
-returns-2 : tie.Need-returns-2
+returns-2 : tie.Need-returns
 returns-2 c =
-    cosine-long (beyond c.before.before.before) c.before.before.turn.ensures (omega arith)
+    cosine-long (beyond c.before.before.before) c.before.before.turn-t.ensures (omega arith)
     c.choose.ensures
 
-pub cosine-at-spec : {M : Type 1} → statement M
-cosine-at-spec =
-    tie.close (tie.spec (λ c κs. search rules) (λ c κs. search rules) returns turn-requires add-choose
-    (λ c κs. search rules) returns-2)
+pub cosine_at_spec : {M : Type 1} → statement M
+cosine_at_spec =
+    tie.close (tie.spec (λ c κs. search rules) (λ c κs. search rules) returns turn-requires add-choose (λ c κs. search rules) returns-2)
