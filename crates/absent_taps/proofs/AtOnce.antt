@@ -7,11 +7,11 @@ use Prim.Native.Nat.{ℕ, zero, suc, ◌+◌, ◌-◌, ◌≤◌, ◌<◌, ◌%�
 use native.Mathlib.Omega.{arith}
 use borrow.Author.Tests.{ltb-true, ltb-false, leb-true, leb-false}
 use lib.Dec.{leb, ltb}
-use lib.IntN.{ℤ, pos, negsuc, ◌+ℤ◌}
+use lib.IntN.{ℤ, pos, negsuc}
 use lib.ListN.{length, get_or, length-replicate}
 use lib.Ieee.{Float, nan}
 use Rattle.ring.specs.Length.{zeros}
-use Rattle.ring.specs.Taps.{Tap, held, unwritten, ahead, overwritten, pick, tap_at}
+use Rattle.ring.specs.Taps.{held, unwritten, ahead, overwritten, pick, tap_at}
 use Rattle.absent_taps.specs.declared.Absent.{Absent}
 use Rattle.absent_taps.specs.declared.counting.Start.{Start}
 use Rattle.absent_taps.specs.Absent.{absent_of, counted, absent_from, first_tap, absent_at}
