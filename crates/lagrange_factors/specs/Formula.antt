@@ -1,7 +1,7 @@
 -- K7, D2b. Lagrange's formula over whole numbers: the weight of node k at x = p / q is the product of (x - j) / (k - j)
 -- over the other nodes j. That the loop of Weight.antt gives it in fractions is `formula` in proofs/Nodes.antt.
 -- Definitions only.
-use Rattle.std.specs.Prelude.{ℕ, zero, suc, Bool, cond, eqb, ℤ, pos, ◌-ℤ◌, ◌*ℤ◌}
+use Rattle.std.specs.Prelude.{ℕ, zero, suc, cond, eqb, ℤ, pos, ◌-ℤ◌, ◌*ℤ◌}
 
 -- The numerator: the product of (p - j q) over the nodes j below n other than k. Each factor stands over a q.
 unfoldable pub numerator : ℤ → ℤ → ℕ → ℕ → ℤ

@@ -1,7 +1,7 @@
 -- K7. The weight of a node by 000's inner loop, over any arithmetic: in floats it is the kernel's, in fractions it is
 -- Lagrange's formula. Definitions only.
-use Rattle.std.specs.Prelude.{ℕ, zero, suc, ◌<◌, ◌≡◌, Bool, false, cond, eqb, ℤ, pos, nat_abs, ◌-ℤ◌, ◌*ℤ◌, Float}
-use Rattle.std.specs.Float.{fin, binary64}
+use Rattle.std.specs.Prelude.{ℕ, zero, suc, ◌<◌, ◌≡◌, cond, eqb, ℤ, pos, nat_abs, ◌-ℤ◌, ◌*ℤ◌, Float}
+use Rattle.std.specs.Float.{binary64}
 use Rattle.std.specs.Float.Ieee.{sub, mul, div, of_int}
 use Rattle.constants.specs.Numbers.{one-f}
 
