@@ -3,9 +3,8 @@
 ghost use Rattle.std.specs.Prelude.{◌≡◌, ◌||◌, ◌≤◌};
 ghost use Rattle.aiff.specs.Aiff.{kind_of, length_of, has_parts, listed, found_of};
 
-use crate::first_tests::is_inside;
+use crate::first_tests::{first, is_inside};
 use crate::{Found, Sound};
-use aiff_order::first;
 use extended_rate::rate_of;
 use high_first::{eight, four, two};
 use refusal_order::both;

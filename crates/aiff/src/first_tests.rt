@@ -1,5 +1,6 @@
-// W12. The first tests of a file, and those of a walk.
-ghost use Rattle.std.specs.Prelude.{◌≡◌, not, ◌&&◌, ◌+◌, leb};
+// W12. The first tests of a file, those of a walk, and the order of the refusals.
+ghost use Rattle.std.specs.Prelude.{◌≡◌, not, ◌&&◌, [], ◌∷◌, ◌+◌, leb};
+ghost use Rattle.refusal_order.specs.Order.{◌unless◌, first_of};
 ghost use Rattle.aiff.specs.Aiff.{is_aiff, inside};
 
 use high_first::four;
@@ -35,4 +36,28 @@ fn ends_by(body: usize, size: usize, end: usize) -> bool
         return false;
     }
     body <= end - size
+}
+
+// The number of the first test that fails; 0 if all pass. 21 stands on both sides of 13.
+pub fn first(t20: bool, t10: bool, t21: bool, t13: bool, frames: bool, t22: bool) -> u8
+    ensures { result ≡ first_of
+        (20 unless t20 ∷ 10 unless t10 ∷ 21 unless t21 ∷ 13 unless t13 ∷ 21 unless frames ∷ 22 unless t22 ∷ []) }
+{
+    if t20 {
+        if t10 {
+            if t21 {
+                if t13 {
+                    if frames { if t22 { 0 } else { 22 } } else { 21 }
+                } else {
+                    13
+                }
+            } else {
+                21
+            }
+        } else {
+            10
+        }
+    } else {
+        20
+    }
 }

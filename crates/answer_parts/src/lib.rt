@@ -5,13 +5,14 @@
 
 ghost use Rattle.std.specs.Prelude.{◌≡◌};
 ghost use Rattle.answer.specs.Answers.{number_of, value_of, number_f32_of, value_f32_of};
+ghost use Rattle.variable_delay.specs.Opening as opening;
+ghost use Rattle.answer_parts.specs.States.{count_of};
 
 use answer::{Answer, AnswerF32};
+use variable_delay::Opened;
 
 pub mod handing; // writes a reader's answer and count through pointers
 pub mod values; // the same for the elementary functions and the oscillators
-
-pub use opened_parts::{opened_count, opened_number};
 
 pub fn number(a: Answer) -> u8
     ensures { result ≡ number_of a }
@@ -47,5 +48,24 @@ pub fn value_f32(a: AnswerF32) -> f32
     match a {
         AnswerF32::Sample(v) => bit_patterns::one_nan_f32(v),
         AnswerF32::Refused(_) => 0.0,
+    }
+}
+
+pub fn opened_number(o: Opened) -> u8
+    ensures { result ≡ opening.number_of o }
+{
+    match o {
+        Opened::Reader(_) => 0,
+        Opened::Refused(k) => k,
+    }
+}
+
+// The count of the reader that was opened; if that was refused, the count as it was.
+pub fn opened_count(before: u64, o: Opened) -> u64
+    ensures { result ≡ count_of before o }
+{
+    match o {
+        Opened::Reader(d) => d.accepted,
+        Opened::Refused(_) => before,
     }
 }

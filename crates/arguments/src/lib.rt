@@ -6,11 +6,13 @@
 ghost use Rattle.std.specs.Prelude.{◌≡◌, ◌+◌, ◌≤◌, min, length};
 ghost use Rattle.spelling.specs.Words.{split_in};
 ghost use Rattle.arguments.specs.Meaning.{valued_as, meaning_of};
+ghost use Rattle.arguments.specs.Settings.{changed_to};
 
 mod names; // which name an argument has
 mod values; // what its value says
 
 use decimals::{read_f64, read_u64};
+use modulation_params::ModulationParams;
 use sample_kind::SampleKind;
 use spelling::{is_named, same, split};
 
@@ -113,4 +115,22 @@ pub fn value_at(text: &[u8]) -> usize
 {
     let at = split(text);
     if at < text.len() { at + 1 } else { text.len() }
+}
+
+// The settings of 001 with one of them changed.
+pub fn with_setting(params: ModulationParams, setting: Setting, value: f64) -> ModulationParams
+    ensures { result ≡ changed_to params setting value }
+{
+    let mut p = params;
+    match setting {
+        Setting::WowRateHz => p.wow_rate_hz = value,
+        Setting::WowDepthCents => p.wow_depth_cents = value,
+        Setting::WowShape => p.wow_shape = value,
+        Setting::FlutterRateHz => p.flutter_rate_hz = value,
+        Setting::FlutterDepthCents => p.flutter_depth_cents = value,
+        Setting::FlutterShape => p.flutter_shape = value,
+        Setting::DriftAmount => p.drift_amount = value,
+        Setting::StereoAmount => p.stereo_amount = value,
+    }
+    p
 }

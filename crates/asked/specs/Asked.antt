@@ -10,7 +10,7 @@ use Rattle.arguments.specs.declared.Channel.TheVariants.{All as All·channels}
 use Rattle.arguments.specs.declared.Argument.{Argument}
 use Rattle.arguments.specs.declared.Argument.TheVariants.{File, Unknown, Bad, Seed, Delay, Kind, Setting, FirstSkip}
 use Rattle.arguments.specs.declared.Argument.TheVariants.{SecondSkip, Frames, Channel, Picture}
-use Rattle.changed_settings.specs.Settings.{changed_to}
+use Rattle.arguments.specs.Settings.{changed_to}
 use Rattle.asked.specs.declared.Imitation.{Imitation}
 use Rattle.asked.specs.declared.Imitated.{Imitated}
 use Rattle.asked.specs.declared.Imitated.TheVariants.{Asked, Other}

@@ -64,7 +64,7 @@ pub fn imitated_with(old: Imitation, argument: Argument) -> Imitated
             params,
         }),
         Argument::Setting(s, x) => {
-            let changed = changed_settings::with_setting(params, s, x);
+            let changed = arguments::with_setting(params, s, x);
             Imitated::Asked(Imitation {
                 seed,
                 delay,

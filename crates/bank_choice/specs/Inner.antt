@@ -2,8 +2,7 @@
 -- of what is promised, which stands in Choosing.antt. Definitions only.
 use Rattle.std.specs.Prelude.{Bool, true, false, Float}
 use Rattle.bank_choice.specs.declared.Choice.{Choice}
-use Rattle.bank_choice.specs.declared.Rated.{Rated}
-use Rattle.bank_choice.specs.Rates.{bank_ok, set_rate_of}
+use Rattle.bank_choice.specs.Rates.{bank_ok}
 use Rattle.bank_choice.specs.Choosing.{chosen_of, no_choice}
 
 abbrev pub pick_choice : Bool → Choice → Choice → Choice
@@ -13,8 +12,3 @@ pick_choice false a b = b
 -- All fields are zero if the bank's rate is out of range.
 abbrev pub choice_of : Float → Float → Choice
 choice_of max-rate rate = pick_choice (bank_ok max-rate) (chosen_of max-rate rate) no_choice
-
--- The same with the rates of its two sets.
-abbrev pub rated_of : Float → Float → Rated
-rated_of max-rate rate = let c = choice_of max-rate rate in
-    record { choice = c; safe = set_rate_of max-rate c.safe; tighter = set_rate_of max-rate c.tighter }

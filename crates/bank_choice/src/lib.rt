@@ -7,8 +7,8 @@ mod search; // how many of them are slower than a rate
 
 ghost use Rattle.std.specs.Prelude.{◌≡◌, min, true, not, is_nan};
 ghost use Rattle.bank_choice.specs.Rates.{bank_ok};
-ghost use Rattle.bank_choice.specs.Choosing.{lower_of, which_of, choose_verdict, selected_of};
-ghost use Rattle.bank_choice.specs.Inner.{choice_of, rated_of};
+ghost use Rattle.bank_choice.specs.Choosing.{lower_of, which_of, chosen_of, choose_verdict, selected_of};
+ghost use Rattle.bank_choice.specs.Inner.{choice_of};
 
 pub use rates::{set_rate, steps};
 
@@ -20,14 +20,6 @@ pub struct Choice {
     pub tighter: usize,
     pub which: u8,
     pub blend: f32,
-}
-
-// A choice with the rates of its two sets, for a caller that looks for the sets by their rates (W4).
-#[derive(Drop)]
-pub struct Rated {
-    pub choice: Choice,
-    pub safe: f64,
-    pub tighter: f64,
 }
 
 // A choice, or the number of a refusal.
@@ -72,58 +64,41 @@ fn which(close: bool, low: bool, high: bool) -> u8
     if high { 1 } else { 2 }
 }
 
-fn with_rates(max_rate: f64, rate: f64) -> Rated
+fn chosen(max_rate: f64, rate: f64) -> Choice
     requires { bank_ok max_rate ≡ true }
-    ensures { result ≡ rated_of max_rate rate }
+    ensures { result ≡ chosen_of max_rate rate }
 {
     let n = steps(max_rate);
     let r = min_max::clamp(rate, 1.0, max_rate);
     let safe = at_most(search::among(max_rate, n, r), n - 1);
     let tighter = at_most(safe + 1, n - 1);
     let own = rates::rate(max_rate, n, safe + 1);
-    let next = rates::rate(max_rate, n, tighter + 1);
     let below = lower(max_rate, n, safe);
     let blend = narrowing::narrow((r - below) / (own - below));
     let close = magnitude::within(own - below, -2.220446049250313e-16, 2.220446049250313e-16);
-    Rated {
-        choice: Choice {
-            safe: safe,
-            tighter: tighter,
-            which: which(close, blend <= 1.1920929e-7, blend >= 0.9999999),
-            blend: min_max::clamp_f32(blend, 0.0, 1.0),
-        },
-        safe: own,
-        tighter: next,
+    Choice {
+        safe: safe,
+        tighter: tighter,
+        which: which(close, blend <= 1.1920929e-7, blend >= 0.9999999),
+        blend: min_max::clamp_f32(blend, 0.0, 1.0),
     }
 }
 
-// The sets that a rate reads and their rates, for readers that have tested both rates. All fields are zero if the
-// bank's rate is out of range; a NaN as rate goes through the same arithmetic.
-pub fn rated_or_zero(max_rate: f64, rate: f64) -> Rated
-    ensures { result ≡ rated_of max_rate rate }
-{
-    if magnitude::within(max_rate, 1.0, 2.0) {
-        with_rates(max_rate, rate)
-    } else {
-        Rated {
-            choice: Choice {
-                safe: 0,
-                tighter: 0,
-                which: 0,
-                blend: 0.0,
-            },
-            safe: 0.0,
-            tighter: 0.0,
-        }
-    }
-}
-
-// The same without the rates.
+// The sets that a rate reads, for readers that have tested both rates. All fields are zero if the bank's rate is out of
+// range; a NaN as rate goes through the same arithmetic.
 pub fn choice_or_zero(max_rate: f64, rate: f64) -> Choice
     ensures { result ≡ choice_of max_rate rate }
 {
-    let found = rated_or_zero(max_rate, rate);
-    found.choice
+    if magnitude::within(max_rate, 1.0, 2.0) {
+        chosen(max_rate, rate)
+    } else {
+        Choice {
+            safe: 0,
+            tighter: 0,
+            which: 0,
+            blend: 0.0,
+        }
+    }
 }
 
 // N1, N7. The number of the refusal, 0 for none: 1 for the bank's rate, then 7 for a rate that is a NaN.

@@ -1,4 +1,4 @@
--- W11j. Opening a cascaded reader over what is lent to it, and resetting one. Definitions only.
+-- W11j. Opening a cascaded reader over what is lent to it, and resetting one; and its latency. Definitions only.
 use Rattle.std.specs.Prelude.{ℕ, zero, suc, Bool, false, ◌&&◌, List, pos, negsuc, Float}
 use Rattle.std.specs.Float.{fin, binary64}
 use Rattle.std.specs.Float.Ieee.{round}
@@ -10,6 +10,10 @@ use Rattle.cascaded_delay.specs.Reader.{ring_ok, outer_of}
 use Rattle.cascaded_delay.specs.declared.CascadedOversampledVariableDelay4x.{CascadedOversampledVariableDelay4x}
 use Rattle.cascaded_delay.specs.declared.Opened.{Opened}
 use Rattle.cascaded_delay.specs.declared.Opened.TheVariants.{Reader, Refused}
+
+-- The latency of both stages in host samples: 64.0.
+abbrev pub latency : Float
+latency = fin false 1 (pos 6)
 
 -- The state of a reader that has accepted nothing.
 abbrev pub fresh : ℕ → ℕ → CascadedOversampledVariableDelay4x

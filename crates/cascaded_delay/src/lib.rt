@@ -8,6 +8,9 @@ mod halves; // the two halves of an accepted call
 mod opening; // open and reset
 mod refusals; // what is refused
 
+ghost use Rattle.std.specs.Prelude.{◌≡◌};
+ghost use Rattle.cascaded_delay.specs.Opening.{latency};
+
 use answer::Answer;
 pub use calls::process_sample;
 pub use opening::{open, reset};
@@ -46,4 +49,11 @@ pub enum Opened {
 pub struct Processed {
     pub state: CascadedOversampledVariableDelay4x,
     pub answer: Answer,
+}
+
+// W11j. 000's latency_samples: 16 for the first upsampler, 8 for the second, 8 and 32 for the decimating filters.
+pub fn latency_samples() -> f64
+    ensures { result ≡ latency }
+{
+    64.0
 }

@@ -33,25 +33,21 @@ pub fn call<'a>(
         desk_ring_called desk mode (room_of rates.now marks.now slots.now) max_rate
         state ring.old input delay quality playback_rate }
 {
-    let found = desk_delay::look(
-        room_marks::of_number(desk),
-        bessel::of_code(mode),
-        rates,
-        marks,
-        slots.len(),
-        max_rate,
-        playback_rate,
-    );
     let asked = both(
         quality <= 3,
         both(room_marks::known(desk), bessel::known(mode)),
     );
+    let named = room_marks::of_number(desk);
+    let built = bessel::of_code(mode);
     if both(asked, fields_ok(state)) {
         let q = quality_codes::mode(quality);
-        let p = desk_delay::process_found(
-            found,
+        let p = desk_delay::process_sample_rate_aware(
+            named,
+            built,
             decode(state),
             &mut ring[..],
+            rates,
+            marks,
             slots,
             max_rate,
             input,
@@ -61,9 +57,13 @@ pub fn call<'a>(
         );
         return apart(p);
     }
-    let v = desk_delay::found_due(
-        found,
+    let v = desk_delay::due(
+        named,
+        built,
         decode(state),
+        rates,
+        marks,
+        slots,
         max_rate,
         ring.len(),
         input,

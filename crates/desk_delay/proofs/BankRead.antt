@@ -1,13 +1,7 @@
 -- Demand 2 and W4: where the slots of the two sets that a desk holds have these sets' floats, its call is the quality
 -- reader's over the bank of the desk's mode and maximum rate, which holds nothing else and which no other desk reads.
 -- Assumes nothing.
-use mathlib.Core.Path.{◌≡◌, refl, sym, ◌∙◌, ap}
-use mathlib.Core.Bool.{Bool, true, false, true≢false, not, ◌&&◌, ◌||◌}
-use mathlib.Core.List.{List}
-use Prim.Native.Nat.{ℕ, ◌+◌, ◌*◌, ◌<◌}
-use borrow.Author.Tests.{eq-eqb, lt-ltb}
-use lib.Dec.{eqb}
-use lib.ListN.{length}
+use Rattle.std.proofs.Common.{◌≡◌, ℕ, ◌+◌, ◌*◌, ◌<◌, Bool, true, false, not, ◌&&◌, ◌||◌, eqb, List, length, sym, refl, ap, ◌∙◌, true≢false, lt-ltb, eq-eqb}
 use lib.Ieee.{Float, is_nan}
 use Rattle.variable_delay.specs.Reader.{stored, position_of}
 use Rattle.bessel.specs.declared.Mode.{Mode}

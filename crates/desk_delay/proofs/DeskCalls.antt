@@ -1,12 +1,6 @@
 -- A desk's call in a room in range is the reader's call over the two slots; in a room out of range it is refused.
 -- Assumes nothing.
-use mathlib.Core.Path.{◌≡◌, refl, sym, ◌∙◌, ap}
-use mathlib.Core.Bool.{Bool, true, false, not, ◌&&◌}
-use mathlib.Core.List.{List}
-use Prim.Native.Nat.{ℕ, ◌+◌, ◌^◌}
-use lib.Dec.{eqb, leb, ltb}
-use lib.IntN.{pos}
-use lib.ListN.{length}
+use Rattle.std.proofs.Common.{◌≡◌, ℕ, ◌+◌, ◌^◌, Bool, true, false, not, ◌&&◌, eqb, ltb, leb, List, length, pos, sym, refl, ap, ◌∙◌}
 use lib.Ieee.{Float, fin, le, is_nan}
 use lib.Ieee.Bits.{is_true}
 use lib.Ieee.Scale.{finite}

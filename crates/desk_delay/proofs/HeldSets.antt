@@ -1,13 +1,6 @@
 -- What the code finds in a room is what the definition asks: a set is held exactly if its slot is one of the room's,
 -- and by the slots of two sets that are held every quality reads what stands there. Assumes nothing.
-use mathlib.Core.Path.{◌≡◌, refl, sym, ◌∙◌, ap}
-use mathlib.Core.Bool.{Bool, true, false, true≢false, not, cond, ◌&&◌, ◌||◌}
-use mathlib.Core.List.{List}
-use Prim.Native.Nat.{ℕ, ◌+◌, ◌*◌, ◌≤◌, ◌<◌, min}
-use native.Mathlib.Omega.{arith}
-use borrow.Author.Tests.{le-leb, ltb-true, eqb-true}
-use lib.Dec.{eqb, ltb}
-use lib.ListN.{length}
+use Rattle.std.proofs.Common.{◌≡◌, ℕ, ◌+◌, ◌*◌, ◌<◌, ◌≤◌, min, Bool, true, false, cond, not, ◌&&◌, ◌||◌, eqb, ltb, List, length, sym, refl, ap, ◌∙◌, true≢false, arith, ltb-true, eqb-true, le-leb}
 use lib.Ieee.{Float, is_nan}
 use Rattle.ring.specs.Places.{position_ok}
 use Rattle.bessel.specs.declared.Mode.{Mode}

@@ -1,9 +1,6 @@
 -- W4j. The room's test stands beside the reader's own test of its fields: it changes nothing in a room in range, and
 -- otherwise gives 3 unless 1 or 2 is due. Assumes nothing.
-use mathlib.Core.Path.{◌≡◌, refl}
-use mathlib.Core.Bool.{Bool, true, false, ◌&&◌}
-use Prim.Native.Nat.{ℕ, zero, suc}
-use native.Mathlib.Omega.{arith}
+use Rattle.std.proofs.Common.{◌≡◌, ℕ, zero, suc, Bool, true, false, ◌&&◌, refl, arith}
 use Rattle.answer.specs.Refusals.{lowest_of}
 use Rattle.desk_delay.specs.Inner.{out_of_range}
 

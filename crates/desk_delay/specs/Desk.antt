@@ -1,7 +1,7 @@
 -- W4. The quality reader over a room: which of the lent slots a desk reads, what it is refused, and what a call answers
 -- and leaves. Definitions only.
-use Rattle.std.specs.Prelude.{ℕ, Bool, not, ◌&&◌, ◌||◌, List, [], ◌∷◌, eqb, leb, ltb, length, Float}
-use Rattle.std.specs.Float.Ieee.{le, is_nan}
+use Rattle.std.specs.Prelude.{ℕ, Bool, not, ◌&&◌, ◌||◌, List, [], ◌∷◌, length, ◌==◌, is_nan, nat_le, nat_lt, Float}
+use Rattle.std.specs.Float.Ieee.{le}
 use Rattle.std.specs.Float.Ieee.Scale.{finite}
 use Rattle.constants.specs.Numbers.{zero-f, limit, limit-f}
 use Rattle.refusal_order.specs.Order.{Test, ◌unless◌, first_of}
@@ -71,13 +71,13 @@ sets_held c room top rate =
 abbrev pub desk_tests : Caller → Room → Float → QualityVariableDelayF32 → ℕ → Float → Float → Float → List Test
 desk_tests c room top d len x y rate =
     1 unless (settings_ok d.maximum d.margin && (length_ok d.crossfade_samples && bank_ok top))
-    ∷ 2 unless (eqb len (length_for d.maximum d.margin) && sets_held c room top rate)
-    ∷ 3 unless ((leb d.accepted limit && place_ok (fade_part d)) && room_ok room.rates room.marks)
+    ∷ 2 unless (len == length_for d.maximum d.margin && sets_held c room top rate)
+    ∷ 3 unless ((nat_le d.accepted limit && place_ok (fade_part d)) && room_ok room.rates room.marks)
     ∷ 4 unless finite x
     ∷ 5 unless (finite y && le zero-f y)
     ∷ 6 unless le y limit-f
     ∷ 7 unless not (is_nan rate)
-    ∷ 8 unless ltb d.accepted limit
+    ∷ 8 unless nat_lt d.accepted limit
     ∷ []
 
 abbrev pub desk_verdict : Caller → Room → Float → QualityVariableDelayF32 → ℕ → Float → Float → Float → ℕ

@@ -1,14 +1,10 @@
 -- What the code finds in a room, and the refusal where a room is out of range. What is promised stands in Desk.antt,
 -- which does not use it. Definitions only.
-use Rattle.std.specs.Prelude.{ℕ, zero, suc, Bool, cond, ◌&&◌, ◌||◌, List, ltb, length, Float}
-use Rattle.std.specs.Float.Ieee.{is_nan}
+use Rattle.std.specs.Prelude.{ℕ, zero, suc, Bool, cond, ◌&&◌, ◌||◌, List, length, is_nan, nat_lt, Float}
 use Rattle.answer.specs.Answers.{answer_f32_of, zero-f}
-use Rattle.bank_choice.specs.Rates.{bank_ok, set_rate_of}
+use Rattle.bank_choice.specs.Rates.{set_rate_of}
 use Rattle.bank_choice.specs.Inner.{choice_of}
 use Rattle.bank_choice.specs.declared.Choice.{Choice}
-use Rattle.quality_mode.specs.declared.QualityMode.{QualityMode}
-use Rattle.quality_variable_delay.specs.Reader.{verdict}
-use Rattle.quality_variable_delay.specs.Chosen.{chosen_call, ring_chosen}
 use Rattle.quality_variable_delay.specs.declared.QualityVariableDelayF32.{QualityVariableDelayF32}
 use Rattle.quality_variable_delay.specs.declared.ProcessedQ.{ProcessedQ}
 use Rattle.room_marks.specs.Slots.{room_ok}
@@ -34,7 +30,7 @@ module _ (c : Caller) (rates : List Float) (marks : List ℕ) where
   abbrev pub lent_of : ℕ → Float → Float → Bool
   lent_of floats top rate = let k = slot_choice top rate in
       lengths_agree rates marks floats
-      && (is_nan rate || (ltb k.safe (length marks) && ltb k.tighter (length marks)))
+      && (is_nan rate || (nat_lt k.safe (length marks) && nat_lt k.tighter (length marks)))
 
   abbrev pub looked_of : ℕ → Float → Float → Looked
   looked_of floats top rate = record {
@@ -55,17 +51,3 @@ in_room whole v = cond whole v (out_of_range v)
 
 abbrev pub refused_by : ℕ → QualityVariableDelayF32 → ProcessedQ
 refused_by v d = record { state = d; answer = answer_f32_of v zero-f }
-
--- ---- a call by what is found, and what it leaves of the ring
-module _ (found : Looked) (top : Float) (d : QualityVariableDelayF32) where
-  abbrev pub found_due : ℕ → Float → Float → Float → ℕ
-  found_due len x y rate = in_room found.whole (verdict (bank_ok top) found.lent d len x y rate)
-
-  abbrev pub found_ring : List Float → Float → Float → Float → List Float
-  found_ring xs x y rate = cond found.whole (ring_chosen (bank_ok top) found.lent d xs x y rate) xs
-
-abbrev pub found_call : Looked → List Float → Float → QualityVariableDelayF32 → List Float → Float → Float → QualityMode
-    → Float → ProcessedQ
-found_call found slots top d xs x y q rate =
-    cond found.whole (chosen_call found.choice slots (bank_ok top) found.lent d xs x y q rate)
-    (refused_by (out_of_range (verdict (bank_ok top) found.lent d (length xs) x y rate)) d)

@@ -4,41 +4,16 @@
 
 mod looking; // where a desk's two sets lie, and whether the room is as it must be
 mod refused; // the refusal of a call whose room is out of range
+mod set_rates; // the rates of a bank's sets
 
 ghost use Rattle.std.specs.Prelude.{◌≡◌};
 ghost use Rattle.set_room.specs.Room.{room_of};
 ghost use Rattle.desk_delay.specs.Desk.{caller_of, desk_verdict, desk_call, desk_ring};
-ghost use Rattle.desk_delay.specs.Inner.{found_due, found_call, found_ring};
 
 use bessel::Mode;
-pub use looking::{Looked, look};
 use quality_mode::QualityMode;
 use quality_variable_delay::{ProcessedQ, QualityVariableDelayF32};
 use room_marks::Desk;
-
-// The number of the refusal, 0 for none, by what is found in the room.
-pub fn found_due(
-    found: Looked,
-    state: QualityVariableDelayF32,
-    max_rate: f64,
-    len: usize,
-    input: f32,
-    delay: f64,
-    playback_rate: f64,
-) -> u8
-    ensures { result ≡ found_due found max_rate state len input delay playback_rate }
-{
-    let v = quality_variable_delay::refusal(
-        state,
-        magnitude::within(max_rate, 1.0, 2.0),
-        found.lent,
-        len,
-        input,
-        delay,
-        playback_rate,
-    );
-    refused::in_room(found.whole, v)
-}
 
 // The number of the refusal, 0 for none.
 pub fn due<'a>(
@@ -58,7 +33,7 @@ pub fn due<'a>(
         desk_verdict (caller_of desk mode) (room_of rates.now marks.now slots.now)
         max_rate state len input delay playback_rate }
 {
-    let found = look(
+    let found = looking::look(
         desk,
         mode,
         rates,
@@ -67,53 +42,16 @@ pub fn due<'a>(
         max_rate,
         playback_rate,
     );
-    found_due(found, state, max_rate, len, input, delay, playback_rate)
-}
-
-// A call by what is found in the room. Whoever makes a call on plain numbers looks once, before it takes the state
-// apart.
-pub fn process_found<'a>(
-    found: Looked,
-    state: QualityVariableDelayF32,
-    ring: &mut [f32],
-    slots: &'a [f32],
-    max_rate: f64,
-    input: f32,
-    delay: f64,
-    quality: QualityMode,
-    playback_rate: f64,
-) -> ProcessedQ
-    ensures value { result ≡
-        found_call found slots.now max_rate state ring.old input delay quality
-        playback_rate }
-    ensures ring_after { ring.new ≡
-        found_ring found max_rate state ring.old input delay playback_rate }
-{
-    let choice = found.choice;
-    let bank = magnitude::within(max_rate, 1.0, 2.0);
-    if found.whole {
-        return quality_variable_delay::process_chosen(
-            state,
-            &mut ring[..],
-            slots,
-            choice,
-            bank,
-            found.lent,
-            input,
-            delay,
-            quality,
-            playback_rate,
-        );
-    }
-    refused::refused(
+    let v = quality_variable_delay::refusal(
         state,
-        bank,
+        magnitude::within(max_rate, 1.0, 2.0),
         found.lent,
-        ring.len(),
+        len,
         input,
         delay,
         playback_rate,
-    )
+    );
+    refused::in_room(found.whole, v)
 }
 
 // The original's process_sample_rate_aware (000) for a desk, over the slots that it holds in a mode: it refuses by
@@ -139,7 +77,7 @@ pub fn process_sample_rate_aware<'a>(
         desk_ring (caller_of desk mode) (room_of rates.now marks.now slots.now)
         max_rate state ring.old input delay playback_rate }
 {
-    let found = look(
+    let found = looking::look(
         desk,
         mode,
         rates,
@@ -148,15 +86,29 @@ pub fn process_sample_rate_aware<'a>(
         max_rate,
         playback_rate,
     );
-    process_found(
-        found,
+    let choice = found.choice;
+    let bank = magnitude::within(max_rate, 1.0, 2.0);
+    if found.whole {
+        return quality_variable_delay::process_chosen(
+            state,
+            &mut ring[..],
+            slots,
+            choice,
+            bank,
+            found.lent,
+            input,
+            delay,
+            quality,
+            playback_rate,
+        );
+    }
+    refused::refused(
         state,
-        &mut ring[..],
-        slots,
-        max_rate,
+        bank,
+        found.lent,
+        ring.len(),
         input,
         delay,
-        quality,
         playback_rate,
     )
 }

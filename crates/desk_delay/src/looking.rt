@@ -3,6 +3,7 @@ ghost use Rattle.std.specs.Prelude.{◌≡◌, ◌||◌};
 ghost use Rattle.desk_delay.specs.Desk.{caller_of};
 ghost use Rattle.desk_delay.specs.Inner.{looked_of};
 
+use super::set_rates::set_rate;
 use bank_choice::Choice;
 use bessel::Mode;
 use refusal_order::both;
@@ -24,9 +25,8 @@ fn either(a: bool, b: bool) -> bool
     if a { true } else { b }
 }
 
-// A slot that is not there has the number of slots for its number. If the sets lie where they are guessed, their
-// numbers in the bank are the slots'.
-pub fn look<'a>(
+// A slot that is not there has the number of slots for its number.
+pub(crate) fn look<'a>(
     desk: Desk,
     mode: Mode,
     rates: &'a [f64],
@@ -38,26 +38,18 @@ pub fn look<'a>(
     ensures { result ≡
         looked_of (caller_of desk mode) rates.now marks.now floats max_rate playback_rate }
 {
-    let rated = bank_choice::rated_or_zero(max_rate, playback_rate);
-    let c = rated.choice;
-    if desk_slots::as_guessed(
+    let c = bank_choice::choice_or_zero(max_rate, playback_rate);
+    let sets = bank_choice::steps(max_rate);
+    let found = desk_slots::find(
         desk,
         mode,
-        rated.safe,
-        rated.tighter,
+        set_rate(max_rate, sets, c.safe),
+        set_rate(max_rate, sets, c.tighter),
         c.safe,
         c.tighter,
         rates,
         marks,
-        floats,
-    ) {
-        return Looked {
-            choice: c,
-            lent: true,
-            whole: true,
-        };
-    }
-    let found = desk_slots::find(desk, mode, rated.safe, rated.tighter, rates, marks);
+    );
     let safe = found.safe;
     let tighter = found.tighter;
     let n = marks.len();

@@ -1,2 +1,4 @@
-pub mod GuessedSlots
+pub mod FloatOrder
+pub mod RisingRooms
+pub mod RisingSlots
 pub mod OnlySlots

@@ -17,9 +17,9 @@ use Rattle.room_marks.specs.declared.Desk.TheVariants.{One, Two}
 use Rattle.room_marks.specs.Marks.{mark_ok, is_free, held_by, in_mode, mode_in}
 use Rattle.room_marks.specs.Slots.{some, first_slot, has_set, own_set, slot_ok, again, room_ok}
 use Rattle.room_marks.specs.Search.{shorter}
-use Rattle.rising_room.proofs.FloatOrder.{bounded, equal-both}
+use Rattle.desk_slots.proofs.FloatOrder.{bounded, equal-both}
 
-pub both : (a b : Bool) → a && b ≡ true → (a ≡ true) × (b ≡ true)
+both : (a b : Bool) → a && b ≡ true → (a ≡ true) × (b ≡ true)
 both true b h = (refl, h)
 both false b h = absurd (true≢false (sym h))
 

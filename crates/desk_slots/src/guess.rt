@@ -1,67 +1,45 @@
-// Slots that are guessed. In a room in range a slot that has a set is the only one with it.
-ghost use Rattle.std.specs.Prelude.{◌≡◌, ◌&&◌, ◌||◌, eqb, ltb, length, get_or};
+// A slot that is guessed: in a room in range it is the only one with its set.
+ghost use Rattle.std.specs.Prelude.{◌≡◌, true, ◌<◌, get_or};
 ghost use Rattle.std.specs.Float.{nan};
-ghost use Rattle.std.specs.Float.Ieee.{eq};
-ghost use Rattle.room_marks.specs.Marks.{mode_number};
-ghost use Rattle.desk_slots.specs.Guessed.{guessed_at};
+ghost use Rattle.room_marks.specs.Search.{shorter};
+ghost use Rattle.room_marks.specs.Slots.{own_set, room_ok};
+ghost use Rattle.room_marks.specs.Asking.{own_slot};
 
 use bessel::Mode;
+use refusal_order::both;
 use room_marks::Desk;
 
-// What a mode adds to a mark.
-fn mode_number(mode: Mode) -> u8
-    ensures { result ≡ mode_number mode }
-{
-    match mode {
-        Mode::Ported => 0,
-        Mode::Full => 4,
-    }
-}
-
-// Whether a mark is one of two: that of a slot which the desk holds alone, or with the other desk.
-fn one_of(mark: u8, alone: u8, shared: u8) -> bool
-    ensures { result ≡ (eqb mark alone || eqb mark shared) }
-{
-    if mark == alone { true } else { mark == shared }
-}
-
-// Whether slot k is one of the room's and has one of two marks and a rate.
-fn there<'a>(alone: u8, shared: u8, rate: f64, k: usize, rates: &'a [f64], marks: &'a [u8]) -> bool
-    requires { length rates.now ≡ length marks.now }
-    ensures { result ≡
-        (ltb k (length rates.now)
-        && ((eqb (get_or marks.now k 0) alone || eqb (get_or marks.now k 0) shared)
-        && eq rate (get_or rates.now k nan))) }
+// Whether slot k is one of the room's and holds the set of a rate and a mode for a desk.
+fn there<'a>(desk: Desk, mode: Mode, rate: f64, k: usize, rates: &'a [f64], marks: &'a [u8]) -> bool
+    ensures { result ≡ true
+        → (k < shorter rates.now marks.now)
+        × (own_set desk rate mode (get_or rates.now k nan) (get_or marks.now k 0) ≡ true) }
 {
     if k < rates.len() {
-        if one_of(marks[k], alone, shared) {
-            return rate == rates[k];
+        if k < marks.len() {
+            let mark = marks[k];
+            return both(
+                room_marks::held_by(desk, mark),
+                both(room_marks::in_mode(mode, mark), rate == rates[k]),
+            );
         }
     }
     false
 }
 
-// Whether both guesses are right. A desk's mark in a mode is one of two numbers, so that no mark is taken apart.
-pub(crate) fn right<'a>(
+pub(crate) fn near<'a>(
     desk: Desk,
     mode: Mode,
-    safe_rate: f64,
-    tighter_rate: f64,
-    safe: usize,
-    tighter: usize,
+    rate: f64,
+    k: usize,
     rates: &'a [f64],
     marks: &'a [u8],
-) -> bool
-    requires { length rates.now ≡ length marks.now }
-    ensures { result ≡
-        (guessed_at desk mode safe_rate safe rates.now marks.now
-        && guessed_at desk mode tighter_rate tighter rates.now marks.now) }
+) -> usize
+    requires { room_ok rates.now marks.now ≡ true }
+    ensures { result ≡ own_slot desk rate mode rates.now marks.now }
 {
-    let more = mode_number(mode);
-    let alone = room_marks::number(desk) + more;
-    let shared = 3 + more;
-    if there(alone, shared, safe_rate, safe, rates, marks) {
-        return there(alone, shared, tighter_rate, tighter, rates, marks);
+    if there(desk, mode, rate, k, rates, marks) {
+        return k;
     }
-    false
+    room_marks::own_slot(desk, rate, mode, rates, marks)
 }

@@ -31,6 +31,13 @@ smaller factor taps step e = go (leb factor taps) refl e
     go true h q = let l = leb-true factor taps h in omega arith
     go false h q = omega arith
 
+pub above_zero : (factor taps step : ℕ) → step ≡ step_of factor taps → 0 < factor → 0 < taps → 0 < step
+above_zero factor taps step e p q = go (leb factor taps) e
+  where
+    go : (b : Bool) → step ≡ cond b factor taps → 0 < step
+    go true h = omega arith
+    go false h = omega arith
+
 pub whole-step : (factor step taps : ℕ) → factor ≡ step → step ≤ taps → step ≡ step_of factor taps
 whole-step factor step taps e h = rw (e, le-leb step taps h)
 

@@ -41,6 +41,27 @@ earlier-runs h t =
       inside = λ j l. omega (arith, t.inside j l);
     }
 
+-- The same of a phase and the next one.
+pub first-visits : {taps len index step above count : ℕ} → Visits taps len (index + 1) step above count
+    → Visits taps len index step above count
+first-visits v =
+    record {
+      high = v.high;
+      few = v.few;
+      short = v.short;
+      inside = λ j l. omega (arith, v.inside j l);
+    }
+
+pub first_runs : {taps len head step phase n : ℕ} → TwoRuns taps len head step (phase + 1) n
+    → TwoRuns taps len head step phase n
+first_runs t =
+    record {
+      placed = t.placed;
+      short = t.short;
+      most = t.most;
+      inside = λ j l. omega (arith, t.inside j l);
+    }
+
 -- The index of the second phase in the second run, as the code has it.
 pub moved-visits : (taps len phase k step above count : ℕ) → Visits taps len (phase + 1 + k * step) step above count
     → Visits taps len (phase + k * step + 1) step above count

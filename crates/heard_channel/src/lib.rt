@@ -21,7 +21,7 @@ pub fn hear<'a>(
     ring: &mut [f32],
     table: &'a [f32],
     samples: &mut [f32],
-    delays: &'a [f64],
+    delays: &[f64],
 ) -> Ended
     ensures value { result ≡ ended_of (heard_in table.now reader ring.old
         (samples_in kind channels channel part.now samples.old) delays.now) }

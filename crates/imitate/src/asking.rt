@@ -1,9 +1,10 @@
 // What the arguments of `imitate FROM TO [NAME=VALUE …]` ask for.
 use arguments::Argument;
 use asked::{Imitated, Imitation};
-use files_named::{Names, none, of_two, refused, with_file};
 use libc::STDERR_FILENO;
-use words_asked::{say_bad, say_elsewhere, say_too_long, say_unknown};
+use words_asked::{
+    Names, none, of_two, refused, say_bad, say_elsewhere, say_too_long, say_unknown, with_file,
+};
 
 #[derive(Drop)]
 pub(crate) struct ToImitate {

@@ -23,8 +23,8 @@ pub(crate) fn hear<'a>(
     table: &'a [f32],
     bytes: &[u8; 32768],
     n: usize,
-    left: &'a [f64],
-    right: &'a [f64],
+    left: &[f64],
+    right: &[f64],
     both: &mut [f32],
 ) -> Heard {
     let part = begun(bytes, times(n, file.frame));
@@ -65,8 +65,8 @@ fn hear_two<'a>(
     table: &'a [f32],
     part: &[u8],
     n: usize,
-    left: &'a [f64],
-    right: &'a [f64],
+    left: &[f64],
+    right: &[f64],
     both: &mut [f32],
 ) -> Heard {
     let mut one = [0.0f32; 4096];
@@ -103,7 +103,7 @@ fn hear_other<'a>(
     table: &'a [f32],
     part: &[u8],
     n: usize,
-    right: &'a [f64],
+    right: &[f64],
     first: &[f32; 4096],
     both: &mut [f32],
 ) -> Heard {
@@ -139,7 +139,7 @@ fn hear_into<'a>(
     table: &'a [f32],
     samples: &mut [f32],
     n: usize,
-    delays: &'a [f64],
+    delays: &[f64],
 ) -> Ended {
     let kind = file.kind;
     if n <= samples.len() {

@@ -213,8 +213,8 @@ fn read_block<'a>(
     ring: &mut [f32],
     second: &mut [f32],
     table: &'a [f32],
-    left: &'a [f64],
-    right: &'a [f64],
+    left: &[f64],
+    right: &[f64],
     done: usize,
     n: usize,
 ) -> Read {

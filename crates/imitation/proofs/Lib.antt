@@ -1,5 +1,4 @@
 pub mod Fronts
+pub mod Calls
 pub mod EngineTurns
-pub mod Pieces
-pub mod Begins
-pub mod Answered
+pub mod LikeRender

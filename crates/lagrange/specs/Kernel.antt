@@ -1,15 +1,18 @@
 -- K4, K7. 000's Lagrange<TAPS>: its two loops in 000's order, each step rounded. The number of taps is an argument.
 -- Definitions only.
-use Rattle.std.specs.Prelude.{ℕ, ◌-◌, ◌/◌, ◌&&◌, cond, List, ℤ, pos, ◌+ℤ◌, ◌-ℤ◌, Float}
+use Rattle.std.specs.Prelude.{ℕ, ◌-◌, ◌/◌, ◌%◌, Bool, true, false, ◌&&◌, cond, List, eqb, leb, ℤ, pos, ◌+ℤ◌, ◌-ℤ◌, Float}
 use Rattle.std.specs.Float.{fin, binary64}
 use Rattle.std.specs.Float.Ieee.{add, sub, mul, of_int}
 pub use Rattle.constants.specs.Numbers.{zero-f}
 use Rattle.loop_laws.specs.Loops.{fold}
-pub use Rattle.lagrange_taps.specs.Taps.{taps_ok}
 use Rattle.lagrange_factors.specs.Weight.{weight, floats}
 use Rattle.ring.specs.Taps.{tap_of}
 use Rattle.ring.specs.Places.{position_ok}
 use Rattle.integer_part.specs.Parts.{floor_of}
+
+-- G5. The taps are even and from 2 to 16.
+abbrev pub taps_ok : ℕ → Bool
+taps_ok taps = leb taps 16 && leb 2 taps && eqb (taps % 2) 0
 
 abbrev pub num : ℕ → Float
 num n = of_int binary64 (pos n)

@@ -10,7 +10,17 @@ ghost use Rattle.ring.specs.Places.{position_ok};
 ghost use Rattle.lagrange.specs.Kernel.{taps_ok, read_of};
 
 use answer::Answer;
-pub use lagrange_taps::taps_ok;
+
+// G5. A number of taps is even and lies from 2 to 16.
+pub fn taps_ok(taps: u64) -> bool
+    ensures { result ≡ taps_ok taps }
+{
+    if taps <= 16 {
+        if 2 <= taps { taps % 2 == 0 } else { false }
+    } else {
+        false
+    }
+}
 
 // G3, G5. Both the taps and the position are in range.
 pub fn in_range(position: f64, taps: u64) -> bool

@@ -2,7 +2,7 @@
 -- that is not finite, and then by 4. The direct reader's own laws say so; here it is said of a call. Assumes nothing.
 use mathlib.Core.Path.{◌≡◌, refl}
 use mathlib.Core.Bool.{true, cond}
-use Prim.Native.Nat.{ℕ, ◌<◌}
+use Prim.Native.Nat.{ℕ, ◌+◌, ◌≤◌, ◌<◌}
 use lib.Dec.{T}
 use lib.ListN.{length}
 use lib.Ieee.{Float, binary64, fits}
@@ -14,8 +14,16 @@ use Rattle.variable_delay.specs.Reader.{verdict}
 use Rattle.oversampled_delay.specs.Phases.{Turn, High, inner_of, turn_of, high_of, raised_of, delay_of, phases_of}
 use Rattle.oversampled_delay.specs.Reader.{Lent, lengths_of, due_of, from_of}
 use Rattle.oversampled_delay.specs.declared.OversampledVariableDelay.{OversampledVariableDelay}
+use Rattle.oversampled_delay.proofs.Inner as direct
 use Rattle.oversampled_delay.proofs.Inner.{only-four-inside}
 use Rattle.oversampled_delay.proofs.OneCall.{ready, tested}
+
+-- After n phases: at most n inner samples more, and a ring of the same length.
+pub phases-inner : (t : Turn) (h : High) (n : ℕ) → (phases_of t h n).inner ≤ h.inner + n
+phases-inner = direct.phases-inner
+
+pub phases-ring : (t : Turn) (h : High) (n : ℕ) → length (phases_of t h n).ring ≡ length h.ring
+phases-ring = direct.phases-ring
 
 module _ (k : Kernel) (d : OversampledVariableDelay) (l : Lent) (x y : Float)
     (none : due_of k d (lengths_of l) x y ≡ 0) where

@@ -1,3 +1,4 @@
+pub mod Inner
 pub mod Inside
 pub mod Counted
 pub mod InsideCascade

@@ -1,6 +1,5 @@
--- The largest difference of a stretch, a list of such numbers, and their binary digits. Definitions only.
+-- The largest difference of a stretch, and a list of such numbers. Definitions only.
 use Rattle.std.specs.Prelude.{ℕ, max, List, ℤ, get_or, set}
-use Rattle.std.specs.Float.Ieee.{size}
 use Rattle.residual.specs.declared.Compared.{Compared}
 use Rattle.residual.specs.declared.Compared.TheVariants.{Carried, Refused}
 use Rattle.residual.specs.Report.{empty_report}
@@ -17,7 +16,3 @@ largest_of a b = largest_in (compared_of empty_report a b)
 -- The list with the number at a place raised to at least n.
 unfoldable pub raised : List ℕ → ℕ → ℕ → List ℕ
 raised peaks at n = set peaks at (max (get_or peaks at 0) n)
-
--- How many binary digits a number has, 0 for 0: the law `digits` of `picture` says that 2^(b - 1) ≤ n < 2^b.
-abbrev pub bits_of : ℕ → ℕ
-bits_of n = size n

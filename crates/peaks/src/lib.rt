@@ -2,7 +2,7 @@
 #![tactic(auto)]
 
 ghost use Rattle.std.specs.Prelude.{◌≡◌, max, get_or, set};
-ghost use Rattle.peaks.specs.Peaks.{largest_of, raised, bits_of};
+ghost use Rattle.peaks.specs.Peaks.{largest_of, raised};
 
 use residual::Compared;
 
@@ -27,11 +27,4 @@ pub fn raise(peaks: &mut [u32], at: usize, n: u32)
             peaks[at] = n;
         }
     }
-}
-
-// The number of binary digits of n, by which a picture shows a peak.
-pub fn bits(n: u32) -> u32
-    ensures { result ≡ bits_of n }
-{
-    32 - u32::leading_zeros(n)
 }

@@ -6,8 +6,7 @@ use Rattle.text.specs.Text.{ascii, decimal_to}
 use Rattle.utf8.specs.Utf8.{opens, continues, next_of, after}
 use Rattle.report_lines.specs.Times.{two_text, three_text, clock_text, length_text}
 use Rattle.picture.specs.Names.{escaped_byte, shown_byte, escaped_as}
-use Rattle.peaks.specs.Peaks.{bits_of}
-use Rattle.picture.specs.Bars.{number_text, edge, bar_text, stretch_text}
+use Rattle.picture.specs.Bars.{bits_of, number_text, edge, bar_text, stretch_text}
 use Rattle.picture.specs.Page.{title_text}
 use Rattle.picture.specs.Panel.{times_text}
 

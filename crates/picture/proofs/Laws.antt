@@ -8,8 +8,7 @@ use borrow.Author.Tests.{ne_eqb}
 use lib.Ieee.{size}
 use lib.Ieee.Digits.{size-lt, size_reaches, size-le}
 use Rattle.float_digits.proofs.Lengths.{size-some}
-use Rattle.peaks.specs.Peaks.{bits_of}
-use Rattle.picture.specs.Bars.{edge}
+use Rattle.picture.specs.Bars.{bits_of, edge}
 
 -- A number above 0 with b binary digits lies from 2^(b - 1) to below 2^b.
 pub digits : (n : ℕ) → 0 < n → (2 ^ (bits_of n - 1) ≤ n) × (n < 2 ^ bits_of n)

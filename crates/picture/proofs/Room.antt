@@ -14,8 +14,7 @@ use Rattle.utf8.specs.Utf8.{is_utf8}
 use Rattle.report_lines.specs.Times.{length_text}
 use Rattle.report_lines.proofs.Room.{either, short-length}
 use Rattle.picture.specs.Names.{escaped_byte, shown_byte, escaped_as, escaped}
-use Rattle.peaks.specs.Peaks.{bits_of}
-use Rattle.picture.specs.Bars.{number_text, edge, bar_text, stretch_text}
+use Rattle.picture.specs.Bars.{bits_of, number_text, edge, bar_text, stretch_text}
 use Rattle.picture.specs.Page.{legend_text, scales_text, title_text, size_text, head_text, tail_text}
 use Rattle.picture.specs.Panel.{grid_text, labels_text, decibels_text, times_text, panel_text, panel_end_text}
 

@@ -1,7 +1,11 @@
 -- The bars of a stretch: how tall they are, and where they stand. Definitions only.
 use Rattle.std.specs.Prelude.{ℕ, ◌+◌, ◌-◌, ◌*◌, ◌/◌, cond, List, ◌++◌, eqb}
+use Rattle.std.specs.Float.Ieee.{size}
 use Rattle.text.specs.Text.{ascii, decimal}
-use Rattle.peaks.specs.Peaks.{bits_of}
+
+-- How many binary digits a number has, 0 for 0: the law `digits` says that 2^(b - 1) ≤ n < 2^b.
+abbrev pub bits_of : ℕ → ℕ
+bits_of n = size n
 
 -- A text followed by a number.
 unfoldable pub number_text : List ℕ → ℕ → List ℕ

@@ -1,9 +1,14 @@
 // The bars of a stretch.
 ghost use Rattle.std.specs.Prelude.{◌≡◌, ◌≤◌, ◌^◌, length};
 ghost use Rattle.text.specs.Text.{put_at, place_after};
-ghost use Rattle.picture.specs.Bars.{number_text, edge, bar_text, stretch_text};
+ghost use Rattle.picture.specs.Bars.{bits_of, number_text, edge, bar_text, stretch_text};
 
-use peaks::bits;
+// The number of binary digits of n.
+pub fn bits(n: u32) -> u32
+    ensures { result ≡ bits_of n }
+{
+    32 - u32::leading_zeros(n)
+}
 
 pub(crate) fn put_number(out: &mut [u8], at: usize, before: &[u8], n: u64) -> usize
     ensures value { result ≡ place_after (length out.old) at (number_text before.now n) }

@@ -10,6 +10,6 @@ mod names; // a file's name inside XML
 mod page; // the head and the tail
 mod panel; // a channel's beginning and end
 
-pub use bars::put_stretch;
+pub use bars::{bits, put_stretch};
 pub use page::{put_head, put_tail};
 pub use panel::{put_panel, put_panel_end};

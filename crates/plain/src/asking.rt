@@ -1,8 +1,9 @@
 // What the arguments of `plain FROM TO` ask for. The program has no settings.
 use arguments::Argument;
-use files_named::{Names, none, of_two, refused, with_file};
 use libc::STDERR_FILENO;
-use words_asked::{say_bad, say_elsewhere, say_too_long, say_unknown};
+use words_asked::{
+    Names, none, of_two, refused, say_bad, say_elsewhere, say_too_long, say_unknown, with_file,
+};
 
 pub(crate) fn to_copy() -> Names {
     let count = os::arg_count();

@@ -2,8 +2,9 @@
 -- requested one it is an argument, refused by 1; in a state it is a field, refused by 3, after 1 and 2. So is a rule's
 -- or a direction's number above 1, which only a state has (W9h). Definitions only.
 use Rattle.std.specs.Prelude.{ℕ, zero, suc, Bool, true, false, ◌&&◌, cond, leb}
+use Rattle.quality_mode.specs.declared.QualityMode.{QualityMode}
+use Rattle.quality_mode.specs.declared.QualityMode.TheVariants.{Draft, Normal, Hq, Ultra}
 use Rattle.quality_mode.specs.Quality.{code_of}
-pub use Rattle.quality_numbers.specs.Numbers.{mode_of}
 use Rattle.returning_fade.specs.declared.Rule.{Rule}
 use Rattle.returning_fade.specs.declared.Rule.TheVariants.{Ported, Returning}
 use Rattle.returning_fade.specs.declared.Direction.{Direction}
@@ -11,6 +12,13 @@ use Rattle.returning_fade.specs.declared.Direction.TheVariants.{Onwards, Back}
 use Rattle.returning_fade.specs.Rules.{rule_code, direction_code}
 use Rattle.quality_variable_delay.specs.declared.QualityVariableDelayF32.{QualityVariableDelayF32}
 use Rattle.quality_codes.specs.declared.Coded.{Coded}
+
+abbrev pub pick_mode : Bool → QualityMode → QualityMode → QualityMode
+pick_mode true a b = a
+pick_mode false a b = b
+
+abbrev pub mode_of : ℕ → QualityMode
+mode_of code = pick_mode (leb code 0) Draft (pick_mode (leb code 1) Normal (pick_mode (leb code 2) Hq Ultra))
 
 abbrev pub code_ok : ℕ → Bool
 code_ok code = leb code 3

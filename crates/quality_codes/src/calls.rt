@@ -2,9 +2,8 @@
 ghost use Rattle.std.specs.Prelude.{◌≡◌};
 ghost use Rattle.quality_codes.specs.Calls.{taken_apart, called_of, ring_called};
 
-use super::codes::{decode, encode, fields_ok, odd};
+use super::codes::{decode, encode, fields_ok, mode, odd};
 use super::{Called, Coded};
-use quality_numbers::mode;
 use quality_variable_delay::ProcessedQ;
 use refusal_order::both;
 

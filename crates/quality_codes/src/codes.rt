@@ -1,13 +1,24 @@
 // A quality, a rule and a direction as their numbers, a quality reader's state as plain numbers, and the refusal where
 // a number names nothing.
 ghost use Rattle.std.specs.Prelude.{◌≡◌, ◌&&◌, cond};
-ghost use Rattle.quality_codes.specs.Codes.{rule_of, direction_of, decoded, coded, fields_ok, odd_number};
+ghost use Rattle.quality_codes.specs.Codes.{mode_of, rule_of, direction_of, decoded, coded, fields_ok, odd_number};
 
 use super::Coded;
-use quality_numbers::mode;
+use quality_mode::QualityMode;
 use quality_variable_delay::QualityVariableDelayF32;
 use refusal_order::both;
 use returning_fade::{Direction, Rule};
+
+pub fn mode(code: u8) -> QualityMode
+    ensures { result ≡ mode_of code }
+{
+    match code {
+        0 => QualityMode::Draft,
+        1 => QualityMode::Normal,
+        2 => QualityMode::Hq,
+        _ => QualityMode::Ultra,
+    }
+}
 
 fn rule(code: u8) -> Rule
     ensures { result ≡ rule_of code }

@@ -12,9 +12,8 @@ mod renewing; // opening and reset
 mod through; // a call whose numbers come and go through pointers
 
 pub use calls::{apart, call};
-pub use codes::{decode, encode, fields_ok, odd};
+pub use codes::{decode, encode, fields_ok, mode, odd};
 pub use draft::call_at_once;
-pub use quality_numbers::mode;
 pub use renewing::renew;
 pub use through::call_through;
 

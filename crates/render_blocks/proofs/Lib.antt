@@ -1,5 +1,2 @@
 pub mod Turns
 pub mod TwoBlocks
-pub mod Pieces
-pub mod Words
-pub mod Piece

@@ -11,7 +11,7 @@ ghost use Rattle.room_grants.specs.Grants.{give_up_verdict, given_up, room_verdi
 
 use becomes::{built_by, left_by, shared_by};
 use bessel::Mode;
-use room_marks::{Desk, free_slot, lengths_agree, own_slot, set_slot};
+use room_marks::{Desk, free_slot, lengths_agree, own_slot, room_ok, set_slot};
 
 // Where an asked set is: in a slot that has it, or in a free one, which is to be built.
 #[derive(Drop)]
@@ -47,8 +47,7 @@ pub fn open(rates: &mut [f64], marks: &mut [u8], floats: usize) -> u8
     0
 }
 
-// The refusals 1, 2 and 3, which asking and giving up share; 0 for none. Most rooms pass the quick test, and it stands
-// here once more so that a call which passes it makes no other.
+// The refusals 1, 2 and 3, which asking and giving up share; 0 for none.
 fn room_due(rate: f64, rates: &[f64], marks: &[u8], floats: usize) -> u8
     ensures { result ≡ room_verdict rate rates.now marks.now floats }
 {
@@ -58,14 +57,10 @@ fn room_due(rate: f64, rates: &[f64], marks: &[u8], floats: usize) -> u8
     if !lengths_agree(rates, marks, floats) {
         return 2;
     }
-    if rising_room::rises(rates, marks) {
-        return 0;
+    if !room_ok(rates, marks) {
+        return 3;
     }
-    if rising_room::in_range(rates, marks) {
-        0
-    } else {
-        3
-    }
+    0
 }
 
 // Refuses by 1, 2, 3 or 16, or writes down that the desk holds the set: in the slot that has it, whoever holds it, and

@@ -1,12 +1,10 @@
 // Sums, differences, products and quotients of sizes for every size, since a file's header may say anything, and the
-// beginning of a slice, which `beginnings` has. A sum or a product that does not fit a word becomes the largest word,
-// which is longer than any file.
+// beginning of a slice. A sum or a product that does not fit a word becomes the largest word, which is longer than any
+// file.
 #![tactic(auto)]
 
-ghost use Rattle.std.specs.Prelude.{◌≡◌, cond, ◌+◌, ◌-◌, ◌*◌, ◌/◌, min, eqb};
+ghost use Rattle.std.specs.Prelude.{◌≡◌, cond, ◌+◌, ◌-◌, ◌*◌, ◌/◌, min, eqb, take};
 ghost use Rattle.sizes.specs.Sizes.{most};
-
-pub use beginnings::{begun, begun_f32, begun_i32};
 
 const MOST: usize = 0xffff_ffff_ffff_ffff;
 
@@ -43,4 +41,33 @@ pub fn quotient(a: usize, b: usize) -> usize
     ensures { result ≡ cond (eqb b 0) 0 (a / b) }
 {
     if b == 0 { 0 } else { a / b }
+}
+
+// The first n bytes, or all if there are fewer.
+pub fn begun(bytes: &[u8], n: usize) -> &[u8]
+    ensures { result.now ≡ take n bytes.now }
+{
+    if n < bytes.len() {
+        return &bytes[..n];
+    }
+    bytes
+}
+
+// The same for samples, and below it for whole numbers.
+pub fn begun_f32(samples: &[f32], n: usize) -> &[f32]
+    ensures { result.now ≡ take n samples.now }
+{
+    if n < samples.len() {
+        return &samples[..n];
+    }
+    samples
+}
+
+pub fn begun_i32(numbers: &[i32], n: usize) -> &[i32]
+    ensures { result.now ≡ take n numbers.now }
+{
+    if n < numbers.len() {
+        return &numbers[..n];
+    }
+    numbers
 }

@@ -15,21 +15,23 @@ use Rattle.absent_taps.specs.Absent.{none}
 use Rattle.variable_delay.specs.Reader.{Reading}
 use Rattle.bank_choice.specs.Inner.{choice_of}
 use Rattle.bank_choice.specs.Rates.{bank_ok}
+use Rattle.bank_read.specs.Bank.{bank_at}
 use Rattle.returning_fade.specs.Step.{step_of}
 use Rattle.quality_mode.specs.declared.QualityMode.{QualityMode}
 use Rattle.quality_variable_delay.specs.declared.QualityVariableDelayF32.{QualityVariableDelayF32}
 use Rattle.quality_variable_delay.specs.State.{fade_part}
+use Rattle.quality_variable_delay.specs.Bank.{due_of}
 use Rattle.quality_variable_delay.specs.Reader.{processed_by}
 use Rattle.quality_codes.specs.declared.Coded.{Coded}
 use Rattle.quality_codes.specs.declared.Called.{Called}
-use Rattle.quality_codes.specs.Codes.{mode_of, decoded, odd_number}
-use Rattle.quality_codes.specs.Calls.{pick_called, taken_apart, refused_by}
+use Rattle.quality_codes.specs.Codes.{mode_of, code_ok, decoded, fields_ok, odd_number}
+use Rattle.quality_codes.specs.Calls.{pick_called, taken_apart, refused_by, called_of}
 use Rattle.quality_codes.specs.Left.{changed_of}
 use Rattle.told_call.specs.Told.{unless_refused}
 use Rattle.told_quality.specs.Told.{absent_of_call}
 use Rattle.told_quality.specs.Inner.{counted_of}
-use Rattle.told_quality.proofs.ByCounts.{by-bank}
-use Rattle.told_codes.specs.Left.{leaves_told}
+use Rattle.told_quality.proofs.ByCounts.{by-bank, in-range}
+use Rattle.told_codes.specs.Left.{leaves_told, absent_called}
 
 -- The number in an answer is the verdict that made it.
 by_number : (v : ℕ) (z : Float) (s : Absent) → unless_refused v s ≡ unless_refused (number_f32_of (answer_f32_of v z)) s
@@ -75,3 +77,13 @@ module _ (max-rate : Float) (s : Coded) (xs : List Float) (x y : Float) (q : ℕ
         ≡ leaves_told (leaves (called b).number (called b).sample (changed_of (called b).state) ring)
         (unless_refused (called b).number absent)
     left-told b c e d m h = rw (h, d, m, e.0, e.1) (ap (leaves_told _) (by_names b))
+
+-- The same of the reader's own call, over the sets that are lent as a bank.
+module _ (sets : List Float) (max-rate : Float) (s : Coded) (xs : List Float) (x y : Float) (q : ℕ) (rate : Float) where
+  pub counted-beside :
+      counted max-rate s xs x y q rate (called_of sets max-rate s xs x y q rate)
+      ≡ absent_called sets max-rate s xs x y q rate
+  counted-beside =
+      by_names max-rate s xs x y q rate (bank_at sets max-rate rate) (code_ok q)
+      (due_of (length sets) max-rate (decoded s) (length xs) x y rate)
+      (in-range (length sets) max-rate (decoded s) (length xs) x y rate) (code_ok q && fields_ok s)

@@ -61,6 +61,12 @@ pub in-range : (n : ℕ) (max-rate : Float) (d : QualityVariableDelayF32) (len :
 in-range n max-rate d len x y rate h =
     (taken (bank_ok max-rate) (eqb n (steps_of max-rate * set_length)) d len x y rate h).banked
 
+pub by-verdict : (n : ℕ) (max-rate : Float) (d : QualityVariableDelayF32) (xs : List Float) (x y : Float)
+    (q : QualityMode) (rate : Float) (v : ℕ) → due_of n max-rate d (length xs) x y rate ≡ v
+    → counted max-rate d xs x y q rate v ≡ unless_refused v (absent_of_call max-rate d xs x y q rate)
+by-verdict n max-rate d xs x y q rate v h =
+    by-bank max-rate d xs x y q rate v (λ z. in-range n max-rate d (length xs) x y rate (h ∙ z))
+
 pub told : (sets : List Float) (max-rate : Float) (d : QualityVariableDelayF32) (xs : List Float) (x y : Float)
     (q : QualityMode) (rate : Float) (p : ProcessedQ) (s : Absent) → p ≡ processed sets max-rate d xs x y q rate
     → s ≡ counted_of (length xs) d.accepted p.state.accepted y (choice_of max-rate rate)

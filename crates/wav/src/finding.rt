@@ -2,11 +2,11 @@
 ghost use Rattle.std.specs.Prelude.{◌≡◌};
 ghost use Rattle.wav.specs.Wave.{found_of};
 
+use crate::first_tests::first;
 use crate::{Found, Wave};
 use little_endian::two;
 use riff_chunks::Walked;
 use wav_format::{format_ok, kind_of};
-use wav_order::first;
 use word_bytes::low_first_u32;
 
 // `wave` and `inside` are the tests for 9 and 10; `tag` is what the reading takes for the tag of the `fmt ` with the

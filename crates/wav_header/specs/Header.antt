@@ -5,9 +5,15 @@ use Rattle.word_bytes.specs.Bytes.{low_bytes}
 use Rattle.sample_kind.specs.declared.SampleKind.{SampleKind}
 use Rattle.sample_kind.specs.declared.SampleKind.TheVariants.{Pcm16, Pcm24, Float32}
 use Rattle.sample_kind.specs.Kinds.{width_of, frame_of}
-pub use Rattle.header_lengths.specs.Lengths.{header_length}
 
 -- ---- how long a file is
+-- A PCM header has 12 bytes of RIFF, 24 of `fmt ` and 8 of `data`. A float header has 2 more in `fmt ` and 12 of
+-- `fact`.
+abbrev pub header_length : SampleKind → ℕ
+header_length Pcm16 = 44
+header_length Pcm24 = 44
+header_length Float32 = 58
+
 -- The number of bytes of the samples, and the pad byte if that number is odd.
 abbrev pub size_of : SampleKind → ℕ → ℕ
 size_of kind count = count * width_of kind

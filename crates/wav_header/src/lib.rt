@@ -5,15 +5,25 @@ mod fields; // the header, field by field
 mod tests; // the tests of each refusal
 
 ghost use Rattle.std.specs.Prelude.{◌≡◌, length};
+ghost use Rattle.wav_header.specs.Header.{header_length};
 ghost use Rattle.wav_header.specs.Refusals.{unlisted_verdict, header_verdict, header_in};
 
 use fields::put_header;
-pub use header_lengths::header_length;
 use refusal_order::both;
 use sample_kind::SampleKind;
 pub use tests::fits_riff;
 use tests::{first_of_file, header_refusal};
 use wav_settings::{rate_ok, whole_frames};
+
+pub fn header_length(kind: SampleKind) -> usize
+    ensures { result ≡ header_length kind }
+{
+    match kind {
+        SampleKind::Pcm16 => 44,
+        SampleKind::Pcm24 => 44,
+        SampleKind::Float32 => 58,
+    }
+}
 
 // The refusal for a kind that is none of the three: 1 if the rate is out of range or the count is not whole frames,
 // otherwise 13.

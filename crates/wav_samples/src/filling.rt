@@ -2,9 +2,9 @@
 ghost use Rattle.std.specs.Prelude.{◌≡◌, length};
 ghost use Rattle.std.specs.Float.{binary32, binary64};
 ghost use Rattle.wav_samples.specs.Filling.{refused_by, verdict, whole_verdict, filled, filled_whole};
+ghost use Rattle.wav_samples.specs.Samples.{is_pcm};
 
 use crate::{frames, frames_f32, frames_whole};
-use pcm_kinds::is_pcm;
 use sample_kind::{SampleKind, frame_width};
 
 pub fn fill(kind: SampleKind, channels: u8, channel: u8, part: &[u8], out: &mut [f64]) -> u8
@@ -71,6 +71,16 @@ pub fn whole_refusal(kind: SampleKind, channels: u8, channel: u8, size: usize, n
     ensures { result ≡ whole_verdict kind channels channel size n }
 {
     refusal(is_pcm(kind), kind, channels, channel, size, n)
+}
+
+fn is_pcm(kind: SampleKind) -> bool
+    ensures { result ≡ is_pcm kind }
+{
+    match kind {
+        SampleKind::Pcm16 => true,
+        SampleKind::Pcm24 => true,
+        SampleKind::Float32 => false,
+    }
 }
 
 fn refusal(asked: bool, kind: SampleKind, channels: u8, channel: u8, size: usize, n: usize) -> u8

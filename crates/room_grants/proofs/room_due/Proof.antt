@@ -1,10 +1,8 @@
--- `room_grants::room_due` meets its contract, by the three tests in their order. A room whose rates rise is in range.
--- Assumes nothing.
+-- `room_grants::room_due` meets its contract, by the three tests in their order. Assumes nothing.
 use borrow.Author.Rules.{rules}
 use mathlib.Core.Path.{◌≡◌, sym, ◌∙◌}
 use borrow.Author.Tests.{not-true, not-false}
 use lib.Ieee.{of_bits}
-use Rattle.rising_room.proofs.RisingRooms.{rising-room}
 use Rattle.room_grants.specs.Grants.{room_verdict}
 use Rattle.room_grants.proofs.room_due.Statement.{statement}
 use Rattle.room_grants.proofs.room_due.Tie as tie
@@ -26,42 +24,29 @@ returns-2 c =
 returns-3 : tie.Need-returns-3
 unfolding of_bits room_verdict
 returns-3 c =
-    let q = c.before in
-    let l = q.before.before in
+    let o = c.before in
+    let l = o.before.before in
     let w = l.before.before in
     rw (
       sym w.within.ensures ∙ not-false w.within.result l.before.if1.false,
-      sym l.lengths-agree.ensures ∙ not-false l.lengths-agree.result q.before.if2.false,
-      rising-room _ _ (sym q.rises.ensures ∙ c.if3.true),
+      sym l.lengths-agree.ensures ∙ not-false l.lengths-agree.result o.before.if2.false,
+      sym o.room-ok.ensures ∙ not-true o.room-ok.result c.if3.true,
     )
 
 returns-4 : tie.Need-returns-4
 unfolding of_bits room_verdict
 returns-4 c =
     let o = c.before in
-    let q = o.before.before in
-    let l = q.before.before in
+    let l = o.before.before in
     let w = l.before.before in
     rw (
       sym w.within.ensures ∙ not-false w.within.result l.before.if1.false,
-      sym l.lengths-agree.ensures ∙ not-false l.lengths-agree.result q.before.if2.false,
-      sym o.in-range.ensures ∙ c.if4.true,
-    )
-
-returns-5 : tie.Need-returns-5
-unfolding of_bits room_verdict
-returns-5 c =
-    let o = c.before in
-    let q = o.before.before in
-    let l = q.before.before in
-    let w = l.before.before in
-    rw (
-      sym w.within.ensures ∙ not-false w.within.result l.before.if1.false,
-      sym l.lengths-agree.ensures ∙ not-false l.lengths-agree.result q.before.if2.false,
-      sym o.in-range.ensures ∙ c.if4.false,
+      sym l.lengths-agree.ensures ∙ not-false l.lengths-agree.result o.before.if2.false,
+      sym o.room-ok.ensures ∙ not-false o.room-ok.result c.if3.false,
     )
 
 pub room-due-spec : {M : Type 1} → statement M
 room-due-spec =
     tie.close
-    (tie.spec (λ c κs. tt) returns (λ c κs. tt) returns-2 (λ c κs. tt) returns-3 (λ c κs. tt) returns-4 returns-5)
+    (tie.spec (λ c κs. tt) returns (λ c κs. tt) returns-2 (λ c κs. tt) returns-3
+    returns-4)

@@ -1,6 +1,5 @@
 -- `desk_delay::refused::in_room` meets its contract, by its test. Assumes nothing.
-use borrow.Author.Rules.{rules}
-use mathlib.Core.Path.{◌∙◌}
+use Rattle.std.proofs.Common.{◌∙◌, rules}
 use Rattle.desk_delay.proofs.refused.in_room.Statement.{statement}
 use Rattle.desk_delay.proofs.refused.in_room.Tie as tie
 

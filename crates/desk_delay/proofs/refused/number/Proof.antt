@@ -1,5 +1,5 @@
 -- `desk_delay::refused::number` meets its contract: a number that is neither 1 nor 2 gives way to 3. Assumes nothing.
-use borrow.Author.Rules.{rules}
+use Rattle.std.proofs.Common.{rules}
 use Rattle.desk_delay.proofs.RoomRefusal.{gives-way}
 use Rattle.desk_delay.proofs.refused.number.Statement.{statement}
 use Rattle.desk_delay.proofs.refused.number.Tie as tie

@@ -1,5 +1,5 @@
 -- `desk_delay::refused::refused` meets its contract, call by call. Assumes nothing.
-use borrow.Author.Rules.{rules}
+use Rattle.std.proofs.Common.{rules}
 use lib.Ieee.{of_bits}
 use Rattle.desk_delay.proofs.refused.refused.Statement.{statement}
 use Rattle.desk_delay.proofs.refused.refused.Tie as tie

@@ -1,4 +1,0 @@
-pub mod FloatOrder
-pub mod HeldMarks
-pub mod RisingRooms
-pub mod RisingSlots
