@@ -6,19 +6,20 @@ use Rattle.fused_step.proofs.rare_step.Statement.{statement}
 use Rattle.fused_step.proofs.rare_step.Tie as tie
 
 held_x : (c : tie.Start) → T (fits binary32 c.args.x)
-held_x c = subst T (sym c.well-formed.0.1) tt
+held_x c = subst T (sym c.well_formed.0.1) tt
 
 held-c : (c : tie.Start) → T (fits binary32 c.args.c)
-held-c c = subst T (sym c.well-formed.1.0.1) tt
+held-c c = subst T (sym c.well_formed.1.0.1) tt
 
 held-sum : (c : tie.Start) → T (fits binary64 c.args.sum)
-held-sum c = subst T (sym c.well-formed.1.1.0.1) tt
+held-sum c = subst T (sym c.well_formed.1.1.0.1) tt
 
-returns : tie.Need-returns
+returns : tie.Need-returns-then-s
 returns c =
     let b = c.before in
     let a = b.args in
-    zero-step a.x a.c a.sum a.s (held_x b) (held-c b) (held-sum b) b.requires c.if1.true
+    zero-step a.x a.c a.sum a.s (held_x b) (held-c b) (held-sum b) b.requires c.if-s.true
 
-pub rare-step-spec : {M : Type 1} → statement M
-rare-step-spec = tie.close (tie.spec returns (λ c κs. search rules) (λ c. search rules))
+pub rare_step_spec : {M : Type 1} → statement M
+rare_step_spec =
+    tie.close (tie.spec returns (λ c κs. search rules) (λ c. search rules))
