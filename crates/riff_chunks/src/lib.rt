@@ -14,7 +14,7 @@ mod turns;
 pub use turns::{begin, turn};
 use word_bytes::low_first_u32;
 
-#[derive(Drop)]
+#[derive(Clone, Copy)]
 pub struct Chunk {
     pub id: u32,
     pub body: usize,
@@ -22,7 +22,7 @@ pub struct Chunk {
 }
 
 // The two identifiers that the walk looks for, and whether the first chunk with the second one ends it.
-#[derive(Drop)]
+#[derive(Clone, Copy)]
 pub struct Sought {
     pub format: u32,
     pub samples: u32,
@@ -30,14 +30,14 @@ pub struct Sought {
 }
 
 // The body of a chunk that was looked for: its place and its size, both 0 if it was not found.
-#[derive(Drop)]
+#[derive(Clone, Copy)]
 pub struct Spot {
     pub found: bool,
     pub body: usize,
     pub size: usize,
 }
 
-#[derive(Drop)]
+#[derive(Clone, Copy)]
 pub struct Walked {
     pub overruns: bool,
     pub format: Spot,
@@ -45,7 +45,7 @@ pub struct Walked {
 }
 
 // A walk that is not over: how many bytes are left before the end, and what has been seen.
-#[derive(Drop)]
+#[derive(Clone, Copy)]
 pub struct Walking {
     pub left: usize,
     pub seen: Walked,
