@@ -154,7 +154,9 @@ def decls(text):
     out, cur = [], []
     for line in text.split("\n"):
         top = bool(line) and not line[0].isspace() and not line.startswith("--")
-        if top and re.match(rf"^(abbrev |unfoldable )*(pub )?[^\s(){{}}]+ :(\s|$)", line) and not line.startswith("use "):
+        if top and not line.startswith("use ") and (
+                re.match(rf"^(abbrev |unfoldable )*(pub )?[^\s(){{}}]+ :(\s|$)", line)
+                or re.match(r"^(pub )?(record|data) ", line)):
             # a signature begins a new piece; comments just above belong to it
             back = []
             while cur and (cur[-1].startswith("--") or not cur[-1].strip()):
@@ -165,6 +167,11 @@ def decls(text):
             cur.append(line)
     out.append(cur)
     return ["\n".join(c) for c in out]
+
+
+def name_of(d):
+    m = re.search(r"^(?:abbrev |unfoldable )*(?:pub )?(?:(?:record|data) ([^\s]+)|([^\s(){}]+) :(?:\s|$))", d, re.M)
+    return (m[1] or m[2]) if m else None
 
 
 def split_args(s):
@@ -362,15 +369,49 @@ def turn(crate, fn, path, mode=None):
                 rest = rest[1:]
             return ".requires." + ls[k] + "".join("." + r for r in rest)
         return re.sub(r"(?<=c)\.requires((?:\.[0-9]+)+)", one, t)
+    # helpers over one place of the walk, `(c : tie.After-f) →` first
+    over = {}
+    for d in rest:
+        m = re.search(rf"^(?:abbrev |unfoldable )*(?:pub )?([^\s]+) : \((\w+) : tie\.([A-Z][{IDC}]*)\)", d, re.M)
+        if m and norm(m[3]) in fn.place:
+            over[m[1]] = (m[2], fn.place[norm(m[3])])
     if mode is None:
-        mode = "A" if places_used else "B"
+        named_place = sum(len(re.findall(r"\btie\.(?!Need-|spec|close|invariant|decreases)[A-Z]", d)) for d in ds)
+        mode = "A" if named_place > len(over) else "B"
+
+    def at_places(t, g):
+        """Calls of a helper over a place, from the answer of the goal g (or from a helper, g is None)."""
+        for h, (_, pl) in over.items():
+            def one(m):
+                if not m[2]:
+                    return m[0]
+                if g is None:
+                    say(f"helper {h} is called at {m[1]}{m[2]} from a helper")
+                    return m[0]
+                return f"{h} (goal.at.{g} {m[1]}).{pl}"
+            t = re.sub(rf"(?<![{IDC}.]){re.escape(h)} (\w+)((?:\.before)*)(?![{IDC}.])", one, t)
+        return re.sub(rf"\btie\.(?!Need-|spec|close|invariant|decreases)([A-Z][{IDC}]*)",
+                      lambda m: "goal." + fn.place[norm(m[1])] if norm(m[1]) in fn.place else m[0], t)
     head = "\n".join(l for l in head.split("\n") if not re.match(r"^use Rattle\.[^ ]*\.Statement\.", l))
     if mode == "B":
         head = re.sub(r"^use Rattle\.([^\s]*)\.Tie as tie$", r"use Rattle.\1.Goals as goal", head, flags=re.M)
         rename = {n: g for n, g in goal_of.items() if g}
         body = []
+        # what the invariants cite of the file's own goes with them
+        moved, queue = [], [i[2] for i in invs]
+        while queue:
+            q = queue.pop()
+            for r in rest:
+                n = name_of(r)
+                if n and r not in moved and re.search(rf"(?<![{IDC}.]){re.escape(n)}(?![{IDC}])", q):
+                    moved.append(r)
+                    queue.append(r)
+        moved = [r for r in rest if r in moved]
+        if moved:
+            names_moved = ", ".join(name_of(r) for r in moved)
+            head = head.rstrip("\n") + f"\nuse Rattle.{cratename}.proofs.{fnpath}.Invariants.{{{names_moved}}}\n"
         for d in ds:
-            if any(d is i[2] for i in invs):
+            if any(d is i[2] for i in invs) or d in moved:
                 continue
             t = d
             n = next((n for n in named if named[n][0] is d), None)
@@ -387,6 +428,7 @@ def turn(crate, fn, path, mode=None):
             for a, b in rename.items():
                 if a != b:
                     t = re.sub(rf"(?<![{IDC}.]){re.escape(a)}(?![{IDC}])", b, t) if a not in ("returns",) else re.sub(rf"^{a}(?= [a-z])", b, t, flags=re.M) if n == a else t
+            t = at_places(t, goal_of[n] if n is not None else None)
             t = flatten(t)
             t = steps(fn, t, say)
             if n is not None:
@@ -397,7 +439,7 @@ def turn(crate, fn, path, mode=None):
             mm = re.match(r"^\(λ (\w+)( κs)?\. ((?:.|\n)*)\)$", a)
             mm2 = None if mm else a
             if mm:
-                e = own_requires(as_record(steps(fn, flatten(mm[3]), say), goal_labels(g))).rstrip("\n")
+                e = own_requires(as_record(steps(fn, flatten(at_places(mm[3], g)), say), goal_labels(g))).rstrip("\n")
                 body.append(f"\npub {g} : goal.{g}\n{g} {mm[1]} = {e}")
             else:
                 body.append(f"\npub {g} : goal.{g}\n{g} = {a}")
@@ -406,8 +448,15 @@ def turn(crate, fn, path, mode=None):
             text = None
         inv_text = None
         if invs:
-            uses = "\n".join(l for l in head.split("\n") if l.startswith("use ") and not l.endswith(".Goals as goal"))
+            uses = "\n".join(l for l in head.split("\n") if l.startswith("use ") and not l.endswith(".Goals as goal")
+                             and ".Invariants.{" not in l)
             parts = []
+            for r in moved:
+                r = r.strip("\n")
+                if not re.search(r"^(abbrev |unfoldable )*pub ", r, re.M):
+                    n = name_of(r)
+                    r = re.sub(rf"^((?:abbrev |unfoldable )*)(?=(?:record |data )?{re.escape(n)}(?: :|\s))", r"\1pub ", r, count=1, flags=re.M)
+                parts.append(r)
             for name, kind, d in invs:
                 # kind: invariant-loop, decreases-loop2 ..
                 base = kind.split("-", 1)
