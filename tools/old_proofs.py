@@ -277,6 +277,8 @@ def steps(fn, t, say, by_label=True):
         t = re.sub(rf"(?<![{IDC}.])({re.escape(al)}\.[a-z_0-9]+)-[0-9]+(?=\.(?:now|new)\b)", r"\1", t)
     t = re.sub(r"\.well-formed\b", ".well_formed", t)
     t = re.sub(r"\.type-inv\b", ".type_inv", t)
+    if by_label:
+        t = re.sub(r"\.result-1\b", ".result", t)
     return t
 
 
