@@ -1,7 +1,7 @@
 -- W1d, W1j. A walk looks at nothing behind its end, and at nothing behind the chunk that ends it: two layouts whose
 -- chunks are the same at the places before that are walked alike. By induction over the chunks. Assumes nothing.
 use mathlib.Core.Path.{◌≡◌, refl, sym, ap, ◌∙◌}
-use mathlib.Core.Bool.{Bool, true, false, true≢false, cond, ◌&&◌}
+use mathlib.Core.Bool.{Bool, true, false, true≢false, cond}
 use mathlib.Core.List.{List, [], ◌∷◌}
 use Prim.Native.Nat.{ℕ, zero, suc, ◌+◌, ◌≤◌}
 use native.Mathlib.Omega.{arith}

@@ -1,7 +1,7 @@
 -- W1b, W1d. Where the chunks that a walk found stand: not before the place where it started, inside the end if none
 -- runs past it, and the format before the samples if these end the walk. By induction over the chunks. Assumes nothing.
-use mathlib.Core.Path.{◌≡◌, refl, sym, ◌∙◌}
-use mathlib.Core.Bool.{Bool, true, false, true≢false, cond, ◌&&◌, ◌||◌}
+use mathlib.Core.Path.{◌≡◌, refl, sym}
+use mathlib.Core.Bool.{Bool, true, false, true≢false, cond, ◌||◌}
 use mathlib.Core.List.{List, [], ◌∷◌}
 use Prim.Native.Nat.{ℕ, zero, suc, ◌+◌, ◌≤◌}
 use native.Mathlib.Omega.{arith}
@@ -9,8 +9,7 @@ use borrow.Author.Tests.{ltb-false, eqb-true, eqb-false}
 use lib.Dec.{eqb, leb}
 use Rattle.riff_chunks.specs.declared.Chunk.{Chunk}
 use Rattle.riff_chunks.specs.declared.Sought.{Sought}
-use Rattle.riff_chunks.specs.declared.Spot.{Spot}
-use Rattle.riff_chunks.specs.Chunks.{Placed, after, chunks_from, overruns, overrun, nowhere, spot_of, first}
+use Rattle.riff_chunks.specs.Chunks.{Placed, after, chunks_from, overruns, overrun, spot_of, first}
 use Rattle.riff_chunks.specs.Walk.{is_last, up_to}
 
 neither : (a b : Bool) → a || b ≡ false → (a ≡ false) × (b ≡ false)
