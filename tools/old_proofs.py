@@ -138,9 +138,11 @@ class Fn:
             old, new = pl[2]
             if old:
                 self.step.setdefault(norm(old), set()).add(new)
+        # fields of a step that go by another name, as `true` that is now `true-raw`
+        self.field = {}
         for pl in v["places"]:
             for o, n in pl[4]:
-                self.step.setdefault(norm(o), set()).add(n)
+                self.field.setdefault(pl[2][1], {}).setdefault(o, set()).add(n)
         self.clauses = {}
         for pl, cl in zip(v["places"], v["clauses"]):
             if cl and cl.get("fields") and pl[2][1]:
@@ -239,6 +241,15 @@ def steps(fn, t, say, by_label=True):
             return m[0]
         return "." + next(iter(s))
     t = re.sub(rf"(?<!\))\.([A-Za-z][{IDC}]*)", sub, t)
+    for st, fs in fn.field.items():
+        def fd(m):
+            ns = fs.get(m[2])
+            if not ns or len(ns) > 1:
+                if ns:
+                    say(f"field {m[2]} of {st} is one of {sorted(ns)}")
+                return m[0]
+            return m[1] + next(iter(ns))
+        t = re.sub(rf"(\.{re.escape(st)}\.)([A-Za-z][{IDC}]*)", fd, t)
     for st, fields in fn.clauses.items() if by_label else ():
         def cl(m):
             if len(fields) == 1:
