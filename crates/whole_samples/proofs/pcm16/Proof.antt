@@ -19,5 +19,6 @@ returns : tie.Need-returns
 unfolding of_bits
 returns c = product binary64 16 14 c.before.before.args.n (lit≤ tt) refl (again c.before) refl
 
-pub pcm16-spec : {M : Type 1} → statement M
-pcm16-spec = tie.close (tie.spec (λ c κs. search rules) (λ c. search rules) returns)
+pub pcm16_spec : {M : Type 1} → statement M
+pcm16_spec =
+    tie.close (tie.spec (λ c κs. search rules) (λ c. search rules) returns)

@@ -19,7 +19,6 @@ returns : tie.Need-returns
 unfolding of_bits
 returns c = product binary32 16 14 c.before.before.args.n (lit≤ tt) refl (again c.before) refl
 
-pub pcm16-f32-spec : {M : Type 1} → statement M
-pcm16-f32-spec = tie.close (tie.spec (λ c κs. search rules)
-    (λ c. rw (again c.before) (held binary32 _ (signed-few 16 c.before.before.args.n (lit≤ tt) (lit≤ tt))))
-    returns)
+pub pcm16_f32_spec : {M : Type 1} → statement M
+pcm16_f32_spec =
+    tie.close (tie.spec (λ c κs. search rules) (λ c. rw (again c.before) (held binary32 _ (signed-few 16 c.before.before.args.n (lit≤ tt) (lit≤ tt)))) returns)

@@ -19,5 +19,6 @@ returns : tie.Need-returns
 unfolding of_bits
 returns c = product binary64 24 22 c.before.before.args.n (lit≤ tt) refl (again c.before) refl
 
-pub pcm24-spec : {M : Type 1} → statement M
-pcm24-spec = tie.close (tie.spec (λ c κs. search rules) (λ c. search rules) returns)
+pub pcm24_spec : {M : Type 1} → statement M
+pcm24_spec =
+    tie.close (tie.spec (λ c κs. search rules) (λ c. search rules) returns)

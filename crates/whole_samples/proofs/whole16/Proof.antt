@@ -14,12 +14,13 @@ worked : (c : tie.After-signed16) → to_z w32 (of_z w32 c.signed16.result) *ℤ
 worked c = ap (λ (z : ℤ). z *ℤ pos 256) (kept c.signed16.ensures
     (signed-few 16 c.before.args.n (lit≤ tt) (lit≤ tt)))
 
-mul-result : tie.Need-overflow-mul-result
+mul-result : tie.Need-overflow_mul-result
 mul-result c = rw (worked c) (fits-i32 (units_of 16 c.before.args.n)
     (units_small 16 c.before.args.n (lit≤ tt) (lit≤ tt)))
 
 returns : tie.Need-returns
 returns c = kept (worked c) (units_small 16 c.before.args.n (lit≤ tt) (lit≤ tt))
 
-pub whole16-spec : {M : Type 1} → statement M
-whole16-spec = tie.close (tie.spec (λ c κs. search rules) mul-result returns)
+pub whole16_spec : {M : Type 1} → statement M
+whole16_spec =
+    tie.close (tie.spec (λ c κs. search rules) mul-result returns)
