@@ -2,7 +2,7 @@
 -- nothing.
 use mathlib.Core.Path.{◌≡◌, refl}
 use lib.Ieee.{binary64, of_bits, round}
-use Rattle.bytes.specs.Bytes.{index_of}
+use Rattle.byte_marks.specs.Marks.{index_of}
 use Rattle.text.specs.Text.{ascii}
 use Rattle.sample_kind.specs.declared.SampleKind.TheVariants.{Pcm24}
 use Rattle.decimals.specs.Reading.{all_digits, digits_after}

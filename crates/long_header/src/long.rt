@@ -46,7 +46,7 @@ fn put_front(form: Form, riff: usize, size: usize, frames: usize, out: &mut [u8]
     ensures { out.new ≡ opening_of form riff size frames ++ drop 48 out.old }
 {
     let first = opening_of(form, riff, size, frames);
-    bytes::copy(&first, &mut out[0..48]);
+    out[0..48].copy_from_slice(&first);
 }
 
 // Writes FFFFFFFF for the size of `data` and, if there is one, for the number of frames in `fact`.

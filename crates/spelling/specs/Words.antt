@@ -1,6 +1,6 @@
 -- Texts compared, and split at the first `=`. Definitions only.
 use Rattle.std.specs.Prelude.{ℕ, Bool, true, false, ◌&&◌, cond, List, [], ◌∷◌, eqb, ltb, length, take}
-use Rattle.bytes.specs.Bytes.{index_of}
+use Rattle.byte_marks.specs.Marks.{index_of}
 
 unfoldable pub same_bytes : List ℕ → List ℕ → Bool
 same_bytes [] [] = true

@@ -25,7 +25,7 @@ pub fn split(text: &[u8]) -> usize
     ensures value { result ≡ split_in text.now }
     ensures upper_bound { result ≤ length text.now }
 {
-    bytes::scan::find(text, 0, text.len(), b'=')
+    byte_marks::find(text, b'=')
 }
 
 // Whether an argument is NAME=VALUE: only letters, `-` and `_`, at least one, stand before its first `=`. So
