@@ -1,5 +1,5 @@
 -- K1. Opening a reader over a lent ring, and resetting one. Both set the ring and the count to zero. Definitions only.
-use Rattle.std.specs.Prelude.{ℕ, zero, suc, ◌^◌, true, List, [], ◌∷◌, eqb, leb, length, Float}
+use Rattle.std.specs.Prelude.{ℕ, zero, suc, List, [], ◌∷◌, eqb, leb, length, Float}
 use Rattle.constants.specs.Numbers.{limit}
 use Rattle.refusal_order.specs.Order.{◌unless◌, first_of}
 use Rattle.ring.specs.Length.{settings_ok, length_for, zeros}
