@@ -5,7 +5,7 @@ ghost use Rattle.std.specs.Prelude.{◌≡◌};
 ghost use Rattle.sample_kind.specs.Kinds.{width_of, frame_of, code_of, kind_of};
 
 // PCM of 16 and of 24 bits, and IEEE float of 32.
-#[derive(Drop)]
+#[derive(Clone, Copy)]
 pub enum SampleKind {
     Pcm16,
     Pcm24,
