@@ -45,7 +45,7 @@ def labels(root):
             lines = f.read().split("\n")
         cur = None
         for l in lines:
-            m = re.match(r"^\s*(?:pub )?(?:unsafe )?(?:extern \"C\" )?fn (\w+)", l)
+            m = re.match(r"^\s*(?:pub(?:\(\w+\))? )?(?:const )?(?:unsafe )?(?:extern \"C\" )?fn (\w+)", l)
             if m:
                 cur = (p.split("/crates/")[1].split("/")[0], m[1])
                 LABELS.setdefault(cur, []).append({"ensures": [], "requires": []})
@@ -202,8 +202,8 @@ def word(w):
 TRIVIAL = re.compile(r"^\(λ [^.]*\. search (rules|\(rules\))\)$")
 
 
-def flatten(t):
-    # aliases of places
+def unalias(t):
+    """Writes out what a `let` names of the places before."""
     while True:
         m = re.search(rf"\blet ([^\s:=]+) = ([a-z]+[0-9'₀-₉]*)((?:\.before)+) in[ \n]", t)
         if not m:
@@ -223,11 +223,16 @@ def flatten(t):
                 rest = "\n    " + rest
             else:
                 head = t[:m.start()]
-            t = head + word(name).sub(base, rest)
+            t = head + word(name).sub(base + m[3], rest)
         else:
-            t = t[:m.start()] + word(name).sub(base, rest)
-    t = re.sub(r"(?:\.before)+(?=\.)", "", t)
+            t = t[:m.start()] + word(name).sub(base + m[3], rest)
     return t
+
+
+def flatten(t):
+    """The steps of a place are all fields of it."""
+    t = unalias(t)
+    return re.sub(r"(?:\.before)+(?=\.)", "", t)
 
 
 def steps(fn, t, say, by_label=True):
@@ -287,6 +292,9 @@ def steps(fn, t, say, by_label=True):
     for al in ["c.args"] + re.findall(r"\blet ([^\s:=]+) = c\.args in\b", t):
         t = re.sub(rf"(?<![{IDC}.])({re.escape(al)}\.[a-z_0-9]+)-[0-9]+(?=\.(?:now|new)\b)", r"\1", t)
     t = re.sub(r"\.well-formed\b", ".well_formed", t)
+    # older names of what is known at the start
+    t = re.sub(r"\.pre(?=[.\s)]|$)", ".requires", t)
+    t = re.sub(r"\.fits(?=\.)", ".ranges", t)
     t = re.sub(r"\.type-inv\b", ".type_inv", t)
     if by_label:
         t = re.sub(r"\.result-1\b", ".result", t)
@@ -438,10 +446,21 @@ def turn(crate, fn, path, mode=None):
                 t = re.sub(rf"^(abbrev |unfoldable )*(?:pub )?{re.escape(n)} :\s+tie\.Need-[^\n]*$", f"pub {g} : goal.{g}", t, flags=re.M)
                 t = re.sub(rf"^{re.escape(n)} (\w+) κs =", rf"{n} \1 =", t, flags=re.M)
                 t = re.sub(rf"^{re.escape(n)} (\w+) κs\b", rf"{n} \1", t, flags=re.M)
-            for a, b in rename.items():
-                if a != b:
-                    t = re.sub(rf"(?<![{IDC}.]){re.escape(a)}(?![{IDC}])", b, t) if a not in ("returns",) else re.sub(rf"^{a}(?= [a-z])", b, t, flags=re.M) if n == a else t
-            t = at_places(t, goal_of[n] if n is not None else None)
+            if n is not None and rename.get(n, n) != n:
+                t = re.sub(rf"^{re.escape(n)}(?= [a-z])", rename[n], t, flags=re.M)
+            other = [a for a, b in rename.items() if a != b and a != "returns"]
+            if other:
+                # all at once, and not in what was just renamed
+                alts = "|".join(re.escape(a) for a in sorted(other, key=len, reverse=True))
+                lines = t.split("\n")
+                for i, l in enumerate(lines):
+                    if n is not None and (l.startswith(f"pub {goal_of[n]} : ") or l.startswith(goal_of[n] + " ")):
+                        at = l.find("=") if l.startswith(goal_of[n] + " ") else len(l)
+                    else:
+                        at = 0
+                    lines[i] = l[:at] + re.sub(rf"(?<![{IDC}.])({alts})(?![{IDC}])", lambda m: rename[m[1]], l[at:])
+                t = "\n".join(lines)
+            t = at_places(unalias(t), goal_of[n] if n is not None else None)
             t = flatten(t)
             t = steps(fn, t, say)
             if n is not None:
@@ -452,7 +471,7 @@ def turn(crate, fn, path, mode=None):
             mm = re.match(r"^\(λ (\w+)( κs)?\. ((?:.|\n)*)\)$", a)
             mm2 = None if mm else a
             if mm:
-                e = own_requires(as_record(steps(fn, flatten(at_places(mm[3], g)), say), goal_labels(g))).rstrip("\n")
+                e = own_requires(as_record(steps(fn, flatten(at_places(unalias(mm[3]), g)), say), goal_labels(g))).rstrip("\n")
                 body.append(f"\npub {g} : goal.{g}\n{g} {mm[1]} = {e}")
             else:
                 body.append(f"\npub {g} : goal.{g}\n{g} = {a}")
