@@ -283,6 +283,8 @@ def steps(fn, t, say, by_label=True):
                 return m[1] + "." + fields[idx] + "".join("." + r for r in rest)
             return m[0]
         t = re.sub(rf"(\.{re.escape(st)}\.ensures)((?:\.[0-9]+)*)(?![{IDC}.])", cl, t)
+        for name in re.findall(rf"\blet ([^\s:=]+) = \w+\.{re.escape(st)} in\b", t):
+            t = re.sub(rf"((?<![{IDC}.]){re.escape(name)}\.ensures)((?:\.[0-9]+)*)(?![{IDC}.])", cl, t)
         # the same where a `let` names the clauses
         for al in re.findall(rf"\blet ([^\s:=]+) = [^\s]*\.{re.escape(st)}\.ensures\s+in\b", t):
             if len(fields) > 1:
