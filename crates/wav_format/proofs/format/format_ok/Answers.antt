@@ -1,6 +1,5 @@
 -- `wav_format::format::format_ok` meets its contract, by the contracts of the functions that it calls; the product of
 -- two small numbers fits. Assumes nothing.
-use borrow.Author.Rules.{rules}
 use Prim.Native.Nat.{◌/◌, ◌≤◌}
 use native.Mathlib.Nat.{mul-le-mul}
 use native.Mathlib.Omega.{arith}
@@ -11,8 +10,8 @@ pub overflow_mul-channels : goal.overflow_mul-channels
 overflow_mul-channels c =
     let a = c.two-channels in
     let b = c.two-bits in
-    let h : a.result ≤ 65535 = omega (arith, a.ensures.1) in
-    let k : b.result / 8 ≤ 8192 = omega (arith, b.ensures.1) in
+    let h : a.result ≤ 65535 = omega (arith, a.ensures.upper_bound) in
+    let k : b.result / 8 ≤ 8192 = omega (arith, b.ensures.upper_bound) in
     omega (arith, mul-le-mul h k)
 
 pub returns : goal.returns

@@ -1,5 +1,4 @@
 -- `wav_format::format::is_listed` meets its contract, by the contracts of the functions that it calls. Assumes nothing.
-use borrow.Author.Rules.{rules}
 use Rattle.wav_format.proofs.format.is_listed.Goals as goal
 
 pub returns : goal.returns

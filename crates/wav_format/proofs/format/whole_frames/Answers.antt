@@ -1,5 +1,4 @@
 -- `wav_format::format::whole_frames` meets its contract, by its two cases. Assumes nothing.
-use borrow.Author.Rules.{rules}
 use native.Mathlib.Omega.{arith}
 use borrow.Author.Tests.{lt-ltb, le-ltb}
 use Rattle.wav_format.proofs.format.whole_frames.Goals as goal

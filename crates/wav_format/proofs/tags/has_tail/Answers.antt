@@ -1,5 +1,4 @@
 -- `wav_format::tags::has_tail` meets its contract, by the contracts of the functions that it calls. Assumes nothing.
-use borrow.Author.Rules.{rules}
 use Rattle.wav_format.proofs.tags.has_tail.Goals as goal
 
 pub returns : goal.returns

@@ -1,5 +1,4 @@
 -- `wav_format::tags::tag_of` meets its contract, by its two cases. Assumes nothing.
-use borrow.Author.Rules.{rules}
 use Rattle.wav_format.proofs.tags.tag_of.Goals as goal
 
 pub returns-then-wrapped : goal.returns-then-wrapped

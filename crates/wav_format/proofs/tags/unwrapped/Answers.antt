@@ -1,5 +1,4 @@
 -- `wav_format::tags::unwrapped` meets its contract, by its two cases. Assumes nothing.
-use borrow.Author.Rules.{rules}
 use mathlib.Core.Path.{sym, ◌∙◌}
 use Rattle.wav_format.proofs.tags.unwrapped.Goals as goal
 
