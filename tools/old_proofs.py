@@ -92,13 +92,37 @@ def closes_at_end(s):
     return False
 
 
+def as_fields(t, ls):
+    """A lemma's pair at the end of an answer, as a record of these labels."""
+    m = re.match(r"((?:.|\n)*?^[^\s:]+ \w+ =)((?:.|\n)*)$", t, re.M)
+    if not m:
+        return t
+    head, body = m[1], m[2].rstrip()
+    depth, cut = 0, 0
+    for k in re.finditer(r"[(\[{]|[)\]}]|(?<=\s)in(?=\s)", body):
+        if k[0] in "([{":
+            depth += 1
+        elif k[0] in ")]}":
+            depth -= 1
+        elif depth == 0:
+            cut = k.end()
+    last = body[cut:].strip()
+    w = re.match(r"[^\s(]+", last)
+    if not w or w[0] in ("record", "search", "grind", "elim", "rw", "simp", "cc", "omega", "subst", "absurd", "λ", "?"):
+        return t
+    if re.search(r"\s_(\s|$)|∙", last) or "." in w[0] and w[0].startswith("c."):
+        return t
+    fields = "; ".join(f"{l} = both.{i}" for i, l in enumerate(ls))
+    return f"{head}{body[:cut]}\n    let both = {last} in\n    record {{ {fields} }}\n"
+
+
 def as_record(t, ls):
     """The last tuple of a text, as a record of these labels."""
     if not ls or len(ls) < 2 or not all(ls):
         return t
     s = t.rstrip()
     if not s.endswith(")"):
-        return t
+        return as_fields(t, ls)
     depth = 0
     for i in range(len(s) - 1, -1, -1):
         if s[i] == ")":
@@ -118,7 +142,7 @@ def as_record(t, ls):
             break
         parts = parts[:-1] + more
     if len(parts) < 2 or len(parts) != len(ls):
-        return t
+        return as_fields(t, ls)
     return s[:i] + "record { " + "; ".join(f"{l} = {p.strip()}" for l, p in zip(ls, parts)) + " }" + "\n"
 
 
