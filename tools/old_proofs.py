@@ -439,6 +439,7 @@ def turn(crate, fn, path, mode=None):
             t = re.sub(rf"(?<![{IDC}.]){re.escape(h)} (\w+)((?:\.before)*)(?![{IDC}.])", one, t)
         return re.sub(rf"\btie\.(?!Need-|spec|close|invariant|decreases)([A-Z][{IDC}]*)",
                       lambda m: "goal." + fn.place[norm(m[1])] if norm(m[1]) in fn.place else m[0], t)
+    head = re.sub(r"^use Rattle\.[^ ]*\.Statement\.\{\s*statement,?\s*\}\n", "", head, flags=re.M)
     head = "\n".join(l for l in head.split("\n") if not re.match(r"^use Rattle\.[^ ]*\.Statement\.", l))
     if mode == "B":
         head = re.sub(r"^use Rattle\.([^\s]*)\.Tie as tie$", r"use Rattle.\1.Goals as goal", head, flags=re.M)

@@ -1,6 +1,6 @@
 -- G8, G6, N1, N3, N9. The ranges of a state and of the arguments of `next`, and the number of the refusal outside of
 -- them. Definitions only.
-use Rattle.std.specs.Prelude.{ℕ, Bool, not, ◌&&◌, cond, eqb, Float, [], ◌∷◌}
+use Rattle.std.specs.Prelude.{ℕ, Bool, not, ◌&&◌, eqb, Float, [], ◌∷◌}
 use Rattle.std.specs.Float.{binary64}
 use Rattle.std.specs.Float.Ieee.{of_bits, neg, lt, le}
 use Rattle.refusal_order.specs.Order.{◌unless◌, first_of}

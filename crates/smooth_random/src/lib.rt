@@ -12,7 +12,7 @@ ghost use Rattle.smooth_random.specs.Ranges.{valid_of};
 
 use refusal_order::both;
 
-#[derive(Drop)]
+#[derive(Clone, Copy)]
 pub struct SmoothRandom {
     pub initial_seed: u64,
     pub state: u64,
@@ -23,7 +23,7 @@ pub struct SmoothRandom {
 }
 
 // A draw: the state after it, the number drawn, and the number of the refusal, 0 for none.
-#[derive(Drop)]
+#[derive(Clone, Copy)]
 pub struct Drawn {
     pub random: SmoothRandom,
     pub value: f64,
@@ -31,14 +31,14 @@ pub struct Drawn {
 }
 
 // A reset or a new seed: the state after it, and the number of the refusal, 0 for none.
-#[derive(Drop)]
+#[derive(Clone, Copy)]
 pub struct Renewed {
     pub random: SmoothRandom,
     pub refusal: u8,
 }
 
 // A step of the drift: the state after it, the value before it, and the number of the refusal, 0 for none.
-#[derive(Drop)]
+#[derive(Clone, Copy)]
 pub struct Next {
     pub random: SmoothRandom,
     pub value: f64,

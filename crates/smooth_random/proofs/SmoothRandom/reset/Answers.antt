@@ -1,0 +1,6 @@
+-- `smooth_random::SmoothRandom::reset` meets its contract: `handed_back` hands the new state on or refuses. Assumes
+-- nothing.
+use Rattle.smooth_random.proofs.SmoothRandom.reset.Goals as goal
+
+pub returns : goal.returns
+returns c = rw (c.handed_back.ensures, c.restarted.ensures)
