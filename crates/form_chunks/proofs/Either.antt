@@ -1,14 +1,14 @@
 -- W12g, W12h. The whole FORM is walked, and the first chunk with each identifier counts wherever it stands: `COMM`
 -- before `SSND` or behind it. By the laws of the walk of RIFF. Assumes nothing.
 use mathlib.Core.Path.{◌≡◌, refl, sym, ap, ◌∙◌}
-use mathlib.Core.Bool.{Bool, true, false, true≢false, cond, ◌&&◌, not}
+use mathlib.Core.Bool.{Bool, true, false, true≢false, ◌&&◌, not}
 use mathlib.Core.List.{List, [], ◌∷◌, ◌++◌}
-use Prim.Native.Nat.{ℕ, ◌+◌}
+use Prim.Native.Nat.{ℕ}
 use lib.Dec.{eqb}
 use Rattle.riff_chunks.specs.declared.Chunk.{Chunk}
 use Rattle.riff_chunks.specs.declared.Walked.{Walked}
 use Rattle.riff_chunks.specs.Chunks.{chunks, nowhere, spot_of, first}
-use Rattle.riff_chunks.specs.Walk.{end_in, seen_of, walked_from}
+use Rattle.riff_chunks.specs.Walk.{end_in, seen_of}
 use Rattle.riff_chunks.proofs.Walks.{all-walked}
 use Rattle.form_chunks.specs.Form.{comm_id, ssnd_id, form_chunk, form_sought, form_walk}
 
