@@ -1,13 +1,13 @@
 -- The sign of a factor or a dividend can be moved outside, exactly. So the weights c0 and c2 may be computed without
 -- it. Assumes nothing.
-use mathlib.Core.Path.{◌≡◌, refl, sym, ap, ◌∙◌}
+use mathlib.Core.Path.{◌≡◌, refl, ap}
 use mathlib.Core.Bool.{Bool, true, false, not, cond}
-use Prim.Native.Nat.{ℕ, ◌*◌}
+use Prim.Native.Nat.{◌*◌}
 use lib.Dec.{eqb}
 use lib.IntN.{pos}
 use lib.Ieee.{Float, nan, inf, fin, Format, up, down, unlike, round, neg, add, sub, mul, div}
 use Rattle.rounding.proofs.SumSymmetry.{round-neg}
-use Rattle.cubic_farrow.specs.Cubic.{one, two, six, c0, c1, c2, c3, weighed}
+use Rattle.cubic_farrow.specs.Cubic.{one, two, six, c1, c3, weighed}
 
 unlike-left : (s t : Bool) → unlike (not s) t ≡ not (unlike s t)
 unlike-left true true = refl

@@ -18,23 +18,24 @@ use Rattle.cubic_farrow.proofs.at.Statement.{statement}
 use Rattle.cubic_farrow.proofs.at.Tie as tie
 
 -- The integer part, as the code holds it.
-abbrev Z : tie.After-floor → ℤ
-Z c = to_z w64 (of_z w64 c.floor.result)
+abbrev Z : tie.After-floor-i → ℤ
+Z c = to_z w64 (of_z w64 c.floor-i.result)
 
-whole : (c : tie.After-floor) → Z c ≡ floor_of c.before.before.args.position
-whole c = to_z-of_z w64 c.floor.result (record { sfits = c.floor.type-inv }) ∙ c.floor.ensures
+whole : (c : tie.After-floor-i) → Z c ≡ floor_of c.before.before.args.position
+whole c = to_z-of_z w64 c.floor-i.result (record { sfits = c.floor-i.type_inv }) ∙ c.floor-i.ensures
 
-small : (c : tie.After-floor) → mag (Z c) ≤ 2 ^ 36
+small : (c : tie.After-floor-i) → mag (Z c) ≤ 2 ^ 36
 small c = rw (whole c) (floor-mag (2 ^ 36) _ (lit< tt) (position-at-most _ c.before.before.requires))
 
-int-to-float-mu : tie.Need-int-to-float-mu
+int-to-float-mu : tie.Need-int_to_float-mu
 int-to-float-mu c = in-float (Z c.before) (le_trans (small c.before) (lit≤ tt))
 
-one-by-one-requires : tie.Need-one-by-one-requires
+one-by-one-requires : tie.Need-one_by_one-requires
 one-by-one-requires c κs = small c.before
 
 returns : tie.Need-returns
 returns c = ways.one_by_one _ _ _ (Z c.before.before) (whole c.before.before) c.one_by_one.ensures
 
-pub at-spec : {M : Type 1} → statement M
-at-spec = tie.close (tie.spec (λ c κs. search rules) int-to-float-mu one-by-one-requires returns)
+pub at_spec : {M : Type 1} → statement M
+at_spec =
+    tie.close (tie.spec (λ c κs. search rules) int-to-float-mu one-by-one-requires returns)

@@ -24,57 +24,56 @@ use Rattle.cubic_farrow.proofs.BothWays as ways
 use Rattle.cubic_farrow.proofs.read.Statement.{statement}
 use Rattle.cubic_farrow.proofs.read.Tie as tie
 
-in-range : (c : tie.Then1) → position_ok c.before.before.before.args.position ≡ true
-in-range c = sym c.before.position-ok.ensures ∙ c.if1.true
+in-range : (c : tie.Then-position_ok) → position_ok c.before.before.before.args.position ≡ true
+in-range c = sym c.before.position_ok.ensures ∙ c.if-position_ok.true
 
 -- The integer part, as the code holds it.
-abbrev Z : tie.After-floor → ℤ
-Z c = to_z w64 (of_z w64 c.floor.result)
+abbrev Z : tie.After-floor-first → ℤ
+Z c = to_z w64 (of_z w64 c.floor-first.result)
 
-whole : (c : tie.After-floor) → Z c ≡ floor_of c.before.before.before.before.args.position
-whole c = to_z-of_z w64 c.floor.result (record { sfits = c.floor.type-inv }) ∙ c.floor.ensures
+whole : (c : tie.After-floor-first) → Z c ≡ floor_of c.before.before.before.before.args.position
+whole c = to_z-of_z w64 c.floor-first.result (record { sfits = c.floor-first.type_inv }) ∙ c.floor-first.ensures
 
-small : (c : tie.After-floor) → mag (Z c) ≤ 2 ^ 36
+small : (c : tie.After-floor-first) → mag (Z c) ≤ 2 ^ 36
 small c = rw (whole c) (floor-mag (2 ^ 36) _ (lit< tt) (position-at-most _ (in-range c.before)))
 
-sub-first : tie.Need-overflow-sub-first
+sub-first : tie.Need-overflow_sub-first
 sub-first c = sum_fits (Z c) (negsuc 0) (omega (arith, small c))
 
 -- The place where the run starts.
-start : (c : tie.After-run-start) → let a = c.before.before.before.before.before.args in
-    c.run-start.result ≡ start_of (length a.source.now) a.count (Z c.before -ℤ pos 1) 4
-start c = rw (to_z-of_z w64 _ (sub-first c.before)) at c.run-start.ensures
+start : (c : tie.After-run_start-s) → let a = c.before.before.before.before.before.args in
+    c.run_start-s.result ≡ start_of (length a.source.now) a.count (Z c.before -ℤ pos 1) 4
+start c = rw (to_z-of_z w64 _ (sub-first c.before)) at c.run_start-s.ensures
 
-add-if3 : tie.Need-overflow-add-if3
+add-if3 : tie.Need-overflow_add-p
 add-if3 c =
     let r = c.before in
     let a = r.before.before.before.before.before.args in
     omega (
       arith,
-      inside a.source.now a.count 4 (Z r.before -ℤ pos 1) r.run-start.result (start r) c.if2.true
+      inside a.source.now a.count 4 (Z r.before -ℤ pos 1) r.run_start-s.result (start r) c.if-s.true
           (lit< tt),
     )
 
-returns : tie.Need-returns
+returns : tie.Need-returns-then-p-source
 returns c =
     let t = c.before.before in
     let r = t.before.before in
     let n = r.before in
     rw (in-range n.before)
-    (ways.side_by_side _ _ _ (Z n) (whole n) r.run-start.result (start r) t.before.if2.true t.if3.true
+    (ways.side_by_side _ _ _ (Z n) (whole n) r.run_start-s.result (start r) t.before.if-s.true t.if-p-source.true
     c.before.fraction.ensures c.side_by_side.ensures)
 
 at-requires : tie.Need-at-requires
 at-requires c κs = in-range c.before.before.before
 
-returns-2 : tie.Need-returns-2
+returns-2 : tie.Need-returns-then-position_ok
 returns-2 c = rw (in-range c.before.before.before.before) c.at.ensures
 
-returns-3 : tie.Need-returns-3
+returns-3 : tie.Need-returns
 unfolding of_bits
-returns-3 c = rw (← c.before.position-ok.ensures, c.if1.false)
+returns-3 c = rw (← c.before.position_ok.ensures, c.if-position_ok.false)
 
 pub read_spec : {M : Type 1} → statement M
 read_spec =
-    tie.close (tie.spec (λ c κs. search rules) (λ c κs. search rules) sub-first (λ c κs. search rules) add-if3
-    (λ c κs. search rules) (λ c κs. search rules) returns at-requires returns-2 returns-3)
+    tie.close (tie.spec (λ c κs. search rules) (λ c κs. search rules) sub-first (λ c κs. search rules) add-if3 (λ c κs. search rules) (λ c κs. search rules) returns at-requires returns-2 returns-3)

@@ -1,0 +1,20 @@
+-- `cubic_farrow::sample` meets its contract, by the test of the position. Assumes nothing.
+use mathlib.Core.Path.{sym, ◌∙◌}
+use lib.Ieee.{of_bits}
+use Rattle.cubic_farrow.proofs.sample.Goals as goal
+
+pub at-requires : goal.at-requires
+at-requires c = sym c.position_ok.ensures ∙ c.if-position_ok.true
+
+pub returns-then-position_ok : goal.returns-then-position_ok
+returns-then-position_ok c =
+    rw (
+      c.answered.ensures,
+      c.at.ensures,
+      ← c.position_ok.ensures,
+      c.if-position_ok.true,
+    )
+
+pub returns-else-position_ok : goal.returns-else-position_ok
+unfolding of_bits
+returns-else-position_ok c = rw (c.answered-else-position_ok.ensures, ← c.position_ok.ensures, c.if-position_ok.false)
