@@ -314,6 +314,11 @@ def steps(fn, t, say, by_label=True):
             if len(fields) > 1:
                 t = re.sub(rf"(?<![{IDC}.]){re.escape(al)}\.([0-9]+)(?![{IDC}])",
                            lambda m: al + "." + fields[int(m[1])] if int(m[1]) < len(fields) else m[0], t)
+        # the same where a `let` names the step
+        for al in re.findall(rf"\blet ([^\s:=]+) = c(?:\.[^\s.]+)*\.{re.escape(st)}\s+in\b", t):
+            if len(fields) > 1:
+                t = re.sub(rf"(?<![{IDC}.])({re.escape(al)}\.ensures)\.([0-9]+)(?![{IDC}])",
+                           lambda m: m[1] + "." + fields[int(m[2])] if int(m[2]) < len(fields) else m[0], t)
     # an argument has its own name, though a step may be named after it
     for al in ["c.args"] + re.findall(r"\blet ([^\s:=]+) = c\.args in\b", t):
         t = re.sub(rf"(?<![{IDC}.])({re.escape(al)}\.[a-z_0-9]+)-[0-9]+(?=\.(?:now|new)\b)", r"\1", t)
