@@ -1,6 +1,6 @@
 -- Rust's rem_euclid of f64 by its `%`, which is `lib.Ieee.rem`: x - n * y, where n is x / y cut to a whole number.
 -- Definitions only.
-use Rattle.std.specs.Prelude.{false, cond, pos}
+use Rattle.std.specs.Prelude.{false, cond}
 use lib.Ieee.{Float, nan, inf, fin, binary64, add, rem, lt}
 pub use Rattle.constants.specs.Numbers.{zero-f as zero}
 

@@ -1,6 +1,6 @@
 -- `remainder::scaled` meets its contract: r * 2^-52 is exact, and the other factor's pattern is that of 2^52 times 2^(j
 -- - 1074). Assumes nothing.
-use Rattle.std.proofs.Common.{◌≡◌, ℕ, ◌+◌, ◌*◌, ◌%◌, ◌^◌, ◌<◌, ◌≤◌, false, pos, sym, refl, lt_of_lt_of_le, le_of_lt, mul_assoc, mul-pos, mul-one, mul_left_comm, arith, lit<, lit≤, pow_pos, pow_mono, shl_lt, rules}
+use Rattle.std.proofs.Common.{◌≡◌, ℕ, ◌+◌, ◌*◌, ◌%◌, ◌^◌, ◌<◌, ◌≤◌, false, pos, sym, refl, lt_of_lt_of_le, le_of_lt, mul_assoc, mul-pos, mul-one, mul_left_comm, arith, lit<, lit≤, pow_pos, pow_mono, shl_lt}
 use lib.Ieee.{Float, binary64, mul, of_int, odd, of_fields, of_bits}
 use lib.Ieee.Exact.{HasValue, round_exact, units_val}
 use lib.Ieee.Scale.{round_same}
@@ -8,11 +8,10 @@ use Rattle.magnitude.proofs.WholeFloats.{whole-value}
 use Rattle.rounding.proofs.Pack.{pack}
 use Rattle.rounding.proofs.Patterns.{rest-no-nan}
 use Rattle.rounding.proofs.Products.{mul-value}
-use Rattle.remainder.proofs.scaled.Statement.{statement}
-use Rattle.remainder.proofs.scaled.Tie as tie
+use Rattle.remainder.proofs.scaled.Goals as goal
 
-float-from-bits-result : tie.Need-float-from-bits-result
-float-from-bits-result c = rest-no-nan binary64 _ (omega arith)
+pub float_from_bits-result : goal.float_from_bits-result
+float_from_bits-result c = rest-no-nan binary64 _ (omega arith)
 
 -- The factor 2^-52.
 abbrev fine : Float
@@ -38,19 +37,16 @@ power j h =
 crossed : (r p q l : ℕ) → r * (p * q) * l ≡ r * q * (p * l)
 crossed r p q l = simp (mul_assoc, mul_left_comm)
 
-returns : tie.Need-returns
+pub returns : goal.returns
 returns c =
-    let r = c.before.args.r in
-    let j = c.before.args.j in
+    let r = c.args.r in
+    let j = c.args.j in
     let whole : (j + 1) * 2 ^ 52 % 2 ^ 64 ≡ (j + 1) * 2 ^ 52 = omega arith in
     rw (
-      c.nearest-u64-to-f64.ensures,
+      c.nearest_u64_to_f64.ensures,
       whole,
       mul-value binary64 _ _ false false r (2 ^ 52 * 2 ^ j) (2 ^ 52) (2 ^ 1074) (pow_pos 52) (pow_pos 1074)
-          (shrunk r c.before.requires.0) (power j c.before.requires.1),
+          (shrunk r c.requires.fact_1) (power j c.requires.fact_2),
     )
     (round_same binary64 false (r * (2 ^ 52 * 2 ^ j)) (2 ^ 52 * 2 ^ 1074) (r * 2 ^ j) (2 ^ 1074)
     (mul-pos (pow_pos 52) (pow_pos 1074)) (pow_pos 1074) (crossed r (2 ^ 52) (2 ^ j) (2 ^ 1074)))
-
-pub scaled-spec : {M : Type 1} → statement M
-scaled-spec = tie.close (tie.spec (λ c κs. search rules) (λ c. search rules) float-from-bits-result returns)
