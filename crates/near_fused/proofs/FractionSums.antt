@@ -1,5 +1,5 @@
 -- Equal sums and products of fractions. Assumes nothing.
-use Prim.Native.Nat.{◌+◌, ◌*◌, ◌<◌}
+use Prim.Native.Nat.{◌<◌}
 use native.Mathlib.Nat.{mul-pos}
 use native.Mathlib.Omega.{arith}
 use Rattle.rounding_error.specs.Fraction.{Frac, nil, plus, times, opp, Same}

@@ -1,5 +1,5 @@
 -- The lower part of the product: vh * ml + vl * mu, in floats, lies near v * mu - vh * mh. Assumes nothing.
-use Prim.Native.Nat.{◌+◌, ◌*◌, ◌^◌, ◌≤◌, ◌<◌}
+use Prim.Native.Nat.{◌+◌, ◌^◌}
 use native.Mathlib.Nat.{one-mul, mul-pos}
 use lib.Dec.{T, lit≤, lit<}
 use lib.Ieee.{Float, binary64, add, sub, mul}

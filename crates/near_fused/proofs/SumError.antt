@@ -3,7 +3,7 @@
 use Prim.Native.Nat.{◌+◌, ◌^◌}
 use native.Mathlib.Nat.{mul-pos}
 use lib.Dec.{T, lit≤, lit<}
-use lib.Ieee.{Float, binary64, add, sub, fits}
+use lib.Ieee.{Float, binary64, sub, fits}
 use lib.Ieee.Scale.{finite}
 use Rattle.rounding_error.specs.Fraction.{nil, plus, opp, Same}
 use Rattle.rounding_error.specs.Value.{val, Is}
