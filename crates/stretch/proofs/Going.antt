@@ -12,7 +12,6 @@ use lib.ListN.{length, take, drop, get_or, set, length-set, take-append-drop, dr
 use lib.Seq.{drop-cons, drop-drop, drop-set-lt, length-take-le, take-suc-set}
 use lib.Ieee.{Float}
 use Rattle.stretch.specs.Stretch.{Called, Call, Ran, nothing, and_then, stretch_of}
-use Rattle.stretch.specs.Whole.{out_after}
 
 module _ {S : Type 0} where
   -- What a stretch leaves, with samples in front.

@@ -1,15 +1,15 @@
 -- Laws of a stretch over any reader's single call: it is the single calls in order (W3a, W3e), it stops at the first
 -- that is refused (W3b), and it may be cut in two (W3h). By induction over the items. Assumes nothing.
-use mathlib.Core.Path.{◌≡◌, refl, sym, ap, ◌∙◌}
+use mathlib.Core.Path.{◌≡◌, refl, ◌∙◌}
 use mathlib.Core.List.{List, [], ◌∷◌, ◌++◌}
-use Prim.Native.Nat.{ℕ, zero, suc, ◌+◌, ◌-◌, ◌≤◌, ◌<◌, min}
+use Prim.Native.Nat.{ℕ, zero, suc, ◌+◌, ◌≤◌, ◌<◌, min}
 use native.Mathlib.Omega.{arith}
-use lib.ListN.{length, drop, get_or, length-append, length-drop, get_or-append}
+use lib.ListN.{length, drop, get_or, get_or-append}
 use lib.Seq.{get_or-append-add, get_or-drop}
 use lib.Ieee.{Float, nan}
-use Rattle.stretch.specs.Stretch.{Called, Call, Ran, nothing, and_then, stretch_of}
-use Rattle.stretch.specs.Whole.{Reader, done_of, out_after}
-use Rattle.stretch.specs.Singles.{Between, after_calls, call_at}
+use Rattle.stretch.specs.Stretch.{Called, Call, Ran, and_then, stretch_of}
+use Rattle.stretch.specs.Whole.{done_of, out_after}
+use Rattle.stretch.specs.Singles.{after_calls, call_at}
 use Rattle.stretch.proofs.Going.{behind}
 
 -- A single call that is accepted, and its sample.

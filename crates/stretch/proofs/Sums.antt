@@ -2,12 +2,12 @@
 -- with the laws of adding three numbers. Assumes nothing.
 use mathlib.Core.Path.{◌≡◌, refl, sym, ap, ◌∙◌}
 use mathlib.Core.List.{List, [], ◌∷◌, ◌++◌}
-use Prim.Native.Nat.{ℕ, zero, suc, ◌+◌}
+use Prim.Native.Nat.{ℕ, zero, suc}
 use native.Mathlib.Omega.{arith}
 use lib.ListN.{length}
 use lib.Ieee.{Float}
 use Rattle.absent_taps.specs.declared.Absent.{Absent}
-use Rattle.absent_taps.specs.Absent.{absent_of, none, plus}
+use Rattle.absent_taps.specs.Absent.{none, plus}
 use Rattle.absent_taps.proofs.AtOnce.{same}
 use Rattle.stretch.specs.Stretch.{Called, Call, Ran, and_then, stretch_of}
 use Rattle.stretch.specs.Whole.{done_of}

@@ -8,7 +8,7 @@ use lib.ListN.{length, take, drop, get_or, set}
 use mathlib.Core.List.{◌++◌}
 use lib.Seq.{drop-cons}
 use lib.Ieee.{Float}
-use Rattle.stretch.specs.Stretch.{Called, Call, Ran, stretch_of}
+use Rattle.stretch.specs.Stretch.{Called, Call, stretch_of}
 use Rattle.stretch.proofs.Going as going
 
 module _ {S : Type 0} (call : Call S) (s₀ : S) (ring₀ xs ds : List Float) where

@@ -10,9 +10,9 @@ use borrow.Author.Tests.{eqb-true, eq-eqb}
 use lib.Dec.{eqb}
 use lib.ListN.{length}
 use lib.Ieee.{Float}
-use Rattle.refusal_order.specs.Order.{Test, ◌unless◌, First, first_of}
+use Rattle.refusal_order.specs.Order.{◌unless◌, First, first_of}
 use Rattle.refusal_order.proofs.First.{lowest}
-use Rattle.stretch.specs.Stretch.{Called, Call, Ran, nothing, and_then, stretch_of}
+use Rattle.stretch.specs.Stretch.{Called, Ran, nothing, and_then, stretch_of}
 use Rattle.stretch.specs.Whole.{Reader, tests, refused_first, unless_refused, whole_of, done_of}
 use Rattle.stretch.specs.Counts.{Absence, none_if, absent_in, whole_absent}
 use Rattle.stretch.specs.Singles.{Orderly, absent_call, sum_of}

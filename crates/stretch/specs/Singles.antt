@@ -1,6 +1,6 @@
 -- W3a, W3e. The single calls in order, one by one: what they leave after any number of them, and call k itself. The
 -- laws of a stretch are said over them. Definitions only.
-use Rattle.std.specs.Prelude.{ℕ, zero, suc, ◌<◌, ◌≡◌, Bool, true, List, [], ◌∷◌, length, get_or, Float}
+use Rattle.std.specs.Prelude.{ℕ, zero, suc, ◌<◌, ◌≡◌, true, List, [], ◌∷◌, length, get_or, Float}
 use Rattle.std.specs.Float.{nan}
 use Rattle.absent_taps.specs.declared.Absent.{Absent}
 use Rattle.absent_taps.specs.Absent.{none, plus}
