@@ -3,7 +3,7 @@ ghost use Rattle.std.specs.Prelude.{◌≡◌, ◌-◌, ◌<◌, ◌^◌, pos, �
 ghost use Rattle.absent_taps.specs.Inner.{start_of, below_of};
 
 // The run has `low` numbers below 0 and then goes on from the number `from`; one of the two is 0.
-#[derive(Drop)]
+#[derive(Clone, Copy)]
 pub struct Start {
     pub low: u64,
     pub from: u64,

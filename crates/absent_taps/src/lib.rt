@@ -11,7 +11,7 @@ ghost use Rattle.absent_taps.specs.Absent.{none, absent_at};
 
 use counting::{below, first, less};
 
-#[derive(Drop)]
+#[derive(Clone, Copy)]
 pub struct Absent {
     pub unwritten: u64,
     pub ahead: u64,

@@ -5,7 +5,7 @@ ghost use Rattle.std.specs.Prelude.{◌≡◌};
 ghost use Rattle.quality_mode.specs.Quality.{default_quality, code_of, same_q, taps_of, phases_of};
 ghost use Rattle.quality_mode.specs.Names.{named_of};
 
-#[derive(Drop)]
+#[derive(Clone, Copy)]
 pub enum QualityMode {
     Draft,
     Normal,
@@ -13,7 +13,7 @@ pub enum QualityMode {
     Ultra,
 }
 
-#[derive(Drop)]
+#[derive(Clone, Copy)]
 pub enum Named {
     Quality(QualityMode),
     Refused(u8),

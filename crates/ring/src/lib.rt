@@ -62,7 +62,7 @@ pub fn place(index: u64, len: usize) -> usize
     (index % n) as usize
 }
 
-#[derive(Drop)]
+#[derive(Clone, Copy)]
 pub struct Start {
     pub held: bool,
     pub place: usize,

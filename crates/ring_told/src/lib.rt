@@ -11,7 +11,7 @@ ghost use Rattle.ring_told.specs.Told.{told_of};
 
 pub use single::told_f32;
 
-#[derive(Drop)]
+#[derive(Clone, Copy)]
 pub enum Tap {
     Held(f64),
     Unwritten,
@@ -19,7 +19,7 @@ pub enum Tap {
     Overwritten,
 }
 
-#[derive(Drop)]
+#[derive(Clone, Copy)]
 pub enum TapF32 {
     Held(f32),
     Unwritten,

@@ -15,26 +15,26 @@ pub use refusals::refusal;
 use refusals::{due, passes};
 
 // The settings and the number of samples accepted since opening or reset (000's write_index).
-#[derive(Drop)]
+#[derive(Clone, Copy)]
 pub struct VariableDelay {
     pub maximum: usize,
     pub margin: usize,
     pub accepted: u64,
 }
 
-#[derive(Drop)]
+#[derive(Clone, Copy)]
 pub enum Opened {
     Reader(VariableDelay),
     Refused(u8),
 }
 
-#[derive(Drop)]
+#[derive(Clone, Copy)]
 pub struct Processed {
     pub state: VariableDelay,
     pub answer: Answer,
 }
 
-#[derive(Drop)]
+#[derive(Clone, Copy)]
 pub struct Accepted {
     pub refusal: u8,
     pub count: u64,
