@@ -6,7 +6,6 @@ use Prim.Native.Nat.{ℕ}
 use Rattle.refusal_order.specs.Order.{◌unless◌, first_of}
 use Rattle.riff_chunks.specs.declared.Walked.{Walked}
 use Rattle.wav.specs.declared.Found.{Found}
-use Rattle.wav.specs.declared.Wave.{Wave}
 use Rattle.wav_format.specs.Format.{channels, rate, bits, kind_of, format_ok}
 use Rattle.wav.specs.Wave.{walk_in, part_of, fmt_of, is_wave, within, tag_in, answered, found_by}
 

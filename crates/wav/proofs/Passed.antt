@@ -11,8 +11,8 @@ use lib.ListN.{length}
 use Rattle.refusal_order.specs.Order.{first_of}
 use Rattle.refusal_order.proofs.First.{none}
 use Rattle.riff_chunks.specs.declared.Walked.{Walked}
-use Rattle.wav_format.specs.Format.{channels, block, bits, listed, whole_frames, format_ok}
-use Rattle.wav.specs.Wave.{riff_size, walk_in, fmt_of, is_wave, within, tag_in, tests_of, tests, verdict}
+use Rattle.wav_format.specs.Format.{channels, block, bits, listed, format_ok}
+use Rattle.wav.specs.Wave.{riff_size, walk_in, fmt_of, is_wave, tag_in, tests_of, tests, verdict}
 
 pub both_hold : (a b : Bool) → a && b ≡ true → (a ≡ true) × (b ≡ true)
 both_hold true b h = (refl, h)

@@ -1,17 +1,17 @@
 -- W1a, W1b, W1j. What a reading promises, however it takes the tag: exactly when each number of 9 to 13 is given, and
 -- that the samples are all there if none is. By the table of tests and what they show. Assumes nothing.
-use mathlib.Core.Path.{◌≡◌, refl, sym, ap, ◌∙◌}
+use mathlib.Core.Path.{◌≡◌, refl, sym, ◌∙◌}
 use mathlib.Core.Logic.{◌↔◌}
 use mathlib.Core.Bool.{Bool, true, false, true≢false, cond, ◌&&◌, ◌||◌}
 use mathlib.Core.List.{List}
-use Prim.Native.Nat.{ℕ, zero, suc, ◌+◌, ◌*◌, ◌/◌, ◌≤◌, ◌<◌}
+use Prim.Native.Nat.{ℕ, zero, suc, ◌+◌, ◌/◌, ◌<◌}
 use native.Mathlib.Omega.{arith}
 use borrow.Author.Tests.{eqb-true, lt-leb}
-use lib.Dec.{eqb, leb}
-use lib.ListN.{length, drop, length-take, length-drop}
+use lib.Dec.{eqb}
+use lib.ListN.{length, length-take, length-drop}
 use Rattle.refusal_order.specs.Order.{First, number_of, line_of}
 use Rattle.refusal_order.proofs.First.{first-given, given-first}
-use Rattle.riff_chunks.specs.Walk.{riff_sought, end_in, walked_from, walk_from}
+use Rattle.riff_chunks.specs.Walk.{riff_sought, end_in, walked_from}
 use Rattle.riff_chunks.specs.Chunks.{chunk_at}
 use Rattle.riff_chunks.proofs.Found.{fits}
 use Rattle.word_bytes.specs.Bytes.{bytes_value}

@@ -17,7 +17,7 @@ use wav_format::tag_of;
 use word_bytes::low_first_u32;
 
 // There are one or two channels, and the samples are the `length` bytes from `start` on.
-#[derive(Drop)]
+#[derive(Clone, Copy)]
 pub struct Wave {
     pub kind: SampleKind,
     pub channels: u8,
@@ -26,14 +26,14 @@ pub struct Wave {
     pub length: usize,
 }
 
-#[derive(Drop)]
+#[derive(Clone, Copy)]
 pub enum Found {
     Wave(Wave),
     Refused(u8),
 }
 
 // What the first `fmt ` says, its size, and the size of the first `data`; zeros for what is missing.
-#[derive(Drop)]
+#[derive(Clone, Copy)]
 pub struct Told {
     pub size: usize,
     pub tag: u32,

@@ -7,8 +7,7 @@ use native.Mathlib.Nat.{mod-one}
 use borrow.Author.Tests.{eq-eqb, ne_eqb, eqb-true}
 use lib.Dec.{eqb}
 use Rattle.wav_settings.specs.Settings.{whole_frames}
-use Rattle.wav_settings.proofs.whole_frames.Statement.{statement}
-use Rattle.wav_settings.proofs.whole_frames.Tie as tie
+use Rattle.wav_settings.proofs.whole_frames.Goals as goal
 
 two : (channels count : ℕ) → channels ≡ 2 → eqb (count % 2) 0 ≡ whole_frames channels count
 two channels count e = rw e
@@ -20,11 +19,8 @@ other channels count h = rw (ne_eqb channels 2 h) (by (eqb channels 1) refl)
     by true e = rw (eqb-true channels 1 e, mod-one)
     by false e = refl
 
-returns : tie.Need-returns
-returns c = two c.before.args.channels c.before.args.count c.if1.true
+pub returns-then-channels-eq2 : goal.returns-then-channels-eq2
+returns-then-channels-eq2 c = two c.args.channels c.args.count c.if-channels-eq2.true
 
-returns-2 : tie.Need-returns-2
-returns-2 c = other c.before.args.channels c.before.args.count c.if1.false
-
-pub whole-frames-spec : {M : Type 1} → statement M
-whole-frames-spec = tie.close (tie.spec returns returns-2)
+pub returns-else-channels-eq2 : goal.returns-else-channels-eq2
+returns-else-channels-eq2 c = other c.args.channels c.args.count c.if-channels-eq2.false
