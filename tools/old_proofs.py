@@ -430,6 +430,13 @@ def turn(crate, fn, path, mode=None):
     if mode is None:
         named_place = sum(len(re.findall(r"\btie\.(?!Need-|spec|close|invariant|decreases)[A-Z]", d)) for d in ds)
         mode = "A" if named_place > len(over) else "B"
+        # a helper that is called from a helper over a later place stays in the old walk
+        for d in rest:
+            t = unalias(d)
+            if any(re.search(rf"(?<![{IDC}.]){re.escape(h)} \w+(?:\.before)+(?![{IDC}.])", t) for h in over):
+                mode = "A"
+    # `use` has to import the record of a place from Goals; `goal.at` is made for those alone
+    places_named = set()
 
     def at_places(t, g):
         """Calls of a helper over a place, from the answer of the goal g (or from a helper, g is None)."""
@@ -442,8 +449,12 @@ def turn(crate, fn, path, mode=None):
                     return m[0]
                 return f"{h} (goal.at.{g} {m[1]}).{pl}"
             t = re.sub(rf"(?<![{IDC}.]){re.escape(h)} (\w+)((?:\.before)*)(?![{IDC}.])", one, t)
-        return re.sub(rf"\btie\.(?!Need-|spec|close|invariant|decreases)([A-Z][{IDC}]*)",
-                      lambda m: "goal." + fn.place[norm(m[1])] if norm(m[1]) in fn.place else m[0], t)
+        def place(m):
+            if norm(m[1]) not in fn.place:
+                return m[0]
+            places_named.add(fn.place[norm(m[1])])
+            return fn.place[norm(m[1])]
+        return re.sub(rf"\btie\.(?!Need-|spec|close|invariant|decreases)([A-Z][{IDC}]*)", place, t)
     head = re.sub(r"^use Rattle\.[^ ]*\.Statement\.\{\s*statement,?\s*\}\n", "", head, flags=re.M)
     head = "\n".join(l for l in head.split("\n") if not re.match(r"^use Rattle\.[^ ]*\.Statement\.", l))
     if mode == "B":
@@ -507,6 +518,8 @@ def turn(crate, fn, path, mode=None):
                 body.append(f"\npub {g} : goal.{g}\n{g} {mm[1]} = {e}")
             else:
                 body.append(f"\npub {g} : goal.{g}\n{g} = {a}")
+        if places_named:
+            head = head.rstrip("\n") + f"\nuse Rattle.{cratename}.proofs.{fnpath}.Goals.{{{', '.join(sorted(places_named))}}}\n"
         text = (head.rstrip("\n") + "\n" + "\n".join(body)).rstrip("\n") + "\n"
         if not body:
             text = None
