@@ -1,5 +1,5 @@
 -- The digits that `quick` finds, below the exponent field of the root, are the root's pattern. Assumes nothing.
-use Rattle.std.proofs.Common.{◌≡◌, ℕ, ◌+◌, ◌-◌, ◌*◌, ◌/◌, ◌%◌, ◌^◌, ◌<◌, ◌≤◌, Bool, true, false, T, eqb, sym, refl, ap, ◌∙◌, subst, true≢false, le_trans, lt_of_lt_of_le, lt_of_le_of_lt, le_of_lt, mod-eq_of_lt, mul_assoc, zero-add, mul_right_comm, le-mul_of_pos_right, arith, pow_pos, pow_mono, shl_lt, lt-ltb}
+use Rattle.std.proofs.Common.{◌≡◌, ℕ, ◌+◌, ◌*◌, ◌/◌, ◌%◌, ◌^◌, ◌<◌, ◌≤◌, Bool, true, false, T, eqb, sym, ap, ◌∙◌, le_trans, lt_of_lt_of_le, mod-eq_of_lt, zero-add, mul_right_comm, le-mul_of_pos_right, arith, pow_pos, pow_mono, shl_lt, lt-ltb}
 use mathlib.Core.Logic.{dite}
 use native.Mathlib.Decide.{dec_lt}
 use borrow.Author.Tests.{eqb-false}
@@ -13,7 +13,7 @@ use Rattle.float_digits.specs.Pattern.{unpacked, magnitude_of, packed}
 use Rattle.float_digits.proofs.UnpackNormal.{normal-place, normal-digits}
 use Rattle.float_digits.proofs.PlainValues.{positive-plain}
 use Rattle.float_digits.proofs.UnpackMeaning.{Scaling, scaling}
-use Rattle.square_root.specs.Digits.{RootDigits, NearRoot, Nearest, Quick, evened}
+use Rattle.square_root.specs.Digits.{RootDigits, Quick, evened}
 use Rattle.square_root.proofs.GuessCheck.{Marked, marked}
 use Rattle.square_root.proofs.PackedRoot.{root-code}
 

@@ -1,14 +1,10 @@
 -- `fused64::quick::digits_of` meets its contract. Assumes nothing.
 use Rattle.std.proofs.Common.{arith}
 use lib.Bits.{bit_and, and_mask, or_shifted_r}
-use Rattle.fused64.proofs.quick.digits_of.Statement.{statement}
-use Rattle.fused64.proofs.quick.digits_of.Tie as tie
+use Rattle.fused64.proofs.quick.digits_of.Goals as goal
 
-returns : tie.Need-returns
+pub returns : goal.returns
 returns c =
     let n = bit_and c.args.bits 0xf_ffff_ffff_ffff in
     let low = and_mask c.args.bits 52 in
     omega (arith, or_shifted_r 1 52 n (omega arith))
-
-pub digits-of-spec : {M : Type 1} → statement M
-digits-of-spec = tie.close (tie.spec returns)
