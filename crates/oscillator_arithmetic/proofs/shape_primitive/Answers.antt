@@ -1,6 +1,5 @@
 -- `oscillator_arithmetic::shape_primitive` meets its contract: each branch returns what the definition gives there.
 -- Assumes nothing.
-use borrow.Author.Rules.{rules}
 use Rattle.oscillator_arithmetic.specs.Arithmetic.{rounded_square, triangle, shape_primitive}
 use Rattle.oscillator_arithmetic.proofs.shape_primitive.Goals as goal
 
