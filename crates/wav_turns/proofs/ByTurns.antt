@@ -1,8 +1,8 @@
 -- W1. Reading a file step by step gives the answer of the whole file. By the first 12 bytes, the walk, and the fields
 -- of `fmt `. Assumes nothing.
 use mathlib.Core.Path.{◌≡◌, refl, sym, ap, ◌∙◌}
-use mathlib.Core.Bool.{Bool, true, false, not, cond, ◌&&◌}
-use mathlib.Core.List.{List, [], ◌∷◌}
+use mathlib.Core.Bool.{Bool, true, false, not, cond}
+use mathlib.Core.List.{List}
 use Prim.Native.Nat.{ℕ, ◌+◌, ◌≤◌}
 use native.Mathlib.Omega.{arith}
 use borrow.Author.Tests.{leb-true, leb-false, le-leb, lt-leb}
@@ -11,15 +11,10 @@ use lib.ListN.{length, take, drop, length-take}
 use lib.Seq.{take-take}
 use Rattle.word_bytes.specs.Bytes.{bytes_value}
 use Rattle.riff_chunks.specs.declared.Walked.{Walked}
-use Rattle.riff_chunks.specs.Chunks.{chunk_at}
-use Rattle.riff_chunks.specs.Walk.{riff_sought, walk_to}
-use Rattle.wav.specs.declared.Found.{Found}
-use Rattle.wav.specs.declared.Found.TheVariants as found
-use Rattle.wav_format.specs.Format.{number}
 use Rattle.wav_format.specs.Tags.{wrapped_tag}
-use Rattle.wav.specs.Wave.{riff_size, walk_in, fmt_of, is_wave, within, found_of, found_wrapped}
+use Rattle.wav.specs.Wave.{riff_size, walk_in, fmt_of, is_wave, found_wrapped}
 use Rattle.wav.proofs.Alike.{same-part, walk-held}
-use Rattle.wav_turns.specs.Turns.{started_of, finished_of, by_turns, found_by_turns}
+use Rattle.wav_turns.specs.Turns.{finished_of, by_turns, found_by_turns}
 use Rattle.wav_turns.proofs.Walking.{walks}
 use Rattle.wav_turns.proofs.Fields.{same_tag, same-found}
 

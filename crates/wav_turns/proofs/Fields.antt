@@ -1,11 +1,11 @@
 -- A reading looks only at the first 40 bytes of a `fmt `: every field lies in them. Assumes nothing.
-use mathlib.Core.Path.{◌≡◌, refl, ap}
+use mathlib.Core.Path.{◌≡◌, ap}
 use mathlib.Core.Bool.{Bool}
 use mathlib.Core.List.{List}
 use Prim.Native.Nat.{ℕ, ◌+◌, ◌≤◌}
 use native.Mathlib.Omega.{arith}
 use lib.Dec.{lit≤}
-use lib.ListN.{take, drop}
+use lib.ListN.{take}
 use lib.Seq.{take-take}
 use Rattle.word_bytes.specs.Bytes.{bytes_value}
 use Rattle.riff_chunks.specs.declared.Walked.{Walked}

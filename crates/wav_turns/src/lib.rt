@@ -12,7 +12,7 @@ use wav::{Found, is_wave};
 use word_bytes::low_first_u32;
 
 // `refusal` is 9 or 10 if the beginning shows it already, and otherwise 0; `end` is the end of the walk.
-#[derive(Drop)]
+#[derive(Clone, Copy)]
 pub struct Started {
     pub refusal: u8,
     pub end: usize,
