@@ -110,7 +110,11 @@ def as_fields(t, ls):
     w = re.match(r"[^\s(]+", last)
     if not w or w[0] in ("record", "search", "grind", "elim", "rw", "simp", "cc", "omega", "subst", "absurd", "λ", "?"):
         return t
-    if re.search(r"\s_(\s|$)|∙", last) or "." in w[0] and w[0].startswith("c."):
+    flat, depth = "", 0
+    for ch in last:
+        depth += (ch in "([{") - (ch in ")]}")
+        flat += ch if depth == 0 else ""
+    if "∙" in flat or "." in w[0] and w[0].startswith("c."):
         return t
     fields = "; ".join(f"{l} = both.{i}" for i, l in enumerate(ls))
     return f"{head}{body[:cut]}\n    let both = {last} in\n    record {{ {fields} }}\n"
@@ -309,6 +313,10 @@ def steps(fn, t, say, by_label=True):
         t = re.sub(rf"(\.{re.escape(st)}\.ensures)((?:\.[0-9]+)*)(?![{IDC}.])", cl, t)
         for name in re.findall(rf"\blet ([^\s:=]+) = \w+\.{re.escape(st)} in\b", t):
             t = re.sub(rf"((?<![{IDC}.]){re.escape(name)}\.ensures)((?:\.[0-9]+)*)(?![{IDC}.])", cl, t)
+        # all clauses as one argument
+        if len(fields) > 1:
+            t = re.sub(rf"(?<![{IDC}.])((?!let)[A-Za-z][{IDC}]*(?:\.[{IDC}]+)*\.{re.escape(st)}\.ensures)(?=[\s)])(?!\s+in\b)",
+                       lambda m: "(" + ", ".join(f"{m[1]}.{x}" for x in fields) + ")", t)
         # the same where a `let` names the clauses
         for al in re.findall(rf"\blet ([^\s:=]+) = [^\s]*\.{re.escape(st)}\.ensures\s+in\b", t):
             if len(fields) > 1:
