@@ -8,11 +8,11 @@ use native.Mathlib.Nat.{min-eq_left, min-eq_right}
 use native.Mathlib.Omega.{arith}
 use borrow.Author.Tests.{leb-true, leb-false}
 use lib.Dec.{eqb, leb}
-use lib.ListN.{length, take, drop, drop_of_length-le}
+use lib.ListN.{length, take, drop_of_length-le}
 use Rattle.word_bytes.specs.Bytes.{bytes_value}
 use Rattle.wav_format.specs.Format.{number}
 use Rattle.true_sizes.specs.declared.Entry.{Entry}
-use Rattle.true_sizes.specs.Sizes.{full, largest, entry_at, entries_from, size_in, all_small}
+use Rattle.true_sizes.specs.Sizes.{largest, entry_at, entries_from, size_in, all_small}
 
 -- An entry of which no byte is lent.
 abbrev blank : Entry

@@ -1,16 +1,11 @@
 -- W10. Files with the same first bytes have the same sizes, because every field that is read lies in the fixed part of
 -- `ds64` or in its table. Assumes nothing.
-use mathlib.Core.Path.{◌≡◌, refl, sym, ap, ◌∙◌}
-use mathlib.Core.Bool.{Bool, true, false, cond, ◌&&◌}
-use mathlib.Core.List.{List, [], ◌∷◌}
+use mathlib.Core.Path.{◌≡◌, refl, ap, ◌∙◌}
+use mathlib.Core.List.{List}
 use Prim.Native.Nat.{ℕ, zero, suc, ◌+◌, ◌*◌, ◌≤◌}
 use native.Mathlib.Omega.{arith}
-use lib.Dec.{eqb}
-use lib.ListN.{take, drop}
-use Rattle.word_bytes.specs.Bytes.{bytes_value}
 use Rattle.wav_format.specs.Format.{number}
-use Rattle.true_sizes.specs.Sizes.{is_long, full, entry_count, entries_from, table_of, small_sizes, true_size}
-use Rattle.true_sizes.specs.declared.Entry.{Entry}
+use Rattle.true_sizes.specs.Sizes.{is_long, entry_count, entries_from, table_of, small_sizes, true_size}
 
 module _ (b c : List ℕ) (limit : ℕ)
     (same : (k at : ℕ) → at + k ≤ limit → number k b at ≡ number k c at) where

@@ -10,7 +10,7 @@ use refusal_order::both;
 use word_bytes::{low_first, low_first_u32};
 
 // An entry of the table: a chunk's identifier and its size.
-#[derive(Drop)]
+#[derive(Clone, Copy)]
 pub struct Entry {
     pub id: u32,
     pub size: u64,
