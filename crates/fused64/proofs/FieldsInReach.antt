@@ -1,11 +1,10 @@
 -- The quick way in one word: one test of all three fields shows that each is small enough, and a product is cut to a
 -- word. Assumes nothing.
-use Rattle.std.proofs.Common.{◌≡◌, ℕ, ◌+◌, ◌-◌, ◌*◌, ◌/◌, ◌%◌, ◌^◌, ◌<◌, ◌≤◌, sym, ap, ◌∙◌, inl, inr, le_of_eq, lt_of_lt_of_le, lt_of_le_of_lt, mod-lt, mul_assoc, mul_comm, add-mul, eq-zero-or-pos, div-add-mod', arith, pow_pos, pow-add, eq-eqb, ne_eqb}
+use Rattle.std.proofs.Common.{◌≡◌, ℕ, ◌+◌, ◌-◌, ◌*◌, ◌/◌, ◌%◌, ◌^◌, ◌<◌, ◌≤◌, sym, ap, ◌∙◌, inl, inr, lt_of_le_of_lt, mod-lt, mul_assoc, mul_comm, eq-zero-or-pos, div-add-mod', arith, pow_pos, pow-add, eq-eqb, ne_eqb}
 use lib.Arith.{digits_lt}
 use lib.Pow.{shr_le}
 use lib.Bits.{bit_and, bit_or, and_le_l, and_le_r, and_mask, or_add_and, or_mod}
 use Rattle.float_digits.specs.Pattern.{with_sticky}
-use Rattle.float_digits.specs.Jam.{Jam}
 use Rattle.float_digits.proofs.Jams.{jam-cut}
 use Rattle.fused64.specs.Wide.{val, lower}
 use Rattle.fused64.specs.Word.{Heads, Tells, Cutoff}

@@ -1,11 +1,11 @@
 -- The sum of a number that may have been cut short and an even one that was not, both at one place: in each case of
 -- signs and sizes what is packed is the exact sum, rounded once. Assumes nothing.
-use Rattle.std.proofs.Common.{◌≡◌, ℕ, ◌+◌, ◌-◌, ◌*◌, ◌/◌, ◌%◌, ◌^◌, ◌<◌, ◌≤◌, false, eqb, sym, ap, ◌∙◌, subst, add_comm, arith, pow_pos}
+use Rattle.std.proofs.Common.{◌≡◌, ℕ, ◌+◌, ◌-◌, ◌*◌, ◌/◌, ◌%◌, ◌^◌, ◌<◌, false, eqb, sym, ap, ◌∙◌, subst, add_comm, arith, pow_pos}
 use mathlib.Core.Bool.{beq}
-use lib.Ieee.{binary64, round, sum, of_bits}
+use lib.Ieee.{binary64, round, of_bits}
 use Rattle.rounding.proofs.Sums.{sum_like, sum_less, sum_over}
 use Rattle.float_digits.specs.Jam.{Jam}
-use Rattle.fused64.specs.Word.{Headed, Placed, Beside, Joined}
+use Rattle.fused64.specs.Word.{Placed, Beside, Joined}
 use Rattle.fused64.proofs.TwoWords.{unlike-bits}
 use Rattle.fused64.proofs.JammedSums.{jam-plus, jam-less, jam-more, less-kept, more-kept}
 

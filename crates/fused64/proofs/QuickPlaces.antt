@@ -1,9 +1,7 @@
 -- The places of the quick way: what fields in range show of the product and the addend, and that the sum at either's
 -- place is the exact sum. Assumes nothing.
-use Rattle.std.proofs.Common.{◌≡◌, ℕ, suc, ◌+◌, ◌-◌, ◌*◌, ◌/◌, ◌%◌, ◌^◌, ◌<◌, ◌≤◌, eqb, sym, ap, ◌∙◌, subst, le_of_eq, lt_of_lt_of_le, lt_of_le_of_lt, mul_assoc, mul_comm, mul-le-mul, mul-div_cancel, arith, lit<, pow_pos, pow-add}
-use native.Mathlib.Nat.{mul-mod_left}
+use Rattle.std.proofs.Common.{◌≡◌, ℕ, suc, ◌+◌, ◌-◌, ◌*◌, ◌/◌, ◌%◌, ◌^◌, ◌<◌, ◌≤◌, sym, ap, ◌∙◌, subst, le_of_eq, lt_of_le_of_lt, mul_assoc, mul-le-mul, mul-div_cancel, arith, lit<, pow_pos, pow-add}
 use lib.Bits.{shifted_even}
-use lib.Ieee.{binary64, sum, of_bits}
 use Rattle.float_digits.specs.Jam.{Jam}
 use Rattle.float_digits.proofs.Jams.{jam-scale}
 use Rattle.fused64.specs.Wide.{val}

@@ -1,15 +1,16 @@
 -- `fused64::by_cases` meets its contract, case by case. Assumes nothing.
-use Rattle.std.proofs.Common.{◌≡◌, true, false, ◌&&◌, T, sym, ◌∙◌, rules}
+use Rattle.std.proofs.Common.{◌≡◌, true, false, ◌&&◌, T, sym, ◌∙◌}
 use lib.Ieee.Bits.{is_true}
 use lib.Ieee.Fits.{and_l, and_r}
 use Rattle.float_digits.specs.Pattern.{plain}
 use Rattle.fused64.proofs.SpecialCases.{factor-not-plain, addend-not-plain}
 use Rattle.fused64.proofs.by_cases.Goals as goal
+use Rattle.fused64.proofs.by_cases.Goals.{Else-is_plain, Then-both_plain}
 
-both : (c : goal.Then-both_plain) → (plain c.args.a && plain c.args.b) ≡ true
+both : (c : Then-both_plain) → (plain c.args.a && plain c.args.b) ≡ true
 both c = sym c.both_plain.ensures ∙ c.if-both_plain.true
 
-neither : (c : goal.Else-is_plain) → plain c.args.c ≡ false
+neither : (c : Else-is_plain) → plain c.args.c ≡ false
 neither c = sym c.is_plain.ensures ∙ c.if-is_plain.false
 
 pub fused_plain-requires : goal.fused_plain-requires

@@ -1,18 +1,19 @@
 -- `fused64::fused64` meets its contract: if the sum is not a NaN the three have patterns, and what the quick way makes
 -- of them is `fused`. Assumes nothing.
-use Rattle.std.proofs.Common.{◌≡◌, not, T, sym, subst, pos_of_ne-zero, rules}
-use lib.Ieee.{binary64, fits, is_nan, to_bits}
+use Rattle.std.proofs.Common.{not, T, sym, subst, pos_of_ne-zero}
+use lib.Ieee.{binary64, is_nan, to_bits}
 use Rattle.rounding.proofs.Patterns.{rest-no-nan}
 use Rattle.fused64.specs.Word.{Quick}
 use Rattle.fused64.proofs.SpecialCases.{no-nan-parts}
 use Rattle.fused64.proofs.Normals.{quick-fused}
 use Rattle.fused64.proofs.fused64.Goals as goal
+use Rattle.fused64.proofs.fused64.Goals.{Else-r-eq0, Then-s}
 
-parts : (c : goal.Then-s)
+parts : (c : Then-s)
     → T (not (is_nan c.args.a)) × T (not (is_nan c.args.b)) × T (not (is_nan c.args.c))
 parts c = no-nan-parts c.args.a c.args.b c.args.c c.if-s.true
 
-found : (c : goal.Else-r-eq0)
+found : (c : Else-r-eq0)
     → Quick (to_bits binary64 c.args.a)
     (to_bits binary64 c.args.b) (to_bits binary64 c.args.c)
     c.quick-r.result

@@ -1,5 +1,4 @@
 -- `fused64::quick::joined` meets its contract: a law for each case. Assumes nothing.
-use Rattle.std.proofs.Common.{rules}
 use Rattle.fused64.proofs.Joining.{alike, first-less, second-less}
 use Rattle.fused64.proofs.quick.joined.Goals as goal
 

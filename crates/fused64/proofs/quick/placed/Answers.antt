@@ -1,5 +1,5 @@
 -- `fused64::quick::placed` meets its contract. Assumes nothing.
-use Rattle.std.proofs.Common.{◌≡◌, ℕ, ◌+◌, ◌-◌, ◌*◌, ◌/◌, ◌%◌, ◌^◌, ◌≤◌, lt_irrefl, arith}
+use Rattle.std.proofs.Common.{◌-◌, ◌*◌, ◌/◌, ◌%◌, ◌^◌, ◌≤◌, lt_irrefl, arith}
 use lib.Bits.{bit_and, and_mask}
 use lib.Count.{count_leading_zeros, leading_le}
 use Rattle.fused64.proofs.Placing.{zeros, moved-lt, is-placed}

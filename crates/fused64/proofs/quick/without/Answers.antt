@@ -1,5 +1,4 @@
 -- `fused64::quick::without` meets its contract. Assumes nothing.
-use Rattle.std.proofs.Common.{rules}
 use Rattle.fused64.proofs.FieldsInReach.{back-le, cut_off}
 use Rattle.fused64.proofs.quick.without.Goals as goal
 
