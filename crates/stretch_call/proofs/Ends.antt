@@ -1,7 +1,7 @@
 -- W3. Closed examples at the ends, each computed from the definition, over any kernel: 2^36 is reached inside a
 -- stretch, a full state takes an empty one, and which number is given of several. Assumes nothing.
 use mathlib.Core.Path.{◌≡◌, refl}
-use mathlib.Core.Bool.{Bool, true, false}
+use mathlib.Core.Bool.{true, false}
 use mathlib.Core.List.{List, [], ◌∷◌}
 use Prim.Native.Nat.{ℕ, ◌^◌, ◌-◌, ◌+◌}
 use lib.Ieee.{Float, le, lt, eq, size, nan}

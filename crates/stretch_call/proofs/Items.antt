@@ -6,20 +6,19 @@ use mathlib.Core.List.{List}
 use Prim.Native.Nat.{ℕ, zero, suc, ◌+◌, ◌^◌, ◌<◌}
 use native.Mathlib.Omega.{arith}
 use borrow.Author.Tests.{le-leb}
-use lib.Dec.{eqb, leb, ltb}
+use lib.Dec.{ltb}
 use lib.ListN.{length, length-set}
 use lib.Ieee.{Float, le}
 use lib.Ieee.Scale.{finite}
 use Rattle.constants.specs.Numbers.{zero-f, limit, limit-f}
 use Rattle.answer.specs.Refusals.{lowest_of}
-use Rattle.ring.specs.Length.{settings_ok, length_for}
 use Rattle.variable_delay.specs.Reader.{Reading, verdict, stored, position_of}
 use Rattle.variable_delay.specs.declared.VariableDelay.{VariableDelay}
 use Rattle.variable_delay.proofs.AcceptedCall.{taken}
 use Rattle.stretch.specs.Stretch.{Called}
 use Rattle.stretch.specs.Singles.{Orderly}
-use Rattle.stretch_call.specs.Items.{item_of, delay_reader, item_due}
-use Rattle.stretch_call.proofs.Tests.{Begun, rest-due}
+use Rattle.stretch_call.specs.Items.{item_of, delay_reader}
+use Rattle.stretch_call.proofs.Tests.{rest-due}
 
 abbrev pub with_count : VariableDelay → ℕ → VariableDelay
 with_count d n = record { maximum = d.maximum; margin = d.margin; accepted = n }

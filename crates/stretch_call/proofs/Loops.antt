@@ -2,36 +2,35 @@
 -- is i. One item more, the refused item, and the end. Assumes nothing.
 use mathlib.Core.Path.{◌≡◌, refl, sym, ap, ◌∙◌}
 use mathlib.Core.Bool.{Bool, true, false, true≢false}
-use mathlib.Core.List.{List, [], ◌++◌}
-use Prim.Native.Nat.{ℕ, zero, suc, ◌+◌, ◌-◌, ◌%◌, ◌^◌, ◌≤◌, ◌<◌, min}
+use mathlib.Core.List.{List}
+use Prim.Native.Nat.{ℕ, zero, suc, ◌+◌, ◌-◌, ◌%◌, ◌^◌, ◌≤◌, ◌<◌}
 use native.Mathlib.Nat.{mod-lt}
 use native.Mathlib.Omega.{arith}
 use borrow.Author.Tests.{le-leb, eqb-true}
 use lib.Bits.{bit_and}
-use lib.Dec.{T, eqb, leb}
+use lib.Dec.{T, eqb}
 use lib.IntN.{pos}
-use lib.ListN.{length, take, drop, get_or, set, length-set}
+use lib.ListN.{length, take, get_or, set, length-set}
 use lib.Ieee.{Float, binary64, sub, of_int, in_float}
 use lib.Ieee.Bits.{is_true}
 use mir.Syntax.{w64}
 use mir.Val.{SFits, to_z}
 use mir.ValLaws.{to_z-of_z}
 use Rattle.integer_part.proofs.FloorInside.{in-float}
-use Rattle.ring.specs.Length.{settings_ok, length_for}
 use Rattle.ring.specs.Places.{position_ok}
 use Rattle.ring.proofs.Lengths.{masked}
-use Rattle.variable_delay.specs.Reader.{Reading, verdict, stored, position_of}
+use Rattle.variable_delay.specs.Reader.{Reading, verdict, position_of}
 use Rattle.variable_delay.specs.declared.VariableDelay.{VariableDelay}
 use Rattle.variable_delay.proofs.AcceptedCall.{Taken, taken, ring-some, position-in-range}
 use Rattle.stretch.specs.Stretch.{Ran, stretch_of}
-use Rattle.stretch.specs.Whole.{whole_of, out_after}
+use Rattle.stretch.specs.Whole.{whole_of}
 use Rattle.stretch.proofs.Going as going
 use Rattle.stretch.proofs.WholeLaws.{Passed, passed}
 use Rattle.stretch.proofs.WholeLaws as whole
 use Rattle.stretch_call.specs.Items.{item_of, delay_reader, before_items, item_due, leaves, left_by}
 use Rattle.stretch_call.specs.declared.StretchAnswer.{StretchAnswer}
 use Rattle.stretch_call.proofs.Tests.{Begun, rest-due}
-use Rattle.stretch_call.proofs.Items.{with_count, accepted, refused, number_is}
+use Rattle.stretch_call.proofs.Items.{with_count, accepted, refused}
 
 abbrev pub answer : VariableDelay → ℕ → ℕ → StretchAnswer
 answer d done refusal = record { state = d; done = done; refusal = refusal }
