@@ -11,8 +11,8 @@ pub enum Reply {
 // A small letter is a function of f32; a capital one is a function of f64 or of words.
 pub fn answer(letter: u8, a: u64, b: u64, c: u64) -> Reply {
     match letter {
-        b'_m' => Reply::Word(wrapping_u64::wrapping_mul(a, b)),
-        b'_s' => Reply::Word(wrapping_u64::shl(a, b)),
+        b'M' => Reply::Word(wrapping_u64::wrapping_mul(a, b)),
+        b'S' => Reply::Word(wrapping_u64::shl(a, b)),
         b'a'..=b'z' => single(letter, low_half(a), low_half(b), low_half(c)),
         _ => double(letter, float_of(a), float_of(b), float_of(c)),
     }
@@ -20,17 +20,17 @@ pub fn answer(letter: u8, a: u64, b: u64, c: u64) -> Reply {
 
 fn double(letter: u8, x: f64, y: f64, z: f64) -> Reply {
     match letter {
-        b'_b' => Reply::Word(bits_of(x)),
-        b'_c' => Reply::Word(bits_of(min_max::clamp(x, y, z))),
-        b'_e' => Reply::Word(truth(is_finite(x))),
-        b'_f' => Reply::Word(bits_of(fused64::fused64(x, y, z))),
-        b'_g' => Reply::Word(bits_of(min_max::max(x, y))),
-        b'_i' => Reply::Word(truth(within(x, y, z))),
-        b'_l' => Reply::Word(bits_of(min_max::min(x, y))),
-        b'_n' => Reply::Word(wide(narrowing::narrow(x))),
-        b'_p' => Reply::Word(bits_of(integer_part::fraction(x))),
-        b'_r' => Reply::Word(bits_of(square_root::square_root(x))),
-        b'_w' => Reply::Word(signed(integer_part::floor(x))),
+        b'B' => Reply::Word(bits_of(x)),
+        b'C' => Reply::Word(bits_of(min_max::clamp(x, y, z))),
+        b'E' => Reply::Word(truth(is_finite(x))),
+        b'F' => Reply::Word(bits_of(fused64::fused64(x, y, z))),
+        b'G' => Reply::Word(bits_of(min_max::max(x, y))),
+        b'I' => Reply::Word(truth(within(x, y, z))),
+        b'L' => Reply::Word(bits_of(min_max::min(x, y))),
+        b'N' => Reply::Word(wide(narrowing::narrow(x))),
+        b'P' => Reply::Word(bits_of(integer_part::fraction(x))),
+        b'R' => Reply::Word(bits_of(square_root::square_root(x))),
+        b'W' => Reply::Word(signed(integer_part::floor(x))),
         _ => Reply::Unknown,
     }
 }

@@ -19,7 +19,7 @@ use variable_delay::VariableDelay;
 fn concerned(letter: u8) -> u8 {
     match letter {
         b's' | b'e' | b'n' | b'm' => 0,
-        b'_o' | b'_p' | b'_r' => 1,
+        b'O' | b'P' | b'R' => 1,
         _ => 2,
     }
 }

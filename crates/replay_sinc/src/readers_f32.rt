@@ -35,11 +35,11 @@ fn called_f32<'a>(
 ) -> Turn {
     let letter = line.letter;
     match letter {
-        b'_o' => started(
+        b'O' => started(
             s,
             variable_delay_f32::open(line.a as usize, line.b as usize, ring),
         ),
-        b'_p' => process_f32(s, shape, ring, table, line),
+        b'P' => process_f32(s, shape, ring, table, line),
         _ => started(s, variable_delay_f32::reset(s, ring)),
     }
 }
@@ -47,7 +47,7 @@ fn called_f32<'a>(
 pub fn call_f32<'a>(before: Player, ring: &mut [f32], table: &'a [f32], line: Line) -> Player {
     let shape = before.shape;
     let s = before.state;
-    let end = ring_part(s, line.letter == b'_o', line, ring.len());
+    let end = ring_part(s, line.letter == b'O', line, ring.len());
     let to = table_part(shape.taps, shape.phases, table.len());
     let turn = called_f32(s, shape, &mut ring[..end], &table[..to], line);
     answered(shape, turn)
