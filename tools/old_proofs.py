@@ -335,6 +335,9 @@ def steps(fn, t, say, by_label=True):
     t = re.sub(r"\.pre(?=[.\s)]|$)", ".requires", t)
     t = re.sub(r"\.fits(?=\.)", ".ranges", t)
     t = re.sub(r"\.type-inv\b", ".type_inv", t)
+    # the two ways of a test
+    t = re.sub(rf"(\.if-[{IDC}]+)\.taken\b", r"\1.true", t)
+    t = re.sub(rf"(\.if-[{IDC}]+)\.left\b", r"\1.false", t)
     if by_label:
         t = re.sub(r"\.result-1\b", ".result", t)
     return t
