@@ -21,7 +21,7 @@ use true_sizes::{entry_count, is_long, small_sizes};
 use word_bytes::{low_first, low_first_u32};
 
 // The refusal, 0 for none, and the place where the walk over the chunks ends.
-#[derive(Drop)]
+#[derive(Clone, Copy)]
 pub struct Begun {
     pub refusal: u8,
     pub end: usize,

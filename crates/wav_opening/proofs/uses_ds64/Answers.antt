@@ -1,0 +1,5 @@
+-- `wav_opening::uses_ds64` meets its contract by those of its calls. Assumes nothing.
+use Rattle.wav_opening.proofs.uses_ds64.Goals as goal
+
+pub returns : goal.returns
+returns c = cc
