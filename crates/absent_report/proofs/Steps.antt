@@ -1,12 +1,12 @@
 -- One sample more: from what the code holds, as a block of one, and at the end of the samples that are counted so far.
 -- Assumes nothing.
-use Rattle.std.proofs.Common.{◌≡◌, ℕ, suc, ◌+◌, ◌-◌, ◌<◌, ◌≤◌, min, Bool, true, false, eqb, leb, List, [], ◌∷◌, length, get_or, take, sym, refl, ap, ◌∙◌, add-zero, add-one, arith, length-take-le, take_all, take-suc, eq-eqb, ne_eqb, eqb-true, leb-false, leb-true}
+use Rattle.std.proofs.Common.{◌≡◌, ℕ, ◌+◌, ◌-◌, ◌<◌, min, Bool, true, false, eqb, leb, List, [], ◌∷◌, length, get_or, take, sym, refl, ap, ◌∙◌, add-zero, add-one, arith, length-take-le, take_all, take-suc, eq-eqb, ne_eqb, eqb-true, leb-false, leb-true}
 use borrow.Author.Tests.{eqb-false}
 use lib.Ieee.{Float}
 use Rattle.constants.specs.Numbers.{limit}
 use Rattle.absent_taps.specs.declared.Absent.{Absent}
 use Rattle.absent_report.specs.declared.AbsentReport.{AbsentReport}
-use Rattle.absent_report.specs.Samples.{some_of, later_of, plus_of, absent_taps, absent_in}
+use Rattle.absent_report.specs.Samples.{some_of, later_of, plus_of, absent_in}
 use Rattle.absent_report.specs.Samples.{how_many, last_of, read_in, counted_in}
 use Rattle.absent_report.specs.Inner.{with_absent}
 use Rattle.absent_report.proofs.Cutting.{same, cut}

@@ -6,7 +6,6 @@ use lib.Ieee.{Float, fin, sub, of_int}
 use Rattle.integer_part.specs.Parts.{floor_of}
 use Rattle.ring.specs.Length.{zeros}
 use Rattle.variable_delay.specs.Reader.{position_of}
-use Rattle.absent_taps.specs.declared.Absent.{Absent}
 use Rattle.absent_taps.specs.Absent.{absent_of, first_tap}
 use Rattle.absent_taps.specs.Inner.{start_of, missing_of}
 use Rattle.absent_taps.proofs.AtOnce.{at_once}
