@@ -11,7 +11,7 @@ ghost use Rattle.modulation_engine.specs.Engine.{opened_by, opened_of, set_sampl
 use oscillator_ranges as ranges;
 use smooth_random::SmoothRandom;
 
-#[derive(Drop)]
+#[derive(Clone, Copy)]
 pub struct ModulationEngine {
     pub sample_rate: f64,
     pub wow_phase: f64,
@@ -21,7 +21,7 @@ pub struct ModulationEngine {
 }
 
 // An engine, or the number of a refusal.
-#[derive(Drop)]
+#[derive(Clone, Copy)]
 pub enum Opened {
     Engine(ModulationEngine),
     Refused(u8),

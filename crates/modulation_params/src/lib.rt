@@ -7,7 +7,7 @@ ghost use Rattle.modulation_params.specs.Settings.{params_ok, default_params};
 use oscillator_ranges as ranges;
 use refusal_order::both;
 
-#[derive(Drop)]
+#[derive(Clone, Copy)]
 pub struct ModulationParams {
     pub wow_rate_hz: f64,
     pub wow_depth_cents: f64,

@@ -12,21 +12,21 @@ use modulation_engine::ModulationEngine;
 use modulation_params::ModulationParams;
 use smooth_random::Next as Drift;
 
-#[derive(Drop)]
+#[derive(Clone, Copy)]
 pub struct StereoDelayOffset {
     pub left: f64,
     pub right: f64,
 }
 
 // The delay offsets of a sample, or the number of a refusal.
-#[derive(Drop)]
+#[derive(Clone, Copy)]
 pub enum Offset {
     Delay(StereoDelayOffset),
     Refused(u8),
 }
 
 // The engine after the step, and the offsets before it.
-#[derive(Drop)]
+#[derive(Clone, Copy)]
 pub struct Next {
     pub engine: ModulationEngine,
     pub offset: Offset,

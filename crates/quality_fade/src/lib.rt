@@ -10,7 +10,7 @@ ghost use Rattle.quality_fade.specs.Step.{step_of};
 
 use quality_mode::QualityMode;
 
-#[derive(Drop)]
+#[derive(Clone, Copy)]
 pub struct Fade {
     pub current: QualityMode,
     pub target: QualityMode,
@@ -20,7 +20,7 @@ pub struct Fade {
 
 // What an accepted call does: the state it leaves, whether it mixes, the two qualities it reads (the same one twice if
 // it does not mix), and the weight of the second, in parts of crossfade_samples.
-#[derive(Drop)]
+#[derive(Clone, Copy)]
 pub struct Turn {
     pub state: Fade,
     pub mixed: bool,

@@ -14,21 +14,21 @@ use quality_mode::QualityMode;
 use returning::Handed;
 
 // W9a. The rule is chosen when a reader is opened. Ported is 000's, by which going back jumps.
-#[derive(Drop)]
+#[derive(Clone, Copy)]
 pub enum Rule {
     Ported,
     Returning,
 }
 
 // Where a running fade goes: on to its target, or back to the current quality. The ported rule never goes back.
-#[derive(Drop)]
+#[derive(Clone, Copy)]
 pub enum Direction {
     Onwards,
     Back,
 }
 
 // What a reader holds of its qualities.
-#[derive(Drop)]
+#[derive(Clone, Copy)]
 pub struct RuledFade {
     pub rule: Rule,
     pub direction: Direction,
@@ -36,7 +36,7 @@ pub struct RuledFade {
 }
 
 // What an accepted call does, and the direction that it leaves.
-#[derive(Drop)]
+#[derive(Clone, Copy)]
 pub struct RuledTurn {
     pub turn: Turn,
     pub direction: Direction,

@@ -54,7 +54,7 @@ fn goes_back(direction: Direction, fade: Fade, asked: QualityMode) -> bool
 // What the ported rule's step is given for a fade and a request by the second rule: the fade's target and place, and
 // the request; and the direction that is left. Choosing between single numbers is cheaper than choosing between two
 // fades.
-#[derive(Drop)]
+#[derive(Clone, Copy)]
 pub(crate) struct Handed {
     pub target: QualityMode,
     pub place: u32,
