@@ -1,10 +1,9 @@
 -- W10f. The refusals in their order, by the steps of a reading: the opening, a head that is not lent, and the walk.
 -- Assumes nothing.
 use mathlib.Core.Path.{◌≡◌, refl, sym, ap, ◌∙◌}
-use mathlib.Core.Bool.{Bool, true, false, true≢false, not, cond, ◌&&◌}
+use mathlib.Core.Bool.{Bool, true, false, not, cond, ◌&&◌}
 use mathlib.Core.List.{List, [], ◌∷◌}
 use Prim.Native.Nat.{ℕ}
-use native.Mathlib.Omega.{arith}
 use borrow.Author.Tests.{eqb-true, eqb-false, eq-eqb, ne_eqb}
 use lib.Dec.{eqb, leb}
 use lib.ListN.{length}
@@ -19,7 +18,7 @@ use Rattle.wav.proofs.InHand.{refused}
 use Rattle.wav_opening.specs.declared.Begun.{Begun}
 use Rattle.wav_opening.specs.Opening.{end_of, is_wave, sizes_there, sizes_small, riff_held, opening_needs, hand_tests}
 use Rattle.wav_opening.specs.Opening.{opening_tests, told_of, begun_of}
-use Rattle.long_wav.specs.Reading.{chunk_in, walk_in, fmt_in, missing, needs_of, tag_in, tests, verdict, wave_in}
+use Rattle.long_wav.specs.Reading.{chunk_in, walk_in, fmt_in, missing, needs_of, tag_in, verdict, wave_in}
 use Rattle.long_wav.specs.Reading.{header_by}
 
 -- ---- the table, by its tests; `more` are those behind 10

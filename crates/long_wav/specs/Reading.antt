@@ -1,6 +1,6 @@
 -- W10. A WAV file of any length read from its first bytes: the refusal, or the part that holds the samples and what
 -- they are. How the tag follows from the body of `fmt ` and its size is a parameter. Definitions only.
-use Rattle.std.specs.Prelude.{ℕ, ◌+◌, Bool, true, false, not, cond, ◌&&◌, List, [], ◌∷◌, eqb, leb, length}
+use Rattle.std.specs.Prelude.{ℕ, ◌+◌, not, cond, ◌&&◌, List, [], ◌∷◌, eqb, leb, length}
 use Rattle.refusal_order.specs.Order.{Test, ◌unless◌, first_of}
 use Rattle.riff_chunks.specs.declared.Chunk.{Chunk}
 use Rattle.riff_chunks.specs.declared.Walked.{Walked}

@@ -8,7 +8,7 @@ use true_sizes::true_size;
 use word_bytes::low_first_u32;
 
 // The place behind the first head that is not lent, 0 for none, and what was seen before it.
-#[derive(Drop)]
+#[derive(Clone, Copy)]
 pub(crate) struct Reached {
     pub asked: usize,
     pub seen: Walked,
