@@ -2,7 +2,7 @@
 -- that turns it into the rule for each entry. Assumes nothing.
 use mathlib.Core.Path.{◌≡◌, refl, ap, ◌∙◌}
 use mathlib.Core.Bool.{Bool, true, false, ◌&&◌, cond}
-use mathlib.Core.List.{List, [], ◌∷◌}
+use mathlib.Core.List.{List, []}
 use mathlib.Core.Logic.{⊎_elim}
 use Prim.Native.Nat.{ℕ, zero, suc, ◌<◌}
 use native.Mathlib.Nat.{eq-or-lt_of_le, le_of_suc-le-suc}
@@ -11,7 +11,7 @@ use borrow.Author.Tests.{eqb-true, ltb-true}
 use lib.Dec.{eqb, ltb}
 use lib.IntN.{ℤ, pos, negsuc, nat_abs, ◌*ℤ◌}
 use lib.ListN.{get_or}
-use lib.Ieee.{Float, nan, fin, binary64, div, of_int}
+use lib.Ieee.{Float, nan, fin, div, of_int}
 use Rattle.farrow8_powers.specs.Table.{eight, nums, dens, num_at, den_at, rounded_at, quotients, column_in}
 use Rattle.farrow8_powers.specs.Basis.{node, product, distances, coefficient, value_at, Entry, Full}
 

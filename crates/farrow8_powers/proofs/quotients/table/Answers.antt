@@ -3,12 +3,8 @@
 use mathlib.Core.Path.{refl}
 use lib.Ieee.{div, of_int, of_bits}
 use Rattle.farrow8_powers.specs.Table.{quotients}
-use Rattle.farrow8_powers.proofs.quotients.table.Statement.{statement}
-use Rattle.farrow8_powers.proofs.quotients.table.Tie as tie
+use Rattle.farrow8_powers.proofs.quotients.table.Goals as goal
 
-returns : tie.Need-returns
+pub returns : goal.returns
 unfolding quotients div of_int of_bits
 returns c = refl
-
-pub table-spec : {M : Type 1} → statement M
-table-spec = tie.close (tie.spec returns)
