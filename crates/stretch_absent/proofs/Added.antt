@@ -1,18 +1,18 @@
 -- The sums of absent taps item by item, how large they can be, and what ends without any. Assumes nothing.
-use mathlib.Core.Path.{◌≡◌, refl, sym, ap, ◌∙◌}
+use mathlib.Core.Path.{◌≡◌, refl, ap, ◌∙◌}
 use mathlib.Core.Bool.{Bool, true, false, ◌&&◌, cond}
 use mathlib.Core.List.{List}
-use Prim.Native.Nat.{ℕ, zero, suc, ◌+◌, ◌*◌, ◌^◌, ◌≤◌, ◌<◌, min}
+use Prim.Native.Nat.{ℕ, ◌+◌, ◌*◌, ◌^◌, ◌≤◌, ◌<◌, min}
 use native.Mathlib.Numerals.{add-one}
 use native.Mathlib.Omega.{arith}
 use borrow.Author.Tests.{ne_eqb, le-leb, lt-leb}
-use lib.Dec.{eqb, leb}
+use lib.Dec.{leb}
 use lib.ListN.{length, get_or}
 use lib.Ieee.{Float, nan}
 use Rattle.ring.specs.Length.{zeros}
 use Rattle.variable_delay.specs.Reader.{position_of}
 use Rattle.absent_taps.specs.declared.Absent.{Absent}
-use Rattle.absent_taps.specs.Absent.{absent_of, none, absent_at, plus, first_tap}
+use Rattle.absent_taps.specs.Absent.{absent_of, none, absent_at, first_tap}
 use Rattle.absent_taps.proofs.Laws.{all_told}
 use Rattle.told_call.specs.Told.{counted_of}
 use Rattle.stretch.specs.Singles.{sum_of}
