@@ -44,4 +44,5 @@ pub all_told : (xs : List Float) (count : ℕ) (z : ℤ) (n : ℕ)
 unfolding held_from absent_from
 all_told xs count z zero = refl
 all_told xs count z (suc n) =
-    one_more (tap_at xs count (z +ℤ pos n)) (absent_from xs count z n) (held_from xs count z n) n (all_told xs count z n)
+    one_more (tap_at xs count (z +ℤ pos n)) (absent_from xs count z n) (held_from xs count z n) n
+    (all_told xs count z n)

@@ -1,5 +1,6 @@
 -- W12. An AIFF file: by which number it is refused, or where its samples stand and what they are. Definitions only.
-use Rattle.std.specs.Prelude.{ℕ, zero, suc, ◌+◌, ◌*◌, min, Bool, cond, not, ◌&&◌, ◌||◌, List, [], ◌∷◌, eqb, leb, ltb, length, take, drop}
+use Rattle.std.specs.Prelude.{ℕ, zero, suc, ◌+◌, ◌*◌, min, Bool, cond, not, ◌&&◌, ◌||◌, List, [], ◌∷◌, eqb, leb, ltb}
+use Rattle.std.specs.Prelude.{length, take, drop}
 use Rattle.refusal_order.specs.Order.{Test, ◌unless◌, first_of}
 use Rattle.high_first.specs.High.{big_number}
 use Rattle.extended_rate.specs.Rate.{rate_of}

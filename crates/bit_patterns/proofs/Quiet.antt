@@ -6,7 +6,8 @@ use Prim.Native.Nat.{ℕ, ◌*◌, ◌%◌, ◌≤◌, ◌<◌}
 use borrow.Author.Tests.{lt-ltb, le-ltb}
 use denote.Floats.{passes}
 use lib.Dec.{T}
-use lib.Ieee.{Float, nan, inf, fin, Format, binary32, binary64, div, ne, fits, is_nan, hid, ones, top, nan_bits, of_bits}
+use lib.Ieee.{Float, nan, inf, fin, Format, binary32, binary64, div, ne, fits, is_nan, hid, ones, top, nan_bits}
+use lib.Ieee.{of_bits}
 use lib.Ieee.{to_bits}
 use lib.Ieee.Bits.{of_bits-to_bits, to_bits-of_bits, nan_bits_is, nan_bits_above}
 use lib.Ieee.Compare.{differs_from_itself}

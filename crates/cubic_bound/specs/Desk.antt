@@ -1,6 +1,7 @@
 -- D3. What a transfer desk hands in, in whole numbers: samples and delays, the neighbours of a position, and the exact
 -- value of a call. Definitions only.
-use Rattle.std.specs.Prelude.{ℕ, ◌+◌, ◌*◌, ◌/◌, ◌^◌, ◌≤◌, cond, ◌&&◌, List, [], ◌∷◌, ◌++◌, leb, ltb, ℤ, pos, negsuc, nat_abs, ◌+ℤ◌, ◌-ℤ◌, ◌*ℤ◌, length, get_or, Float}
+use Rattle.std.specs.Prelude.{ℕ, ◌+◌, ◌*◌, ◌/◌, ◌^◌, ◌≤◌, cond, ◌&&◌, List, [], ◌∷◌, ◌++◌, leb, ltb, ℤ, pos, negsuc}
+use Rattle.std.specs.Prelude.{nat_abs, ◌+ℤ◌, ◌-ℤ◌, ◌*ℤ◌, length, get_or, Float}
 use Rattle.rounding_error.specs.Fraction.{Frac, frac, whole}
 use Rattle.rounding_error.specs.Value.{Is}
 use Rattle.cubic_bound.specs.Exact.{M, exact_cubic}

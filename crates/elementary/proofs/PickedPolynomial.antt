@@ -31,7 +31,8 @@ clash true h k = k
 clash false h k = h
 
 -- ---- the polynomials that k modulo 4 picks
-sine-flat : (r : Float) → T (fits binary64 r) → T (at_most 1 r) → Rounds (2 ^ 45) 1 (sine_near r) (sine_fraction (val r))
+sine-flat : (r : Float) → T (fits binary64 r) → T (at_most 1 r)
+    → Rounds (2 ^ 45) 1 (sine_near r) (sine_fraction (val r))
 sine-flat r f h =
     let w = sine-close r f h in
     record {

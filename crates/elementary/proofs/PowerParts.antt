@@ -94,7 +94,8 @@ power-above x f h t e =
     )
 
 pub power_below : {v : Float} (x : Float) → T (fits binary64 x) → T (at_most 1 x) → lt half x ≡ false
-    → lt x (neg half) ≡ true → v ≡ mul binary64 half (power_near (add binary64 x one)) → (v ≡ power_at x) × PowerClose x v
+    → lt x (neg half) ≡ true → v ≡ mul binary64 half (power_near (add binary64 x one))
+    → (v ≡ power_at x) × PowerClose x v
 unfolding power_at
 power_below x f h t s e =
     let b = subst T (sym s) tt in (

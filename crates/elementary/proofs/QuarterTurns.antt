@@ -81,7 +81,8 @@ left_p xp xd j h t = xp * (1 * t) + (j * 0 + 256 * h) * xd
 abbrev pub left_n : ℕ → ℕ → ℕ → ℕ → ℕ → ℕ
 left_n xn xd j h t = xn * (1 * t) + (j * h + 256 * 0) * xd
 
-low_half : (xp xn xd j h t : ℕ) → 0 < t → left_n xn xd j h t * (t * 2) ≤ left_p xp xd j h t * (t * 2) + h * (xd * (1 * t))
+low_half : (xp xn xd j h t : ℕ) → 0 < t → left_n xn xd j h t * (t * 2)
+    ≤ left_p xp xd j h t * (t * 2) + h * (xd * (1 * t))
     → j * (xd * h * 2) + (xn * t * 2 + 0 * (xd * h)) ≤ xp * t * 2 + 1 * (xd * h) + 256 * (xd * h * 2)
 low_half xp xn xd j h t P k = le_of_mul-le-mul_right {k = t} (omega arith) P
 

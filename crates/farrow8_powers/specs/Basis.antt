@@ -1,6 +1,7 @@
 -- K6. Lagrange's basis for the nodes -3 to 4 by powers of x. The polynomial of a node is the product of (x - j) over
 -- the other nodes j, divided by the product of the node's distances from them. Definitions only.
-use Rattle.std.specs.Prelude.{ℕ, zero, suc, ◌<◌, ◌≡◌, cond, List, [], ◌∷◌, map, eqb, ℤ, pos, nat_abs, ◌+ℤ◌, ◌-ℤ◌, ◌*ℤ◌, length, get_or}
+use Rattle.std.specs.Prelude.{ℕ, zero, suc, ◌<◌, ◌≡◌, cond, List, [], ◌∷◌, map, eqb, ℤ, pos, nat_abs, ◌+ℤ◌, ◌-ℤ◌, ◌*ℤ◌}
+use Rattle.std.specs.Prelude.{length, get_or}
 use Rattle.farrow8_powers.specs.Table.{eight, num_at, den_at, rounded_at, quotients, quotient_in}
 
 -- The nodes are -3 to 4.

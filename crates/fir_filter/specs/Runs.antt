@@ -15,7 +15,8 @@ plain_to coefficient sample sum = add binary64 sum (mul binary64 coefficient sam
 abbrev pub run_of : (Float → Float → Float → Float) → List Float → List Float → ℕ → ℕ → ℕ → Float → ℕ → Float
 run_of to coefficients history index step above start n =
     fold
-    (λ (j : ℕ) (sum : Float). to (get_or coefficients (index + j * step) zero-f) (get_or history (above - 1 - j) nan) sum)
+    (λ (j : ℕ) (sum : Float). to (get_or coefficients (index + j * step) zero-f) (get_or history (above - 1 - j) nan)
+    sum)
     start n
 
 -- n is the number of lags below `len` that have a coefficient: the index of each is below the number of taps, and

@@ -25,7 +25,12 @@ digits_of n = n % 2 ^ 63 - place_of n * 2 ^ 52
 -- The sign bit; the digits, moved up until there are 63; and their place, counted from 2 ^ -1137. A zero is read as
 -- zeros, an infinity or a NaN as a number one field above the largest.
 abbrev pub unpacked : ℕ → Scaled
-unpacked n = record { s = n / 2 ^ 63; m = digits_of n * 2 ^ (63 - size (digits_of n)); e = place_of n + size (digits_of n) }
+unpacked n = record {
+  s = n / 2 ^ 63;
+  m = digits_of n * 2 ^ (63 - size (digits_of n));
+  e =
+      place_of n + size (digits_of n);
+}
 
 -- w if nothing was cut off, and otherwise w made odd.
 abbrev pub with_sticky : ℕ → ℕ → ℕ

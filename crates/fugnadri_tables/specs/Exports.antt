@@ -20,7 +20,8 @@ settings_of taps phases cutoff beta = record { taps = taps; phases = phases; cut
 -- The refusal number of a call. The taps and the phases are settings of the table, which must have its length.
 abbrev pub call_verdict : VariableDelay → List Float → Float → Float → List Float → ℕ → ℕ → ℕ
 call_verdict d ring input delay table taps phases =
-    verdict (taps_ok taps && phases_ok phases) (eqb (length table) (table_length taps phases)) d (length ring) input delay
+    verdict (taps_ok taps && phases_ok phases) (eqb (length table) (table_length taps phases)) d (length ring) input
+    delay
 
 abbrev pub called : VariableDelay → List Float → Float → Float → List Float → ℕ → ℕ → Processed
 called d ring input delay table taps phases =
@@ -28,7 +29,8 @@ called d ring input delay table taps phases =
 
 abbrev pub called_f32 : VariableDelay → List Float → Float → Float → List Float → ℕ → ℕ → ProcessedF32
 called_f32 d ring input delay table taps phases =
-    processed_f32_by (sinc_f32_at table taps phases) (call_verdict d ring input delay table taps phases) d ring input delay
+    processed_f32_by (sinc_f32_at table taps phases) (call_verdict d ring input delay table taps phases) d ring input
+    delay
 
 -- What the call leaves, for either width.
 abbrev pub left_of : VariableDelay → List Float → Float → Float → List Float → ℕ → ℕ → Left Float ℕ

@@ -53,7 +53,8 @@ left_by own read n d ring input delay =
 -- A call over a lent table, whose taps and phases are settings and which must have its length.
 abbrev pub table_verdict : List Float → ℕ → ℕ → VariableDelay → List Float → Float → Float → ℕ
 table_verdict table taps phases d ring input delay =
-    verdict (taps_ok taps && phases_ok phases) (eqb (length table) (table_length taps phases)) d (length ring) input delay
+    verdict (taps_ok taps && phases_ok phases) (eqb (length table) (table_length taps phases)) d (length ring) input
+    delay
 
 abbrev pub left_of_table : List Float → ℕ → ℕ → VariableDelay → List Float → Float → Float → Left
 left_of_table table taps phases d ring input delay =

@@ -1,6 +1,7 @@
 -- How s - x compares with y shows how s, which is G units, compares with x + y, because s - x is exact. Here x and s
 -- are not below zero, and y has either sign. Assumes nothing.
-use Rattle.std.proofs.Common.{◌≡◌, ℕ, ◌+◌, ◌-◌, ◌*◌, ◌^◌, ◌<◌, ◌≤◌, Bool, true, false, eqb, ltb, sym, refl, ap, ◌∙◌, subst, inl, inr, le_of_eq, lt_of_le_of_lt, eq-or-lt_of_le, sub-le, arith, pow_pos, le-ltb}
+use Rattle.std.proofs.Common.{◌≡◌, ℕ, ◌+◌, ◌-◌, ◌*◌, ◌^◌, ◌<◌, ◌≤◌, Bool, true, false, eqb, ltb, sym, refl, ap, ◌∙◌}
+use Rattle.std.proofs.Common.{subst, inl, inr, le_of_eq, lt_of_le_of_lt, eq-or-lt_of_le, sub-le, arith, pow_pos, le-ltb}
 use lib.Ieee.{Float, binary64, round, sum, of_bits, sub, neg, lt, eq}
 use lib.Ieee.Exact.{HasValue, round_exact}
 use Rattle.fused32.proofs.Remainder.{Few}

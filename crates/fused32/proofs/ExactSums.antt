@@ -1,6 +1,7 @@
 -- The exact sum of an x that is not below zero and a y that is no larger in size, with either sign, and the tests of
 -- `odd_sum`, which compare it with the f64 nearest to it. Assumes nothing.
-use Rattle.std.proofs.Common.{◌≡◌, ℕ, ◌+◌, ◌-◌, ◌*◌, ◌^◌, ◌<◌, ◌≤◌, Bool, true, false, cond, sym, refl, ap, ◌∙◌, add-mul, arith, le-ltb}
+use Rattle.std.proofs.Common.{◌≡◌, ℕ, ◌+◌, ◌-◌, ◌*◌, ◌^◌, ◌<◌, ◌≤◌, Bool, true, false, cond, sym, refl, ap, ◌∙◌}
+use Rattle.std.proofs.Common.{add-mul, arith, le-ltb}
 use lib.Ieee.{Float, Format, binary64, round, sum}
 use lib.Ieee.Exact.{HasValue}
 use Rattle.fused32.specs.Parts.{Short, amount}

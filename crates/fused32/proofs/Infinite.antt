@@ -1,6 +1,8 @@
 -- v units rounded to an f64. A finite result lies below the size from which an f64 is an infinity; and if it is an
 -- infinity as an f64, it is one as an f32. Assumes nothing.
-use Rattle.std.proofs.Common.{◌≡◌, ℕ, ◌+◌, ◌-◌, ◌*◌, ◌^◌, ◌<◌, ◌≤◌, Bool, T, sym, ap, ◌∙◌, subst, inl, inr, le_trans, le_of_eq, lt_of_lt_of_le, mul-le-mul_right, mul-le-mul, arith, lit≤, pow_pos, pow_mono, pow-add}
+use Rattle.std.proofs.Common.{◌≡◌, ℕ, ◌+◌, ◌-◌, ◌*◌, ◌^◌, ◌<◌, ◌≤◌, Bool, T, sym, ap, ◌∙◌, subst, inl, inr, le_trans}
+use Rattle.std.proofs.Common.{le_of_eq, lt_of_lt_of_le, mul-le-mul_right, mul-le-mul, arith, lit≤, pow_pos, pow_mono}
+use Rattle.std.proofs.Common.{pow-add}
 use lib.Ieee.{Float, binary32, binary64, round}
 use lib.Ieee.Nearest.{closest}
 use lib.Ieee.Scale.{finite}

@@ -1,6 +1,8 @@
 -- A sum that is not zero. If it is above zero, its larger part has no minus sign; if it is below, the negated parts
 -- have such a sum. Assumes nothing.
-use Rattle.std.proofs.Common.{◌≡◌, ℕ, ◌+◌, ◌-◌, ◌^◌, ◌<◌, ◌≤◌, Bool, true, false, cond, not, T, ltb, sym, refl, ap, ◌∙◌, inl, inr, true≢false, zero-le, le_of_eq, le_of_lt, eq-zero-or-pos, zero-mul, arith, pow_pos, ltb-false, ltb-true, lt-ltb}
+use Rattle.std.proofs.Common.{◌≡◌, ℕ, ◌+◌, ◌-◌, ◌^◌, ◌<◌, ◌≤◌, Bool, true, false, cond, not, T, ltb, sym, refl, ap, ◌∙◌}
+use Rattle.std.proofs.Common.{inl, inr, true≢false, zero-le, le_of_eq, le_of_lt, eq-zero-or-pos, zero-mul, arith}
+use Rattle.std.proofs.Common.{pow_pos, ltb-false, ltb-true, lt-ltb}
 use mathlib.Core.Bool.{false≢true}
 use lib.Ieee.{Float, Format, binary64, add, of_bits, neg, lt, below}
 use lib.Ieee.Exact.{HasValue}

@@ -1,6 +1,10 @@
 -- v units rounded to a finite f64. If that is exact, has an odd last digit or is clear, it rounds to an f32 as v does;
 -- otherwise its neighbour towards v does, which is odd. Assumes nothing.
-use Rattle.std.proofs.Common.{◌≡◌, ℕ, suc, ◌+◌, ◌-◌, ◌*◌, ◌%◌, ◌^◌, ◌<◌, ◌≤◌, Bool, false, cond, ◌⊎◌, sym, ap, ◌∙◌, subst, inl, inr, le_trans, le_of_eq, le_refl, lt_of_lt_of_le, lt_of_le_of_lt, le_of_lt, mul-le-mul_right, suc-mul, eq-zero-or-pos, lt_of_mul-lt-mul_right, eq-or-lt_of_le, mul-le-mul_left, mul-lt-mul_of_pos_right, zero-add, arith, lit<, lit≤, pow_pos, pow_mono, pow-add}
+use Rattle.std.proofs.Common.{◌≡◌, ℕ, suc, ◌+◌, ◌-◌, ◌*◌, ◌%◌, ◌^◌, ◌<◌, ◌≤◌, Bool, false, cond, ◌⊎◌, sym, ap, ◌∙◌}
+use Rattle.std.proofs.Common.{subst, inl, inr, le_trans, le_of_eq, le_refl, lt_of_lt_of_le, lt_of_le_of_lt, le_of_lt}
+use Rattle.std.proofs.Common.{mul-le-mul_right, suc-mul, eq-zero-or-pos, lt_of_mul-lt-mul_right, eq-or-lt_of_le}
+use Rattle.std.proofs.Common.{mul-le-mul_left, mul-lt-mul_of_pos_right, zero-add, arith, lit<, lit≤, pow_pos, pow_mono}
+use Rattle.std.proofs.Common.{pow-add}
 use native.Mathlib.Nat.{two-pow-succ}
 use native.Mathlib.Nat.{le-suc}
 use lib.Ieee.{binary32, binary64, units, round, to_bits, of_bits}

@@ -1,6 +1,9 @@
 -- The cases of `odd_sum`. Its tests show on which side of x + y the f64 sum s lies, and so which f64 rounds to an f32
 -- as x + y does. Assumes nothing.
-use Rattle.std.proofs.Common.{◌≡◌, ℕ, ◌+◌, ◌-◌, ◌*◌, ◌%◌, ◌^◌, ◌<◌, ◌≤◌, Bool, true, false, not, T, sym, ap, ◌∙◌, subst, inl, inr, zero-le, le_of_eq, lt_of_lt_of_le, lt_of_le_of_lt, eq-zero-or-pos, eq-or-lt_of_le, zero-add, zero-mul, arith, pow_pos, pow-add, ltb-false, ltb-true, eqb-true}
+use Rattle.std.proofs.Common.{◌≡◌, ℕ, ◌+◌, ◌-◌, ◌*◌, ◌%◌, ◌^◌, ◌<◌, ◌≤◌, Bool, true, false, not, T, sym, ap, ◌∙◌, subst}
+use Rattle.std.proofs.Common.{inl, inr, zero-le, le_of_eq, lt_of_lt_of_le, lt_of_le_of_lt, eq-zero-or-pos}
+use Rattle.std.proofs.Common.{eq-or-lt_of_le, zero-add, zero-mul, arith, pow_pos, pow-add, ltb-false, ltb-true}
+use Rattle.std.proofs.Common.{eqb-true}
 use lib.Arith.{lt_of_le-ne}
 use lib.Bits.{bit_and, and_mask}
 use lib.Ieee.{Float, Format, binary32, binary64, round, add, to_bits, of_bits, sub, lt, eq, is_nan}

@@ -1,5 +1,7 @@
 -- A finite f64 has at most 53 digits, and the product of two f32 has 48, so that it is exactly an f64. Assumes nothing.
-use Rattle.std.proofs.Common.{◌≡◌, ℕ, ◌+◌, ◌*◌, ◌^◌, ◌<◌, Bool, T, ℤ, sym, refl, ap, ◌∙◌, subst, le_trans, le_of_eq, lt_of_lt_of_le, lt_of_le_of_lt, le_of_lt, mul-le-mul_right, mul_assoc, mul-le-mul, mul-le-mul_left, mul-lt-mul_of_pos_right, lit<, lit≤, pow_pos, pow-add}
+use Rattle.std.proofs.Common.{◌≡◌, ℕ, ◌+◌, ◌*◌, ◌^◌, ◌<◌, Bool, T, ℤ, sym, refl, ap, ◌∙◌, subst, le_trans, le_of_eq}
+use Rattle.std.proofs.Common.{lt_of_lt_of_le, lt_of_le_of_lt, le_of_lt, mul-le-mul_right, mul_assoc, mul-le-mul}
+use Rattle.std.proofs.Common.{mul-le-mul_left, mul-lt-mul_of_pos_right, lit<, lit≤, pow_pos, pow-add}
 use native.Mathlib.Nat.{mul-mul-mul_comm}
 use lib.Ieee.{Float, nan, inf, fin, binary32, binary64, unlike, up, down, round, add, mul, fits}
 use lib.Ieee.Exact.{HasValue, round_exact}

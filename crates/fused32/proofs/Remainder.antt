@@ -1,7 +1,9 @@
 -- The f64 sum of two f64, less the larger of them, has no more digits than an f64, so that this difference is exact.
 -- Either nothing was rounded, and the smaller is left; or the unit that was rounded to, or half of it, divides the
 -- larger and so also what is left, which is at most the smaller plus half that unit. Assumes nothing.
-use Rattle.std.proofs.Common.{◌≡◌, ℕ, suc, ◌+◌, ◌-◌, ◌*◌, ◌^◌, ◌<◌, ◌≤◌, ◌⊎◌, sym, ap, ◌∙◌, inl, inr, le_trans, le_of_eq, mul-le-mul_right, lt_of_mul-lt-mul_right, eq-or-lt_of_le, mul-le-mul_left, mul-lt-mul_of_pos_right, mul-add, le_of_mul-le-mul_right, arith, lit<, pow_pos, pow_mono}
+use Rattle.std.proofs.Common.{◌≡◌, ℕ, suc, ◌+◌, ◌-◌, ◌*◌, ◌^◌, ◌<◌, ◌≤◌, ◌⊎◌, sym, ap, ◌∙◌, inl, inr, le_trans}
+use Rattle.std.proofs.Common.{le_of_eq, mul-le-mul_right, lt_of_mul-lt-mul_right, eq-or-lt_of_le, mul-le-mul_left}
+use Rattle.std.proofs.Common.{mul-lt-mul_of_pos_right, mul-add, le_of_mul-le-mul_right, arith, lit<, pow_pos, pow_mono}
 use lib.Ieee.{Float, binary64}
 use Rattle.fused32.specs.Parts.{Short, amount}
 use Rattle.fused32.proofs.SumUnit.{Divides, room, twice, which}

@@ -1,6 +1,7 @@
 -- v units, and Q * 2 ^ j units that are less than 2 ^ j away, round to the same f32 if Q is odd, or if they are normal
 -- as an f32 and no midpoint of two f32. Assumes nothing.
-use Rattle.std.proofs.Common.{◌≡◌, ℕ, suc, ◌+◌, ◌-◌, ◌*◌, ◌%◌, ◌^◌, ◌<◌, ◌≤◌, Bool, sym, refl, ap, ◌∙◌, inl, inr, le_trans, le_of_eq, lt_of_lt_of_le, lt_irrefl, arith, lit≤, pow_mono, pow-add}
+use Rattle.std.proofs.Common.{◌≡◌, ℕ, suc, ◌+◌, ◌-◌, ◌*◌, ◌%◌, ◌^◌, ◌<◌, ◌≤◌, Bool, sym, refl, ap, ◌∙◌, inl, inr}
+use Rattle.std.proofs.Common.{le_trans, le_of_eq, lt_of_lt_of_le, lt_irrefl, arith, lit≤, pow_mono, pow-add}
 use native.Mathlib.Nat.{two-pow-succ}
 use lib.Ieee.{binary32, round}
 use Rattle.rounding.proofs.NumberOrders.{lt-or-ge}

@@ -1,5 +1,6 @@
 -- The cases of `sum32` where the f64 sum is clear or not finite, and those of `is_clear`. Assumes nothing.
-use Rattle.std.proofs.Common.{◌≡◌, ℕ, ◌-◌, ◌%◌, ◌^◌, ◌<◌, ◌≤◌, Bool, true, false, cond, not, T, eqb, sym, refl, ◌∙◌, subst, true≢false, arith, eqb-true}
+use Rattle.std.proofs.Common.{◌≡◌, ℕ, ◌-◌, ◌%◌, ◌^◌, ◌<◌, ◌≤◌, Bool, true, false, cond, not, T, eqb, sym, refl, ◌∙◌}
+use Rattle.std.proofs.Common.{subst, true≢false, arith, eqb-true}
 use mathlib.Core.Bool.{beq, false≢true}
 use lib.Bits.{bit_and, and_mask}
 use lib.Ieee.{Float, nan, inf, fin, binary32, binary64, add, fits, to_bits, ne}

@@ -1,6 +1,8 @@
 -- The unit to which the sum v of two f64 is rounded as an f64. Either nothing is rounded, or that unit divides the
 -- larger of the two, or it is twice the larger's own unit, because the sum has a digit more. Assumes nothing.
-use Rattle.std.proofs.Common.{◌≡◌, ℕ, suc, ◌+◌, ◌-◌, ◌*◌, ◌^◌, ◌<◌, ◌≤◌, ◌⊎◌, sym, ap, ◌∙◌, subst, inl, inr, le_trans, le_of_eq, mul-le-mul_right, mul_assoc, suc-mul, eq-zero-or-pos, eq-or-lt_of_le, arith, pow_pos, pow-add}
+use Rattle.std.proofs.Common.{◌≡◌, ℕ, suc, ◌+◌, ◌-◌, ◌*◌, ◌^◌, ◌<◌, ◌≤◌, ◌⊎◌, sym, ap, ◌∙◌, subst, inl, inr, le_trans}
+use Rattle.std.proofs.Common.{le_of_eq, mul-le-mul_right, mul_assoc, suc-mul, eq-zero-or-pos, eq-or-lt_of_le, arith}
+use Rattle.std.proofs.Common.{pow_pos, pow-add}
 use native.Mathlib.Nat.{two-pow-succ}
 use lib.Ieee.{Float, binary64}
 use lib.Ieee.Digits.{back}

@@ -1,6 +1,7 @@
 -- p + c of two finite f64, as an f64 and as an f32, is one exact sum, rounded. If the f64 is clear or zero, it rounds
 -- to the f32. Assumes nothing.
-use Rattle.std.proofs.Common.{◌≡◌, ℕ, ◌+◌, ◌*◌, ◌%◌, ◌^◌, ◌<◌, ◌≤◌, Bool, true, false, cond, T, sym, ap, ◌∙◌, subst, inl, inr, lt_of_lt_of_le, eq-zero-or-pos, mul-pos, arith, pow_pos, ltb-false}
+use Rattle.std.proofs.Common.{◌≡◌, ℕ, ◌+◌, ◌*◌, ◌%◌, ◌^◌, ◌<◌, ◌≤◌, Bool, true, false, cond, T, sym, ap, ◌∙◌, subst}
+use Rattle.std.proofs.Common.{inl, inr, lt_of_lt_of_le, eq-zero-or-pos, mul-pos, arith, pow_pos, ltb-false}
 use lib.Ieee.{Float, Format, binary32, binary64, round, add, to_bits, of_bits, lt, below}
 use lib.Ieee.Exact.{HasValue}
 use lib.Ieee.Scale.{finite}
@@ -66,7 +67,8 @@ module _ (p c : Float) (P : Short p) (C : Short c) where
         lower false m = omega arith
 
     -- A sum that is zero rounds to the same zero.
-    pub zero-sum : lt (of_bits binary64 0) (add binary64 p c) ≡ false → lt (add binary64 p c) (of_bits binary64 0) ≡ false
+    pub zero-sum : lt (of_bits binary64 0) (add binary64 p c) ≡ false
+        → lt (add binary64 p c) (of_bits binary64 0) ≡ false
         → narrowed (add binary64 p c) ≡ add binary32 p c
     zero-sum a b =
         narrow-sum (as-exact v fine S (exact-short binary64 v

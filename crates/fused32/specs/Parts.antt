@@ -1,5 +1,6 @@
 -- What the private functions of `fused32` promise and need. A unit is 2 ^ -1074, the smallest f64. Definitions only.
-use Rattle.std.specs.Prelude.{◌≡◌, ℕ, ◌+◌, ◌*◌, ◌%◌, ◌^◌, ◌<◌, ◌≤◌, Bool, true, false, T, ◌≢◌, from_bits, to_bits, Float}
+use Rattle.std.specs.Prelude.{◌≡◌, ℕ, ◌+◌, ◌*◌, ◌%◌, ◌^◌, ◌<◌, ◌≤◌, Bool, true, false, T, ◌≢◌, from_bits, to_bits}
+use Rattle.std.specs.Prelude.{Float}
 use Rattle.std.specs.Float.{binary64}
 use Rattle.std.specs.Float.Ieee.{add, lt}
 use Rattle.std.specs.Float.Ieee.Exact.{HasValue}

@@ -1,6 +1,8 @@
 -- The quick way in one word: one test of all three fields shows that each is small enough, and a product is cut to a
 -- word. Assumes nothing.
-use Rattle.std.proofs.Common.{◌≡◌, ℕ, ◌+◌, ◌-◌, ◌*◌, ◌/◌, ◌%◌, ◌^◌, ◌<◌, ◌≤◌, sym, ap, ◌∙◌, inl, inr, lt_of_le_of_lt, mod-lt, mul_assoc, mul_comm, eq-zero-or-pos, div-add-mod', arith, pow_pos, pow-add, eq-eqb, ne_eqb}
+use Rattle.std.proofs.Common.{◌≡◌, ℕ, ◌+◌, ◌-◌, ◌*◌, ◌/◌, ◌%◌, ◌^◌, ◌<◌, ◌≤◌, sym, ap, ◌∙◌, inl, inr, lt_of_le_of_lt}
+use Rattle.std.proofs.Common.{mod-lt, mul_assoc, mul_comm, eq-zero-or-pos, div-add-mod', arith, pow_pos, pow-add}
+use Rattle.std.proofs.Common.{eq-eqb, ne_eqb}
 use lib.Arith.{digits_lt}
 use lib.Pow.{shr_le}
 use lib.Bits.{bit_and, bit_or, and_le_l, and_le_r, and_mask, or_add_and, or_mod}
@@ -90,7 +92,8 @@ module _ (hi rest d : ℕ) (H : hi < 2 ^ 62) where
       let e = div-add-mod' hi D in
       omega (arith, back_fits)
 
-  pub cut_off : (lo : ℕ) → Tells rest lo → Cutoff hi lo d (with_sticky (hi / D) (bit_or (hi - hi / D * D % 2 ^ 64) rest))
+  pub cut_off : (lo : ℕ) → Tells rest lo → Cutoff hi lo d
+      (with_sticky (hi / D) (bit_or (hi - hi / D * D % 2 ^ 64) rest))
   cut_off lo t =
       let e : hi - hi / D * D % 2 ^ 64 ≡ hi % D = omega (arith, back_fits, div-add-mod' hi D) in
       let same : with_sticky (hi / D) (bit_or (hi % D) rest) ≡ with_sticky (hi / D) (val (hi % D) lo) =

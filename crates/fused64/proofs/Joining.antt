@@ -1,6 +1,7 @@
 -- The sum of a number that may have been cut short and an even one that was not, both at one place: in each case of
 -- signs and sizes what is packed is the exact sum, rounded once. Assumes nothing.
-use Rattle.std.proofs.Common.{◌≡◌, ℕ, ◌+◌, ◌-◌, ◌*◌, ◌/◌, ◌%◌, ◌^◌, ◌<◌, false, eqb, sym, ap, ◌∙◌, subst, add_comm, arith, pow_pos}
+use Rattle.std.proofs.Common.{◌≡◌, ℕ, ◌+◌, ◌-◌, ◌*◌, ◌/◌, ◌%◌, ◌^◌, ◌<◌, false, eqb, sym, ap, ◌∙◌, subst, add_comm}
+use Rattle.std.proofs.Common.{arith, pow_pos}
 use mathlib.Core.Bool.{beq}
 use lib.Ieee.{binary64, round, of_bits}
 use Rattle.rounding.proofs.Sums.{sum_like, sum_less, sum_over}

@@ -1,6 +1,8 @@
 -- The sum that the quick way rounds is `fused`: it takes the same digits out of three normal patterns as `unpack`
 -- would. Assumes nothing.
-use Rattle.std.proofs.Common.{◌≡◌, ℕ, zero, suc, ◌+◌, ◌*◌, ◌/◌, ◌%◌, ◌^◌, ◌<◌, ◌≤◌, Bool, true, false, not, T, eqb, ℤ, sym, refl, ap, ◌∙◌, subst, lt_of_lt_of_le, lt_irrefl, mul_assoc, zero-mul, arith, pow_pos, pow-add}
+use Rattle.std.proofs.Common.{◌≡◌, ℕ, zero, suc, ◌+◌, ◌*◌, ◌/◌, ◌%◌, ◌^◌, ◌<◌, ◌≤◌, Bool, true, false, not, T, eqb, ℤ}
+use Rattle.std.proofs.Common.{sym, refl, ap, ◌∙◌, subst, lt_of_lt_of_le, lt_irrefl, mul_assoc, zero-mul, arith, pow_pos}
+use Rattle.std.proofs.Common.{pow-add}
 use lib.Ieee.{Float, nan, inf, fin, binary64, up, down, size, unlike, fits, is_nan, of_bits, to_bits}
 use Rattle.rounding.specs.Operations.{fused}
 use Rattle.rounding.proofs.Patterns.{bits-finite}

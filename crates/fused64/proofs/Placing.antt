@@ -1,6 +1,8 @@
 -- A number of 56 to 63 digits at a place. Moved up to 63 digits, with the last ten rounded off by an addition, and put
 -- below an exponent field, it is every value that it stands for, rounded once. Assumes nothing.
-use Rattle.std.proofs.Common.{◌≡◌, ℕ, zero, suc, ◌+◌, ◌-◌, ◌*◌, ◌/◌, ◌%◌, ◌^◌, ◌<◌, ◌≤◌, cond, eqb, sym, refl, ap, ◌∙◌, le_trans, le_of_eq, lt_of_lt_of_le, lt_of_le_of_lt, mod-eq_of_lt, mul_assoc, mul-pos, pow-suc, arith, pow_pos, pow_mono, pow-add}
+use Rattle.std.proofs.Common.{◌≡◌, ℕ, zero, suc, ◌+◌, ◌-◌, ◌*◌, ◌/◌, ◌%◌, ◌^◌, ◌<◌, ◌≤◌, cond, eqb, sym, refl, ap, ◌∙◌}
+use Rattle.std.proofs.Common.{le_trans, le_of_eq, lt_of_lt_of_le, lt_of_le_of_lt, mod-eq_of_lt, mul_assoc, mul-pos}
+use Rattle.std.proofs.Common.{pow-suc, arith, pow_pos, pow_mono, pow-add}
 use native.Mathlib.Nat.{mul-mod_left}
 use lib.Bits.{bit_and, and_mask}
 use lib.Count.{count_leading_zeros}

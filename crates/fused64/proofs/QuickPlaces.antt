@@ -1,6 +1,7 @@
 -- The places of the quick way: what fields in range show of the product and the addend, and that the sum at either's
 -- place is the exact sum. Assumes nothing.
-use Rattle.std.proofs.Common.{◌≡◌, ℕ, suc, ◌+◌, ◌-◌, ◌*◌, ◌/◌, ◌%◌, ◌^◌, ◌<◌, ◌≤◌, sym, ap, ◌∙◌, subst, le_of_eq, lt_of_le_of_lt, mul_assoc, mul-le-mul, mul-div_cancel, arith, lit<, pow_pos, pow-add}
+use Rattle.std.proofs.Common.{◌≡◌, ℕ, suc, ◌+◌, ◌-◌, ◌*◌, ◌/◌, ◌%◌, ◌^◌, ◌<◌, ◌≤◌, sym, ap, ◌∙◌, subst, le_of_eq}
+use Rattle.std.proofs.Common.{lt_of_le_of_lt, mul_assoc, mul-le-mul, mul-div_cancel, arith, lit<, pow_pos, pow-add}
 use lib.Bits.{shifted_even}
 use Rattle.float_digits.specs.Jam.{Jam}
 use Rattle.float_digits.proofs.Jams.{jam-scale}

@@ -1,5 +1,6 @@
 -- The cases of `fused64` where a factor or the addend is a zero, an infinity or a NaN. Assumes nothing.
-use Rattle.std.proofs.Common.{◌≡◌, ℕ, zero, suc, ◌*◌, true, false, not, ◌&&◌, T, sym, refl, ap, ◌∙◌, true≢false, zero-lt-suc, mul-pos, mul-zero, zero-mul}
+use Rattle.std.proofs.Common.{◌≡◌, ℕ, zero, suc, ◌*◌, true, false, not, ◌&&◌, T, sym, refl, ap, ◌∙◌, true≢false}
+use Rattle.std.proofs.Common.{zero-lt-suc, mul-pos, mul-zero, zero-mul}
 use lib.Ieee.{Float, nan, inf, fin, binary64, up, odd, of_fields, of_bits, is_nan, eq, add, mul}
 use lib.Ieee.Fits.{up_pos}
 use Rattle.rounding.specs.Operations.{fused}

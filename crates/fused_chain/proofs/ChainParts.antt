@@ -29,7 +29,8 @@ module _ (xs row0 row1 : List Float) (blend : Float) where
   once k j s r e h = record {
     held = subst (λ (z : Float). T (fits binary32 z)) (sym h) (fused-fits binary32 _ _ _);
     is =
-        λ a is. subst (λ (z : ℕ). r ≡ chain_of xs row0 row1 blend a z) e (turn (turn_of xs row0 row1 blend) a k s r is h);
+        λ a is. subst (λ (z : ℕ). r ≡ chain_of xs row0 row1 blend a z) e
+        (turn (turn_of xs row0 row1 blend) a k s r is h);
   }
 
   -- If all turns are carried from the start, narrowing the sum changes nothing, because it already is an f32.

@@ -33,7 +33,8 @@ pub record Product (x c p : Float) : Type 0 where
   pub is : p ≡ mul binary64 x c
 
 abbrev pub TapProduct : List Float → List Float → List Float → Float → ℕ → Float → Type 0
-TapProduct xs row0 row1 blend k p = Product (slice_index_or xs k nan) (coefficient_of blend (slice_index_or row0 k nan) (slice_index_or row1 k nan)) p
+TapProduct xs row0 row1 blend k p = Product (slice_index_or xs k nan)
+    (coefficient_of blend (slice_index_or row0 k nan) (slice_index_or row1 k nan)) p
 
 pub record FiniteFour (a b c d : Float) : Type 0 where
   pub first : T (finite a)

@@ -12,7 +12,8 @@ coefficient_of blend a b = add binary32 a (mul binary32 blend (sub binary32 b a)
 -- 000's turn is `sum = x[k].mul_add(coefficient, sum)`.
 abbrev pub turn_of : List Float → List Float → List Float → Float → ℕ → Float → Float
 turn_of xs row0 row1 blend k sum =
-    fused binary32 (slice_index_or xs k nan) (coefficient_of blend (slice_index_or row0 k nan) (slice_index_or row1 k nan)) sum
+    fused binary32 (slice_index_or xs k nan)
+    (coefficient_of blend (slice_index_or row0 k nan) (slice_index_or row1 k nan)) sum
 
 -- The sum after n turns that start from a given sum.
 abbrev pub chain_of : List Float → List Float → List Float → Float → Float → ℕ → Float

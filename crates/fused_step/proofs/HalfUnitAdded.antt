@@ -1,6 +1,8 @@
 -- The nearest f32 of a plain f64, without its sign, as the pattern of an f64: half a unit is added, and the 29 digits
 -- that an f32 lacks are cut off. Assumes nothing.
-use Rattle.std.proofs.Common.{◌≡◌, ℕ, ◌+◌, ◌-◌, ◌*◌, ◌/◌, ◌%◌, ◌^◌, ◌<◌, ◌≤◌, Bool, cond, T, sym, refl, ap, ◌∙◌, subst, le_trans, le_of_eq, lt_of_le_of_lt, mul_assoc, mul-le-mul, arith, lit<, lit≤, pow_pos, pow_mono, pow-add}
+use Rattle.std.proofs.Common.{◌≡◌, ℕ, ◌+◌, ◌-◌, ◌*◌, ◌/◌, ◌%◌, ◌^◌, ◌<◌, ◌≤◌, Bool, cond, T, sym, refl, ap, ◌∙◌, subst}
+use Rattle.std.proofs.Common.{le_trans, le_of_eq, lt_of_le_of_lt, mul_assoc, mul-le-mul, arith, lit<, lit≤, pow_pos}
+use Rattle.std.proofs.Common.{pow_mono, pow-add}
 use lib.Ieee.{Float, binary32, binary64, round, fits, of_bits}
 use lib.Ieee.Bits.{of_bits-to_bits}
 use lib.Ieee.Exact.{HasValue, units_val}

@@ -1,5 +1,6 @@
 -- The fast path over a whole pattern: it leaves the sign alone, because no carry reaches it. Assumes nothing.
-use Rattle.std.proofs.Common.{◌≡◌, ℕ, ◌+◌, ◌*◌, ◌/◌, ◌%◌, ◌^◌, ◌<◌, ◌≤◌, Bool, true, false, cond, not, T, leb, sym, ap, ◌∙◌, subst, arith}
+use Rattle.std.proofs.Common.{◌≡◌, ℕ, ◌+◌, ◌*◌, ◌/◌, ◌%◌, ◌^◌, ◌<◌, ◌≤◌, Bool, true, false, cond, not, T, leb, sym, ap}
+use Rattle.std.proofs.Common.{◌∙◌, subst, arith}
 use lib.Bits.{bit_and, and_high}
 use lib.Ieee.{Float, binary64, fits, to_bits, of_bits, nan_bits, is_nan}
 use lib.Ieee.Bits.{of_bits-to_bits, to_bits-lt}

@@ -1,6 +1,7 @@
 -- What each path of a step gives, for an f64 sum s of the exact product and an f64: the fast path, an exact zero, and
 -- the sum rounded once. Assumes nothing.
-use Rattle.std.proofs.Common.{◌≡◌, ℕ, ◌+◌, ◌^◌, Bool, true, false, not, ◌&&◌, T, eqb, sym, refl, ap, ◌∙◌, subst, inl, inr, le_of_eq, lt_of_lt_of_le, eq-zero-or-pos, mul-pos, pow_pos, eqb-true}
+use Rattle.std.proofs.Common.{◌≡◌, ℕ, ◌+◌, ◌^◌, Bool, true, false, not, ◌&&◌, T, eqb, sym, refl, ap, ◌∙◌, subst, inl}
+use Rattle.std.proofs.Common.{inr, le_of_eq, lt_of_lt_of_le, eq-zero-or-pos, mul-pos, pow_pos, eqb-true}
 use lib.Bits.{bit_and}
 use lib.Ieee.{Float, nan, inf, fin, binary32, binary64, round, add, mul, fits, to_bits, of_bits, is_nan, eq}
 use lib.Ieee.Fits.{add-fits, mul-fits}

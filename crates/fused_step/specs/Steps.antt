@@ -1,5 +1,6 @@
 -- What the parts of a step promise one another. Definitions only.
-use Rattle.std.specs.Prelude.{◌≡◌, ℕ, ◌%◌, ◌^◌, ◌<◌, ◌≤◌, Bool, not, ◌&&◌, ◌||◌, T, ◌==◌, bit_and, is_nan, nat_lt, Float}
+use Rattle.std.specs.Prelude.{◌≡◌, ℕ, ◌%◌, ◌^◌, ◌<◌, ◌≤◌, Bool, not, ◌&&◌, ◌||◌, T, ◌==◌, bit_and, is_nan, nat_lt}
+use Rattle.std.specs.Prelude.{Float}
 use Rattle.std.specs.Float.Ieee.{lt, le}
 
 -- Whether two floats can be ordered. A NaN cannot.

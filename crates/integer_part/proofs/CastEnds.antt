@@ -1,6 +1,8 @@
 -- The cast to an `i64` beyond the ends of its range: from 2 ^ 63 on it is the largest `i64`, below -2 ^ 63 the
 -- smallest. Assumes nothing.
-use Rattle.std.proofs.Common.{◌≡◌, ℕ, ◌+◌, ◌-◌, ◌*◌, ◌/◌, ◌^◌, ◌<◌, ◌≤◌, min, Bool, true, false, T, ltb, pos, neg_ℤ, sym, refl, ap, subst, true≢false, le_trans, le_of_lt, le-div_iff_mul-le, arith, lit≤, ltb-false, ltb-true}
+use Rattle.std.proofs.Common.{◌≡◌, ℕ, ◌+◌, ◌-◌, ◌*◌, ◌/◌, ◌^◌, ◌<◌, ◌≤◌, min, Bool, true, false, T, ltb, pos, neg_ℤ}
+use Rattle.std.proofs.Common.{sym, refl, ap, subst, true≢false, le_trans, le_of_lt, le-div_iff_mul-le, arith, lit≤}
+use Rattle.std.proofs.Common.{ltb-false, ltb-true}
 use native.Mathlib.Nat.{min-eq_right}
 use lib.Ieee.{Float, nan, inf, fin, up, down, lt, le, eq, ne, to_signed}
 use lib.Ieee.Compare.{differs_from_itself}

@@ -1,7 +1,9 @@
 -- The floor by one sum with a whole number, for an x of magnitude at most 2 ^ 36. Rounding keeps the order, so the sum
 -- lies between the floor and the next whole number, each with that number added. If these lie from 2 ^ 52 to 2 ^ 53,
 -- where every f64 is whole, the sum is one of the two, and a comparison with x shows which. Assumes nothing.
-use Rattle.std.proofs.Common.{◌≡◌, ℕ, suc, ◌+◌, ◌-◌, ◌*◌, ◌^◌, ◌<◌, ◌≤◌, Bool, true, false, cond, ◌&&◌, T, ltb, ◌⊎◌, pos, negsuc, sym, refl, ap, ◌∙◌, subst, inl, inr, ⊎_elim, true≢false, mul-le-mul_right, suc-mul, add-mul, mul-pos, arith, lit<, ltb→lt, pow_pos, ltb-false, ltb-true, le-ltb}
+use Rattle.std.proofs.Common.{◌≡◌, ℕ, suc, ◌+◌, ◌-◌, ◌*◌, ◌^◌, ◌<◌, ◌≤◌, Bool, true, false, cond, ◌&&◌, T, ltb, ◌⊎◌}
+use Rattle.std.proofs.Common.{pos, negsuc, sym, refl, ap, ◌∙◌, subst, inl, inr, ⊎_elim, true≢false, mul-le-mul_right}
+use Rattle.std.proofs.Common.{suc-mul, add-mul, mul-pos, arith, lit<, ltb→lt, pow_pos, ltb-false, ltb-true, le-ltb}
 use lib.IntN.{sub_ℕ}
 use lib.Ieee.{Float, nan, inf, fin, binary64, lt, le, add, sub, of_int, fits}
 use lib.Ieee.Bits.{is_true}

@@ -1,7 +1,11 @@
 -- Within ±2 ^ 52 the floor is x cut towards zero, or one less if the cut lies above x. Below zero the cut and the
 -- quotient rounded up differ by one exactly if something was cut off, and one comparison with the cut shows that.
 -- Assumes nothing.
-use Rattle.std.proofs.Common.{◌≡◌, ℕ, zero, suc, ◌+◌, ◌-◌, ◌*◌, ◌/◌, ◌^◌, ◌<◌, ◌≤◌, min, Bool, true, false, cond, T, ltb, ℤ, pos, negsuc, ◌-ℤ◌, neg_ℤ, sym, refl, ap, ◌∙◌, subst, true≢false, le_trans, add-zero, mul-le-mul_right, suc-mul, add-mul, mul-lt-mul_of_pos_right, mul-one, mul_right_comm, div-mul-le_self, arith, lit<, lit≤, le→leb, lt→ltb, ltb-false, ltb-true, le-ltb, lt-ltb}
+use Rattle.std.proofs.Common.{◌≡◌, ℕ, zero, suc, ◌+◌, ◌-◌, ◌*◌, ◌/◌, ◌^◌, ◌<◌, ◌≤◌, min, Bool, true, false, cond, T}
+use Rattle.std.proofs.Common.{ltb, ℤ, pos, negsuc, ◌-ℤ◌, neg_ℤ, sym, refl, ap, ◌∙◌, subst, true≢false, le_trans}
+use Rattle.std.proofs.Common.{add-zero, mul-le-mul_right, suc-mul, add-mul, mul-lt-mul_of_pos_right, mul-one}
+use Rattle.std.proofs.Common.{mul_right_comm, div-mul-le_self, arith, lit<, lit≤, le→leb, lt→ltb, ltb-false, ltb-true}
+use Rattle.std.proofs.Common.{le-ltb, lt-ltb}
 use native.Mathlib.Nat.{min-eq_left, min-le_left}
 use native.Mathlib.Nat.{div-eq_of_lt-le}
 use lib.Signed.{mag}

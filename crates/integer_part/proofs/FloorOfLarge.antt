@@ -1,6 +1,7 @@
 -- Outside ±2 ^ 52 an f64 is whole, an infinity or a NaN, so its floor is what the cast gives. A value with digits
 -- behind the point is a number below 2 ^ 53 divided by at least 2. Assumes nothing.
-use Rattle.std.proofs.Common.{◌≡◌, ℕ, zero, suc, ◌*◌, ◌%◌, ◌^◌, ◌<◌, Bool, true, false, ◌&&◌, T, eqb, ltb, leb, pos, negsuc, refl, subst, zero-le, add-zero, arith, ltb→lt, pow_pos}
+use Rattle.std.proofs.Common.{◌≡◌, ℕ, zero, suc, ◌*◌, ◌%◌, ◌^◌, ◌<◌, Bool, true, false, ◌&&◌, T, eqb, ltb, leb, pos}
+use Rattle.std.proofs.Common.{negsuc, refl, subst, zero-le, add-zero, arith, ltb→lt, pow_pos}
 use native.Mathlib.Nat.{two-pow-succ}
 use lib.Ieee.{Float, nan, inf, fin, binary64, le, fits, to_signed}
 use lib.Ieee.Fits.{and_i, and_l, and_r}

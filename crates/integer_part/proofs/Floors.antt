@@ -1,7 +1,9 @@
 -- The floor of a number of magnitude at most b, for any b in the range of an `i64`. It is the quotient, or below zero
 -- the quotient rounded up, with its sign. So it is at most the number, the number is below the next, and its own
 -- magnitude is at most b. Assumes nothing.
-use Rattle.std.proofs.Common.{◌≡◌, ℕ, zero, suc, ◌+◌, ◌-◌, ◌*◌, ◌/◌, ◌^◌, ◌<◌, ◌≤◌, true, false, ℤ, pos, negsuc, neg_ℤ, nat_abs, ap, le_trans, le_of_suc-le-suc, mod-lt, suc-mul, div-lt_iff_lt-mul, add-mul, le_antisymm, lt_of_mul-lt-mul_right, div-add-mod', div-mul-le_self, arith}
+use Rattle.std.proofs.Common.{◌≡◌, ℕ, zero, suc, ◌+◌, ◌-◌, ◌*◌, ◌/◌, ◌^◌, ◌<◌, ◌≤◌, true, false, ℤ, pos, negsuc, neg_ℤ}
+use Rattle.std.proofs.Common.{nat_abs, ap, le_trans, le_of_suc-le-suc, mod-lt, suc-mul, div-lt_iff_lt-mul, add-mul}
+use Rattle.std.proofs.Common.{le_antisymm, lt_of_mul-lt-mul_right, div-add-mod', div-mul-le_self, arith}
 use native.Mathlib.Nat.{min-eq_left}
 use lib.Signed.{mag}
 use lib.Ieee.{Float, nan, inf, fin, up, down}
@@ -55,7 +57,8 @@ floor-at-most b (fin true m e) B h =
 pub floor-mag : (b : ℕ) (x : Float) → b < 2 ^ 63 → AtMost b x → mag (floor_of x) ≤ b
 floor-mag b x B h = le_trans (mag-le (floor_of x)) (floor-at-most b x B h)
 
--- ---- z ≤ x < z + 1, where z is pos_part - neg_part and x is (gain - loss) / den: negative parts stand on the other side
+-- ---- z ≤ x < z + 1, where z is pos_part - neg_part and x is (gain - loss) / den: negative parts stand on the other
+-- side
 abbrev pub pos_part : ℤ → ℕ
 pos_part (pos n) = n
 pos_part (negsuc n) = 0

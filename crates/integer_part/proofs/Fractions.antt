@@ -1,6 +1,8 @@
 -- The fraction of a number of magnitude at most 2 ^ 52 lies from 0 to 1, both included. The floor is exact as a float,
 -- the exact difference lies from 0 to 1, and rounding keeps the order. Assumes nothing.
-use Rattle.std.proofs.Common.{◌≡◌, ℕ, suc, ◌+◌, ◌*◌, ◌^◌, ◌<◌, ◌≤◌, true, false, not, T, ℤ, pos, negsuc, nat_abs, sym, refl, ◌∙◌, true≢false, le_trans, le_of_lt, mul-le-mul_right, suc-mul, mul-pos, zero-mul, mul-one, arith, lit<, lit≤}
+use Rattle.std.proofs.Common.{◌≡◌, ℕ, suc, ◌+◌, ◌*◌, ◌^◌, ◌<◌, ◌≤◌, true, false, not, T, ℤ, pos, negsuc, nat_abs, sym}
+use Rattle.std.proofs.Common.{refl, ◌∙◌, true≢false, le_trans, le_of_lt, mul-le-mul_right, suc-mul, mul-pos, zero-mul}
+use Rattle.std.proofs.Common.{mul-one, arith, lit<, lit≤}
 use lib.Signed.{non_neg}
 use lib.Ieee.{Float, nan, inf, fin, binary64, up, down, le, round, sub, neg, of_int, of_bits}
 use lib.Ieee.Exact.{HasValue}

@@ -1,6 +1,7 @@
 -- How large an integer is. `mag` is at most the magnitude, and that of a sum is little more than the two together, so
 -- that a sum stays in the range of an `i64`. Assumes nothing.
-use Rattle.std.proofs.Common.{◌≡◌, ℕ, zero, suc, ◌+◌, ◌-◌, ◌^◌, ◌<◌, ◌≤◌, Bool, true, false, cond, ltb, ℤ, pos, negsuc, ◌+ℤ◌, neg_ℤ, nat_abs, refl, le_trans, le_refl, lt_of_le_of_lt, arith, w64, SFits}
+use Rattle.std.proofs.Common.{◌≡◌, ℕ, zero, suc, ◌+◌, ◌-◌, ◌^◌, ◌<◌, ◌≤◌, Bool, true, false, cond, ltb, ℤ, pos, negsuc}
+use Rattle.std.proofs.Common.{◌+ℤ◌, neg_ℤ, nat_abs, refl, le_trans, le_refl, lt_of_le_of_lt, arith, w64, SFits}
 use native.Mathlib.Nat.{le-suc}
 use lib.IntN.{sub_ℕ}
 use lib.Signed.{mag}

@@ -1,6 +1,7 @@
 -- Signed sums near a place: a small unsigned number read as a signed one, and sums and differences that stay in the
 -- range of an `i64`. Assumes nothing.
-use Rattle.std.proofs.Common.{◌≡◌, ℕ, zero, suc, ◌+◌, ◌^◌, ◌<◌, ◌≤◌, ℤ, pos, negsuc, ◌+ℤ◌, ◌-ℤ◌, ◌∙◌, arith, w64, SFits, to_z, of_z}
+use Rattle.std.proofs.Common.{◌≡◌, ℕ, zero, suc, ◌+◌, ◌^◌, ◌<◌, ◌≤◌, ℤ, pos, negsuc, ◌+ℤ◌, ◌-ℤ◌, ◌∙◌, arith, w64, SFits}
+use Rattle.std.proofs.Common.{to_z, of_z}
 use lib.Signed.{mag}
 use mir.ValLaws.{to_z-of_z}
 use Rattle.integer_part.proofs.IntegerSizes.{mag_sum, sum_fits}

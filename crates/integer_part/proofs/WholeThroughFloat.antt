@@ -1,6 +1,8 @@
 -- A number compared with a whole number that is given as n less another, and a whole number turned into a float and
 -- back. Assumes nothing.
-use Rattle.std.proofs.Common.{◌≡◌, ℕ, suc, ◌+◌, ◌-◌, ◌*◌, ◌^◌, ◌<◌, ◌≤◌, Bool, true, false, cond, not, T, ltb, ℤ, pos, negsuc, nat_abs, sym, refl, ap, ◌∙◌, true≢false, add-mul, lt_of_mul-lt-mul_right, mul-lt-mul_of_pos_right, arith, ltb-false, ltb-true}
+use Rattle.std.proofs.Common.{◌≡◌, ℕ, suc, ◌+◌, ◌-◌, ◌*◌, ◌^◌, ◌<◌, ◌≤◌, Bool, true, false, cond, not, T, ltb, ℤ, pos}
+use Rattle.std.proofs.Common.{negsuc, nat_abs, sym, refl, ap, ◌∙◌, true≢false, add-mul, lt_of_mul-lt-mul_right}
+use Rattle.std.proofs.Common.{mul-lt-mul_of_pos_right, arith, ltb-false, ltb-true}
 use lib.IntN.{sub_ℕ}
 use lib.Signed.{non_neg, mag}
 use lib.Ieee.{Float, nan, inf, fin, binary64, lt, of_int, in_signed, to_signed}

@@ -28,5 +28,6 @@ pub first_byte : (k : ℕ) (b : List ℕ) (at : ℕ) → bytes_value (take (suc 
 first_byte k b at = rw add-one (byte_at k b at)
 
 pub later-byte : (k : ℕ) (b : List ℕ) (at j : ℕ)
-    → bytes_value (take (suc k) (drop (at + j) b)) ≡ bytes_value (take k (drop (at + suc j) b)) * 256 + get_or b (at + j) 0
+    → bytes_value (take (suc k) (drop (at + j) b))
+    ≡ bytes_value (take k (drop (at + suc j) b)) * 256 + get_or b (at + j) 0
 later-byte k b at j = rw (add-suc at j) (byte_at k b (at + j))

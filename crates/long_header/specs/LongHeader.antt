@@ -6,7 +6,8 @@ use Rattle.std.specs.Prelude.{ℕ, ◌+◌, ◌-◌, ◌/◌, ◌^◌, Bool, con
 use Rattle.word_bytes.specs.Bytes.{low_bytes}
 use Rattle.sample_kind.specs.declared.SampleKind.{SampleKind}
 use Rattle.sample_kind.specs.declared.SampleKind.TheVariants.{Pcm16, Pcm24, Float32}
-use Rattle.wav_header.specs.Header.{header_length, size_of, pad_of, file_length, wave_name, fmt_name, fact_name, data_name}
+use Rattle.wav_header.specs.Header.{header_length, size_of, pad_of, file_length, wave_name, fmt_name, fact_name}
+use Rattle.wav_header.specs.Header.{data_name}
 use Rattle.wav_header.specs.Header.{chunk_of, format_of, header_of}
 use Rattle.wav_header.specs.Refusals.{fits_riff}
 use Rattle.long_header.specs.declared.Form.{Form}

@@ -11,7 +11,8 @@ use Rattle.wav.specs.declared.Found.{Found}
 use Rattle.wav.specs.declared.Wave.{Wave}
 use Rattle.wav.specs.Wave.{part_of, wave_of, answered}
 use Rattle.true_sizes.specs.Sizes.{true_size}
-use Rattle.wav_opening.specs.Opening.{end_of, is_wave, sizes_there, sizes_small, riff_held, opening_needs, opening_tests}
+use Rattle.wav_opening.specs.Opening.{end_of, is_wave, sizes_there, sizes_small, riff_held, opening_needs}
+use Rattle.wav_opening.specs.Opening.{opening_tests}
 
 -- The chunk whose identifier stands at a place, with its true size.
 abbrev pub chunk_in : List ℕ → ℕ → Chunk

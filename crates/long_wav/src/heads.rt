@@ -15,7 +15,8 @@ pub(crate) struct Reached {
 }
 
 pub(crate) fn heads_of(prefix: &[u8], end: usize) -> Reached
-    ensures asked_value { result.asked ≡ missing (length prefix.now) (walked_from riff_sought (chunk_in prefix.now) end 12) }
+    ensures asked_value { result.asked ≡ missing (length prefix.now)
+        (walked_from riff_sought (chunk_in prefix.now) end 12) }
     ensures seen_value { result.asked ≡ 0 → result.seen ≡ walk_to riff_sought (chunk_in prefix.now) end }
 {
     let sought = riff_sought();

@@ -37,7 +37,8 @@ abbrev pub minus-zero-f : Float
 minus-zero-f = fin true 0 (pos 0)
 
 abbrev pub gain_of : ℕ → Float → Float → ℕ → Float
-gain_of taps cutoff beta n = fold (λ (k : ℕ) (gain : Float). add binary64 gain (raw_of taps cutoff beta k)) minus-zero-f n
+gain_of taps cutoff beta n = fold (λ (k : ℕ) (gain : Float). add binary64 gain (raw_of taps cutoff beta k)) minus-zero-f
+    n
 
 -- The low-pass filter: each coefficient is divided by their sum.
 unfoldable pub lowpass_of : ℕ → Float → Float → List Float

@@ -47,4 +47,5 @@ abbrev pub triangle_fifth : Float
 triangle_fifth = from_bits binary64 0x405f_4000_0000_0000
 
 abbrev pub triangle_normalization : Float
-triangle_normalization = div binary64 (from_bits binary64 0x4070_3000_0000_0000) (from_bits binary64 0x406c_2000_0000_0000)
+triangle_normalization = div binary64 (from_bits binary64 0x4070_3000_0000_0000)
+    (from_bits binary64 0x406c_2000_0000_0000)

@@ -3,7 +3,8 @@
 #![tactic(auto)]
 
 ghost use Rattle.std.specs.Prelude.{◌≡◌};
-ghost use Rattle.oscillator_ranges.specs.Ranges.{rate_ok, depth_ok, phase_ok, cycle_ok, sample_rate_ok, minimum_rate_ok};
+ghost use Rattle.oscillator_ranges.specs.Ranges.{rate_ok, depth_ok, phase_ok, cycle_ok, sample_rate_ok};
+ghost use Rattle.oscillator_ranges.specs.Ranges.{minimum_rate_ok};
 
 pub const TAU: f64 = 6.283185307179586;
 

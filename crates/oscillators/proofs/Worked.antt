@@ -11,6 +11,7 @@ use Rattle.oscillator_arithmetic.specs.Arithmetic.{squares_from, rate_delta}
 use Rattle.oscillators.specs.Answers.{answered_by, depths_ok, rate_delta_of}
 
 pub M4 : rate_delta_of [] ≡ Value (neg zero)
-unfolding answered_by depths_ok rate_delta squares_from root count_trailing_zeros size span climb odd units round neg mul of_fields
+unfolding answered_by depths_ok rate_delta squares_from root count_trailing_zeros size span climb odd units round neg
+    mul of_fields
     of_bits
 M4 = refl

@@ -5,7 +5,8 @@ use Rattle.std.specs.Float.Ieee.Scale.{finite}
 use Rattle.elementary.specs.declared.Answer.{Answer}
 use Rattle.elementary.specs.declared.Answer.TheVariants.{Value, Refused}
 use Rattle.oscillator_ranges.specs.Ranges.{rate_ok, depth_ok, phase_ok, cycle_ok, sample_rate_ok, minimum_rate_ok}
-use Rattle.oscillator_arithmetic.specs.Arithmetic.{speed_delta, advance_phase, shape_primitive, oscillator_delay, excursion}
+use Rattle.oscillator_arithmetic.specs.Arithmetic.{speed_delta, advance_phase, shape_primitive, oscillator_delay}
+use Rattle.oscillator_arithmetic.specs.Arithmetic.{excursion}
 use Rattle.oscillator_arithmetic.specs.Arithmetic.{rate_delta}
 
 -- The value, or refusal 1 if an argument is out of range.
@@ -17,7 +18,8 @@ speed_delta_of depth-cents = answered_by (depth_ok depth-cents) (speed_delta dep
 
 abbrev pub advance_phase_of : Float → Float → Float → Answer
 advance_phase_of phase rate-hz sample-rate =
-    answered_by (cycle_ok phase && (rate_ok rate-hz && sample_rate_ok sample-rate)) (advance_phase phase rate-hz sample-rate)
+    answered_by (cycle_ok phase && (rate_ok rate-hz && sample_rate_ok sample-rate))
+    (advance_phase phase rate-hz sample-rate)
 
 -- The shape is clamped, so that only a NaN or an infinity is refused.
 abbrev pub shape_primitive_of : Float → Float → Answer

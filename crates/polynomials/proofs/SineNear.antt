@@ -94,7 +94,8 @@ kept (fin s m (pos k)) q f t h j =
     own false a = refl
     own true a = refl
 
-    small : (s : Bool) (a : ℕ) → ((signed s a 1).p + (signed s a 1).n) * 2 ^ 1000 ≤ (signed s a 1).d → a ≤ (signed s a 1).d
+    small : (s : Bool) (a : ℕ) → ((signed s a 1).p + (signed s a 1).n) * 2 ^ 1000 ≤ (signed s a 1).d
+        → a ≤ (signed s a 1).d
     small false a t = le_trans (le_of_eq (sym (mul-one a))) (le_trans (mul-le-mul (omega arith) (lit≤ tt)) t)
     small true a t = le_trans (le_of_eq (sym (mul-one a))) (le_trans (mul-le-mul (omega arith) (lit≤ tt)) t)
 kept (fin s m (negsuc k)) q f t h j =

@@ -1,6 +1,7 @@
 -- 000's QualityVariableDelayF32::process_sample_rate_aware, over what each quality reads: which calls are refused, what
 -- an accepted call stores, which qualities it reads, and what it leaves. Definitions only.
-use Rattle.std.specs.Prelude.{ℕ, zero, suc, ◌+◌, ◌^◌, Bool, true, false, cond, not, ◌&&◌, List, [], ◌∷◌, pos, ◌==◌, is_nan, nat_le, nat_lt, Float}
+use Rattle.std.specs.Prelude.{ℕ, zero, suc, ◌+◌, ◌^◌, Bool, true, false, cond, not, ◌&&◌, List, [], ◌∷◌, pos, ◌==◌}
+use Rattle.std.specs.Prelude.{is_nan, nat_le, nat_lt, Float}
 use Rattle.std.specs.Float.{fin, binary32}
 use Rattle.std.specs.Float.Ieee.{add, sub, mul, div, le, of_int}
 use Rattle.std.specs.Float.Ieee.Scale.{finite}
@@ -39,7 +40,8 @@ verdict bank lent d len x y playback-rate =
 -- 000's `(crossfade_position + 1) as f32 / crossfade_samples as f32`, at most 1.
 abbrev pub weight_of : ℕ → ℕ → Float
 weight_of weight crossfade-samples =
-    smaller (div binary32 (of_int binary32 (pos weight)) (of_int binary32 (pos crossfade-samples))) (fin false 1 (pos 0))
+    smaller (div binary32 (of_int binary32 (pos weight)) (of_int binary32 (pos crossfade-samples)))
+    (fin false 1 (pos 0))
 
 -- 000's `from + (to - from) * mix`, each step rounded to f32.
 abbrev pub mixed_of : Float → Float → Float → Float

@@ -38,7 +38,8 @@ given-first ((m unless false) ∷ ts) n e = (0, (record { fails = refl; before =
 given-first ((m unless true) ∷ ts) n e = let w = given-first ts n e in (suc w.0, (later m w.1.0, w.1.1))
 
 -- N9. A number is given exactly when some line of that number is the first whose test fails.
-pub exactly : (ts : List Test) (n : ℕ) → first_of ts ≡ suc n ↔ ((k : ℕ) × (First ts k × number_of (line_of ts k) ≡ suc n))
+pub exactly : (ts : List Test) (n : ℕ) → first_of ts
+    ≡ suc n ↔ ((k : ℕ) × (First ts k × number_of (line_of ts k) ≡ suc n))
 exactly ts n = (given-first ts n, λ w. first-given ts w.0 w.1.0 ∙ w.1.1)
 
 all_hold : (ts : List Test) → numbered ts ≡ true → first_of ts ≡ 0 → (k : ℕ) → test_of (line_of ts k) ≡ true
@@ -62,7 +63,8 @@ both_hold true b h = (refl, h)
 both_hold false b h = absurd (true≢false (sym h))
 
 -- If the numbers are counted from n on, the line that fails first has the number n plus its place.
-counted-number : (n : ℕ) (ts : List Test) → counted n ts ≡ true → (k : ℕ) → First ts k → number_of (line_of ts k) ≡ n + k
+counted-number : (n : ℕ) (ts : List Test) → counted n ts ≡ true → (k : ℕ) → First ts k
+    → number_of (line_of ts k) ≡ n + k
 counted-number n [] c k w = absurd (true≢false w.fails)
 counted-number n ((m unless t) ∷ ts) c zero w =
     omega (arith, eqb-true m n (both_hold (eqb m n) (counted (suc n) ts) c).0)

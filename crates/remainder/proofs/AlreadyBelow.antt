@@ -1,5 +1,7 @@
 -- A number that is not below zero, and is below the divisor, is its own remainder. Assumes nothing.
-use Rattle.std.proofs.Common.{◌≡◌, ℕ, zero, suc, ◌+◌, ◌*◌, ◌%◌, ◌<◌, Bool, true, false, not, T, ℤ, sym, refl, ap, ◌∙◌, true≢false, mod-eq_of_lt, mul_assoc, mul-pos, zero-mul, mul_right_comm, arith, ltb→lt, nltb→le}
+use Rattle.std.proofs.Common.{◌≡◌, ℕ, zero, suc, ◌+◌, ◌*◌, ◌%◌, ◌<◌, Bool, true, false, not, T, ℤ, sym, refl, ap, ◌∙◌}
+use Rattle.std.proofs.Common.{true≢false, mod-eq_of_lt, mul_assoc, mul-pos, zero-mul, mul_right_comm, arith, ltb→lt}
+use Rattle.std.proofs.Common.{nltb→le}
 use lib.Dec.{not_T, eqb-suc-zero}
 use lib.Ieee.{Float, nan, inf, fin, Format, binary64, up, down, below, round, rem, lt, le, fits}
 use lib.Ieee.Fits.{down_pos}

@@ -1,6 +1,8 @@
 -- The remainder of a number that is not below the divisor, but below twice it, is their difference. If the rounded
 -- difference were below the divisor and the exact one not, rounding would have reversed the order. Assumes nothing.
-use Rattle.std.proofs.Common.{◌≡◌, ℕ, ◌+◌, ◌-◌, ◌*◌, ◌<◌, ◌≤◌, true, false, not, T, ℤ, sym, refl, ap, ◌∙◌, subst, mul-le-mul_right, mod-eq_of_lt, mul_assoc, mul-pos, zero-mul, mul_right_comm, arith, lit<, ltb→lt, nltb→le}
+use Rattle.std.proofs.Common.{◌≡◌, ℕ, ◌+◌, ◌-◌, ◌*◌, ◌<◌, ◌≤◌, true, false, not, T, ℤ, sym, refl, ap, ◌∙◌, subst}
+use Rattle.std.proofs.Common.{mul-le-mul_right, mod-eq_of_lt, mul_assoc, mul-pos, zero-mul, mul_right_comm, arith, lit<}
+use Rattle.std.proofs.Common.{ltb→lt, nltb→le}
 use mathlib.Core.Logic.{dite}
 use native.Mathlib.Nat.{mod-eq-sub-mod}
 use native.Mathlib.Decide.{dec_lt}

@@ -1,5 +1,7 @@
 -- The digits of a number above zero and their place, from its pattern. Assumes nothing.
-use Rattle.std.proofs.Common.{◌≡◌, ℕ, ◌+◌, ◌-◌, ◌*◌, ◌/◌, ◌%◌, ◌^◌, ◌<◌, ◌≤◌, Bool, true, false, cond, T, leb, sym, ap, ◌∙◌, subst, le_trans, le_of_eq, lt_of_lt_of_le, lt_irrefl, mul_assoc, mul-le-mul, mul-lt-mul_of_pos_right, zero-add, arith, pow_pos, pow_mono, pow-add, shl_lt}
+use Rattle.std.proofs.Common.{◌≡◌, ℕ, ◌+◌, ◌-◌, ◌*◌, ◌/◌, ◌%◌, ◌^◌, ◌<◌, ◌≤◌, Bool, true, false, cond, T, leb, sym, ap}
+use Rattle.std.proofs.Common.{◌∙◌, subst, le_trans, le_of_eq, lt_of_lt_of_le, lt_irrefl, mul_assoc, mul-le-mul}
+use Rattle.std.proofs.Common.{mul-lt-mul_of_pos_right, zero-add, arith, pow_pos, pow_mono, pow-add, shl_lt}
 use mathlib.Core.Logic.{dite}
 use native.Mathlib.Decide.{dec_lt}
 use lib.Ieee.{Float, nan, inf, fin, binary64, units, fits, of_bits, to_bits}

@@ -1,6 +1,7 @@
 -- Remainders of whole numbers: a factor may be taken out of both, and a remainder may be taken at any step of a
 -- product. Assumes nothing.
-use Rattle.std.proofs.Common.{◌≡◌, ℕ, ◌+◌, ◌-◌, ◌*◌, ◌/◌, ◌%◌, ◌^◌, ◌<◌, ◌≤◌, sym, ap, ◌∙◌, add-zero, mul_assoc, add-mul, div-add-mod', mul_right_comm, mul-div_cancel, arith, pow_pos, pow-add}
+use Rattle.std.proofs.Common.{◌≡◌, ℕ, ◌+◌, ◌-◌, ◌*◌, ◌/◌, ◌%◌, ◌^◌, ◌<◌, ◌≤◌, sym, ap, ◌∙◌, add-zero, mul_assoc}
+use Rattle.std.proofs.Common.{add-mul, div-add-mod', mul_right_comm, mul-div_cancel, arith, pow_pos, pow-add}
 use native.Mathlib.Nat.{mul-mod_left}
 use native.Mathlib.Nat.{mul-add-mod_self_right}
 use lib.Arith.{mod-mul}

@@ -1,7 +1,9 @@
 -- A remainder is exact: its digits stand at the lower of the two places, and it has no more of them than one of the two
 -- numbers. So for a number that is not below zero it is not below zero either, and it is below the divisor. Assumes
 -- nothing.
-use Rattle.std.proofs.Common.{◌≡◌, ℕ, suc, ◌+◌, ◌-◌, ◌*◌, ◌%◌, ◌^◌, ◌<◌, Bool, true, false, not, T, sym, refl, ap, ◌∙◌, subst, le_trans, lt_trans, le_of_eq, lt_of_lt_of_le, lt_of_le_of_lt, mod-lt, mul_assoc, mul_comm, mul-pos, arith, lt→ltb, nltb→le, pow_pos, pow-add}
+use Rattle.std.proofs.Common.{◌≡◌, ℕ, suc, ◌+◌, ◌-◌, ◌*◌, ◌%◌, ◌^◌, ◌<◌, Bool, true, false, not, T, sym, refl, ap, ◌∙◌}
+use Rattle.std.proofs.Common.{subst, le_trans, lt_trans, le_of_eq, lt_of_lt_of_le, lt_of_le_of_lt, mod-lt, mul_assoc}
+use Rattle.std.proofs.Common.{mul_comm, mul-pos, arith, lt→ltb, nltb→le, pow_pos, pow-add}
 use mathlib.Core.Logic.{dite}
 use native.Mathlib.Nat.{mod-le}
 use native.Mathlib.Decide.{dec_lt}

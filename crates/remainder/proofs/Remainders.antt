@@ -1,6 +1,7 @@
 -- `lib.Ieee.rem` has the sign of the dividend, whatever that of the divisor, and its size is the remainder of any two
 -- fractions over one denominator. Assumes nothing.
-use Rattle.std.proofs.Common.{◌≡◌, ℕ, zero, suc, ◌*◌, ◌%◌, ◌<◌, Bool, true, false, cond, not, eqb, sym, refl, ap, ◌∙◌, zero-lt-suc, mul_assoc, mul_comm, mul-pos, mul_right_comm, arith}
+use Rattle.std.proofs.Common.{◌≡◌, ℕ, zero, suc, ◌*◌, ◌%◌, ◌<◌, Bool, true, false, cond, not, eqb, sym, refl, ap, ◌∙◌}
+use Rattle.std.proofs.Common.{zero-lt-suc, mul_assoc, mul_comm, mul-pos, mul_right_comm, arith}
 use lib.Dec.{eqb-suc-zero}
 use lib.Ieee.{Float, nan, inf, fin, Format, up, down, round, neg, rem}
 use lib.Ieee.Fits.{up_pos, down_pos}

@@ -1,5 +1,7 @@
 -- What the tests of `absolute` and of `above` show of their floats. Assumes nothing.
-use Rattle.std.proofs.Common.{◌≡◌, zero, suc, ◌+◌, ◌*◌, ◌<◌, Bool, true, false, not, ◌||◌, T, eqb, sym, refl, true≢false, zero-lt-suc, mul-pos, zero-mul, arith, eqb→eq, lt→ltb, nltb→le, ltb-false, ltb-true}
+use Rattle.std.proofs.Common.{◌≡◌, zero, suc, ◌+◌, ◌*◌, ◌<◌, Bool, true, false, not, ◌||◌, T, eqb, sym, refl}
+use Rattle.std.proofs.Common.{true≢false, zero-lt-suc, mul-pos, zero-mul, arith, eqb→eq, lt→ltb, nltb→le, ltb-false}
+use Rattle.std.proofs.Common.{ltb-true}
 use mathlib.Core.Bool.{beq}
 use lib.Arith.{le→nltb}
 use lib.Ieee.{Float, nan, inf, fin, binary64, up, down, odd, neg, rem, div, lt, eq, fits, is_nan, of_fields, of_bits}

@@ -63,6 +63,7 @@ module _ (f g : ℕ → Chunk) (end : ℕ) where
         by true false e p q h = absurd (true≢false (sym e))
         by false false e p q h = h p q
 
-    pub same-up-to : (at : ℕ) → (walk_from s f end at).samples.found ≡ true → (walk_from s f end at).samples.body ≤ limit
+    pub same-up-to : (at : ℕ) → (walk_from s f end at).samples.found ≡ true
+        → (walk_from s f end at).samples.body ≤ limit
         → walked_from s f end at ≡ walked_from s g end at
     same-up-to at p q = same_by end (leb (at + 8) end) at p q

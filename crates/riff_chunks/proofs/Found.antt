@@ -25,7 +25,8 @@ fits end id (c ∷ cs) o f =
     let n = neither (overruns end c) (overrun end cs) o in
     by (eqb c.id id) n.0 (fits end id cs n.1) f
   where
-    by : (t : Bool) → overruns end c ≡ false → ((first id cs).found ≡ true → (first id cs).body + (first id cs).size ≤ end)
+    by : (t : Bool) → overruns end c ≡ false
+        → ((first id cs).found ≡ true → (first id cs).body + (first id cs).size ≤ end)
         → (cond t (spot_of c) (first id cs)).found ≡ true
         → (cond t (spot_of c) (first id cs)).body + (cond t (spot_of c) (first id cs)).size ≤ end
     by true e h f = ltb-false end (c.body + c.size) e

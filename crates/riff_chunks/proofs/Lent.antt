@@ -22,7 +22,8 @@ module _ (s : Sought) (chunk_of : ℕ → Chunk) (placed : Placed chunk_of) (end
   over zero w l = refl
   over (suc n) w l = ap (turns_by step n) (still w l) ∙ over n w l
 
-  sees-all : (n : ℕ) (w : Walking) → w.left ≤ n → On s chunk_of end w → (turns_by step n w).seen ≡ walk_to s chunk_of end
+  sees-all : (n : ℕ) (w : Walking) → w.left ≤ n → On s chunk_of end w
+      → (turns_by step n w).seen ≡ walk_to s chunk_of end
   unfolding turns_by
   sees-all zero w l on = on-ended s chunk_of placed end w (omega arith) on
   sees-all (suc n) w l on = by (leb 8 w.left) refl (sees-all n (step w))

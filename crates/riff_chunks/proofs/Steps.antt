@@ -44,7 +44,8 @@ module _ (chunk_of : ℕ → Chunk) (end : ℕ) where
     unroll (suc f) at h p =
         let b = placed at in
         rw (le-leb (at + 8) end h)
-        (ap (λ (cs : List Chunk). chunk_of at ∷ cs) (enough f (suc f) (after (chunk_of at)) (omega arith) (omega arith)))
+        (ap (λ (cs : List Chunk). chunk_of at ∷ cs)
+        (enough f (suc f) (after (chunk_of at)) (omega arith) (omega arith)))
 
     pub one_chunk : (at : ℕ) → at + 8 ≤ end
         → chunks chunk_of end at ≡ chunk_of at ∷ chunks chunk_of end (after (chunk_of at))

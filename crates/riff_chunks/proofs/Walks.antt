@@ -25,7 +25,8 @@ module _ (s : Sought) (chunk_of : ℕ → Chunk) (placed : Placed chunk_of) (end
 
   -- W1g. A chunk that is neither of the two looked for, and does not run past the end, is skipped with its pad byte.
   pub skipped : eqb (chunk_of at).id s.format ≡ false → eqb (chunk_of at).id s.samples ≡ false
-      → overruns end (chunk_of at) ≡ false → walk_from s chunk_of end at ≡ walk_from s chunk_of end (after (chunk_of at))
+      → overruns end (chunk_of at) ≡ false → walk_from s chunk_of end at
+      ≡ walk_from s chunk_of end (after (chunk_of at))
   unfolding overrun first
   skipped f n o = ap (seen_of s end) walked_one ∙ rw (o, f, n, and-false s.ends)
 

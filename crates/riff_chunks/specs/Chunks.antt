@@ -1,7 +1,8 @@
 -- W1. The chunks of a file: an identifier of four bytes, a size of four bytes, that many bytes of body, and a pad byte
 -- behind a body of odd size. Which chunk stands at a place is a parameter, because another layout may have its sizes in
 -- another order of bytes, or their true values elsewhere. Definitions only.
-use Rattle.std.specs.Prelude.{ℕ, zero, suc, ◌+◌, ◌%◌, ◌≡◌, Bool, true, false, cond, ◌||◌, List, [], ◌∷◌, eqb, leb, ltb, take, drop}
+use Rattle.std.specs.Prelude.{ℕ, zero, suc, ◌+◌, ◌%◌, ◌≡◌, Bool, true, false, cond, ◌||◌, List, [], ◌∷◌, eqb, leb, ltb}
+use Rattle.std.specs.Prelude.{take, drop}
 use Rattle.word_bytes.specs.Bytes.{bytes_value}
 use Rattle.riff_chunks.specs.declared.Chunk.{Chunk}
 use Rattle.riff_chunks.specs.declared.Spot.{Spot}

@@ -1,6 +1,7 @@
 -- W1. The walk over the chunks of a file, from behind its first 12 bytes on. It looks for two identifiers; the first
 -- chunk of each counts, and one with the second identifier may end the walk. Definitions only.
-use Rattle.std.specs.Prelude.{ℕ, zero, suc, ◌+◌, ◌-◌, ◌%◌, min, Bool, true, false, cond, ◌&&◌, ◌||◌, List, [], ◌∷◌, eqb, ltb, length}
+use Rattle.std.specs.Prelude.{ℕ, zero, suc, ◌+◌, ◌-◌, ◌%◌, min, Bool, true, false, cond, ◌&&◌, ◌||◌, List, [], ◌∷◌, eqb}
+use Rattle.std.specs.Prelude.{ltb, length}
 use Rattle.word_bytes.specs.Bytes.{bytes_value}
 use Rattle.riff_chunks.specs.declared.Chunk.{Chunk}
 use Rattle.riff_chunks.specs.declared.Sought.{Sought}

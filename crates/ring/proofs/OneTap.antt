@@ -1,4 +1,5 @@
--- One tap is a run of one: it stands at the place that `start_of` gives, or is not held and reads zero. Assumes nothing.
+-- One tap is a run of one: it stands at the place that `start_of` gives, or is not held and reads zero. Assumes
+-- nothing.
 use mathlib.Core.Path.{◌≡◌, refl, sym, ◌∙◌, ap}
 use mathlib.Core.Bool.{Bool, true, false}
 use mathlib.Core.List.{List}
@@ -25,7 +26,8 @@ module _ (xs : List Float) (count : ℕ) where
   absent (negsuc k) h = refl
   absent (pos k) h = go (ltb k count) (leb count (k + length xs)) refl refl
     where
-      go : (a b : Bool) → ltb k count ≡ a → leb count (k + length xs) ≡ b → fin false 0 (pos 0) ≡ tap_of xs count (pos k)
+      go : (a b : Bool) → ltb k count ≡ a → leb count (k + length xs) ≡ b
+          → fin false 0 (pos 0) ≡ tap_of xs count (pos k)
       go false b p q = rw p
       go true false p q = rw (p, q)
       go true true p q =

@@ -86,10 +86,12 @@ finite-no nan h = refl
 finite-no (inf s) h = refl
 finite-no (fin s m e) h = absurd (true≢false h)
 
-pub is-finite-yes : (x : Float) → lt x (div binary64 (of_bits binary64 0x3ff0_0000_0000_0000) (of_bits binary64 0)) ≡ true
+pub is-finite-yes : (x : Float) → lt x (div binary64 (of_bits binary64 0x3ff0_0000_0000_0000) (of_bits binary64 0))
+    ≡ true
     → lt (div binary64 (neg (of_bits binary64 0x3ff0_0000_0000_0000)) (of_bits binary64 0)) x ≡ finite x
 is-finite-yes x h = ap (λ (z : Float). lt z x) minus-inf ∙ finite-yes x (ap (lt x) (sym plus-inf) ∙ h)
 
-pub is-finite-no : (x : Float) → lt x (div binary64 (of_bits binary64 0x3ff0_0000_0000_0000) (of_bits binary64 0)) ≡ false
+pub is-finite-no : (x : Float) → lt x (div binary64 (of_bits binary64 0x3ff0_0000_0000_0000) (of_bits binary64 0))
+    ≡ false
     → false ≡ finite x
 is-finite-no x h = finite-no x (ap (lt x) (sym plus-inf) ∙ h)

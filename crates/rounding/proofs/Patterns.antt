@@ -11,7 +11,8 @@ use native.Mathlib.Omega.{arith}
 use lib.Dec.{T, leb, eqb, nltb→le, lit<, leb→le, nleb→lt}
 use lib.Arith.{le→nltb}
 use lib.Pow.{pow_pos}
-use lib.Ieee.{Float, nan, inf, fin, Format, binary32, binary64, units, fits, to_bits, prec, emax, of_bits, is_nan, nan_bits}
+use lib.Ieee.{Float, nan, inf, fin, Format, binary32, binary64, units, fits, to_bits, prec, emax, of_bits, is_nan}
+use lib.Ieee.{nan_bits}
 use lib.Ieee.{of_fields, hid, top, ones}
 use lib.Ieee.Bits.{nan_bits_above, of_bits-to_bits, nan_bits_is}
 use lib.Ieee.Scale.{finite}

@@ -42,9 +42,9 @@ unfoldable pub rounded_root : Format → ℕ → Float
 unfolding round whole_root
 rounded_root f n = let s = whole_root n in round f false (2 * s + more s n) (4 * 2 ^ low f)
 
--- square_root: a zero is its own root and keeps its sign; a number below zero has no root. The quotient by down e leaves
--- no remainder in a format's value. The law `root-is-nearest` of `square_root` says in IEEE 754's words what this is:
--- no value of the format lies nearer to the root.
+-- square_root: a zero is its own root and keeps its sign; a number below zero has no root. The quotient by down e
+-- leaves no remainder in a format's value. The law `root-is-nearest` of `square_root` says in IEEE 754's words what
+-- this is: no value of the format lies nearer to the root.
 unfoldable pub root : Format → Float → Float
 unfolding rounded_root
 root f nan = nan

@@ -1,5 +1,5 @@
--- `nearest_to` is the same float for equal numbers. A sum is that float of the exact sum if its second part is not zero,
--- because then no -0 is rounded. Assumes nothing.
+-- `nearest_to` is the same float for equal numbers. A sum is that float of the exact sum if its second part is not
+-- zero, because then no -0 is rounded. Assumes nothing.
 use mathlib.Core.Path.{◌≡◌, ap, ◌∙◌}
 use mathlib.Core.Bool.{Bool, true, false, not, ◌&&◌, beq, cond}
 use Prim.Native.Nat.{ℕ, ◌+◌, ◌-◌, ◌*◌, ◌≤◌, ◌<◌}

@@ -7,7 +7,8 @@ use Rattle.room_marks.specs.declared.Desk.{Desk}
 use Rattle.room_grants.specs.declared.Place.{Place}
 use Rattle.room_grants.specs.declared.Place.TheVariants.{Shared, Anew}
 use Rattle.room_grants.specs.declared.Place.TheVariants as place
-use Rattle.room_grants.specs.Grants.{open_verdict, cleared_to, asked_place, rates_by, marks_by, give_up_verdict, given_up}
+use Rattle.room_grants.specs.Grants.{open_verdict, cleared_to, asked_place, rates_by, marks_by, give_up_verdict}
+use Rattle.room_grants.specs.Grants.{given_up}
 use Rattle.set_room.specs.declared.Asked.{Asked}
 use Rattle.set_room.specs.declared.Asked.TheVariants.{Granted, Refused}
 

@@ -12,7 +12,8 @@ abbrev pub set_verdict : Float → ℕ → ℕ
 set_verdict rate len = first_of (1 unless bank_ok rate ∷ 2 unless eqb len set_length ∷ [])
 
 abbrev pub bank_verdict : Float → ℕ → ℕ
-bank_verdict max-rate len = first_of (1 unless bank_ok max-rate ∷ 2 unless eqb len (steps_of max-rate * set_length) ∷ [])
+bank_verdict max-rate len = first_of (1 unless bank_ok max-rate ∷ 2 unless eqb len (steps_of max-rate * set_length)
+    ∷ [])
 
 -- A builder answers how many sets were built.
 abbrev pub built_by : ℕ → Float → Built

@@ -104,7 +104,8 @@ pub fn bank_length(max_rate: f64) -> usize
 
 // Lends the part of each set to `write_set`.
 fn write_sets(max_rate: f64, n: usize, width: usize, sets: &mut [f32], mode: Mode)
-    requires { (bank_ok max_rate ≡ true) × (n ≡ steps_of max_rate) × (width ≡ set_length) × (length sets.old ≡ n * width) }
+    requires { (bank_ok max_rate ≡ true) × (n ≡ steps_of max_rate) × (width ≡ set_length)
+        × (length sets.old ≡ n * width) }
     ensures { sets.new ≡ bank_in mode max_rate }
 {
     let mut i: usize = 0;

@@ -8,4 +8,5 @@ use Rattle.sinc_phases.specs.Phases.{first_tap}
 -- The reading's taps are all among the last samples that the ring holds once the count is `after`, so the sample that
 -- made it so took the place of none of them.
 abbrev pub apart_of : ℕ → ℕ → Float → ℕ → Bool
-apart_of len after p taps = (start_of len after (cond (taps_ok taps && position_ok p) (first_tap p taps) (pos 0)) taps).held
+apart_of len after p taps = (start_of len after (cond (taps_ok taps && position_ok p) (first_tap p taps) (pos 0))
+    taps).held

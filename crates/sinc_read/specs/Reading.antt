@@ -15,13 +15,15 @@ use Rattle.sinc_read.specs.Sums.{tap_turn}
 unfoldable pub sinc_at : List Float → ℕ → ℕ → List Float → ℕ → Float → Float
 sinc_at table taps phases xs count p =
     fold
-    (tap_turn (λ k. tap_of xs count (first_tap p taps +ℤ pos k)) table (blend_of p phases) taps (phase_of p phases)) zero-f
+    (tap_turn (λ k. tap_of xs count (first_tap p taps +ℤ pos k)) table (blend_of p phases) taps (phase_of p phases))
+    zero-f
     taps
 
 -- G3, G5. The reading is zero if a setting or the position is out of range, or the table has another length.
 abbrev pub read_of : List Float → ℕ → ℕ → List Float → ℕ → Float → Float
 read_of table taps phases xs count p =
-    cond (eqb (table_verdict taps phases (length table)) 0 && position_ok p) (sinc_at table taps phases xs count p) zero-f
+    cond (eqb (table_verdict taps phases (length table)) 0 && position_ok p) (sinc_at table taps phases xs count p)
+    zero-f
 
 -- N1, N2. 1 for a setting or a position out of its range, 2 for a table of another length, 0 for none.
 abbrev pub sample_verdict : ℕ → ℕ → ℕ → Float → ℕ

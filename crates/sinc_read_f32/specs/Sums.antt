@@ -12,4 +12,5 @@ tap_turn x table blend taps phase k sum = fused binary32 (x k) (coefficient_at b
 -- The same for a list of samples and for rows that start at two places of the table.
 abbrev pub run_turn : List Float → List Float → ℕ → ℕ → Float → ℕ → Float → Float
 run_turn samples table row next blend k sum =
-    fused binary32 (get_or samples k nan) (coefficient_of blend (get_or table (row + k) nan) (get_or table (next + k) nan)) sum
+    fused binary32 (get_or samples k nan) (coefficient_of blend (get_or table (row + k) nan)
+    (get_or table (next + k) nan)) sum

@@ -62,7 +62,8 @@ distance_of s phase k = sub binary64 (sub binary64 (num k) (center_of s.taps)) (
 
 -- In 000: `cutoff * sinc(cutoff * distance) * window`.
 abbrev pub coefficient_of : Float → Float → Float → Float
-coefficient_of cutoff distance window = mul binary64 (mul binary64 cutoff (sinc_of (mul binary64 cutoff distance))) window
+coefficient_of cutoff distance window = mul binary64 (mul binary64 cutoff (sinc_of (mul binary64 cutoff distance)))
+    window
 
 -- W11a. The same for any arguments. If the sinc's argument lies beyond 65, where no table and no filter comes, it is
 -- 0.0.

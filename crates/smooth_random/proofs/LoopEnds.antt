@@ -6,7 +6,8 @@ use mathlib.Core.Bool.{Bool, true, false, not, cond}
 use Prim.Native.Nat.{ℕ, zero, suc, ◌^◌, ◌<◌}
 use lib.Dec.{T}
 use lib.Count.{count_trailing_zeros}
-use lib.Ieee.{Float, binary64, size, span, climb, odd, units, round, neg, sum, add, sub, mul, div, lt, eq, le, of_fields}
+use lib.Ieee.{Float, binary64, size, span, climb, odd, units, round, neg, sum, add, sub, mul, div, lt, eq, le}
+use lib.Ieee.{of_fields}
 use lib.Ieee.{of_bits}
 use lib.Ieee.Fits.{and_l, and_r}
 use lib.Ieee.Bits.{is_false}
@@ -84,7 +85,8 @@ module _ (r : SmoothRandom) (rate-hz sample-rate : Float) (ok : T (arguments_of 
       (product-between binary64 tt targets h.pace-in refl refl tt tt) samples tt refl refl tt tt) refl refl tt tt
 
   once : T (le one on.position) → Held (turned on)
-  unfolding advanced turned count_trailing_zeros size span climb odd units round neg sum add sub mul div lt eq le of_fields
+  unfolding advanced turned count_trailing_zeros size span climb odd units round neg sum add sub mul div lt eq le
+      of_fields
       of_bits
   once t =
       let past : Between one reach on.position = between tt tt t moved.below.order in

@@ -79,7 +79,8 @@ ends =
     ∷ []
 
 checked : T (passed (λ a b. all (tests a b)) zero (part 32) ends)
-unfolding tests count_trailing_zeros size span climb odd units round neg sum add sub mul div lt eq le of_int of_fields of_bits
+unfolding tests count_trailing_zeros size span climb odd units round neg sum add sub mul div lt eq le of_int of_fields
+    of_bits
 checked = tt
 
 pub quintic-between : (t : Float) → Between zero one t → Between zero bound (quintic_of t)

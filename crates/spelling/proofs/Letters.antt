@@ -54,7 +54,8 @@ all-of-it = refl
 pub has_value : (text : List ℕ) → is_named text ≡ true → split_in text < length text
 has_value text h = by (ltb 0 (split_in text)) (ltb (split_in text) (length text)) refl h
   where
-    by : (x t : Bool) → ltb (split_in text) (length text) ≡ t → (x && (t && all_in_name (take (split_in text) text))) ≡ true
+    by : (x t : Bool) → ltb (split_in text) (length text) ≡ t
+        → (x && (t && all_in_name (take (split_in text) text))) ≡ true
         → split_in text < length text
     by true true e h = ltb-true (split_in text) (length text) e
     by true false e h = absurd (true≢false (sym h))

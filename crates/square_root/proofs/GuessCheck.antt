@@ -1,6 +1,7 @@
 -- The check of a guess. A difference that is worked out by halves is exact if each step of it fits, and what it leaves
 -- shows which whole number is nearest. Assumes nothing.
-use Rattle.std.proofs.Common.{◌≡◌, ℕ, ◌+◌, ◌-◌, ◌*◌, ◌/◌, ◌%◌, ◌^◌, ◌<◌, ◌≤◌, Bool, true, false, cond, leb, sym, ap, ◌∙◌, inl, inr, zero-le, le_refl, mul-le-mul, arith, le-leb}
+use Rattle.std.proofs.Common.{◌≡◌, ℕ, ◌+◌, ◌-◌, ◌*◌, ◌/◌, ◌%◌, ◌^◌, ◌<◌, ◌≤◌, Bool, true, false, cond, leb, sym, ap}
+use Rattle.std.proofs.Common.{◌∙◌, inl, inr, zero-le, le_refl, mul-le-mul, arith, le-leb}
 use mathlib.Core.Logic.{dite}
 use Prim.Native.Nat.{compare, Ordering}
 use native.Mathlib.Decide.{dec_le}

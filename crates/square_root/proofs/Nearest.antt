@@ -1,7 +1,10 @@
 -- IEEE 754's words for square_root: of all values of the format, `root` gives the one nearest to the square root.
 -- Counted in the smallest value let x be X, its root R and any other value Y. Then the square of twice the square root
 -- of x is X * 4 * 2 ^ low, and it lies on R's side of the square of R + Y. Assumes nothing.
-use Rattle.std.proofs.Common.{◌≡◌, ℕ, ◌+◌, ◌*◌, ◌/◌, ◌^◌, ◌<◌, ◌≤◌, false, T, pos, sym, refl, ap, ◌∙◌, subst, le_of_eq, lt_of_lt_of_le, lt_of_le_of_lt, zero-lt-suc, mul_assoc, lt_of_mul-lt-mul_right, mul-lt-mul_of_pos_right, mul-pos, mul_right_comm, le_of_mul-le-mul_right, mul-div_cancel, arith, pow_pos}
+use Rattle.std.proofs.Common.{◌≡◌, ℕ, ◌+◌, ◌*◌, ◌/◌, ◌^◌, ◌<◌, ◌≤◌, false, T, pos, sym, refl, ap, ◌∙◌, subst, le_of_eq}
+use Rattle.std.proofs.Common.{lt_of_lt_of_le, lt_of_le_of_lt, zero-lt-suc, mul_assoc, lt_of_mul-lt-mul_right}
+use Rattle.std.proofs.Common.{mul-lt-mul_of_pos_right, mul-pos, mul_right_comm, le_of_mul-le-mul_right, mul-div_cancel}
+use Rattle.std.proofs.Common.{arith, pow_pos}
 use mathlib.Core.Logic.{dite}
 use native.Mathlib.Decide.{dec_le, dec_lt}
 use lib.Ieee.{Float, nan, inf, fin, Format, binary64, down, low, round, fits, le, lt, eq}

@@ -1,6 +1,9 @@
 -- The digits that `root_digits` finds, packed, are the root: `root` at a value from which an even power of two is taken
 -- out. Assumes nothing.
-use Rattle.std.proofs.Common.{◌≡◌, ℕ, zero, suc, ◌+◌, ◌-◌, ◌*◌, ◌/◌, ◌%◌, ◌^◌, ◌<◌, ◌≤◌, Bool, true, false, cond, T, eqb, sym, refl, ap, ◌∙◌, subst, le_trans, le_of_eq, lt_of_lt_of_le, lt_irrefl, zero-lt-suc, mul_assoc, mul_comm, mul-pos, zero-mul, mul_right_comm, le-mul_of_pos_right, mul-div_cancel, arith, pow_pos, pow-add, shl_exact}
+use Rattle.std.proofs.Common.{◌≡◌, ℕ, zero, suc, ◌+◌, ◌-◌, ◌*◌, ◌/◌, ◌%◌, ◌^◌, ◌<◌, ◌≤◌, Bool, true, false, cond, T}
+use Rattle.std.proofs.Common.{eqb, sym, refl, ap, ◌∙◌, subst, le_trans, le_of_eq, lt_of_lt_of_le, lt_irrefl}
+use Rattle.std.proofs.Common.{zero-lt-suc, mul_assoc, mul_comm, mul-pos, zero-mul, mul_right_comm, le-mul_of_pos_right}
+use Rattle.std.proofs.Common.{mul-div_cancel, arith, pow_pos, pow-add, shl_exact}
 use native.Mathlib.Nat.{pow-succ'}
 use lib.Bits.{bit_and, and_mask}
 use lib.Ieee.{Float, nan, inf, fin, Format, binary64, low, up, down}

@@ -1,5 +1,7 @@
 -- The digits that `quick` finds, below the exponent field of the root, are the root's pattern. Assumes nothing.
-use Rattle.std.proofs.Common.{◌≡◌, ℕ, ◌+◌, ◌*◌, ◌/◌, ◌%◌, ◌^◌, ◌<◌, ◌≤◌, Bool, true, false, T, eqb, sym, ap, ◌∙◌, le_trans, lt_of_lt_of_le, mod-eq_of_lt, zero-add, mul_right_comm, le-mul_of_pos_right, arith, pow_pos, pow_mono, shl_lt, lt-ltb}
+use Rattle.std.proofs.Common.{◌≡◌, ℕ, ◌+◌, ◌*◌, ◌/◌, ◌%◌, ◌^◌, ◌<◌, ◌≤◌, Bool, true, false, T, eqb, sym, ap, ◌∙◌}
+use Rattle.std.proofs.Common.{le_trans, lt_of_lt_of_le, mod-eq_of_lt, zero-add, mul_right_comm, le-mul_of_pos_right}
+use Rattle.std.proofs.Common.{arith, pow_pos, pow_mono, shl_lt, lt-ltb}
 use mathlib.Core.Logic.{dite}
 use native.Mathlib.Decide.{dec_lt}
 use borrow.Author.Tests.{eqb-false}

@@ -1,6 +1,9 @@
 -- The restoring steps of `root_digits`. Each brings down two digits and finds one; after 55 steps the root is there,
 -- and its last digit is odd if it is not exact. Assumes nothing.
-use Rattle.std.proofs.Common.{◌≡◌, ℕ, ◌+◌, ◌-◌, ◌*◌, ◌/◌, ◌%◌, ◌^◌, ◌<◌, ◌≤◌, cond, leb, sym, ap, ◌∙◌, inl, inr, zero-le, le_trans, le_of_eq, lt_of_lt_of_le, lt_of_le_of_lt, mul-le-mul_right, mod-lt, mul_assoc, eq-zero-or-pos, le_antisymm, pow-suc, mul-div_cancel, add-one, arith, pow_pos, pow_mono, pow-add, eq-eqb, ne_eqb, le-leb}
+use Rattle.std.proofs.Common.{◌≡◌, ℕ, ◌+◌, ◌-◌, ◌*◌, ◌/◌, ◌%◌, ◌^◌, ◌<◌, ◌≤◌, cond, leb, sym, ap, ◌∙◌, inl, inr}
+use Rattle.std.proofs.Common.{zero-le, le_trans, le_of_eq, lt_of_lt_of_le, lt_of_le_of_lt, mul-le-mul_right, mod-lt}
+use Rattle.std.proofs.Common.{mul_assoc, eq-zero-or-pos, le_antisymm, pow-suc, mul-div_cancel, add-one, arith, pow_pos}
+use Rattle.std.proofs.Common.{pow_mono, pow-add, eq-eqb, ne_eqb, le-leb}
 use mathlib.Core.Logic.{dite}
 use native.Mathlib.Decide.{dec_le}
 use borrow.Author.Tests.{lt-leb}

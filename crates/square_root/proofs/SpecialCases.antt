@@ -1,6 +1,8 @@
 -- The cases of `square_root`: what its tests show of x, and that x or a NaN is the root if nothing has to be computed.
 -- Assumes nothing.
-use Rattle.std.proofs.Common.{◌≡◌, zero, suc, ◌*◌, true, false, not, T, sym, refl, ◌∙◌, true≢false, le_trans, le_of_eq, lt_of_lt_of_le, lt_of_le_of_lt, lt_irrefl, zero-lt-suc, mul-pos, zero-mul, ltb-false, ltb-true, lt-ltb}
+use Rattle.std.proofs.Common.{◌≡◌, zero, suc, ◌*◌, true, false, not, T, sym, refl, ◌∙◌, true≢false, le_trans, le_of_eq}
+use Rattle.std.proofs.Common.{lt_of_lt_of_le, lt_of_le_of_lt, lt_irrefl, zero-lt-suc, mul-pos, zero-mul, ltb-false}
+use Rattle.std.proofs.Common.{ltb-true, lt-ltb}
 use lib.Ieee.{Float, nan, inf, fin, binary64, up, down, odd, of_fields, of_bits, is_nan, lt, eq, div}
 use lib.Ieee.Fits.{up_pos}
 use lib.Ieee.Positive.{positive, first_pos}

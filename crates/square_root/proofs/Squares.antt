@@ -1,5 +1,7 @@
 -- The order of squares, and that `whole_root` is the whole root. Nothing here is about floats. Assumes nothing.
-use Rattle.std.proofs.Common.{◌≡◌, ℕ, zero, suc, ◌+◌, ◌*◌, ◌/◌, ◌^◌, ◌<◌, ◌≤◌, zero-le, le_of_eq, lt_of_lt_of_le, lt_irrefl, zero-lt-suc, mul_assoc, mul_comm, div-lt_iff_lt-mul, add-mul, mul-le-mul, pow-suc, lt_of_not-le, mul-add, mul_left_comm, arith, le-leb}
+use Rattle.std.proofs.Common.{◌≡◌, ℕ, zero, suc, ◌+◌, ◌*◌, ◌/◌, ◌^◌, ◌<◌, ◌≤◌, zero-le, le_of_eq, lt_of_lt_of_le}
+use Rattle.std.proofs.Common.{lt_irrefl, zero-lt-suc, mul_assoc, mul_comm, div-lt_iff_lt-mul, add-mul, mul-le-mul}
+use Rattle.std.proofs.Common.{pow-suc, lt_of_not-le, mul-add, mul_left_comm, arith, le-leb}
 use mathlib.Core.Logic.{dite}
 use native.Mathlib.Nat.{pow-le-pow_left}
 use native.Mathlib.Decide.{dec_le}
@@ -25,7 +27,8 @@ unfolding digits_root
 digits-root zero n h = (zero-le, h)
 digits-root (suc k) n h =
     let q = digits_root k (n / 4) in
-    let ih = digits-root k (n / 4) ((div-lt_iff_lt-mul (zero-lt-suc 3)).1 (lt_of_lt_of_le h (le_of_eq (pow-suc 4 k)))) in
+    let ih = digits-root k (n / 4) ((div-lt_iff_lt-mul (zero-lt-suc 3)).1 (lt_of_lt_of_le h (le_of_eq (pow-suc 4 k))))
+    in
     let even : 2 * q * (2 * q) ≡ 4 * (q * q) = simp ring (omega arith) in
     let next : (2 * q + 1 + 1) * (2 * q + 1 + 1) ≡ 4 * ((q + 1) * (q + 1)) = simp ring (omega arith) in
     dite (dec_le ((2 * q + 1) * (2 * q + 1)) n)

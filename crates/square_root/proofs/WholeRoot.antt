@@ -1,6 +1,8 @@
 -- Where the root of n lies, seen from its whole root s. Twice s, and 1 more if s is not exact, stands for twice the
 -- root in every comparison with a whole number. So digits near a root stand for it. Assumes nothing.
-use Rattle.std.proofs.Common.{◌≡◌, ℕ, ◌+◌, ◌-◌, ◌*◌, ◌<◌, ◌≤◌, sym, ap, ◌∙◌, inl, inr, le_of_eq, le_refl, lt_of_lt_of_le, lt_of_le_of_lt, mul_assoc, mul_comm, add-mul, mul-lt-mul_of_pos_right, mul-pos, mul_left_comm, arith, eq-eqb, ne_eqb}
+use Rattle.std.proofs.Common.{◌≡◌, ℕ, ◌+◌, ◌-◌, ◌*◌, ◌<◌, ◌≤◌, sym, ap, ◌∙◌, inl, inr, le_of_eq, le_refl}
+use Rattle.std.proofs.Common.{lt_of_lt_of_le, lt_of_le_of_lt, mul_assoc, mul_comm, add-mul, mul-lt-mul_of_pos_right}
+use Rattle.std.proofs.Common.{mul-pos, mul_left_comm, arith, eq-eqb, ne_eqb}
 use mathlib.Core.Logic.{dite}
 use native.Mathlib.Decide.{ℕ_discrete}
 use Rattle.rounding.specs.Operations.{more}

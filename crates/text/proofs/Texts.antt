@@ -50,8 +50,9 @@ then xs a b at {r} {q} {ys} {zs} p s = by (leb (at + length a) (length xs)) refl
         let end : r ≡ length xs = p.value ∙ min-eq_left h in
         let past : (k : ℕ) → length xs ≤ k → put_at (put_at xs at a) k b ≡ put_at xs at a =
         λ k g. put-out b (put_at xs at a) k (rw (length-sets xs at a) g) in record {
-          value = s.value ∙ rw (long, end, length-append a b) (min-eq_left (omega arith) ∙ sym (min-eq_left (omega arith)));
+          value = s.value ∙ rw (long, end, length-append a b)
+              (min-eq_left (omega arith) ∙ sym (min-eq_left (omega arith)));
           out_after =
-          s.out_after
-          ∙ rw (p.out_after, end) (past (length xs) (omega arith) ∙ sym (put_both a b xs at ∙ past (at + length a) h));
+              s.out_after
+              ∙ rw (p.out_after, end) (past (length xs) (omega arith) ∙ sym (put_both a b xs at ∙ past (at + length a) h));
         }

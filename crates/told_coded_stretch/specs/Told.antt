@@ -20,7 +20,8 @@ leaves_told left absent = record { left = left; absent = absent }
 abbrev pub absent_coded : List Float → Float → ℕ → Float → Coded → List Float → List Float → List Float → List Float
     → Absent
 absent_coded sets max-rate q rate s ring inputs delays out =
-    cond (code_ok q && fields_ok s) (stretch_absent sets max-rate (mode_of q) rate (decoded s) ring inputs delays out) none
+    cond (code_ok q && fields_ok s) (stretch_absent sets max-rate (mode_of q) rate (decoded s) ring inputs delays out)
+    none
 
 -- What the stretch without the numbers leaves, and the numbers.
 abbrev pub told_of : List Float → Float → ℕ → Float → Coded → List Float → List Float → List Float → List Float

@@ -1,6 +1,7 @@
 -- The same sums as the code computes them: from which inner samples were accepted. What is promised stands in
 -- Direct.antt and Cascaded.antt, which do not use them. Definitions only.
-use Rattle.std.specs.Prelude.{ℕ, zero, suc, ◌+◌, ◌*◌, ◌%◌, ◌^◌, ◌≤◌, Bool, true, false, cond, not, ◌&&◌, List, length, ◌==◌, nat_lt, slice_index_or, Float}
+use Rattle.std.specs.Prelude.{ℕ, zero, suc, ◌+◌, ◌*◌, ◌%◌, ◌^◌, ◌≤◌, Bool, true, false, cond, not, ◌&&◌, List, length}
+use Rattle.std.specs.Prelude.{◌==◌, nat_lt, slice_index_or, Float}
 use Rattle.std.specs.Float.{nan, binary64}
 use Rattle.std.specs.Float.Ieee.{mul}
 use Rattle.std.specs.Float.Ieee.Scale.{finite}
@@ -59,7 +60,8 @@ phases_accepted all coefficients up pushes factor =
 -- What stands where the second half of the next call writes in the second upsampler's history.
 abbrev pub saved_of : List Float → ℕ → Float
 saved_of up2 accepted =
-    cond (nat_lt accepted (2 ^ 34) && not (length up2 == 0)) (slice_index_or up2 ((2 * accepted + 2) % length up2) nan) zero-f
+    cond (nat_lt accepted (2 ^ 34) && not (length up2 == 0)) (slice_index_or up2 ((2 * accepted + 2) % length up2) nan)
+    zero-f
 
 -- The same for the cascade: `up2` is the second upsampler's history after the call, `before` what was saved of it.
 abbrev pub quarters_accepted : Bool → List Float → List Float → ℕ → Float → Accepted

@@ -26,7 +26,8 @@ told_by out r absent =
     (out_after out r)
 
 -- The kernel reads n taps.
-abbrev pub told_of : Reading → Bool → Bool → ℕ → VariableDelay → List Float → List Float → List Float → List Float → Left
+abbrev pub told_of : Reading → Bool → Bool → ℕ → VariableDelay → List Float → List Float → List Float → List Float
+    → Left
 told_of read own lent n d ring inputs delays out =
     told_by out (whole_of (delay_reader read own lent) d ring inputs delays (length out))
     (whole_absent (delay_reader read own lent) (absence n) d ring inputs delays (length out))

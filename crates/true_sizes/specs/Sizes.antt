@@ -2,7 +2,8 @@
 -- 32-bit size of FFFFFFFF says that the true one stands in `ds64`, the first chunk, whose body starts at place 20. It
 -- holds the RIFF's size, that of `data` and a number of samples (8 bytes each), the number of entries of a table (4),
 -- and the entries, each an identifier (4) and a size (8). Bytes that are missing count as 0. Definitions only.
-use Rattle.std.specs.Prelude.{ℕ, zero, suc, ◌+◌, ◌-◌, ◌/◌, ◌^◌, min, Bool, true, cond, ◌&&◌, ◌||◌, List, [], ◌∷◌, eqb, leb}
+use Rattle.std.specs.Prelude.{ℕ, zero, suc, ◌+◌, ◌-◌, ◌/◌, ◌^◌, min, Bool, true, cond, ◌&&◌, ◌||◌, List, [], ◌∷◌, eqb}
+use Rattle.std.specs.Prelude.{leb}
 use Rattle.wav_format.specs.Format.{number}
 use Rattle.riff_chunks.specs.Walk.{data_id}
 use Rattle.true_sizes.specs.declared.Entry.{Entry}

@@ -1,6 +1,7 @@
 -- A delay reader, defined once for all kernels, over what the kernel reads and what it needs of its own settings (01,
 -- 'Reading a ring'). A kernel without settings needs nothing. Samples are floats of either width. Definitions only.
-use Rattle.std.specs.Prelude.{ℕ, zero, suc, ◌+◌, ◌%◌, Bool, true, ◌&&◌, List, [], ◌∷◌, eqb, leb, ltb, pos, length, set, Float}
+use Rattle.std.specs.Prelude.{ℕ, zero, suc, ◌+◌, ◌%◌, Bool, true, ◌&&◌, List, [], ◌∷◌, eqb, leb, ltb, pos, length, set}
+use Rattle.std.specs.Prelude.{Float}
 use Rattle.std.specs.Float.{binary64}
 use Rattle.std.specs.Float.Ieee.{sub, le, of_int}
 use Rattle.std.specs.Float.Ieee.Scale.{finite}

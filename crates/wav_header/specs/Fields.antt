@@ -29,7 +29,8 @@ format_start kind channels rate =
 
 unfoldable pub format_end : SampleKind → ℕ → ℕ → List ℕ
 format_end kind channels rate =
-    low_bytes 4 (rate * frame_of kind channels) ++ low_bytes 2 (frame_of kind channels) ++ low_bytes 2 (8 * width_of kind)
+    low_bytes 4 (rate * frame_of kind channels) ++ low_bytes 2 (frame_of kind channels)
+    ++ low_bytes 2 (8 * width_of kind)
 
 -- The first 36 bytes, which are laid out alike for all kinds.
 abbrev pub start_for : SampleKind → ℕ → ℕ → ℕ → List ℕ

@@ -83,4 +83,5 @@ told_of b size =
 -- The same, with 1 and 2 tested first.
 abbrev pub begun_of : List ℕ → ℕ → Begun
 begun_of b size =
-    cond (eqb (first_of (hand_tests b size)) 0) (told_of b size) (record { refusal = first_of (hand_tests b size); end = 0 })
+    cond (eqb (first_of (hand_tests b size)) 0) (told_of b size)
+    (record { refusal = first_of (hand_tests b size); end = 0 })

@@ -1,6 +1,8 @@
 -- A product modulo B * B from halves modulo B, over any base B: what a factor carries beyond B * B may be dropped
 -- before the sum or after it. Assumes nothing.
-use Rattle.std.proofs.Common.{◌≡◌, ℕ, ◌+◌, ◌*◌, ◌/◌, ◌%◌, ◌^◌, ◌<◌, lt_of_le_of_lt, le_of_lt, add_assoc, mul_assoc, mul_comm, add-mul, mul-le-mul_left, mul-lt-mul_of_pos_right, mul-add, mul_left_comm, pow_pos, pow-add}
+use Rattle.std.proofs.Common.{◌≡◌, ℕ, ◌+◌, ◌*◌, ◌/◌, ◌%◌, ◌^◌, ◌<◌, lt_of_le_of_lt, le_of_lt, add_assoc, mul_assoc}
+use Rattle.std.proofs.Common.{mul_comm, add-mul, mul-le-mul_left, mul-lt-mul_of_pos_right, mul-add, mul_left_comm}
+use Rattle.std.proofs.Common.{pow_pos, pow-add}
 use mathlib.Core.Path.{subst⁻¹}
 use native.Mathlib.Nat.{mod-add-div'}
 use native.Mathlib.Nat.{add-mul-mod_self_right, add-mod, add-mod-mod}

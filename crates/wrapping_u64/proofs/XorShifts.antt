@@ -1,7 +1,9 @@
 -- A word exclusive or a shift of itself, to either side and by any number of digits above 0, is 0 only if the word is
 -- 0. Otherwise the word would equal its own shift. To the right the shift halves it; to the left, if 2^j divides it
 -- then so does 2^(j + 1). Assumes nothing.
-use Rattle.std.proofs.Common.{◌≡◌, ℕ, zero, suc, ◌-◌, ◌*◌, ◌/◌, ◌%◌, ◌^◌, ◌<◌, ◌≤◌, ◌∙◌, inl, inr, lt_of_le_of_lt, mod-lt, eq-zero-or-pos, pow-suc, sub-add_cancel, not-le_of_lt, one-add, arith, pow_pos, pow-add, shr-shr}
+use Rattle.std.proofs.Common.{◌≡◌, ℕ, zero, suc, ◌-◌, ◌*◌, ◌/◌, ◌%◌, ◌^◌, ◌<◌, ◌≤◌, ◌∙◌, inl, inr, lt_of_le_of_lt}
+use Rattle.std.proofs.Common.{mod-lt, eq-zero-or-pos, pow-suc, sub-add_cancel, not-le_of_lt, one-add, arith, pow_pos}
+use Rattle.std.proofs.Common.{pow-add, shr-shr}
 use Prim.Native.Nat.{◌∣◌}
 use native.Mathlib.Nat.{one-dvd, dvd-mul_left}
 use native.Mathlib.Nat.{dvd-mod_iff, mul-dvd-mul, le_of_dvd}

@@ -1,6 +1,6 @@
--- The exclusive or of two words, digit by digit. `lib.Bits.bit_xor`, which is what `^` gives, takes as many steps as its
--- first argument and so does not compute at a word; this one takes as many as a word has digits. The law `xor_is` says
--- that they are the same.
+-- The exclusive or of two words, digit by digit. `lib.Bits.bit_xor`, which is what `^` gives, takes as many steps as
+-- its first argument and so does not compute at a word; this one takes as many as a word has digits. The law `xor_is`
+-- says that they are the same.
 use Rattle.std.specs.Prelude.{ℕ, zero, suc, ◌+◌, ◌*◌, ◌/◌, ◌%◌}
 
 -- The exclusive or of the k lowest digits.

@@ -53,4 +53,5 @@ returns-4 c =
 
 pub with_bias_spec : {M : Type 1} → statement M
 with_bias_spec =
-    tie.close (tie.spec (λ c κs. search rules) returns float-to-bits-h add-h (λ c κs. search rules) returns-2 (λ c κs. search rules) returns-3 ends-of-requires (λ c κs. search rules) returns-4)
+    tie.close (tie.spec (λ c κs. search rules) returns float-to-bits-h add-h (λ c κs. search rules) returns-2
+    (λ c κs. search rules) returns-3 ends-of-requires (λ c κs. search rules) returns-4)

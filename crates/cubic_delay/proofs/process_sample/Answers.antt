@@ -19,6 +19,7 @@ pub returns : goal.returns
 returns c =
     let s = c.args in
     let both = taken-call made answer_of silent cubic_at true true s.state s.ring.now s.input s.delay
-    (λ f still. refl) (c.accept-a.ensures.value, c.accept-a.ensures.ring_after) c.if-no-ne0.false (λ own lent here. c.read-y.ensures ∙ rw here)
+    (λ f still. refl) (c.accept-a.ensures.value, c.accept-a.ensures.ring_after) c.if-no-ne0.false
+    (λ own lent here. c.read-y.ensures ∙ rw here)
     c.answered-2.ensures in
     record { value = both.0; ring_after = both.1 }

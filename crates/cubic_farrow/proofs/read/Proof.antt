@@ -76,4 +76,5 @@ returns-3 c = rw (← c.before.position_ok.ensures, c.if-position_ok.false)
 
 pub read_spec : {M : Type 1} → statement M
 read_spec =
-    tie.close (tie.spec (λ c κs. search rules) (λ c κs. search rules) sub-first (λ c κs. search rules) add-if3 (λ c κs. search rules) (λ c κs. search rules) returns at-requires returns-2 returns-3)
+    tie.close (tie.spec (λ c κs. search rules) (λ c κs. search rules) sub-first (λ c κs. search rules) add-if3
+    (λ c κs. search rules) (λ c κs. search rules) returns at-requires returns-2 returns-3)

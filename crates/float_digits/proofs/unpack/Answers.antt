@@ -42,7 +42,8 @@ overflow_sub-result-2 c = omega (arith, zeros c)
 pub returns : goal.returns
 returns c =
     let z : count_leading_zeros 64 (D c) - 1 ≡ 63 - size (D c) = omega (arith, zeros c) in
-    let e : c.place-k.result + 64 - count_leading_zeros 64 (D c) ≡ c.place-k.result + size (D c) = omega (arith, zeros c) in
+    let e : c.place-k.result + 64 - count_leading_zeros 64 (D c) ≡ c.place-k.result + size (D c) =
+    omega (arith, zeros c) in
     let whole : D c * 2 ^ (63 - size (D c)) % 2 ^ 64 ≡ D c * 2 ^ (63 - size (D c)) =
     shl_exact (size (D c)) (63 - size (D c)) 64 (size-lt (D c)) (omega (arith, short c)) in
     rw (z, e, whole, is c, c.place-k.ensures, and_mask c.args.bits 63)

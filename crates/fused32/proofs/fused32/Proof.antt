@@ -25,4 +25,5 @@ returns c =
 
 pub fused32_spec : {M : Type 1} → statement M
 fused32_spec =
-    tie.close (tie.spec (λ c κs. search rules) (λ c κs. search rules) (λ c κs. search rules) (λ c κs. search rules) returns)
+    tie.close (tie.spec (λ c κs. search rules) (λ c κs. search rules) (λ c κs. search rules) (λ c κs. search rules)
+    returns)

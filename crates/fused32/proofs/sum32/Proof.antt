@@ -80,4 +80,5 @@ returns-4 c =
 
 pub sum32_spec : {M : Type 1} → statement M
 sum32_spec =
-    tie.close (tie.spec (λ c κs. search rules) (λ c κs. search rules) returns positive-sum-requires (λ c. search rules) positive-sum-requires-2 returns-3 (λ c κs. search rules) returns-4)
+    tie.close (tie.spec (λ c κs. search rules) (λ c κs. search rules) returns positive-sum-requires (λ c. search rules)
+    positive-sum-requires-2 returns-3 (λ c κs. search rules) returns-4)

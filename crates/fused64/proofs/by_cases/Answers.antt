@@ -16,18 +16,26 @@ neither c = sym c.is_plain.ensures ∙ c.if-is_plain.false
 pub fused_plain-requires : goal.fused_plain-requires
 fused_plain-requires c =
     let a = c.args in
-    let t : T (plain a.a && plain a.b) = rw (both (goal.at.fused_plain-requires c).Then-both_plain) tt in record { fact_1 = is_true (plain a.a) (and_l (plain a.a) (plain a.b) t); fact_2 = is_true (plain a.b) (and_r (plain a.a) (plain a.b) t); fact_3 = sym c.is_plain.ensures ∙ c.if-is_plain.true }
+    let t : T (plain a.a && plain a.b) = rw (both (goal.at.fused_plain-requires c).Then-both_plain) tt in
+    record {
+      fact_1 = is_true (plain a.a) (and_l (plain a.a) (plain a.b) t);
+      fact_2 =
+          is_true (plain a.b) (and_r (plain a.a) (plain a.b) t);
+      fact_3 = sym c.is_plain.ensures ∙ c.if-is_plain.true;
+    }
 
 pub returns-then-c : goal.returns-then-c
 returns-then-c c =
     let a = c.args in
-    (addend-not-plain a.a a.b a.c (both (goal.at.returns-then-c c).Then-both_plain) (neither (goal.at.returns-then-c c).Else-is_plain)).0 c.if-c.true
+    (addend-not-plain a.a a.b a.c (both (goal.at.returns-then-c c).Then-both_plain)
+    (neither (goal.at.returns-then-c c).Else-is_plain)).0 c.if-c.true
 
 pub returns-then-both_plain : goal.returns-then-both_plain
 returns-then-both_plain c =
     let a = c.args in
     c.one_nan.ensures
-    ∙ (addend-not-plain a.a a.b a.c (both (goal.at.returns-then-both_plain c).Then-both_plain) (neither (goal.at.returns-then-both_plain c).Else-is_plain)).1
+    ∙ (addend-not-plain a.a a.b a.c (both (goal.at.returns-then-both_plain c).Then-both_plain)
+    (neither (goal.at.returns-then-both_plain c).Else-is_plain)).1
     c.if-c.false
 
 pub returns : goal.returns

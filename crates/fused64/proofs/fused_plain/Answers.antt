@@ -39,14 +39,26 @@ pub float_to_bits-c : goal.float_to_bits-c
 float_to_bits-c c = plain-no-nan c.args.c (rw c.requires.fact_3 tt)
 
 pub product-m-requires : goal.product-m-requires
-product-m-requires c = record { fact_1 = (first (goal.at.product-m-requires c).After-unpack-x).below; fact_2 = (second (goal.at.product-m-requires c).After-unpack-y).below }
+product-m-requires c = record {
+  fact_1 = (first (goal.at.product-m-requires c).After-unpack-x).below;
+  fact_2 =
+      (second (goal.at.product-m-requires c).After-unpack-y).below;
+}
 
 pub differ-requires : goal.differ-requires
-differ-requires c = record { fact_1 = (first (goal.at.differ-requires c).After-unpack-x).sign; fact_2 = (second (goal.at.differ-requires c).After-unpack-y).sign }
+differ-requires c = record {
+  fact_1 = (first (goal.at.differ-requires c).After-unpack-x).sign;
+  fact_2 =
+      (second (goal.at.differ-requires c).After-unpack-y).sign;
+}
 
 pub overflow_add-p : goal.overflow_add-p
 overflow_add-p c =
-    omega (arith, (first (goal.at.overflow_add-p c).After-unpack-x).bounded, (second (goal.at.overflow_add-p c).After-unpack-y).bounded)
+    omega (
+      arith,
+      (first (goal.at.overflow_add-p c).After-unpack-x).bounded,
+      (second (goal.at.overflow_add-p c).After-unpack-y).bounded,
+    )
 
 pub overflow_add-q : goal.overflow_add-q
 overflow_add-q c = omega (arith, (third (goal.at.overflow_add-q c).After-unpack-z).bounded)
@@ -55,7 +67,8 @@ pub combined-requires : goal.combined-requires
 combined-requires c =
     let a = c.args in record {
       fact_1 = product-ranged a.a a.b c.unpack-x.result c.unpack-y.result c.differ.result c.product-m.result.hi
-          c.product-m.result.lo (first (goal.at.combined-requires c).After-unpack-x) (second (goal.at.combined-requires c).After-unpack-y) c.differ.ensures.0 c.product-m.ensures;
+          c.product-m.result.lo (first (goal.at.combined-requires c).After-unpack-x)
+          (second (goal.at.combined-requires c).After-unpack-y) c.differ.ensures.0 c.product-m.ensures;
       fact_2 = addend-ranged a.c c.unpack-z.result (third (goal.at.combined-requires c).After-unpack-z);
     }
 
@@ -64,5 +77,6 @@ returns c =
     let a = c.args in
     c.combined.ensures
     ∙ terms-sum a.a a.b a.c c.unpack-x.result c.unpack-y.result c.unpack-z.result
-    c.differ.result (val c.product-m.result.hi c.product-m.result.lo) (first (goal.at.returns c).After-unpack-x) (second (goal.at.returns c).After-unpack-y) (third (goal.at.returns c).After-unpack-z)
+    c.differ.result (val c.product-m.result.hi c.product-m.result.lo) (first (goal.at.returns c).After-unpack-x)
+    (second (goal.at.returns c).After-unpack-y) (third (goal.at.returns c).After-unpack-z)
     c.differ.ensures.1 c.product-m.ensures

@@ -24,4 +24,5 @@ returns c =
 
 pub any_step_spec : {M : Type 1} → statement M
 any_step_spec =
-    tie.close (tie.spec (λ c κs. search rules) (λ c κs. search rules) (λ c κs. search rules) (λ c κs. search rules) returns)
+    tie.close (tie.spec (λ c κs. search rules) (λ c κs. search rules) (λ c κs. search rules) (λ c κs. search rules)
+    returns)

@@ -7,7 +7,11 @@ use Rattle.fused_step.proofs.are_numbers.Goals as goal
 pub returns-then-x-c : goal.returns-then-x-c
 returns-then-x-c c =
     let a = c.args in
-    record { value = ap (λ (z : Bool). z || le a.c a.x) (sym c.if-x-c.true); numbers = λ _. less-numbers a.x a.c c.if-x-c.true }
+    record {
+      value = ap (λ (z : Bool). z || le a.c a.x) (sym c.if-x-c.true);
+      numbers =
+          λ _. less-numbers a.x a.c c.if-x-c.true;
+    }
 
 pub returns-else-x-c : goal.returns-else-x-c
 returns-else-x-c c =

@@ -1,5 +1,6 @@
 -- `fused_step::is_plain` meets its contract: each test is one of a plain pattern's three parts. Assumes nothing.
-use Rattle.std.proofs.Common.{◌≡◌, ℕ, ◌-◌, ◌^◌, Bool, not, ◌&&◌, ltb, sym, ap, ◌∙◌, arith, ltb-true, le-ltb, lt-ltb, eq-eqb, ne_eqb}
+use Rattle.std.proofs.Common.{◌≡◌, ℕ, ◌-◌, ◌^◌, Bool, not, ◌&&◌, ltb, sym, ap, ◌∙◌, arith, ltb-true, le-ltb, lt-ltb}
+use Rattle.std.proofs.Common.{eq-eqb, ne_eqb}
 use mathlib.Core.Bool.{false≢true}
 use lib.Bits.{bit_and, and_mask}
 use Rattle.fused_step.specs.Steps.{plain}
@@ -30,7 +31,8 @@ pub returns-then-m-lt4039728866019770368 : goal.returns-then-m-lt403972886601977
 returns-then-m-lt4039728866019770368 c =
     let n = c.args.n in record {
       value = sym (rest n c.if-n-eq0.false
-          ∙ ap (λ (z : Bool). not z && ltb (size n) 0x47e0_0000_1000_0000) (lt-ltb (size n) least c.if-m-lt4039728866019770368.true));
+          ∙ ap (λ (z : Bool). not z && ltb (size n) 0x47e0_0000_1000_0000)
+          (lt-ltb (size n) least c.if-m-lt4039728866019770368.true));
       plain = λ h. absurd (false≢true h);
     }
 
@@ -38,7 +40,8 @@ pub returns : goal.returns
 returns c =
     let n = c.args.n in record {
       value = sym (rest n c.if-n-eq0.false
-          ∙ ap (λ (z : Bool). not z && ltb (size n) 0x47e0_0000_1000_0000) (le-ltb (size n) least c.if-m-lt4039728866019770368.false));
+          ∙ ap (λ (z : Bool). not z && ltb (size n) 0x47e0_0000_1000_0000)
+          (le-ltb (size n) least c.if-m-lt4039728866019770368.false));
       plain = λ h. record {
         normal = omega (arith, and_mask n 63);
         small = omega (arith, and_mask n 63, ltb-true (bit_and n (2 ^ 63 - 1)) 0x47e0_0000_1000_0000 h);

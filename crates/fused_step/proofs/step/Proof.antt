@@ -59,4 +59,6 @@ returns-3 c =
 
 pub step_spec : {M : Type 1} → statement M
 step_spec =
-    tie.close (tie.spec (λ c κs. search rules) (λ c κs. search rules) (λ c. search rules) float-to-float-s float-to-float-s-2 (λ c κs. search rules) (λ c. search rules) float-to-bits-n add-n (λ c κs. search rules) float-from-bits-result returns-3 (λ c κs. search rules) (λ c. search rules))
+    tie.close (tie.spec (λ c κs. search rules) (λ c κs. search rules) (λ c. search rules) float-to-float-s
+    float-to-float-s-2 (λ c κs. search rules) (λ c. search rules) float-to-bits-n add-n (λ c κs. search rules)
+    float-from-bits-result returns-3 (λ c κs. search rules) (λ c. search rules))

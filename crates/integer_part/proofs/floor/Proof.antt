@@ -36,4 +36,5 @@ returns c =
 
 pub floor_spec : {M : Type 1} → statement M
 floor_spec =
-    tie.close (tie.spec (λ c κs. search rules) floored-requires float-to-int-result (λ c κs. search rules) returns (λ c. search rules))
+    tie.close (tie.spec (λ c κs. search rules) floored-requires float-to-int-result (λ c κs. search rules) returns
+    (λ c. search rules))

@@ -14,13 +14,21 @@ use Rattle.line_text.proofs.put_blanks.Goals as goal
 pub returns-then-out-at : goal.returns-then-out-at
 returns-then-out-at c =
     let long = blanks-long c.args.count in
-    record { value = omega arith ∙ sym (min-eq_left (omega arith)); out_after = sym (put-out (blanks c.args.count) _ _ (omega arith)) }
+    record {
+      value = omega arith ∙ sym (min-eq_left (omega arith));
+      out_after =
+          sym (put-out (blanks c.args.count) _ _ (omega arith));
+    }
 
 pub returns-then-out-to : goal.returns-then-out-to
 returns-then-out-to c =
     let l = c.loop-k in
     let long = blanks-long c.args.count in
-    record { value = omega arith ∙ sym (min-eq_left (omega arith)); out_after = sym (l.invariant.3 ∙ put-out (blanks l.k) _ _ (omega arith)) }
+    record {
+      value = omega arith ∙ sym (min-eq_left (omega arith));
+      out_after =
+          sym (l.invariant.3 ∙ put-out (blanks l.k) _ _ (omega arith));
+    }
 
 pub loop-k-preserved : goal.loop-k-preserved
 loop-k-preserved c =

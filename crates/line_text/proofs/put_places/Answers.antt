@@ -33,4 +33,8 @@ returns c =
     let all = take_all (20 - from) (drop from l.digits) (simp length-drop (omega arith)) in
     let is = l.invariant.3 ∙ no-digits l.v (omega arith) (drop l.k l.digits) in
     let same = all ∙ sym (rw (few, at) at is) in
-    record { value = c.put.ensures.value ∙ ap (place_after _ _) same; out_after = c.put.ensures.out_after ∙ ap (put_at _ _) same }
+    record {
+      value = c.put.ensures.value ∙ ap (place_after _ _) same;
+      out_after =
+          c.put.ensures.out_after ∙ ap (put_at _ _) same;
+    }

@@ -38,4 +38,5 @@ returns-2 c =
 
 pub narrow_spec : {M : Type 1} → statement M
 narrow_spec =
-    tie.close (tie.spec returns float-to-bits-n magnitude-requires (λ c. search rules) cast-result float-from-bits-result returns-2)
+    tie.close (tie.spec returns float-to-bits-n magnitude-requires (λ c. search rules) cast-result
+    float-from-bits-result returns-2)

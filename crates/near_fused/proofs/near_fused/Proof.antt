@@ -111,4 +111,6 @@ returns-4 c =
 
 pub near_fused_spec : {M : Type 1} → statement M
 near_fused_spec =
-    tie.close (tie.spec (λ c κs. search rules) (λ c κs. search rules) high-requires high-requires-2 size-requires size-requires-2 returns (λ c κs. search rules) returns-2 (λ c κs. search rules) returns-3 (λ c κs. search rules) returns-4)
+    tie.close (tie.spec (λ c κs. search rules) (λ c κs. search rules) high-requires high-requires-2 size-requires
+    size-requires-2 returns (λ c κs. search rules) returns-2 (λ c κs. search rules) returns-3 (λ c κs. search rules)
+    returns-4)

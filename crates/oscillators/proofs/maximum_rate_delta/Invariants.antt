@@ -9,7 +9,8 @@ use Rattle.oscillators.proofs.maximum_rate_delta.Given as goal
 
 abbrev pub invariant-loop-i : goal.invariant-loop-i
 invariant-loop-i l =
-    (l.i ≤ length l.depths_cents) × (squares_from l.sum (drop l.i l.depths_cents) ≡ squares_from (neg zero) l.depths_cents)
+    (l.i ≤ length l.depths_cents) × (squares_from l.sum (drop l.i l.depths_cents)
+    ≡ squares_from (neg zero) l.depths_cents)
     × (depths_ok (drop l.i l.depths_cents) ≡ depths_ok l.depths_cents)
 
 abbrev pub decreases-loop-i : goal.decreases-loop-i

@@ -1,6 +1,7 @@
 -- `remainder::divided` meets its contract: each of the numbers is its digits at a place, and a power of two common to
 -- both may be taken out. Assumes nothing.
-use Rattle.std.proofs.Common.{◌≡◌, ◌*◌, ◌%◌, ◌^◌, ◌<◌, ◌≤◌, false, sym, lt_trans, mod-lt, mul-pos, le_of_mul-le-mul_right, arith, pow_pos, rules}
+use Rattle.std.proofs.Common.{◌≡◌, ◌*◌, ◌%◌, ◌^◌, ◌<◌, ◌≤◌, false, sym, lt_trans, mod-lt, mul-pos}
+use Rattle.std.proofs.Common.{le_of_mul-le-mul_right, arith, pow_pos, rules}
 use denote.Floats.{passes}
 use lib.Ieee.{binary64, to_bits}
 use lib.Ieee.Positive.{first_pos, value_pos, values_of_le, positive-finite}
@@ -30,7 +31,8 @@ places c =
     let v = to_bits binary64 c.args.b in
     let lu = (dividend c).below in
     let lv = (divisor c).below in
-    place-order (digits_of u) (place_of u) (digits_of v) (place_of v) (omega arith) (λ (h : 0 < place_of v). omega arith)
+    place-order (digits_of u) (place_of u) (digits_of v) (place_of v) (omega arith)
+    (λ (h : 0 < place_of v). omega arith)
     (le_of_mul-le-mul_right
     (values_of_le c.args.b c.args.a _ _ _ _ c.requires.divisor c.requires.dividend (divisor c).value
     (dividend c).value c.requires.order) (pow_pos 1074))
@@ -79,4 +81,5 @@ returns c =
 
 pub divided_spec : {M : Type 1} → statement M
 divided_spec =
-    tie.close (tie.spec float-to-bits-u float-to-bits-v (λ c κs. search rules) (λ c κs. search rules) (λ c. search rules) sub-long-division-2 (λ c. search rules) long-division-requires scaled-requires returns)
+    tie.close (tie.spec float-to-bits-u float-to-bits-v (λ c κs. search rules) (λ c κs. search rules)
+    (λ c. search rules) sub-long-division-2 (λ c. search rules) long-division-requires scaled-requires returns)

@@ -1,6 +1,7 @@
 -- `remainder::long_division` meets its contract. The loop's invariant: r followed by the zeros that are left has the
 -- remainder of the whole. The measure is the number of these zeros. Assumes nothing.
-use Rattle.std.proofs.Common.{◌≡◌, ℕ, ◌-◌, ◌*◌, ◌%◌, ◌^◌, ◌<◌, sym, ap, ◌∙◌, mod-lt, mod-eq_of_lt, mul_assoc, mul-one, arith, pow-add}
+use Rattle.std.proofs.Common.{◌≡◌, ℕ, ◌-◌, ◌*◌, ◌%◌, ◌^◌, ◌<◌, sym, ap, ◌∙◌, mod-lt, mod-eq_of_lt, mul_assoc, mul-one}
+use Rattle.std.proofs.Common.{arith, pow-add}
 use Rattle.remainder.proofs.Division.{step-mod}
 use Rattle.remainder.proofs.long_division.Goals as goal
 

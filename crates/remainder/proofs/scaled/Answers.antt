@@ -1,6 +1,7 @@
 -- `remainder::scaled` meets its contract: r * 2^-52 is exact, and the other factor's pattern is that of 2^52 times 2^(j
 -- - 1074). Assumes nothing.
-use Rattle.std.proofs.Common.{◌≡◌, ℕ, ◌+◌, ◌*◌, ◌%◌, ◌^◌, ◌<◌, ◌≤◌, false, pos, sym, refl, lt_of_lt_of_le, le_of_lt, mul_assoc, mul-pos, mul-one, mul_left_comm, arith, lit<, lit≤, pow_pos, pow_mono, shl_lt}
+use Rattle.std.proofs.Common.{◌≡◌, ℕ, ◌+◌, ◌*◌, ◌%◌, ◌^◌, ◌<◌, ◌≤◌, false, pos, sym, refl, lt_of_lt_of_le, le_of_lt}
+use Rattle.std.proofs.Common.{mul_assoc, mul-pos, mul-one, mul_left_comm, arith, lit<, lit≤, pow_pos, pow_mono, shl_lt}
 use lib.Ieee.{Float, binary64, mul, of_int, odd, of_fields, of_bits}
 use lib.Ieee.Exact.{HasValue, round_exact, units_val}
 use lib.Ieee.Scale.{round_same}

@@ -60,4 +60,5 @@ returns-4 c =
 
 pub at_most_spec : {M : Type 1} → statement M
 at_most_spec =
-    tie.close (tie.spec returns mul-rest mul-top add-top (λ c. search rules) (λ c. search rules) returns-2 returns-3 returns-4)
+    tie.close (tie.spec returns mul-rest mul-top add-top (λ c. search rules) (λ c. search rules) returns-2 returns-3
+    returns-4)

@@ -21,18 +21,28 @@ returns-2 c =
 
 mul-square : tie.Need-overflow_mul-square
 mul-square c =
-    record { fits = omega (arith, square-below c.before.before.args.largest (omega (arith, c.if-largest-gt16777215.false))) }
+    record {
+      fits = omega (
+        arith,
+        square-below c.before.before.args.largest
+            (omega (arith, c.if-largest-gt16777215.false)),
+      );
+    }
 
 at-most-requires : tie.Need-at_most-requires
 at-most-requires c κs =
-    let e = c.before in
-    (e.before.if-number-gt-LIMIT.false, square-below e.before.before.args.largest (omega (arith, e.if-largest-gt16777215.false)))
+    let e = c.before in (
+      e.before.if-number-gt-LIMIT.false,
+      square-below e.before.before.args.largest
+          (omega (arith, e.if-largest-gt16777215.false)),
+    )
 
 returns-3 : tie.Need-returns
 returns-3 c =
     let e = c.before.before.before in
     let s = e.before.before in
-    in-range s.args.number s.args.largest (sum s) e.before.if-number-gt-LIMIT.false (omega (arith, e.if-largest-gt16777215.false))
+    in-range s.args.number s.args.largest (sum s) e.before.if-number-gt-LIMIT.false
+    (omega (arith, e.if-largest-gt16777215.false))
     (c.both.ensures ∙ rw (c.before.at_most.ensures, c.before.before.at_least.ensures))
 
 pub numbers_ok_spec : {M : Type 1} → statement M

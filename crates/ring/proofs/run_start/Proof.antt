@@ -32,7 +32,8 @@ returns-3 c =
 returns-4 : tie.Need-returns-then-back-len
 returns-4 c =
     let t = c.before.before.before.before in
-    c.absent-then-back-len.ensures ∙ held.none-gone _ _ _ _ (word t.before) t.if-index-lt0.false (omega arith) (omega arith)
+    c.absent-then-back-len.ensures ∙ held.none-gone _ _ _ _ (word t.before) t.if-index-lt0.false (omega arith)
+    (omega arith)
 
 returns-5 : tie.Need-returns
 returns-5 c =
@@ -41,4 +42,5 @@ returns-5 c =
 
 pub run_start_spec : {M : Type 1} → statement M
 run_start_spec =
-    tie.close (tie.spec (λ c κs. search rules) returns cast-k (λ c κs. search rules) returns-2 (λ c κs. search rules) returns-3 (λ c κs. search rules) returns-4 (λ c κs. search rules) returns-5)
+    tie.close (tie.spec (λ c κs. search rules) returns cast-k (λ c κs. search rules) returns-2 (λ c κs. search rules)
+    returns-3 (λ c κs. search rules) returns-4 (λ c κs. search rules) returns-5)

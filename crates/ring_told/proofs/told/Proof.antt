@@ -55,4 +55,5 @@ returns-4 c =
 
 pub told_spec : {M : Type 1} → statement M
 told_spec =
-    tie.close (tie.spec returns cast-k returns-2 (λ c. search rules) (λ c. search rules) returns-3 (λ c κs. search rules) mul-t9 (λ c. inside c.before) returns-4)
+    tie.close (tie.spec returns cast-k returns-2 (λ c. search rules) (λ c. search rules) returns-3
+    (λ c κs. search rules) mul-t9 (λ c. inside c.before) returns-4)

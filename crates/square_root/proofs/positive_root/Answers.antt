@@ -32,8 +32,10 @@ pub overflow_add-result-2 : goal.overflow_add-result-2
 overflow_add-result-2 c = omega (arith, unsigned (goal.at.overflow_add-result-2 c).Start, (found c).digits.top)
 
 pub float_from_bits-result : goal.float_from_bits-result
-float_from_bits-result c = rest-no-nan binary64 _ (omega (arith, unsigned (goal.at.float_from_bits-result c).Start, (found c).digits.top))
+float_from_bits-result c = rest-no-nan binary64 _
+    (omega (arith, unsigned (goal.at.float_from_bits-result c).Start, (found c).digits.top))
 
 pub returns : goal.returns
 returns c =
-    quick-root c.args.x (held (goal.at.returns c).Start) (above (goal.at.returns c).Start) c.digits_of-y.result (found c)
+    quick-root c.args.x (held (goal.at.returns c).Start) (above (goal.at.returns c).Start) c.digits_of-y.result
+    (found c)

@@ -40,4 +40,5 @@ returns c =
 
 pub restored_spec : {M : Type 1} → statement M
 restored_spec =
-    tie.close (tie.spec float-to-bits-unpack (λ c κs. search rules) add-root-digits shl-root-digits root-digits-requires add-pack (λ c κs. search rules) returns)
+    tie.close (tie.spec float-to-bits-unpack (λ c κs. search rules) add-root-digits shl-root-digits root-digits-requires
+    add-pack (λ c κs. search rules) returns)

@@ -77,4 +77,5 @@ returns c =
 
 pub root_digits_spec : {M : Type 1} → statement M
 root_digits_spec =
-    tie.close (tie.spec invariant-loop decreases-loop loop-holds mul-a add_a mul-t add-t digit-requires mul-s add-s mul-r sub-r add-i loop-less loop-again sticky-requires returns)
+    tie.close (tie.spec invariant-loop decreases-loop loop-holds mul-a add_a mul-t add-t digit-requires mul-s add-s
+    mul-r sub-r add-i loop-less loop-again sticky-requires returns)

@@ -11,11 +11,19 @@ use Rattle.text.proofs.put.Goals as goal
 
 pub returns-then-out-at : goal.returns-then-out-at
 returns-then-out-at c =
-    record { value = omega arith ∙ sym (min-eq_left (omega arith)); out_after = sym (put-out c.args.text.now _ _ (omega arith)) }
+    record {
+      value = omega arith ∙ sym (min-eq_left (omega arith));
+      out_after =
+          sym (put-out c.args.text.now _ _ (omega arith));
+    }
 
 pub returns-then-out-to : goal.returns-then-out-to
 returns-then-out-to c =
-    let l = c.loop-k in record { value = omega arith ∙ sym (min-eq_left (omega arith)); out_after = sym (l.invariant.4 ∙ put-out (drop l.k c.args.text.now) _ _ (omega arith)) }
+    let l = c.loop-k in record {
+      value = omega arith ∙ sym (min-eq_left (omega arith));
+      out_after =
+          sym (l.invariant.4 ∙ put-out (drop l.k c.args.text.now) _ _ (omega arith));
+    }
 
 pub loop-k-preserved : goal.loop-k-preserved
 loop-k-preserved c =
@@ -31,4 +39,8 @@ pub returns : goal.returns
 returns c =
     let l = c.loop-k in
     let e : l.k ≡ length c.args.text.now = omega arith in
-    record { value = omega arith ∙ sym (min-eq_right (omega arith)); out_after = sym (rw (e, drop-length) at l.invariant.4) }
+    record {
+      value = omega arith ∙ sym (min-eq_right (omega arith));
+      out_after =
+          sym (rw (e, drop-length) at l.invariant.4);
+    }

@@ -98,4 +98,5 @@ returns-2 c =
 
 pub accept_spec : {M : Type 1} → statement M
 accept_spec =
-    tie.close (tie.spec (λ c κs. search rules) (λ c κs. search rules) sub_at mul-ring slice-write-ring add-t12 cast-t17 int-to-float-t18 (λ c. search rules) returns (λ c κs. search rules) returns-2)
+    tie.close (tie.spec (λ c κs. search rules) (λ c κs. search rules) sub_at mul-ring slice-write-ring add-t12 cast-t17
+    int-to-float-t18 (λ c. search rules) returns (λ c κs. search rules) returns-2)

@@ -21,4 +21,5 @@ returns c = product binary32 24 22 c.before.before.args.n (lit≤ tt) refl (agai
 
 pub pcm24_f32_spec : {M : Type 1} → statement M
 pcm24_f32_spec =
-    tie.close (tie.spec (λ c κs. search rules) (λ c. rw (again c.before) (held binary32 _ (signed-few 24 c.before.before.args.n (lit≤ tt) (lit≤ tt)))) returns)
+    tie.close (tie.spec (λ c κs. search rules)
+    (λ c. rw (again c.before) (held binary32 _ (signed-few 24 c.before.before.args.n (lit≤ tt) (lit≤ tt)))) returns)

@@ -28,4 +28,8 @@ returns c =
     let at = c.args.at in
     let a : length (drop at s) ≤ length s - at = omega (arith, length-drop at s) in
     let b : length (drop at s) ≤ c.args.count = omega (arith, length-drop at s) in
-    record { result_value = take_all _ (drop at s) a ∙ sym (take_all _ (drop at s) b); result_len_bound = simp (length-take, length-drop) (omega arith) }
+    record {
+      result_value = take_all _ (drop at s) a ∙ sym (take_all _ (drop at s) b);
+      result_len_bound =
+          simp (length-take, length-drop) (omega arith);
+    }

@@ -1,6 +1,7 @@
 -- `wrapping_u64::shl` meets its contract: below 64 it is the product with 2^n, which is a word;
 -- from 64 on 2^n is a multiple of 2^64. Assumes nothing.
-use Rattle.std.proofs.Common.{◌≡◌, ℕ, ◌-◌, ◌*◌, ◌%◌, ◌^◌, ◌<◌, ◌≤◌, ◌∙◌, mod-eq_of_lt, mul_assoc, one-mul, sub-add_cancel, pow-add}
+use Rattle.std.proofs.Common.{◌≡◌, ℕ, ◌-◌, ◌*◌, ◌%◌, ◌^◌, ◌<◌, ◌≤◌, ◌∙◌, mod-eq_of_lt, mul_assoc, one-mul}
+use Rattle.std.proofs.Common.{sub-add_cancel, pow-add}
 use native.Mathlib.Nat.{mul-mod_left}
 use lib.Pow.{pow-lt}
 use Rattle.wrapping_u64.proofs.shl.Goals as goal

@@ -28,4 +28,6 @@ returns-3 c =
 
 pub first_spec : {M : Type 1} → statement M
 first_spec =
-    tie.close (tie.spec (λ c. starts.minus-fits (low c)) (λ c. starts.cast_fits (low c)) (λ c. starts.one_more (low c)) (λ c. starts.all_more (low c) _ c.before.requires) (λ c. starts.from-below (low c) _) (λ c. fits _ c.before.ranges.whole c.if-whole-lt0.false) (λ c. search rules) returns-2 returns-3)
+    tie.close (tie.spec (λ c. starts.minus-fits (low c)) (λ c. starts.cast_fits (low c)) (λ c. starts.one_more (low c))
+    (λ c. starts.all_more (low c) _ c.before.requires) (λ c. starts.from-below (low c) _)
+    (λ c. fits _ c.before.ranges.whole c.if-whole-lt0.false) (λ c. search rules) returns-2 returns-3)

@@ -9,4 +9,5 @@ use Rattle.elementary.proofs.quarters.rest.Goals as goal
 pub returns : goal.returns
 unfolding of_bits
 returns c =
-    rest-law c.args.x c.args.j (subst T (sym c.well_formed.0.1) tt) c.requires.fact_1 c.requires.fact_2 c.requires.fact_3
+    rest-law c.args.x c.args.j (subst T (sym c.well_formed.0.1) tt) c.requires.fact_1 c.requires.fact_2
+    c.requires.fact_3

@@ -68,4 +68,5 @@ returns-3 c =
 
 pub turn_spec : {M : Type 1} → statement M
 turn_spec =
-    tie.close (tie.spec guess-requires rest-requires (λ c. search rules) rest-requires-2 (λ c. search rules) rest-requires-3 returns returns-2 returns-3)
+    tie.close (tie.spec guess-requires rest-requires (λ c. search rules) rest-requires-2 (λ c. search rules)
+    rest-requires-3 returns returns-2 returns-3)

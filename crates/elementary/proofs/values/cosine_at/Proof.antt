@@ -42,4 +42,5 @@ returns-2 c =
 
 pub cosine_at_spec : {M : Type 1} → statement M
 cosine_at_spec =
-    tie.close (tie.spec (λ c κs. search rules) (λ c κs. search rules) returns turn-requires add-choose (λ c κs. search rules) returns-2)
+    tie.close (tie.spec (λ c κs. search rules) (λ c κs. search rules) returns turn-requires add-choose
+    (λ c κs. search rules) returns-2)

@@ -32,4 +32,5 @@ returns-2 c = sine-long (beyond c.before.before) c.before.turn-t.ensures c.choos
 
 pub sine_at_spec : {M : Type 1} → statement M
 sine_at_spec =
-    tie.close (tie.spec (λ c κs. search rules) (λ c κs. search rules) returns turn-requires (λ c κs. search rules) returns-2)
+    tie.close (tie.spec (λ c κs. search rules) (λ c κs. search rules) returns turn-requires (λ c κs. search rules)
+    returns-2)

@@ -8,7 +8,8 @@ use Rattle.fused64.proofs.quick.placed.Goals as goal
 pub returns-then-n-lt36028797018963968 : goal.returns-then-n-lt36028797018963968
 returns-then-n-lt36028797018963968 c = λ p. absurd (lt_irrefl 0 p)
 
-led : (c : goal.Else-n-lt36028797018963968) → (1 ≤ count_leading_zeros 64 c.args.n) × (count_leading_zeros 64 c.args.n ≤ 8)
+led : (c : goal.Else-n-lt36028797018963968)
+    → (1 ≤ count_leading_zeros 64 c.args.n) × (count_leading_zeros 64 c.args.n ≤ 8)
 led c =
     let z = zeros c.args.n c.args.g c.requires c.if-n-lt36028797018963968.false in
     (z.0, z.1)

@@ -1,6 +1,7 @@
 -- `fused64::quick::quick` meets its contract: the sum at either place is the exact one, by what is known of its words.
 -- Assumes nothing.
-use Rattle.std.proofs.Common.{◌+◌, ◌-◌, ◌*◌, ◌%◌, ◌^◌, lt_of_le_of_lt, lt_irrefl, zero-lt-suc, arith, rules, ◌≡◌, ℕ, ◌/◌, ◌<◌, ap, ◌∙◌}
+use Rattle.std.proofs.Common.{◌+◌, ◌-◌, ◌*◌, ◌%◌, ◌^◌, lt_of_le_of_lt, lt_irrefl, zero-lt-suc, arith, rules, ◌≡◌, ℕ}
+use Rattle.std.proofs.Common.{◌/◌, ◌<◌, ap, ◌∙◌}
 use lib.Pow.{shr_le}
 use Rattle.fused64.specs.Word.{digits53, Heads, Tells, field_of}
 use Rattle.fused64.proofs.QuickPlaces.{halved-even, beside, at-addend, at-product, reached, high_lt}
@@ -78,7 +79,11 @@ same_place k = and_mask k 11
 
 pub overflow_add-k : goal.overflow_add-k
 overflow_add-k c =
-    omega (arith, (first (goal.at.overflow_add-k c).Then-in_reach).2, (second (goal.at.overflow_add-k c).Then-in_reach).2)
+    omega (
+      arith,
+      (first (goal.at.overflow_add-k c).Then-in_reach).2,
+      (second (goal.at.overflow_add-k c).Then-in_reach).2,
+    )
 
 pub overflow_add-i : goal.overflow_add-i
 overflow_add-i c =
@@ -88,14 +93,20 @@ pub overflow_add-j : goal.overflow_add-j
 overflow_add-j c = omega (arith, same_place c.head-h.result)
 
 pub without-requires : goal.without-requires
-without-requires c = record { fact_1 = c.if-j-i-lt64.true; fact_2 = narrow (goal.at.without-requires c).After-columns-m }
+without-requires c = record {
+  fact_1 = c.if-j-i-lt64.true;
+  fact_2 =
+      narrow (goal.at.without-requires c).After-columns-m;
+}
 
 pub joined-requires : goal.joined-requires
 joined-requires c =
     let k = c.head-f.result + c.head-g.result in
     let h = c.head-h.result in
-    rw (same_sign k, same_sign h, addend (goal.at.joined-requires c).After-digits_of-z, same_place h) (beside k h c.without.result _ _
-    (c.without.ensures (low_word (goal.at.joined-requires c).After-columns-m) (told (goal.at.joined-requires c).After-columns-m)).below (omega arith)
+    rw (same_sign k, same_sign h, addend (goal.at.joined-requires c).After-digits_of-z, same_place h)
+    (beside k h c.without.result _ _
+    (c.without.ensures (low_word (goal.at.joined-requires c).After-columns-m)
+    (told (goal.at.joined-requires c).After-columns-m)).below (omega arith)
     (omega arith) (omega arith) (omega (arith, (fields (goal.at.joined-requires c).Then-in_reach).third)))
 
 pub returns-then-j-i-lt64 : goal.returns-then-j-i-lt64
@@ -104,17 +115,26 @@ returns-then-j-i-lt64 c = λ some.
     let g = c.head-g.result in
     let h = c.head-h.result in
     let a = c.args in
-    at-addend a.a a.b a.c f g h c.columns-m.result.hi (low_word (goal.at.returns-then-j-i-lt64 c).After-columns-m) (first (goal.at.returns-then-j-i-lt64 c).Then-in_reach) (second (goal.at.returns-then-j-i-lt64 c).Then-in_reach) (third (goal.at.returns-then-j-i-lt64 c).Then-in_reach) (fields (goal.at.returns-then-j-i-lt64 c).Then-in_reach)
+    at-addend a.a a.b a.c f g h c.columns-m.result.hi (low_word (goal.at.returns-then-j-i-lt64 c).After-columns-m)
+    (first (goal.at.returns-then-j-i-lt64 c).Then-in_reach) (second (goal.at.returns-then-j-i-lt64 c).Then-in_reach)
+    (third (goal.at.returns-then-j-i-lt64 c).Then-in_reach) (fields (goal.at.returns-then-j-i-lt64 c).Then-in_reach)
     (whole (goal.at.returns-then-j-i-lt64 c).After-columns-m) c.without.result c.joined.result
     (rw (same_place (f + g), same_place h) at c.if-i-j.true)
-    (rw (same_place (f + g), same_place h) at (c.without.ensures (low_word (goal.at.returns-then-j-i-lt64 c).After-columns-m) (told (goal.at.returns-then-j-i-lt64 c).After-columns-m)))
-    (rw (same_sign (f + g), same_sign h, addend (goal.at.returns-then-j-i-lt64 c).After-digits_of-z, same_place h) at (c.joined.ensures some))
+    (rw (same_place (f + g), same_place h) at
+    (c.without.ensures (low_word (goal.at.returns-then-j-i-lt64 c).After-columns-m)
+    (told (goal.at.returns-then-j-i-lt64 c).After-columns-m)))
+    (rw (same_sign (f + g), same_sign h, addend (goal.at.returns-then-j-i-lt64 c).After-digits_of-z, same_place h) at
+    (c.joined.ensures some))
 
 pub returns-then-i-j : goal.returns-then-i-j
 returns-then-i-j c = λ some. absurd (lt_irrefl 0 some)
 
 pub without-requires-then-i-j-lt8 : goal.without-requires-then-i-j-lt8
-without-requires-then-i-j-lt8 c = record { fact_1 = zero-lt-suc 63; fact_2 = narrow (goal.at.without-requires-then-i-j-lt8 c).After-columns-m }
+without-requires-then-i-j-lt8 c = record {
+  fact_1 = zero-lt-suc 63;
+  fact_2 =
+      narrow (goal.at.without-requires-then-i-j-lt8 c).After-columns-m;
+}
 
 pub joined-requires-then-i-j-lt8 : goal.joined-requires-then-i-j-lt8
 joined-requires-then-i-j-lt8 c =
@@ -122,11 +142,22 @@ joined-requires-then-i-j-lt8 c =
     let h = c.head-h.result in
     let n = digits53 c.args.c in
     let d = k % 2 ^ 11 + 515 - (h % 2 ^ 11 + 770) in
-    rw (same_sign k, same_sign h, addend (goal.at.joined-requires-then-i-j-lt8 c).After-digits_of-z, same_place k, same_place h) (beside k h c.without-then-i-j-lt8.result _ _
-    (c.without-then-i-j-lt8.ensures (low_word (goal.at.joined-requires-then-i-j-lt8 c).After-columns-m) (told (goal.at.joined-requires-then-i-j-lt8 c).After-columns-m)).below
+    rw (
+      same_sign k,
+      same_sign h,
+      addend (goal.at.joined-requires-then-i-j-lt8 c).After-digits_of-z,
+      same_place k,
+      same_place h,
+    ) (beside k h c.without-then-i-j-lt8.result _ _
+    (c.without-then-i-j-lt8.ensures (low_word (goal.at.joined-requires-then-i-j-lt8 c).After-columns-m)
+    (told (goal.at.joined-requires-then-i-j-lt8 c).After-columns-m)).below
     (lt_of_le_of_lt (shr_le (n * 2 ^ 8) d) (omega arith))
     (halved-even n d (rw (same_place k, same_place h) at c.if-i-j-lt8.true)) (omega arith)
-    (omega (arith, (fields (goal.at.joined-requires-then-i-j-lt8 c).Then-in_reach).first, (fields (goal.at.joined-requires-then-i-j-lt8 c).Then-in_reach).second)))
+    (omega (
+      arith,
+      (fields (goal.at.joined-requires-then-i-j-lt8 c).Then-in_reach).first,
+      (fields (goal.at.joined-requires-then-i-j-lt8 c).Then-in_reach).second,
+    )))
 
 pub returns-then-i-j-lt8 : goal.returns-then-i-j-lt8
 returns-then-i-j-lt8 c = λ some.
@@ -134,12 +165,22 @@ returns-then-i-j-lt8 c = λ some.
     let g = c.head-g.result in
     let h = c.head-h.result in
     let a = c.args in
-    at-product a.a a.b a.c f g h c.columns-m.result.hi (low_word (goal.at.returns-then-i-j-lt8 c).After-columns-m) (first (goal.at.returns-then-i-j-lt8 c).Then-in_reach) (second (goal.at.returns-then-i-j-lt8 c).Then-in_reach) (third (goal.at.returns-then-i-j-lt8 c).Then-in_reach)
-    (fields (goal.at.returns-then-i-j-lt8 c).Then-in_reach) (whole (goal.at.returns-then-i-j-lt8 c).After-columns-m) c.without-then-i-j-lt8.result c.joined-then-i-j-lt8.result
+    at-product a.a a.b a.c f g h c.columns-m.result.hi (low_word (goal.at.returns-then-i-j-lt8 c).After-columns-m)
+    (first (goal.at.returns-then-i-j-lt8 c).Then-in_reach) (second (goal.at.returns-then-i-j-lt8 c).Then-in_reach)
+    (third (goal.at.returns-then-i-j-lt8 c).Then-in_reach)
+    (fields (goal.at.returns-then-i-j-lt8 c).Then-in_reach) (whole (goal.at.returns-then-i-j-lt8 c).After-columns-m)
+    c.without-then-i-j-lt8.result c.joined-then-i-j-lt8.result
     (rw (same_place (f + g), same_place h) at c.if-i-j.false)
     (rw (same_place (f + g), same_place h) at c.if-i-j-lt8.true)
-    (c.without-then-i-j-lt8.ensures (low_word (goal.at.returns-then-i-j-lt8 c).After-columns-m) (told (goal.at.returns-then-i-j-lt8 c).After-columns-m))
-    (rw (same_sign (f + g), same_sign h, addend (goal.at.returns-then-i-j-lt8 c).After-digits_of-z, same_place (f + g), same_place h) at (c.joined-then-i-j-lt8.ensures some))
+    (c.without-then-i-j-lt8.ensures (low_word (goal.at.returns-then-i-j-lt8 c).After-columns-m)
+    (told (goal.at.returns-then-i-j-lt8 c).After-columns-m))
+    (rw (
+      same_sign (f + g),
+      same_sign h,
+      addend (goal.at.returns-then-i-j-lt8 c).After-digits_of-z,
+      same_place (f + g),
+      same_place h,
+    ) at (c.joined-then-i-j-lt8.ensures some))
 
 pub returns-else-i-j-lt8 : goal.returns-else-i-j-lt8
 returns-else-i-j-lt8 c = λ some. absurd (lt_irrefl 0 some)

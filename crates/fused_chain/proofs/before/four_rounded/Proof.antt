@@ -64,4 +64,5 @@ returns-4 c =
 
 pub four_rounded_spec : {M : Type 1} → statement M
 four_rounded_spec =
-    tie.close (tie.spec rounded-requires returns rounded-requires-2 returns-2 rounded-requires-3 returns-3 rounded-requires-4 returns-4)
+    tie.close (tie.spec rounded-requires returns rounded-requires-2 returns-2 rounded-requires-3 returns-3
+    rounded-requires-4 returns-4)

@@ -41,7 +41,11 @@ returns-then-not-p c =
 
 pub four_rounded-r-requires : goal.four_rounded-r-requires
 four_rounded-r-requires c =
-    record { fact_1 = (c.multiplied-p.ensures (not-false c.multiplied-p.result.fine c.if-not-p.false)).bounded; fact_2 = c.loop-k.invariant.3 }
+    record {
+      fact_1 = (c.multiplied-p.ensures (not-false c.multiplied-p.result.fine c.if-not-p.false)).bounded;
+      fact_2 =
+          c.loop-k.invariant.3;
+    }
 
 pub returns-then-not-r : goal.returns-then-not-r
 returns-then-not-r c =

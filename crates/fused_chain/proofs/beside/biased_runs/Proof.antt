@@ -117,8 +117,10 @@ loop-again c =
     let s = u.advance-u.result in
     let t = v.advance-v.result in
     let all = not-false z.both-in-loop-k-3.result c.if-not-both-2.false-raw in
-    let one = first_of z.both-in-loop-k-3.result x.both-in-loop-k.result y.both-in-loop-k-2.result z.both-in-loop-k-3.ensures all in
-    let two = second-of z.both-in-loop-k-3.result x.both-in-loop-k.result y.both-in-loop-k-2.result z.both-in-loop-k-3.ensures all in (
+    let one = first_of z.both-in-loop-k-3.result x.both-in-loop-k.result y.both-in-loop-k-2.result
+    z.both-in-loop-k-3.ensures all in
+    let two = second-of z.both-in-loop-k-3.result x.both-in-loop-k.result y.both-in-loop-k-2.result
+    z.both-in-loop-k-3.ensures all in (
       omega (arith, i.0),
       omega (arith, i.1, p.before.loop-k-test.true),
       four a.xs.now a.a0.now a.a1.now a.blend f.bias f.low f.high a.from a.a
@@ -143,4 +145,8 @@ loop-less c =
 
 pub biased_runs_spec : {M : Type 1} → statement M
 biased_runs_spec =
-    tie.close (tie.spec invariant-loop decreases-loop (λ c κs. search rules) (λ c κs. search rules) (λ c κs. search rules) returns loop-holds (λ c. omega arith) multiplied-requires multiplied-requires-2 (λ c κs. search rules) (λ c κs. search rules) (λ c κs. search rules) (λ c κs. search rules) (λ c κs. search rules) (λ c. ended c.before.before.before.before.before.before.before.before.before.before.before) add-k loop-less loop-again (λ c. ended c.before.before.before))
+    tie.close (tie.spec invariant-loop decreases-loop (λ c κs. search rules) (λ c κs. search rules)
+    (λ c κs. search rules) returns loop-holds (λ c. omega arith) multiplied-requires multiplied-requires-2
+    (λ c κs. search rules) (λ c κs. search rules) (λ c κs. search rules) (λ c κs. search rules) (λ c κs. search rules)
+    (λ c. ended c.before.before.before.before.before.before.before.before.before.before.before) add-k loop-less
+    loop-again (λ c. ended c.before.before.before))

@@ -150,4 +150,8 @@ loop-less c =
 
 pub plain_runs_spec : {M : Type 1} → statement M
 plain_runs_spec =
-    tie.close (tie.spec invariant-loop decreases-loop (λ c κs. search rules) returns loop-holds (λ c. omega arith) multiplied-requires multiplied-requires-2 (λ c κs. search rules) (λ c. ended c.before.before.before.before.before) four-rounded-requires four-rounded-requires-2 (λ c κs. search rules) (λ c. ended c.before.before.before.before.before.before.before.before.before) add-k loop-less loop-again (λ c. ended c.before))
+    tie.close (tie.spec invariant-loop decreases-loop (λ c κs. search rules) returns loop-holds (λ c. omega arith)
+    multiplied-requires multiplied-requires-2 (λ c κs. search rules) (λ c. ended c.before.before.before.before.before)
+    four-rounded-requires four-rounded-requires-2 (λ c κs. search rules)
+    (λ c. ended c.before.before.before.before.before.before.before.before.before) add-k loop-less loop-again
+    (λ c. ended c.before))

@@ -68,4 +68,6 @@ returns-2 c =
 
 pub neighbours_spec : {M : Type 1} → statement M
 neighbours_spec =
-    tie.close (tie.spec (λ c κs. search rules) (λ c κs. search rules) (λ c κs. search rules) (λ c κs. search rules) (λ c κs. search rules) returns (λ c κs. search rules) (λ c κs. search rules) one-by-one-requires one-by-one-requires-2 (λ c κs. search rules) (λ c κs. search rules) returns-2)
+    tie.close (tie.spec (λ c κs. search rules) (λ c κs. search rules) (λ c κs. search rules) (λ c κs. search rules)
+    (λ c κs. search rules) returns (λ c κs. search rules) (λ c κs. search rules) one-by-one-requires
+    one-by-one-requires-2 (λ c κs. search rules) (λ c κs. search rules) returns-2)

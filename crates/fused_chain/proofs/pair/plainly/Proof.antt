@@ -100,4 +100,5 @@ returns c =
 
 pub plainly_spec : {M : Type 1} → statement M
 plainly_spec =
-    tie.close (tie.spec invariant-loop decreases-loop loop-holds plain-runs-requires stretch-requires one-by-one-requires one-by-one-requires-2 loop-less loop-again returns)
+    tie.close (tie.spec invariant-loop decreases-loop loop-holds plain-runs-requires stretch-requires
+    one-by-one-requires one-by-one-requires-2 loop-less loop-again returns)

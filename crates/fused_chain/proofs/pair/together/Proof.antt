@@ -147,4 +147,6 @@ returns c =
 
 pub together_spec : {M : Type 1} → statement M
 together_spec =
-    tie.close (tie.spec invariant-loop decreases-loop (λ c κs. omega arith) (λ c κs. search rules) (λ c κs. search rules) plainly-requires loop-holds biased-runs-requires stretch-requires one-by-one-requires one-by-one-requires-2 loop-less loop-again (λ c κs. search rules) (λ c κs. search rules) returns)
+    tie.close (tie.spec invariant-loop decreases-loop (λ c κs. omega arith) (λ c κs. search rules)
+    (λ c κs. search rules) plainly-requires loop-holds biased-runs-requires stretch-requires one-by-one-requires
+    one-by-one-requires-2 loop-less loop-again (λ c κs. search rules) (λ c κs. search rules) returns)

@@ -8,7 +8,8 @@ use Rattle.fused_chain.proofs.single.chain.Statement.{statement}
 use Rattle.fused_chain.proofs.single.chain.Tie as tie
 
 abbrev invariant-loop : tie.invariant-loop-k
-invariant-loop xs row0 row1 blend sum n middle wide held₀ k₀ held k = (k ≤ n) × (Carries xs row0 row1 blend 0 k sum held)
+invariant-loop xs row0 row1 blend sum n middle wide held₀ k₀ held k =
+    (k ≤ n) × (Carries xs row0 row1 blend 0 k sum held)
 
 abbrev decreases-loop : tie.decreases-loop-k
 decreases-loop xs row0 row1 blend sum n middle wide held₀ k₀ held k = n - k
@@ -110,4 +111,6 @@ returns c =
 
 pub chain_spec : {M : Type 1} → statement M
 chain_spec =
-    tie.close (tie.spec invariant-loop decreases-loop least-requires least-requires-2 ahead-requires f32-to-f64-with-nan-requires plainly-requires loop-holds biased-run-requires stretch-requires one-by-one-requires loop-less loop-again narrow-requires returns)
+    tie.close (tie.spec invariant-loop decreases-loop least-requires least-requires-2 ahead-requires
+    f32-to-f64-with-nan-requires plainly-requires loop-holds biased-run-requires stretch-requires one-by-one-requires
+    loop-less loop-again narrow-requires returns)

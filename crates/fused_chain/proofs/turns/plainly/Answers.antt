@@ -15,7 +15,14 @@ loop-k-init c =
 pub plain_run-r-requires : goal.plain_run-r-requires
 plain_run-r-requires c =
     let p = c.requires in
-    record { order = c.loop-k.invariant.1; samples = p.samples; row = p.row; next = p.next; held = c.loop-k.invariant.2.held }
+    record {
+      order = c.loop-k.invariant.1;
+      samples = p.samples;
+      row = p.row;
+      next = p.next;
+      held =
+          c.loop-k.invariant.2.held;
+    }
 
 pub stretch-end-requires : goal.stretch-end-requires
 stretch-end-requires c = c.plain_run-r.ensures.last

@@ -28,4 +28,5 @@ returns-2 c = one-absent (said c.before) c.if-start.false
 
 pub tap_f32_spec : {M : Type 1} → statement M
 tap_f32_spec =
-    tie.close (tie.spec (λ c κs. search rules) mul-result (λ c. one_inside (said c.before.before) c.before.if-start.true) returns returns-2)
+    tie.close (tie.spec (λ c κs. search rules) mul-result
+    (λ c. one_inside (said c.before.before) c.before.if-start.true) returns returns-2)

@@ -27,7 +27,8 @@ returns-2 c =
 returns-3 : tie.Need-returns-then-count-k-2
 returns-3 c =
     let t = c.before.before.before in
-    c.absent-then-count-k-2.ensures ∙ held.none-gone _ _ _ _ (word t.before) t.if-index-lt0.false (omega arith) (omega arith)
+    c.absent-then-count-k-2.ensures ∙ held.none-gone _ _ _ _ (word t.before) t.if-index-lt0.false (omega arith)
+    (omega arith)
 
 returns-4 : tie.Need-returns
 returns-4 c =
@@ -36,4 +37,5 @@ returns-4 c =
 
 pub tap_place_spec : {M : Type 1} → statement M
 tap_place_spec =
-    tie.close (tie.spec (λ c κs. search rules) returns cast-k (λ c κs. search rules) returns-2 (λ c. search rules) (λ c. search rules) (λ c κs. search rules) returns-3 (λ c κs. search rules) returns-4)
+    tie.close (tie.spec (λ c κs. search rules) returns cast-k (λ c κs. search rules) returns-2 (λ c. search rules)
+    (λ c. search rules) (λ c κs. search rules) returns-3 (λ c κs. search rules) returns-4)

@@ -39,5 +39,6 @@ pub returns : goal.returns
 returns c = λ some.
     let n = c.args.bits in
     let digits : (bit_and n 0xf_ffff_ffff_ffff + 2 ^ 52) * 2 ^ bit_and (n / 2 ^ 52 + 1) 1 % 2 ^ 64 ≡ evened n =
-    rw (low (goal.at.returns c).Else-field-eq0, odd (goal.at.returns c).Else-field-eq0) (shl_exact 53 ((n / 2 ^ 52 + 1) % 2) 64 (omega arith) (omega arith)) in
+    rw (low (goal.at.returns c).Else-field-eq0, odd (goal.at.returns c).Else-field-eq0)
+    (shl_exact 53 ((n / 2 ^ 52 + 1) % 2) 64 (omega arith) (omega arith)) in
     record { field = omega (arith, c.if-field-eq0.false); digits = rw digits at (c.nearest.ensures some) }

@@ -44,5 +44,6 @@ overflow_add-result c = omega (arith, low (goal.at.overflow_add-result c).Then-g
 pub returns-then-r-y : goal.returns-then-r-y
 returns-then-r-y c = λ _.
     let y = bit_and (to_bits binary64 c.args.g) 0xf_ffff_ffff_ffff + 2 ^ 52 in
-    nearest-is c.args.c y c.rest-r.result c.digit.result (omega arith) (omega (arith, low (goal.at.returns-then-r-y c).Then-g))
+    nearest-is c.args.c y c.rest-r.result c.digit.result (omega arith)
+    (omega (arith, low (goal.at.returns-then-r-y c).Then-g))
     (c.rest-r.ensures (omega (arith, low (goal.at.returns-then-r-y c).Then-g))) c.if-r-y.true c.digit.ensures

@@ -16,13 +16,25 @@ pub overflow_mul-h : goal.overflow_mul-h
 overflow_mul-h c = omega (arith, product_le (high c) (high c))
 
 pub overflow_mul-h-2 : goal.overflow_mul-h-2
-overflow_mul-h-2 c = omega (arith, product_le (high (goal.at.overflow_mul-h-2 c).Start) (low (goal.at.overflow_mul-h-2 c).Start))
+overflow_mul-h-2 c = omega (
+  arith,
+  product_le (high (goal.at.overflow_mul-h-2 c).Start)
+      (low (goal.at.overflow_mul-h-2 c).Start),
+)
 
 pub overflow_mul-h-3 : goal.overflow_mul-h-3
-overflow_mul-h-3 c = omega (arith, product_le (high (goal.at.overflow_mul-h-3 c).Start) (low (goal.at.overflow_mul-h-3 c).Start))
+overflow_mul-h-3 c = omega (
+  arith,
+  product_le (high (goal.at.overflow_mul-h-3 c).Start)
+      (low (goal.at.overflow_mul-h-3 c).Start),
+)
 
 pub overflow_mul-l : goal.overflow_mul-l
-overflow_mul-l c = omega (arith, product_le (low (goal.at.overflow_mul-l c).Start) (low (goal.at.overflow_mul-l c).Start))
+overflow_mul-l c = omega (
+  arith,
+  product_le (low (goal.at.overflow_mul-l c).Start)
+      (low (goal.at.overflow_mul-l c).Start),
+)
 
 pub returns-then-b-lt68719476736 : goal.returns-then-b-lt68719476736
 returns-then-b-lt68719476736 c = λ R.
@@ -32,5 +44,7 @@ returns-then-b-lt68719476736 c = λ R.
     let whole : h * 2 ^ 27 + l ≡ s = omega (arith, and_mask s 27) in
     sym (ap (λ (x : ℕ). x * x + c.wrapping_sub_u64-r.result) whole)
     ∙ rest-is c.args.c h l c.wrapping_sub_u64-a.result c.wrapping_sub_u64-b.result
-    c.wrapping_sub_u64-r.result (high (goal.at.returns-then-b-lt68719476736 c).Start) (low (goal.at.returns-then-b-lt68719476736 c).Start) c.wrapping_sub_u64-a.ensures.value c.wrapping_sub_u64-b.ensures.value
+    c.wrapping_sub_u64-r.result (high (goal.at.returns-then-b-lt68719476736 c).Start)
+    (low (goal.at.returns-then-b-lt68719476736 c).Start) c.wrapping_sub_u64-a.ensures.value
+    c.wrapping_sub_u64-b.ensures.value
     c.wrapping_sub_u64-r.ensures.value c.if-a-lt1073741824.true c.if-b-lt68719476736.true R

@@ -8,10 +8,19 @@ pub returns-then-c-lt48 : goal.returns-then-c-lt48
 returns-then-c-lt48 c = record { value = simp (lt-ltb _ _ c.if-c-lt48.true); upper_bound = omega arith }
 
 pub returns-then-c-lt58 : goal.returns-then-c-lt58
-returns-then-c-lt58 c = record { value = simp (le-ltb _ _ c.if-c-lt48.false, lt-ltb _ _ c.if-c-lt58.true); upper_bound = omega arith }
+returns-then-c-lt58 c = record {
+  value = simp (le-ltb _ _ c.if-c-lt48.false, lt-ltb _ _ c.if-c-lt58.true);
+  upper_bound =
+      omega arith;
+}
 
 pub returns-then-c-lt65 : goal.returns-then-c-lt65
-returns-then-c-lt65 c = record { value = simp (le-ltb _ _ c.if-c-lt48.false, le-ltb _ _ c.if-c-lt58.false, lt-ltb _ _ c.if-c-lt65.true); upper_bound = omega arith }
+returns-then-c-lt65 c = record {
+  value =
+      simp (le-ltb _ _ c.if-c-lt48.false, le-ltb _ _ c.if-c-lt58.false, lt-ltb _ _ c.if-c-lt65.true);
+  upper_bound =
+      omega arith;
+}
 
 pub returns-then-c-lt71 : goal.returns-then-c-lt71
 returns-then-c-lt71 c = record {
