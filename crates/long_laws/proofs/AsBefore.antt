@@ -2,22 +2,19 @@
 -- answered as Wish 1 answers it, by either reading. Assumes nothing.
 use mathlib.Core.Path.{◌≡◌, refl, sym, ap, ◌∙◌}
 use mathlib.Core.Bool.{Bool, true, false, not, cond, ◌&&◌, ◌||◌}
-use mathlib.Core.List.{List, [], ◌∷◌}
+use mathlib.Core.List.{List}
 use Prim.Native.Nat.{ℕ, ◌+◌, ◌≤◌}
 use native.Mathlib.Omega.{arith}
 use borrow.Author.Tests.{le-leb, leb-true, leb-false}
 use lib.Dec.{eqb, leb}
 use lib.ListN.{length}
 use Rattle.word_bytes.specs.Bytes.{bytes_value}
-use Rattle.refusal_order.specs.Order.{Test, ◌unless◌, first_of}
 use Rattle.riff_chunks.specs.declared.Chunk.{Chunk}
 use Rattle.riff_chunks.specs.declared.Walked.{Walked}
 use Rattle.riff_chunks.specs.Chunks.{chunk_at}
-use Rattle.riff_chunks.specs.Walk.{riff_sought, up_to, seen_of, walk_to}
+use Rattle.riff_chunks.specs.Walk.{riff_sought, up_to, seen_of}
 use Rattle.riff_chunks.proofs.Agree.{same-chunks}
-use Rattle.wav.specs.declared.Found.{Found}
 use Rattle.wav.specs.declared.Found.TheVariants as found
-use Rattle.wav.specs.declared.Wave.{Wave}
 use Rattle.wav.specs.Wave.{riff_id, wave_id, riff_size, part_of, answered, found_by}
 use Rattle.wav.specs.Wave as wav
 use Rattle.wav.proofs.Alike.{walk-held}
@@ -25,8 +22,8 @@ use Rattle.wav.proofs.Answers.{judged_by}
 use Rattle.wav.proofs.InHand.{past}
 use Rattle.wav_format.specs.Format.{number}
 use Rattle.true_sizes.specs.Sizes.{is_long}
-use Rattle.wav_opening.specs.Opening.{is_wave, riff_held}
-use Rattle.long_wav.specs.Reading.{chunk_in, walk_in, fmt_in, needs_of, tag_in, verdict, wave_in, header_by}
+use Rattle.wav_opening.specs.Opening.{is_wave}
+use Rattle.long_wav.specs.Reading.{chunk_in, walk_in, fmt_in, header_by}
 use Rattle.long_laws.proofs.Whole.{nothing-asked}
 
 or-false : (a : Bool) → a || false ≡ a

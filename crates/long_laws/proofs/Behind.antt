@@ -1,9 +1,9 @@
 -- W10b. If samples are found the bytes before them decide: another file of the same length that begins with the same
 -- bytes is answered alike, whatever its samples are and whatever follows. Assumes nothing.
 use mathlib.Core.Path.{◌≡◌, refl, sym, ap, ◌∙◌}
-use mathlib.Core.Bool.{Bool, true, false, true≢false, not, cond, ◌&&◌, ◌||◌}
-use mathlib.Core.List.{List, [], ◌∷◌}
-use Prim.Native.Nat.{ℕ, ◌+◌, ◌*◌, ◌%◌, ◌≤◌}
+use mathlib.Core.Bool.{Bool, true, false, not, cond, ◌&&◌}
+use mathlib.Core.List.{List}
+use Prim.Native.Nat.{ℕ, ◌+◌, ◌*◌, ◌≤◌}
 use native.Mathlib.Omega.{arith}
 use borrow.Author.Tests.{leb-true, eqb-true, not-true}
 use lib.Dec.{eqb, leb}
@@ -14,9 +14,8 @@ use Rattle.refusal_order.specs.Order.{first_of, test_of, line_of}
 use Rattle.refusal_order.proofs.First.{none}
 use Rattle.riff_chunks.specs.declared.Chunk.{Chunk}
 use Rattle.riff_chunks.specs.declared.Spot.{Spot}
-use Rattle.riff_chunks.specs.declared.Walked.{Walked}
 use Rattle.riff_chunks.specs.Chunks.{after, first}
-use Rattle.riff_chunks.specs.Walk.{riff_sought, is_last, data_id, seen_of, walked_from, walk_from, walk_to}
+use Rattle.riff_chunks.specs.Walk.{riff_sought, data_id, walked_from}
 use Rattle.riff_chunks.proofs.Agree.{Alike, same-up-to}
 use Rattle.riff_chunks.proofs.Found.{fits, behind}
 use Rattle.riff_chunks.proofs.Walks.{walked_one}

@@ -1,11 +1,11 @@
 -- W10b. If no more bytes are needed, what follows those that are there does not count: more of them are answered alike.
 -- By the opening and the walk, which look at no others. Assumes nothing.
 use mathlib.Core.Path.{◌≡◌, refl, sym, ap, ◌∙◌}
-use mathlib.Core.Bool.{Bool, true, false, not, cond}
+use mathlib.Core.Bool.{Bool, true, false, not}
 use mathlib.Core.List.{List}
 use Prim.Native.Nat.{ℕ, ◌+◌, ◌≤◌}
 use native.Mathlib.Omega.{arith}
-use borrow.Author.Tests.{le-leb, eqb-true, eqb-false, not-true}
+use borrow.Author.Tests.{le-leb, eqb-true, eqb-false}
 use lib.Dec.{eqb, leb}
 use lib.ListN.{length, take}
 use Rattle.word_bytes.specs.Bytes.{bytes_value}
@@ -13,10 +13,9 @@ use Rattle.refusal_order.specs.Order.{first_of}
 use Rattle.riff_chunks.specs.declared.Walked.{Walked}
 use Rattle.riff_chunks.specs.Walk.{riff_sought, seen_of, walked_from, walk_to}
 use Rattle.riff_chunks.proofs.Agree.{Alike}
-use Rattle.riff_chunks.proofs.Found.{fits, in_order}
-use Rattle.wav.specs.declared.Found.{Found}
+use Rattle.riff_chunks.proofs.Found.{in_order}
 use Rattle.wav.specs.declared.Found.TheVariants as found
-use Rattle.wav.specs.Wave.{part_of, found_of}
+use Rattle.wav.specs.Wave.{part_of}
 use Rattle.wav.proofs.Alike.{same-part}
 use Rattle.wav.proofs.Answers.{judged_by, body-matters}
 use Rattle.wav_format.specs.Format.{number}

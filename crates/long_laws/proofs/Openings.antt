@@ -1,17 +1,17 @@
 -- W10b. An opening that is long enough gives the same in every longer one: in each step the bytes that are looked at
 -- are there. Assumes nothing.
 use mathlib.Core.Path.{◌≡◌, refl, sym, ap, ◌∙◌}
-use mathlib.Core.Bool.{Bool, true, false, true≢false, cond, ◌&&◌, ◌||◌}
-use mathlib.Core.List.{List, [], ◌∷◌}
-use Prim.Native.Nat.{ℕ, zero, suc, ◌+◌, ◌*◌, ◌≤◌, ◌<◌}
+use mathlib.Core.Bool.{Bool, true, false, cond, ◌&&◌}
+use mathlib.Core.List.{List}
+use Prim.Native.Nat.{ℕ, ◌+◌, ◌*◌, ◌≤◌, ◌<◌}
 use native.Mathlib.Omega.{arith}
 use borrow.Author.Tests.{leb-true, leb-false, le-leb, lt-leb}
-use lib.Dec.{leb, lit≤}
+use lib.Dec.{leb}
 use lib.ListN.{length}
 use Rattle.refusal_order.specs.Order.{first_of}
 use Rattle.wav_format.specs.Format.{number}
 use Rattle.wav.specs.Wave.{riff_size}
-use Rattle.true_sizes.specs.Sizes.{is_long, ds64_size, riff_size64, entry_count, small_sizes, true_size}
+use Rattle.true_sizes.specs.Sizes.{is_long, ds64_size, entry_count, true_size}
 use Rattle.true_sizes.proofs.Same.{same-long, same_count, same-small, same_size}
 use Rattle.wav_opening.specs.Opening.{has_letters, has_ds64, true_riff, end_of, asks, opening_needs, opening_tests}
 
