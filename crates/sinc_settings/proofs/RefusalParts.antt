@@ -1,6 +1,6 @@
 -- The answer of `table_refusal`, split into its two tests again, for a reader that has refusals of its own between
 -- them. If the settings fail, the other test does not count. Assumes nothing.
-use mathlib.Core.Path.{◌≡◌, refl}
+use mathlib.Core.Path.{◌≡◌}
 use mathlib.Core.Bool.{Bool, true, false, not}
 use Prim.Native.Nat.{ℕ}
 use lib.Dec.{eqb}

@@ -9,7 +9,7 @@ ghost use Rattle.sinc_settings.specs.Refusals.{table_verdict, verdict, for_rate,
 use refusal_order::both;
 
 // The four arguments of 000's WindowedSinc::new.
-#[derive(Drop)]
+#[derive(Clone, Copy)]
 pub struct Settings {
     pub taps: usize,
     pub phases: usize,

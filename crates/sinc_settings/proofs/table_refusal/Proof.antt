@@ -12,27 +12,26 @@ use Rattle.sinc_settings.proofs.table_refusal.Tie as tie
 
 tested : (c : tie.After-both) → let a = c.before.before.before.args in
     taps_ok a.taps && phases_ok a.phases ≡ c.both.result
-tested c = sym (c.both.ensures ∙ rw (c.before.phases-ok.ensures, c.before.before.taps-ok.ensures))
+tested c = sym (c.both.ensures ∙ rw (c.before.phases_ok.ensures, c.before.before.taps_ok.ensures))
 
-in-range : (c : tie.Then1) → let a = c.before.before.before.before.args in Counts a.taps a.phases
-in-range c = counts _ _ (tested c.before ∙ c.if1.true)
+in-range : (c : tie.Then-both) → let a = c.before.before.before.before.args in Counts a.taps a.phases
+in-range c = counts _ _ (tested c.before ∙ c.if-both.true)
 
-add-if2 : tie.Need-overflow-add-if2
+add-if2 : tie.Need-overflow_add-phases
 add-if2 c = omega (arith, (in-range c).most-phases)
 
-mul-if2 : tie.Need-overflow-mul-if2
+mul-if2 : tie.Need-overflow_mul-phases
 mul-if2 c = omega (arith, length-fits (in-range c))
 
-returns : tie.Need-returns
-returns c = rw (tested c.before.before, c.before.if1.true, eq-eqb _ _ c.if2.true)
+returns : tie.Need-returns-then-len-phases
+returns c = rw (tested c.before.before, c.before.if-both.true, eq-eqb _ _ c.if-len-phases.true)
 
-returns-2 : tie.Need-returns-2
-returns-2 c = rw (tested c.before.before, c.before.if1.true, ne_eqb _ _ c.if2.false)
+returns-2 : tie.Need-returns-else-len-phases
+returns-2 c = rw (tested c.before.before, c.before.if-both.true, ne_eqb _ _ c.if-len-phases.false)
 
-returns-3 : tie.Need-returns-3
-returns-3 c = rw (tested c.before, c.if1.false)
+returns-3 : tie.Need-returns-else-both
+returns-3 c = rw (tested c.before, c.if-both.false)
 
-pub table-refusal-spec : {M : Type 1} → statement M
-table-refusal-spec =
-    tie.close (tie.spec (λ c κs. search rules) (λ c κs. search rules)
-    (λ c κs. search rules) add-if2 mul-if2 returns returns-2 returns-3)
+pub table_refusal_spec : {M : Type 1} → statement M
+table_refusal_spec =
+    tie.close (tie.spec (λ c κs. search rules) (λ c κs. search rules) (λ c κs. search rules) add-if2 mul-if2 returns returns-2 returns-3)

@@ -1,0 +1,8 @@
+-- `sinc_settings::rate_ok` meets its contract, test by test. Assumes nothing.
+use mathlib.Core.Path.{◌∙◌}
+use lib.Ieee.{of_bits}
+use Rattle.sinc_settings.proofs.rate_ok.Goals as goal
+
+pub returns : goal.returns
+unfolding of_bits
+returns c = c.both-2.ensures ∙ rw (c.both.ensures, c.within.ensures)
