@@ -10,7 +10,6 @@ use Rattle.smooth_random.specs.declared.Renewed.{Renewed}
 use Rattle.oscillator_ranges.specs.Ranges.{sample_rate_ok}
 use Rattle.modulation_engine.specs.Engine.{phases_ok, valid_engine, verdict, opened_by}
 use Rattle.modulation_engine.specs.declared.ModulationEngine.{ModulationEngine}
-use Rattle.modulation_engine.specs.declared.Opened.{Opened}
 
 module _ (e : ModulationEngine) (with : SmoothRandom → SmoothRandom → ModulationEngine) (w f : SmoothRandom) where
   abbrev handed : Bool → SmoothRandom → SmoothRandom → Renewed

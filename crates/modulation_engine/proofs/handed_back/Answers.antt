@@ -4,18 +4,14 @@ use Prim.Native.Nat.{ℕ, zero, suc}
 use Rattle.modulation_engine.specs.declared.ModulationEngine.{ModulationEngine}
 use Rattle.modulation_engine.specs.declared.Opened.TheVariants.{Refused}
 use Rattle.modulation_engine.specs.Engine.{opened_by}
-use Rattle.modulation_engine.proofs.handed_back.Statement.{statement}
-use Rattle.modulation_engine.proofs.handed_back.Tie as tie
+use Rattle.modulation_engine.proofs.handed_back.Goals as goal
 
 refused : (k : ℕ) (e : ModulationEngine) → (k ≡ 0 → ⊥) → Refused k ≡ opened_by k e
 refused zero e h = absurd (h refl)
 refused (suc k) e h = refl
 
-returns : tie.Need-returns
-returns c = rw c.if1.true
+pub returns-then-refusal-eq0 : goal.returns-then-refusal-eq0
+returns-then-refusal-eq0 c = rw c.if-refusal-eq0.true
 
-returns-2 : tie.Need-returns-2
-returns-2 c = refused _ _ c.if1.false
-
-pub handed-back-spec : {M : Type 1} → statement M
-handed-back-spec = tie.close (tie.spec returns returns-2)
+pub returns-else-refusal-eq0 : goal.returns-else-refusal-eq0
+returns-else-refusal-eq0 c = refused _ _ c.if-refusal-eq0.false
