@@ -7,8 +7,7 @@ ghost use Rattle.fugnadri_aiff.specs.Doors.{number_of, sound_of, leaves, left_by
 use aiff::{Found, Sound};
 use sample_kind::{SampleKind, code};
 
-#[unsafe(no_mangle)]
-pub extern "C" fn fugnadri_aiff_read(
+pub fn fugnadri_aiff_read(
     file: &[u8],
     kind: &mut u8,
     channels: &mut u8,
@@ -32,8 +31,7 @@ pub extern "C" fn fugnadri_aiff_read(
 }
 
 // Nothing is refused: what is missing gives zeros.
-#[unsafe(no_mangle)]
-pub extern "C" fn fugnadri_aiff_told(
+pub fn fugnadri_aiff_told(
     file: &[u8],
     comm: &mut usize,
     channels: &mut u32,

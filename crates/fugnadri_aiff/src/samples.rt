@@ -9,8 +9,7 @@ ghost use Rattle.fugnadri_aiff.specs.Doors.{channels_of};
 use aiff_samples::filling;
 use sample_kind::of_code;
 
-#[unsafe(no_mangle)]
-pub extern "C" fn fugnadri_aiff_samples(
+pub fn fugnadri_aiff_samples(
     kind: u8,
     channels: u8,
     channel: u8,
@@ -27,8 +26,7 @@ pub extern "C" fn fugnadri_aiff_samples(
     filling::fill(k, n, channel, part, &mut out[..])
 }
 
-#[unsafe(no_mangle)]
-pub extern "C" fn fugnadri_aiff_samples_f32(
+pub fn fugnadri_aiff_samples_f32(
     kind: u8,
     channels: u8,
     channel: u8,
@@ -46,14 +44,7 @@ pub extern "C" fn fugnadri_aiff_samples_f32(
 }
 
 // The samples are whole numbers of 2^-23, as the residual takes them.
-#[unsafe(no_mangle)]
-pub extern "C" fn fugnadri_aiff_whole(
-    kind: u8,
-    channels: u8,
-    channel: u8,
-    part: &[u8],
-    out: &mut [i32],
-) -> u8
+pub fn fugnadri_aiff_whole(kind: u8, channels: u8, channel: u8, part: &[u8], out: &mut [i32]) -> u8
     ensures value { result ≡ whole_verdict (kind_of kind) (channels_of kind channels) channel
         (length part.now) (length out.old) }
     ensures out_after { out.new ≡ filled_whole (kind_of kind) (channels_of kind channels) channel

@@ -1,6 +1,5 @@
-// The static library of the residual, for C and Rust (W13).
-// Numbers pass through pointers, a slice as a pointer and a length; there is no enum and no struct. The function
-// accepts every input, and its contract is that of `residual::compare`.
+// The residual as plain numbers, which the static library fugnadri_residual_c exports for C and Rust (W13).
+// There is no enum and no struct. The function accepts every input, and its contract is that of `residual::compare`.
 #![tactic(auto)]
 
 ghost use Rattle.std.specs.Prelude.{◌≡◌};
@@ -40,8 +39,7 @@ fn index_or(p: Place, index: u64) -> u64
 
 // The six numbers of the report go in and, if the call is not refused, come out extended. The refusal number is
 // returned, 0 for none.
-#[unsafe(no_mangle)]
-pub extern "C" fn fugnadri_residual_compare(
+pub fn fugnadri_residual_compare(
     number: &mut u64,
     largest: &mut u32,
     placed: &mut u8,

@@ -7,8 +7,7 @@ ghost use Rattle.fugnadri_wav.specs.Exports.{number_of, wave_of, leaves, left_by
 use sample_kind::{SampleKind, code};
 use wav::{Found, Wave};
 
-#[unsafe(no_mangle)]
-pub extern "C" fn fugnadri_wav_read(
+pub fn fugnadri_wav_read(
     file: &[u8],
     kind: &mut u8,
     channels: &mut u8,
@@ -24,8 +23,7 @@ pub extern "C" fn fugnadri_wav_read(
 }
 
 // The same, except that a kind inside WAVE_FORMAT_EXTENSIBLE, tag FFFE, is read by the tag inside.
-#[unsafe(no_mangle)]
-pub extern "C" fn fugnadri_wav_read_wrapped(
+pub fn fugnadri_wav_read_wrapped(
     file: &[u8],
     kind: &mut u8,
     channels: &mut u8,
@@ -42,8 +40,7 @@ pub extern "C" fn fugnadri_wav_read_wrapped(
 
 // Writes what `fmt ` says, and the size of `data`. Nothing is refused: the numbers of a chunk that is missing are
 // zeros.
-#[unsafe(no_mangle)]
-pub extern "C" fn fugnadri_wav_told(
+pub fn fugnadri_wav_told(
     file: &[u8],
     size: &mut usize,
     tag: &mut u32,

@@ -6,8 +6,7 @@ ghost use Rattle.fugnadri_wav.specs.Exports.{leaves, left_by};
 
 use crate::files::hand_out;
 
-#[unsafe(no_mangle)]
-pub extern "C" fn fugnadri_wav_read_header(
+pub fn fugnadri_wav_read_header(
     prefix: &[u8],
     length: usize,
     kind: &mut u8,
@@ -25,8 +24,7 @@ pub extern "C" fn fugnadri_wav_read_header(
 }
 
 // The same, except that a kind inside WAVE_FORMAT_EXTENSIBLE, tag FFFE, is read by the tag inside.
-#[unsafe(no_mangle)]
-pub extern "C" fn fugnadri_wav_read_header_wrapped(
+pub fn fugnadri_wav_read_header_wrapped(
     prefix: &[u8],
     length: usize,
     kind: &mut u8,
@@ -44,8 +42,7 @@ pub extern "C" fn fugnadri_wav_read_header_wrapped(
 }
 
 // How many of the file's first bytes the caller must lend after a refusal by 2, or 0 if enough are lent.
-#[unsafe(no_mangle)]
-pub extern "C" fn fugnadri_wav_needs(prefix: &[u8], length: usize) -> usize
+pub fn fugnadri_wav_needs(prefix: &[u8], length: usize) -> usize
     ensures { result ≡ needs_of prefix.now length }
 {
     long_wav::needs(prefix, length)

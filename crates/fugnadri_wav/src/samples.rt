@@ -8,14 +8,7 @@ ghost use Rattle.fugnadri_wav.specs.Exports.{channels_of};
 use sample_kind::of_code;
 use wav_samples::filling;
 
-#[unsafe(no_mangle)]
-pub extern "C" fn fugnadri_wav_samples(
-    kind: u8,
-    channels: u8,
-    channel: u8,
-    part: &[u8],
-    out: &mut [f64],
-) -> u8
+pub fn fugnadri_wav_samples(kind: u8, channels: u8, channel: u8, part: &[u8], out: &mut [f64]) -> u8
     ensures value { result ≡ verdict (kind_of kind) (channels_of kind channels) channel
         (length part.now) (length out.old) }
     ensures out_after { out.new ≡ filled binary64 (kind_of kind) (channels_of kind channels) channel
@@ -26,8 +19,7 @@ pub extern "C" fn fugnadri_wav_samples(
     filling::fill(k, n, channel, part, &mut out[..])
 }
 
-#[unsafe(no_mangle)]
-pub extern "C" fn fugnadri_wav_samples_f32(
+pub fn fugnadri_wav_samples_f32(
     kind: u8,
     channels: u8,
     channel: u8,
@@ -45,14 +37,7 @@ pub extern "C" fn fugnadri_wav_samples_f32(
 }
 
 // The unit is 2^-23, which the residual takes. A float kind is refused by 1.
-#[unsafe(no_mangle)]
-pub extern "C" fn fugnadri_wav_whole(
-    kind: u8,
-    channels: u8,
-    channel: u8,
-    part: &[u8],
-    out: &mut [i32],
-) -> u8
+pub fn fugnadri_wav_whole(kind: u8, channels: u8, channel: u8, part: &[u8], out: &mut [i32]) -> u8
     ensures value { result ≡ whole_verdict (kind_of kind) (channels_of kind channels) channel
         (length part.now) (length out.old) }
     ensures out_after { out.new ≡ filled_whole (kind_of kind) (channels_of kind channels) channel

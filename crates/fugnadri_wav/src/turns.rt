@@ -13,13 +13,7 @@ use riff_chunks::{Spot, Walked, Walking};
 
 // Refuses by 1, 2, 9, 18, 19, or 10 for the RIFF's size; otherwise writes the end of the walk and the bytes that are
 // left before it.
-#[unsafe(no_mangle)]
-pub extern "C" fn fugnadri_wav_begin(
-    opening: &[u8],
-    length: usize,
-    end: &mut usize,
-    left: &mut usize,
-) -> u8
+pub fn fugnadri_wav_begin(opening: &[u8], length: usize, end: &mut usize, left: &mut usize) -> u8
     ensures { begins result end.new left.new
         ≡ begins_by (begun_of opening.now length) }
 {
@@ -31,8 +25,7 @@ pub extern "C" fn fugnadri_wav_begin(
 }
 
 // One more chunk, from the 8 bytes at the place `end` less what is left. If fewer than 8 are left the walk is over.
-#[unsafe(no_mangle)]
-pub extern "C" fn fugnadri_wav_turn(
+pub fn fugnadri_wav_turn(
     opening: &[u8],
     end: usize,
     head: &[u8],
@@ -67,8 +60,7 @@ pub extern "C" fn fugnadri_wav_turn(
 }
 
 // Refuses by 10 to 13, or writes what was found. `fmt` is the first 40 bytes of `fmt `, or all of it if it is shorter.
-#[unsafe(no_mangle)]
-pub extern "C" fn fugnadri_wav_finish(
+pub fn fugnadri_wav_finish(
     overruns: u8,
     format: usize,
     format_size: usize,
