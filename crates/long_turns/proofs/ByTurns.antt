@@ -6,7 +6,7 @@ use mathlib.Core.List.{List}
 use Prim.Native.Nat.{ℕ, zero, suc, ◌+◌, ◌-◌, ◌≤◌, ◌<◌}
 use native.Mathlib.Omega.{arith}
 use borrow.Author.Tests.{leb-true, le-leb, lt-leb, eqb-true, eqb-false}
-use lib.Dec.{eqb, leb}
+use lib.Dec.{eqb}
 use lib.ListN.{length, take, drop}
 use lib.Seq.{take-take, drop-drop}
 use Rattle.word_bytes.specs.Bytes.{bytes_value}
@@ -24,8 +24,8 @@ use Rattle.wav_turns.specs.Turns.{finished_of}
 use Rattle.riff_chunks.proofs.Lent.{walks}
 use Rattle.wav_turns.proofs.Fields.{same_tag, same-found}
 use Rattle.true_sizes.specs.Sizes.{true_size}
-use Rattle.wav_opening.specs.Opening.{end_of, opening_needs, hand_tests, opening_tests, told_of, begun_of}
-use Rattle.long_wav.specs.Reading.{chunk_in, walk_in, fmt_in, header_by, header_wrapped}
+use Rattle.wav_opening.specs.Opening.{end_of, opening_needs, opening_tests, told_of, begun_of}
+use Rattle.long_wav.specs.Reading.{chunk_in, walk_in, fmt_in, header_wrapped}
 use Rattle.long_laws.proofs.Openings.{Opens, opens}
 use Rattle.long_laws.proofs.Missing.{to_the_end}
 use Rattle.long_laws.proofs.Longer.{refused-is, walked-is}

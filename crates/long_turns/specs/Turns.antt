@@ -1,7 +1,7 @@
 -- W10c. A WAV file of any length read step by step: what its opening shows, one more chunk by its first 8 bytes, and
 -- the answer from the walk and the first bytes of `fmt `. The opening is lent again at every step, because the table of
 -- its `ds64` may hold the chunk's size. Definitions only.
-use Rattle.std.specs.Prelude.{ℕ, zero, suc, ◌+◌, ◌-◌, Bool, cond, List, take, drop}
+use Rattle.std.specs.Prelude.{ℕ, zero, suc, ◌+◌, ◌-◌, cond, List, take, drop}
 use Rattle.riff_chunks.specs.declared.Chunk.{Chunk}
 use Rattle.riff_chunks.specs.declared.Walking.{Walking}
 use Rattle.riff_chunks.specs.Walk.{riff_sought, begun, turned, turns_by}
