@@ -52,7 +52,8 @@ module _ (o b : List ℕ) (end : ℕ) (sizes : (id field : ℕ) → true_size o 
 
   all-turns : (turns_of o b end end (begun end)).seen ≡ walk_to riff_sought (chunk_in b) end
   all-turns =
-      walks riff_sought (chunk_in b) (λ at. refl) end (λ w. turned_by o w end (take 8 (drop (end - w.left) b))) goes stays
+      walks riff_sought (chunk_in b) (λ at. refl) end (λ w. turned_by o w end (take 8 (drop (end - w.left) b))) goes
+      stays
 
 module _ (o b : List ℕ) (size : ℕ) (whole : length b ≡ size) (shorter : length o ≤ length b)
     (same : take (length o) o ≡ take (length o) b) (enough : opening_needs o size ≡ 0) where
@@ -92,11 +93,13 @@ module _ (o b : List ℕ) (size : ℕ) (whole : length b ≡ size) (shorter : le
   by-turns = rw told (by (eqb (first_of (opening_tests o size)) 0) refl)
     where
       by : (t : Bool) → eqb (first_of (opening_tests o size)) 0 ≡ t
-          → by_turns (first_of (opening_tests o size)) o (cond (eqb (first_of (opening_tests o size)) 0) (end_of o size) 0) b
+          → by_turns (first_of (opening_tests o size)) o
+          (cond (eqb (first_of (opening_tests o size)) 0) (end_of o size) 0) b
           ≡ header_wrapped b size
       by true e =
           let z = eqb-true (first_of (opening_tests o size)) 0 e in
           ap (λ (r : ℕ). by_turns r o (cond (eqb r 0) (end_of o size) 0) b) z ∙ answers z
       by false e =
-          refuses (first_of (opening_tests o size)) (cond (eqb (first_of (opening_tests o size)) 0) (end_of o size) 0) refl
+          refuses (first_of (opening_tests o size)) (cond (eqb (first_of (opening_tests o size)) 0) (end_of o size) 0)
+          refl
           (eqb-false _ _ e)
