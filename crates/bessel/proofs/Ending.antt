@@ -17,7 +17,7 @@ use lib.Ieee.Positive.{den, den_pos}
 use lib.Ieee.Scale.{finite}
 use Rattle.interval.proofs.Signed.{ring, under, strictly, of-strictly, le-lt}
 use Rattle.interval.proofs.Between.{Between, between, point, sum-between, widen}
-use Rattle.interval.proofs.Products.{product-between, quotient-between}
+use Rattle.interval.proofs.Products.{least, most, product-between, quotient-between}
 use Rattle.interval.proofs.Pieces.{all, All, all_of}
 use Rattle.bessel.specs.declared.Mode.TheVariants.{Full}
 use Rattle.bessel.specs.Series.{term_of, ends, sum_after, one-f, four-f, series_of, ends_after, ends_within}
@@ -69,6 +69,29 @@ lt-le x y z p q r h k =
       simp ring at (mul-le-mul_right (den x) (under y z q r k)),
     ))))
 
+-- The tolerance is above zero, and once itself.
+tiny-above : le zero-f tiny ≡ true
+unfolding count_trailing_zeros size span climb odd units round lt eq le
+tiny-above = refl
+
+one-above : T (le zero-f one-f)
+unfolding lt eq le
+one-above = tt
+
+tiny-finite : T (finite tiny)
+unfolding count_trailing_zeros size span climb odd units round
+tiny-finite = tt
+
+tiny-once : mul binary64 one-f tiny ≡ tiny
+unfolding count_trailing_zeros size span climb odd units round mul
+tiny-once = refl
+
+at-least-tiny : (s : Float) → least binary64 one-f s tiny ≡ tiny
+at-least-tiny s = ap (λ (b : Bool). mul binary64 (cond b one-f s) tiny) tiny-above ∙ tiny-once
+
+at-most-tiny : (s : Float) → most binary64 one-f s tiny ≡ mul binary64 s tiny
+at-most-tiny s = ap (λ (b : Bool). mul binary64 (cond b s one-f) tiny) tiny-above
+
 -- ---- one step, for every y from 0 to 100
 module _
     (d t s y total term : Float) (v : Between zero-f hundred y) (u : Between zero-f t term)
@@ -112,14 +135,15 @@ module _
     sum_over = sum-between binary64 w term-under refl refl tt f.1.1.1.1.1.1.1.0
 
     last : T (lt T' tiny) → ends more next ≡ true
-    unfolding count_trailing_zeros size span climb odd units round mul lt eq le
     last l =
         let z : Between tiny (mul binary64 S' tiny) (mul binary64 more tiny) =
-        product-between binary64 tt sum_over (point tiny tt) refl refl tt f.1.1.1.1.1.1.1.1.0 in
+        product-between binary64 one-above sum_over (point tiny tiny-finite) (at-least-tiny S') (at-most-tiny S')
+        tiny-finite
+        f.1.1.1.1.1.1.1.1.0 in
         let a = term-under.below in
         is_true _
-        (lt-le next tiny (mul binary64 more tiny) a.first tt z.above.second
-        (le-lt next T' tiny a.first a.second tt a.order l) z.above.order)
+        (lt-le next tiny (mul binary64 more tiny) a.first tiny-finite z.above.second
+        (le-lt next T' tiny a.first a.second tiny-finite a.order l) z.above.order)
 
 -- b says whether the term is below the tolerance, c whether its bound is; r and e are the same for what follows.
 either : (b c e r : Bool) → (T c → b ≡ true) → T (cond c true e) → (T e → r ≡ true) → cond b true r ≡ true

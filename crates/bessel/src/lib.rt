@@ -8,7 +8,7 @@ ghost use Rattle.bessel.specs.Modes.{terms_of, sum_in, mode_of, known_code};
 
 // W5. Ported is 000's sum: 24 terms after the first, which do not reach I0 for a beta above about 10.9. In Full the
 // tolerance always ends the sum, because 41 terms are enough up to a beta of 20 (`tolerance-ends`).
-#[derive(Drop)]
+#[derive(Clone, Copy)]
 pub enum Mode {
     Ported,
     Full,
