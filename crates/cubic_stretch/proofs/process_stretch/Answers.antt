@@ -18,24 +18,41 @@ pub bounds-delays-k : goal.bounds-delays-k
 bounds-delays-k c = let g = c.loop-k.invariant in omega (arith, g.alike)
 
 pub overflow_sub-at : goal.overflow_sub-at
-overflow_sub-at c = (ready cubic_at true true _ _ _ _ _ c.loop-k.invariant nan c.loop-k-test.true c.passes.ensures c.if-passes.true).some
+overflow_sub-at c =
+    let h =
+    ready cubic_at true true _ _ _ _ _ c.loop-k.invariant nan c.loop-k-test.true c.passes.ensures c.if-passes.true in
+    h.some
 
 pub offset_bounds-ring-at : goal.offset_bounds-ring-at
 offset_bounds-ring-at c =
-    scaled_Fits _ _ 8 (ready cubic_at true true _ _ _ _ _ c.loop-k.invariant nan c.loop-k-test.true c.passes.ensures c.if-passes.true).inside-lent
+    let h =
+    ready cubic_at true true _ _ _ _ _ c.loop-k.invariant nan c.loop-k-test.true c.passes.ensures c.if-passes.true in
+    scaled_Fits _ _ 8 h.inside-lent
     c.well_formed.1.0.1
 
 pub bounds-ring-at : goal.bounds-ring-at
-bounds-ring-at c = (ready cubic_at true true _ _ _ _ _ c.loop-k.invariant nan c.loop-k-test.true c.passes.ensures c.if-passes.true).inside
+bounds-ring-at c =
+    let h =
+    ready cubic_at true true _ _ _ _ _ c.loop-k.invariant nan c.loop-k-test.true c.passes.ensures c.if-passes.true in
+    h.inside
 
 pub overflow_add-i : goal.overflow_add-i
-overflow_add-i c = omega (arith, (ready cubic_at true true _ _ _ _ _ c.loop-k.invariant nan c.loop-k-test.true c.passes.ensures c.if-passes.true).below)
+overflow_add-i c =
+    let h =
+    ready cubic_at true true _ _ _ _ _ c.loop-k.invariant nan c.loop-k-test.true c.passes.ensures c.if-passes.true in
+    omega (arith, h.below)
 
 pub overflow_cast-i : goal.overflow_cast-i
-overflow_cast-i c = (ready cubic_at true true _ _ _ _ _ c.loop-k.invariant nan c.loop-k-test.true c.passes.ensures c.if-passes.true).cast
+overflow_cast-i c =
+    let h =
+    ready cubic_at true true _ _ _ _ _ c.loop-k.invariant nan c.loop-k-test.true c.passes.ensures c.if-passes.true in
+    h.cast
 
 pub int_to_float-i : goal.int_to_float-i
-int_to_float-i c = (ready cubic_at true true _ _ _ _ _ c.loop-k.invariant nan c.loop-k-test.true c.passes.ensures c.if-passes.true).whole_float
+int_to_float-i c =
+    let h =
+    ready cubic_at true true _ _ _ _ _ c.loop-k.invariant nan c.loop-k-test.true c.passes.ensures c.if-passes.true in
+    h.whole_float
 
 pub bounds-out-k : goal.bounds-out-k
 bounds-out-k c =
@@ -43,10 +60,16 @@ bounds-out-k c =
     omega (arith, c.loop-k-test.true, g.half.long, g.room)
 
 pub overflow_add-i-then-passes : goal.overflow_add-i-then-passes
-overflow_add-i-then-passes c = omega (arith, (ready cubic_at true true _ _ _ _ _ c.loop-k.invariant nan c.loop-k-test.true c.passes.ensures c.if-passes.true).below)
+overflow_add-i-then-passes c =
+    let h =
+    ready cubic_at true true _ _ _ _ _ c.loop-k.invariant nan c.loop-k-test.true c.passes.ensures c.if-passes.true in
+    omega (arith, h.below)
 
 pub loop-k-preserved : goal.loop-k-preserved
-loop-k-preserved c = (ready cubic_at true true _ _ _ _ _ c.loop-k.invariant nan c.loop-k-test.true c.passes.ensures c.if-passes.true).turns
+loop-k-preserved c =
+    let h =
+    ready cubic_at true true _ _ _ _ _ c.loop-k.invariant nan c.loop-k-test.true c.passes.ensures c.if-passes.true in
+    h.turns
     (λ own lent range. c.one_nan.ensures ∙ c.read-sample.ensures ∙ rw range)
 
 pub shape_of-out-else-passes : goal.shape_of-out-else-passes
