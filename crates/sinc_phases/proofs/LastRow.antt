@@ -28,7 +28,8 @@ module _ (p : Float) (phases : ℕ) (some : 1 ≤ phases) (few : phases ≤ 4096
     (full : HasValue (fraction_of p) false 1 1) where
   position : phase_position p phases ≡ num phases
   position =
-      whole-product binary64 (fraction_of p) (num phases) 1 phases full (whole-value binary64 (pos phases) (omega arith))
+      whole-product binary64 (fraction_of p) (num phases) 1 phases full
+      (whole-value binary64 (pos phases) (omega arith))
       ∙ ap num (one-mul phases)
 
   pub last-phase : phase_of p phases ≡ phases - 1

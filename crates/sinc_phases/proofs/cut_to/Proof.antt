@@ -21,43 +21,44 @@ use Rattle.sinc_phases.proofs.cut_to.Tie as tie
 value : (n : ℕ) → n ≤ 2 ^ 53 → HasValue (num n) false n 1
 value n h = whole-value binary64 (pos n) h
 
-int-to-float-if2 : tie.Need-int-to-float-if2
+int-to-float-if2 : tie.Need-int_to_float-top
 unfolding in_float
 int-to-float-if2 c = le→leb _ (2 ^ 53) c.before.before.requires
 
-below : (c : tie.Then2) → let a = c.before.before.before.args in Under a.top a.x
+below : (c : tie.Then-x-top) → let a = c.before.before.before.args in Under a.top a.x
 unfolding of_bits
 below c =
     let a = c.before.before.before in
-    under a.args.top a.args.x _ (value a.args.top a.requires) c.before.before.if1.true c.if2.true
+    under a.args.top a.args.x _ (value a.args.top a.requires) c.before.before.if-x.true c.if-x-top.true
 
 -- The floor, as the code holds it.
 word : (c : tie.After-floor) → let a = c.before.before.before.before.args in
     to_z w64 (of_z w64 c.floor.result) ≡ pos (cut_to a.top a.x)
 word c =
     let a = c.before.before.before.before in
-    to_z-of_z w64 c.floor.result (record { sfits = c.floor.type-inv })
+    to_z-of_z w64 c.floor.result (record { sfits = c.floor.type_inv })
     ∙ c.floor.ensures
     ∙ whole a.args.top a.args.x a.requires (below c.before)
 
-cast-result : tie.Need-overflow-cast-result
+cast-result : tie.Need-overflow_cast-result
 cast-result c =
     let a = c.before.before.before.before in
     subst (λ (z : ℤ). T (non_neg z) × Fits w64 (nat_abs z)) (sym (word c))
     (tt, record { fits = omega (arith, held a.args.top a.args.x, a.requires) })
 
-returns : tie.Need-returns
+returns : tie.Need-returns-then-x-top
 returns c = ap nat_abs (word c)
 
-returns-2 : tie.Need-returns-2
+returns-2 : tie.Need-returns-else-x-top
 unfolding of_bits
 returns-2 c =
     let a = c.before.before.before in
-    over a.args.top a.args.x _ (value a.args.top a.requires) c.before.before.if1.true c.if2.false
+    over a.args.top a.args.x _ (value a.args.top a.requires) c.before.before.if-x.true c.if-x-top.false
 
-returns-3 : tie.Need-returns-3
+returns-3 : tie.Need-returns-else-x
 unfolding of_bits
-returns-3 c = low c.before.args.top c.before.args.x c.if1.false
+returns-3 c = low c.before.args.top c.before.args.x c.if-x.false
 
-pub cut-to-spec : {M : Type 1} → statement M
-cut-to-spec = tie.close (tie.spec int-to-float-if2 (λ c κs. search rules) cast-result returns returns-2 returns-3)
+pub cut_to_spec : {M : Type 1} → statement M
+cut_to_spec =
+    tie.close (tie.spec int-to-float-if2 (λ c κs. search rules) cast-result returns returns-2 returns-3)

@@ -16,10 +16,10 @@ use Rattle.sinc_phases.proofs.PositionInRange.{Aimed, aimed}
 use Rattle.sinc_phases.proofs.first_tap.Statement.{statement}
 use Rattle.sinc_phases.proofs.first_tap.Tie as tie
 
-ranges : (c : tie.Then1) → let a = c.before.before.args in Aimed a.position a.taps
-ranges c = aimed _ _ (sym c.before.taps-in-range.ensures ∙ c.if1.true)
+ranges : (c : tie.Then-taps_in_range) → let a = c.before.before.args in Aimed a.position a.taps
+ranges c = aimed _ _ (sym c.before.taps_in_range.ensures ∙ c.if-taps_in_range.true)
 
-sub-result : tie.Need-overflow-sub-result
+sub-result : tie.Need-overflow_sub-result
 sub-result c = let r = ranges c.before in omega (arith, r.least)
 
 -- The first tap, as the machine has it.
@@ -29,12 +29,12 @@ exact c =
     let a = c.before.before.before.args in
     let r = ranges c.before in
     rw (
-      to_z-of_z w64 c.floor.result (record { sfits = c.floor.type-inv }),
+      to_z-of_z w64 c.floor.result (record { sfits = c.floor.type_inv }),
       c.floor.ensures,
       small (a.taps / 2 - 1) (omega (arith, r.most)),
     )
 
-sub-result-2 : tie.Need-overflow-sub-result-2
+sub-result-2 : tie.Need-overflow_sub-result-then-taps_in_range
 sub-result-2 c =
     let a = c.before.before.before.args in
     let r = ranges c.before in
@@ -42,15 +42,15 @@ sub-result-2 c =
     (minus-fits (floor_of a.position) (a.taps / 2 - 1)
     (omega (arith, floor-mag (2 ^ 36) a.position (lit< tt) r.near, r.most)))
 
-returns : tie.Need-returns
+returns : tie.Need-returns-then-taps_in_range
 returns c =
     let t = c.before in
-    rw (← t.before.taps-in-range.ensures, t.if1.true) (to_z-of_z w64 _ (sub-result-2 c) ∙ exact c)
+    rw (← t.before.taps_in_range.ensures, t.if-taps_in_range.true) (to_z-of_z w64 _ (sub-result-2 c) ∙ exact c)
 
-returns-2 : tie.Need-returns-2
-returns-2 c = rw (← c.before.taps-in-range.ensures, c.if1.false)
+returns-2 : tie.Need-returns-else-taps_in_range
+returns-2 c = rw (← c.before.taps_in_range.ensures, c.if-taps_in_range.false)
 
-pub first-tap-spec : {M : Type 1} → statement M
-first-tap-spec =
-    tie.close (tie.spec (λ c κs. search rules) (λ c κs. search rules) sub-result
-    (λ c. search rules) sub-result-2 returns returns-2)
+pub first_tap_spec : {M : Type 1} → statement M
+first_tap_spec =
+    tie.close (tie.spec (λ c κs. search rules) (λ c κs. search rules) sub-result (λ c. search rules) sub-result-2
+    returns returns-2)
