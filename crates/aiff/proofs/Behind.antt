@@ -21,7 +21,8 @@ use Rattle.wav.proofs.Alike.{same-part}
 use Rattle.wav.proofs.Passed.{both_hold}
 use Rattle.aiff.specs.declared.Found.{Found}
 use Rattle.aiff.specs.declared.Found.TheVariants as found
-use Rattle.aiff.specs.Aiff.{form_size, walk_in, head_of, comm_of, ssnd_of, is_aiff, within, tests_of, sound_of, answered}
+use Rattle.aiff.specs.Aiff.{form_size, walk_in, head_of, comm_of, ssnd_of, is_aiff, within, tests_of, sound_of}
+use Rattle.aiff.specs.Aiff.{answered}
 use Rattle.aiff.specs.Aiff.{found_of, found_in}
 
 -- W12i. Only the first four bytes of an `SSND`, its offset, count.

@@ -1,6 +1,6 @@
 -- The values that `read`, `chunks_told` and `finish` have are those that the definitions name, and an answer is
 -- determined by its number. Assumes nothing.
-use mathlib.Core.Path.{◌≡◌, refl, sym, ap, ◌∙◌}
+use mathlib.Core.Path.{◌≡◌, refl, ap, ◌∙◌}
 use mathlib.Core.Bool.{Bool, true, false, not, ◌&&◌}
 use mathlib.Core.List.{List, [], ◌∷◌}
 use Prim.Native.Nat.{ℕ, zero, suc, ◌+◌}
@@ -19,7 +19,8 @@ use Rattle.aiff.specs.declared.Found.TheVariants as found
 use Rattle.aiff.specs.declared.Sound.{Sound}
 use Rattle.aiff.specs.declared.Told.{Told}
 use Rattle.aiff.specs.Aiff.{form_size, walk_in, head_of, comm_of, ssnd_of, channels, frames, bits, rate, offset}
-use Rattle.aiff.specs.Aiff.{length_of, is_aiff, inside, within, has_parts, listed, kind_of, tests_of, sound_of, sound_in}
+use Rattle.aiff.specs.Aiff.{length_of, is_aiff, inside, within, has_parts, listed, kind_of, tests_of, sound_of}
+use Rattle.aiff.specs.Aiff.{sound_in}
 use Rattle.aiff.specs.Aiff.{answered, found_of, found_in, told_in}
 
 pub refused : (k : ℕ) (f : Sound) → (k ≡ 0 → ⊥) → found.Refused k ≡ answered k f
@@ -89,7 +90,8 @@ module _ (b : List ℕ) (w : Walked) (c s : List ℕ) (h : InHand b w c s) where
   found-is aiff size e k =
       rw (e, k, h.comm-is, h.ssnd-is)
       (ap
-      (λ (v : Walked). found_of (is_aiff b) (leb (8 + form_size b) (length b)) (8 + form_size b) (comm_of b) (ssnd_of b) v)
+      (λ (v : Walked). found_of (is_aiff b) (leb (8 + form_size b) (length b)) (8 + form_size b) (comm_of b) (ssnd_of b)
+      v)
       h.walk_is
       ∙ ap (λ (t : Bool). answered (first_of (tests_of (is_aiff b) t (comm_of b) (ssnd_of b) (walk_in b))) (sound_in b))
       (inside_is b))

@@ -14,7 +14,7 @@ use sample_kind::SampleKind;
 
 // There are one or two channels, and the samples are the `length` bytes from `start` on, the high byte of each sample
 // first.
-#[derive(Drop)]
+#[derive(Clone, Copy)]
 pub struct Sound {
     pub kind: SampleKind,
     pub channels: u8,
@@ -23,7 +23,7 @@ pub struct Sound {
     pub length: usize,
 }
 
-#[derive(Drop)]
+#[derive(Clone, Copy)]
 pub enum Found {
     Sound(Sound),
     Refused(u8),
@@ -31,7 +31,7 @@ pub enum Found {
 
 // What the first `COMM` says, its size, the size of the first `SSND` and its offset; zeros for what is missing. The
 // rate is given as it stands: `exponent`, with the sign, and `digits`.
-#[derive(Drop)]
+#[derive(Clone, Copy)]
 pub struct Told {
     pub comm: usize,
     pub channels: u32,

@@ -1,13 +1,11 @@
 -- `aiff::first_tests::ends_by` meets its contract, without a sum that could overflow. Assumes nothing.
-use borrow.Author.Rules.{rules}
 use mathlib.Core.Path.{◌≡◌, refl, sym}
 use mathlib.Core.Bool.{Bool, true, false}
 use Prim.Native.Nat.{ℕ, ◌+◌, ◌-◌, ◌≤◌}
 use native.Mathlib.Omega.{arith}
 use borrow.Author.Tests.{le-leb, lt-leb, leb-true, leb-false}
 use lib.Dec.{leb}
-use Rattle.aiff.proofs.first_tests.ends_by.Statement.{statement}
-use Rattle.aiff.proofs.first_tests.ends_by.Tie as tie
+use Rattle.aiff.proofs.first_tests.ends_by.Goals as goal
 
 moved : (body size end : ℕ) → size ≤ end → leb body (end - size) ≡ leb (body + size) end
 moved body size end h = by (leb (body + size) end) refl
@@ -16,13 +14,10 @@ moved body size end h = by (leb (body + size) end) refl
     by true e = le-leb body (end - size) (omega (arith, leb-true (body + size) end e))
     by false e = lt-leb body (end - size) (omega (arith, leb-false (body + size) end e))
 
-returns : tie.Need-returns
-returns c =
-    let a = c.before.args in
+pub returns-then-end-size : goal.returns-then-end-size
+returns-then-end-size c =
+    let a = c.args in
     sym (lt-leb (a.body + a.size) a.end (omega arith))
 
-returns-2 : tie.Need-returns-2
-returns-2 c = let a = c.before.args in moved a.body a.size a.end c.if1.false
-
-pub ends-by-spec : {M : Type 1} → statement M
-ends-by-spec = tie.close (tie.spec returns returns-2)
+pub returns : goal.returns
+returns c = let a = c.args in moved a.body a.size a.end c.if-end-size.false
