@@ -272,6 +272,9 @@ def steps(fn, t, say, by_label=True):
         if len(s) > 1:
             say(f"step {m[1]} is one of {sorted(s)}")
             return m[0]
+        if by_label and next(iter(s)) == m[1] + "-1":
+            # a step of Rattle's own, which answers do not name: it is a field of that name
+            return m[0]
         return "." + next(iter(s))
     t = re.sub(rf"(?<!\))\.([A-Za-z][{IDC}]*)", sub, t)
     for st, fs in fn.field.items():
@@ -334,6 +337,7 @@ def steps(fn, t, say, by_label=True):
     # older names of what is known at the start
     t = re.sub(r"\.pre(?=[.\s)]|$)", ".requires", t)
     t = re.sub(r"\.fits(?=\.)", ".ranges", t)
+    t = re.sub(r"\.good(?=\.[01])", ".well_formed", t)
     t = re.sub(r"\.type-inv\b", ".type_inv", t)
     # the two ways of a test
     t = re.sub(rf"(\.if-[{IDC}]+)\.taken\b", r"\1.true", t)
