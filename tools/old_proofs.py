@@ -597,7 +597,8 @@ def turn(crate, fn, path, mode=None):
             loopsub.append((f"{w}-{ln[0]}", f"{w}-{ln[1]}"))
     for a, b in loopsub:
         t = re.sub(rf"\btie\.{re.escape(a)}(?![{IDC}])", f"tie.{b}", t)
-    t = steps(fn, t, say, False)
+    at = max((m.end() for m in re.finditer(r"^use [^\n]*$", t, re.M)), default=0)
+    t = t[:at] + steps(fn, t[at:], say, False)
     kept = []
     for old, g in fn.needs:
         n = next((n for n in named if goal_of[n] == g), None)
