@@ -14,7 +14,7 @@ use riff_chunks::{Chunk, Walked, Walking};
 use word_bytes::low_first_u32;
 
 // `refusal` is 20 or 10 if the beginning shows it already, and otherwise 0; `end` is the end of the walk.
-#[derive(Drop)]
+#[derive(Clone, Copy)]
 pub struct Started {
     pub refusal: u8,
     pub end: usize,
