@@ -1,7 +1,7 @@
 -- W5d. A window computes I0 only at arguments from 0 to 20, where the tolerance ends the full mode. The square of
 -- `normalized` is not negative, so that the argument of the root lies from 0 to 1, the root too, and beta is at most
 -- 20. Assumes nothing.
-use mathlib.Core.Path.{◌≡◌, refl, ◌∙◌, ap, subst}
+use mathlib.Core.Path.{◌≡◌, refl}
 use mathlib.Core.Bool.{Bool, true, false, cond, ◌&&◌}
 use mathlib.Core.Logic.{dite}
 use Prim.Native.Nat.{ℕ, zero, suc, ◌+◌, ◌-◌, ◌*◌, ◌/◌, ◌^◌, ◌≤◌, ◌<◌}
@@ -40,7 +40,6 @@ use lib.Ieee.{
 }
 use lib.Ieee.Fits.{and_l, and_r, up_pos, down_pos}
 use lib.Ieee.Order.{round_mono}
-use lib.Ieee.Scale.{finite}
 use denote.Floats.{passes}
 use Rattle.magnitude.specs.Bounds.{AtMost}
 use Rattle.magnitude.proofs.Rounded.{whole-at-most}

@@ -9,8 +9,7 @@ use lib.IntN.{ℤ}
 use lib.Ieee.{Float, nan, inf, fin, round, lt, neg, of_bits, up, down}
 use lib.Ieee.Fits.{down_pos}
 use Rattle.sinc_row.specs.Coefficient.{small_of, abs_of}
-use Rattle.sinc_row.proofs.small.Statement.{statement}
-use Rattle.sinc_row.proofs.small.Tie as tie
+use Rattle.sinc_row.proofs.small.Goals as goal
 
 -- The bound is above zero.
 module _ (n : ℕ) (d : ℤ) (p : 0 < n * up d) where
@@ -32,13 +31,10 @@ module _ (n : ℕ) (d : ℤ) (p : 0 < n * up d) where
   not-under (fin true m e) h =
       absurd (omega (arith, ltb-false 0 (m * up e * down d + n * up d * down e) h, mul-pos p (down_pos e)))
 
-returns : tie.Need-returns
+pub returns-then-x : goal.returns-then-x
 unfolding small_of round neg of_bits
-returns c = under _ _ (omega arith) c.before.args.x c.if1.true
+returns-then-x c = under _ _ (omega arith) c.args.x c.if-x.true
 
-returns-2 : tie.Need-returns-2
+pub returns-else-x : goal.returns-else-x
 unfolding small_of round of_bits
-returns-2 c = not-under _ _ (omega arith) c.before.args.x c.if1.false
-
-pub small_spec : {M : Type 1} → statement M
-small_spec = tie.close (tie.spec returns returns-2)
+returns-else-x c = not-under _ _ (omega arith) c.args.x c.if-x.false

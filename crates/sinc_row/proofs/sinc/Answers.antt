@@ -1,6 +1,5 @@
 -- `sinc_row::sinc` meets its contract: the argument of the sine is in its range, so its answer is a value. Assumes
 -- nothing.
-use borrow.Author.Rules.{rules}
 use mathlib.Core.Path.{◌≡◌, refl, sym, ◌∙◌, ap}
 use mathlib.Core.Bool.{Bool, true, false, cond}
 use Prim.Native.Nat.{ℕ}
@@ -12,8 +11,7 @@ use Rattle.elementary.specs.declared.Answer.TheVariants.{Value, Refused}
 use Rattle.sinc_settings.specs.Ranges.{one-f}
 use Rattle.sinc_row.specs.Coefficient.{small_of, pi, sinc_of}
 use Rattle.sinc_row.proofs.Distance.{in-range}
-use Rattle.sinc_row.proofs.sinc.Statement.{statement}
-use Rattle.sinc_row.proofs.sinc.Tie as tie
+use Rattle.sinc_row.proofs.sinc.Goals as goal
 
 -- The answer is a value, that of the sine.
 answers : (x : Float) → AtMost 65 x → sine_of (mul binary64 pi x) ≡ Value (sine_at (mul binary64 pi x))
@@ -31,28 +29,20 @@ picked : (x r : Float) (b : Bool) → small_of x ≡ b
 unfolding sinc_of
 picked x r b h e = e ∙ rw h
 
-returns : tie.Need-returns
+pub returns-then-small : goal.returns-then-small
 unfolding of_bits
-returns c = picked c.before.before.args.x _ true (sym c.before.small.ensures ∙ c.if1.true) refl
+returns-then-small c = picked c.args.x _ true (sym c.small.ensures ∙ c.if-small.true) refl
 
-returns-2 : tie.Need-returns-2
+pub returns-in-Value : goal.returns-in-Value
 unfolding of_bits
-returns-2 c =
-    let t = c.before.before.before in
-    let n = t.before.before in
-    let x = n.before.args.x in
-    picked x _ false (sym n.small.ensures ∙ t.before.if1.false)
+returns-in-Value c =
+    let x = c.args.x in
+    picked x _ false (sym c.small.ensures ∙ c.if-small.false)
     (ap (λ (v : Float). div binary64 v (mul binary64 pi x))
-    (same x _ n.before.requires (sym t.sine.ensures.0 ∙ c.before.v.given.1)))
+    (same x _ c.requires (sym c.sine.ensures.value ∙ c.in-Value.is)))
 
-returns-3 : tie.Need-returns-3
+pub returns-in-Refused : goal.returns-in-Refused
 unfolding of_bits
-returns-3 c =
-    let t = c.before.before in
-    never t.before.before.before.args.x _ t.before.before.before.requires
-    (sym t.sine.ensures.0 ∙ c.enum_told.given.1)
-
-pub sinc-spec : {M : Type 1} → statement M
-sinc-spec =
-    tie.close (tie.spec (λ c κs. search rules) returns (λ c κs. search rules) (λ c. search rules)
-    (λ c. search rules) returns-2 returns-3)
+returns-in-Refused c =
+    never c.args.x _ c.requires
+    (sym c.sine.ensures.value ∙ c.in-Refused.is)
