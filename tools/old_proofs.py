@@ -575,7 +575,22 @@ def turn(crate, fn, path, mode=None):
                     sub[q] = f"l.{vname}"
                 def one(m2):
                     return sub.get(m2[0], m2[0])
+                # a λ's own name is no variable of the loop
+                for q in re.findall(rf"λ \(?([A-Za-z][{IDC}]*)(?=\.| :)", expr):
+                    i = expr.find("(λ " + q) if q in sub else -1
+                    i = expr.find("(λ (" + q) if q in sub and i < 0 else i
+                    if i >= 0:
+                        j, depth = i, 0
+                        while j < len(expr):
+                            depth += (expr[j] == "(") - (expr[j] == ")")
+                            j += 1
+                            if depth == 0:
+                                break
+                        expr = expr[:i] + re.sub(rf"(?<![{IDC}.]){re.escape(q)}(?![{IDC}])", q + q, expr[i:j]) + expr[j:]
                 expr = re.sub(rf"(?<![{IDC}.])[A-Za-z][{IDC}]*", one, expr)
+                # a signed variable is an integer already
+                expr = re.sub(rf"\(to_z w[0-9]+ (l\.[{IDC}.]+)\)", r"\1", expr)
+                expr = re.sub(rf"(?<![{IDC}.])to_z w[0-9]+ (l\.[{IDC}.]+)", r"\1", expr)
                 comment = "\n".join(l for l in d.split("\n") if l.startswith("--"))
                 unf = "\n".join(l for l in d.split("\n") if l.startswith("unfolding"))
                 nm = f"{base[0]}-{ln[1]}"
