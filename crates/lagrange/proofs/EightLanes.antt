@@ -3,12 +3,12 @@
 use mathlib.Core.Path.{◌≡◌, refl, sym, ap, ◌∙◌}
 use mathlib.Core.Bool.{Bool, true, false, cond}
 use mathlib.Core.List.{List, [], ◌∷◌}
-use Prim.Native.Nat.{ℕ, zero, suc, ◌+◌, ◌-◌, ◌^◌, ◌<◌, ◌≤◌}
+use Prim.Native.Nat.{ℕ, zero, suc, ◌+◌, ◌-◌, ◌<◌, ◌≤◌}
 use native.Mathlib.Nat.{le_trans}
 use native.Mathlib.Omega.{arith}
 use borrow.Author.Tests.{eqb-true, eqb-false, ltb-true, ltb-false, lt-ltb, le-ltb, eq-eqb, ne_eqb}
 use lib.Dec.{eqb, ltb, lit≤}
-use lib.IntN.{ℤ, pos, negsuc, sub_ℕ}
+use lib.IntN.{pos, negsuc, sub_ℕ}
 use lib.ListN.{get_or}
 use lib.Ieee.{Float, nan, binary64, sub, mul, div, of_int}
 use Rattle.magnitude.proofs.WholeFloats.{whole-value, whole-difference}
@@ -93,7 +93,8 @@ module _ (local : Float) (first : ℕ) (small : first ≤ 16) (own : List Float)
     at_next : b ≡ sub binary64 local (num (first + (p + 1)))
     at_next = db ∙ ap (sub binary64 local) (nodes.node (p + 1) inside)
 
-    two : (k : ℕ) → k < 8 → lane_of (above_of own) (below_of own) a b p w k ≡ weight_of (first + (p + 2)) local (first + k)
+    two : (k : ℕ) → k < 8 → lane_of (above_of own) (below_of own) a b p w k
+        ≡ weight_of (first + (p + 2)) local (first + k)
     two k h = go (eqb k p) (eqb k (p + 1)) refl refl
       where
         go : (s t : Bool) → eqb k p ≡ s → eqb k (p + 1) ≡ t

@@ -1,8 +1,8 @@
 -- K4, K7. 000's Lagrange<TAPS>: its two loops in 000's order, each step rounded. The number of taps is an argument.
 -- Definitions only.
-use Rattle.std.specs.Prelude.{ℕ, ◌-◌, ◌/◌, ◌%◌, Bool, true, false, ◌&&◌, cond, List, eqb, leb, ℤ, pos, ◌+ℤ◌, ◌-ℤ◌}
+use Rattle.std.specs.Prelude.{ℕ, ◌-◌, ◌/◌, ◌%◌, Bool, ◌&&◌, cond, List, eqb, leb, ℤ, pos, ◌+ℤ◌, ◌-ℤ◌}
 use Rattle.std.specs.Prelude.{Float}
-use Rattle.std.specs.Float.{fin, binary64}
+use Rattle.std.specs.Float.{binary64}
 use Rattle.std.specs.Float.Ieee.{add, sub, mul, of_int}
 pub use Rattle.constants.specs.Numbers.{zero-f}
 use Rattle.loop_laws.specs.Loops.{fold}

@@ -1,6 +1,6 @@
 -- `lagrange::lanes::among` meets its contract: each pair gives the weights two more factors. Assumes nothing.
 use borrow.Author.Rules.{rules}
-use mathlib.Core.Path.{◌≡◌, refl, ◌∙◌, subst}
+use mathlib.Core.Path.{refl, ◌∙◌, subst}
 use Prim.Native.Nat.{ℕ, ◌+◌}
 use native.Mathlib.Omega.{arith}
 use Rattle.lagrange.specs.Eights.{Weights}
@@ -8,69 +8,69 @@ use Rattle.lagrange.proofs.EightLanes.{pair}
 use Rattle.lagrange.proofs.lanes.among.Statement.{statement}
 use Rattle.lagrange.proofs.lanes.among.Tie as tie
 
-after_first : (c : tie.After-first-pair) → let a = c.before.before.before.args in
-    Weights a.local a.first (a.first + 2) c.first-pair.result
+after_first : (c : tie.After-first_pair-w2) → let a = c.before.before.before.args in
+    Weights a.local a.first (a.first + 2) c.first_pair-w2.result
 after_first c =
     let b = c.before in
     let s = b.before.before in
     let a = s.args in
-    pair a.local a.first s.requires.0 a.t2 s.requires.2 0 (omega arith) _ _ refl refl a.w
+    pair a.local a.first s.requires.0 a.own s.requires.2 0 (omega arith) _ _ refl refl a.w
     (subst (λ (n : ℕ). Weights a.local a.first n a.w) (omega arith) s.requires.3)
-    (c.first-pair.ensures ∙ rw (b.before.above.ensures, b.below.ensures))
+    (c.first_pair-w2.ensures ∙ rw (b.before.above-up.ensures, b.below-down.ensures))
 
-after-second : (c : tie.After-second-pair) → let a = c.before.before.before.before.before.args in
-    Weights a.local a.first (a.first + 4) c.second-pair.result
+after-second : (c : tie.After-second_pair-w4) → let a = c.before.before.before.before.before.args in
+    Weights a.local a.first (a.first + 4) c.second_pair-w4.result
 after-second c =
     let f = c.before.before in
     let b = f.before in
     let s = b.before.before in
     let a = s.args in
-    pair a.local a.first s.requires.0 a.t2 s.requires.2 2 (omega arith) _ _ refl refl _ (after_first f)
-    (c.second-pair.ensures ∙ rw (b.before.above.ensures, b.below.ensures))
+    pair a.local a.first s.requires.0 a.own s.requires.2 2 (omega arith) _ _ refl refl _ (after_first f)
+    (c.second_pair-w4.ensures ∙ rw (b.before.above-up.ensures, b.below-down.ensures))
 
-after-third : (c : tie.After-third-pair) → let a = c.before.before.before.before.before.before.before.args in
-    Weights a.local a.first (a.first + 6) c.third-pair.result
+after-third : (c : tie.After-third_pair-w6) → let a = c.before.before.before.before.before.before.before.args in
+    Weights a.local a.first (a.first + 6) c.third_pair-w6.result
 after-third c =
     let f = c.before.before in
     let b = f.before.before.before in
     let s = b.before.before in
     let a = s.args in
-    pair a.local a.first s.requires.0 a.t2 s.requires.2 4 (omega arith) _ _ refl refl _ (after-second f)
-    (c.third-pair.ensures ∙ rw (b.before.above.ensures, b.below.ensures))
+    pair a.local a.first s.requires.0 a.own s.requires.2 4 (omega arith) _ _ refl refl _ (after-second f)
+    (c.third_pair-w6.ensures ∙ rw (b.before.above-up.ensures, b.below-down.ensures))
 
-returns : tie.Need-returns
+returns : tie.Need-returns-then-pairs-le1
 returns c =
     let f = c.before in
     let a = f.before.before.before.args in
-    subst (λ (n : ℕ). Weights a.local a.first n f.first-pair.result) (omega arith) (after_first f)
+    subst (λ (n : ℕ). Weights a.local a.first n f.first_pair-w2.result) (omega arith) (after_first f)
 
-returns-2 : tie.Need-returns-2
+returns-2 : tie.Need-returns-then-pairs-le2
 returns-2 c =
     let f = c.before in
-    let t = f.before.if1.false in
+    let t = f.before.if-pairs-le1.false in
     let a = f.before.before.before.before.before.args in
-    subst (λ (n : ℕ). Weights a.local a.first n f.second-pair.result) (omega arith) (after-second f)
+    subst (λ (n : ℕ). Weights a.local a.first n f.second_pair-w4.result) (omega arith) (after-second f)
 
-returns-3 : tie.Need-returns-3
+returns-3 : tie.Need-returns-then-pairs-le3
 returns-3 c =
     let f = c.before in
-    let t = f.before.if2.false in
+    let t = f.before.if-pairs-le2.false in
     let a = f.before.before.before.before.before.before.before.args in
-    subst (λ (n : ℕ). Weights a.local a.first n f.third-pair.result) (omega arith) (after-third f)
+    subst (λ (n : ℕ). Weights a.local a.first n f.third_pair-w6.result) (omega arith) (after-third f)
 
-returns-4 : tie.Need-returns-4
+returns-4 : tie.Need-returns
 returns-4 c =
-    let t = c.before.if3.false in
+    let t = c.before.if-pairs-le3.false in
     let f = c.before.before in
     let b = f.before.before.before.before.before in
     let s = b.before.before in
     let a = s.args in
-    subst (λ (n : ℕ). Weights a.local a.first n c.fourth-pair.result) (omega arith)
-    (pair a.local a.first s.requires.0 a.t2 s.requires.2 6 (omega arith) _ _ refl refl _ (after-third f)
-    (c.fourth-pair.ensures ∙ rw (b.before.above.ensures, b.below.ensures)))
+    subst (λ (n : ℕ). Weights a.local a.first n c.fourth_pair.result) (omega arith)
+    (pair a.local a.first s.requires.0 a.own s.requires.2 6 (omega arith) _ _ refl refl _ (after-third f)
+    (c.fourth_pair.ensures ∙ rw (b.before.above-up.ensures, b.below-down.ensures)))
 
-pub among-spec : {M : Type 1} → statement M
-among-spec =
+pub among_spec : {M : Type 1} → statement M
+among_spec =
     tie.close (tie.spec (λ c κs. search rules) (λ c κs. search rules) (λ c. search rules) (λ c. search rules)
     (λ c κs. search rules) returns (λ c. search rules) (λ c. search rules) (λ c κs. search rules) returns-2
     (λ c. search rules) (λ c. search rules) (λ c κs. search rules) returns-3 (λ c. search rules) (λ c. search rules)

@@ -1,0 +1,14 @@
+-- `lagrange::tap_after` meets its contract: the sum of the base and a small number is the machine's. Assumes nothing.
+use mathlib.Core.Path.{◌∙◌, ap}
+use native.Mathlib.Omega.{arith}
+use Rattle.integer_part.proofs.SumsInRange.{plus-fits, plus-is}
+use Rattle.ring.specs.Taps.{tap_of}
+use Rattle.lagrange.proofs.sums.tap_after.Goals as goal
+
+pub returns : goal.returns
+returns c =
+    c.tap.ensures
+    ∙ ap (tap_of c.args.source.now c.args.count) (plus-is c.ranges.base c.args.k (omega arith))
+
+pub overflow_add-base : goal.overflow_add-base
+overflow_add-base c = plus-fits c.ranges.base c.args.k (omega arith)
