@@ -37,7 +37,7 @@ fn main() {
         let file = folder.join(format!("lib{library}.a"));
         println!("cargo:rerun-if-changed={}", file.display());
         if !file.is_file() {
-            refuse(&format!("there is no {}: make it with `rt staticlib {library}` in the repository, or set FUGNADRI_LIB to the folder that has it", file.display()));
+            refuse(&format!("there is no {}: make it with host/libraries in the repository, or set FUGNADRI_LIB to the folder that has it", file.display()));
         }
         println!("cargo:rustc-link-lib=static={library}");
     }

@@ -1,7 +1,7 @@
 # host/direct.sh builds and runs the crate's programs and tests by rustc alone. It is sourced by host/test, after
 # oracle/rust.sh, with `root`, `out` and `libraries` set.
-# The emulator that runs x86-64 programs on Arm cannot open what Rust's own `main` opens, and Rust's test harness has
-# that `main`. So each program and each file of tests/ is copied below target/, where host/direct.rs stands in for both.
+# For a machine that has no cargo, or no test harness for its rustc: each program and each file of tests/ is copied below
+# target/, where host/direct.rs stands in for Rust's own `main` and for its harness.
 
 export CARGO_MANIFEST_DIR="$root/host" # the tests find the stored lists from here, as they do under cargo
 
@@ -30,7 +30,7 @@ run_tests() {
             failed "$listed: the direct way knows a test as the line #[test] above the line fn NAME() {"
         copied "$source" "tests(&[$listed])" | sed 's/^#\[test\]$//' >"$tests/$name.rs"
         linked "$name" "$tests" fugnadri -C debug-assertions=on
-        quietly "$name.log" launch "$tests/$name"
+        quietly "$name.log" "$tests/$name"
         cat "$out/$name.log" >>"$out/tests.log"
     done
     passed=$(grep -c '^test .* ok$' "$out/tests.log") || :

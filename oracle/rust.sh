@@ -1,6 +1,6 @@
 # oracle/rust.sh has what oracle/run, oracle/store, bench/run, host/test and the other commands beside them share. It is
-# sourced, with `root` (the repository) and `me` (the command) set. It builds Rust for x86-64 and runs it: plainly on
-# x86-64, by oracle/fetch-rust and the kit's emulator on Arm. It writes below target/oracle alone.
+# sourced, with `root` (the repository) and `me` (the command) set. It builds Rust beside the static libraries, which
+# are x86-64 code. It writes below target/ alone.
 
 out=$root/target/oracle
 # cargo's release profile: opt-level 3, no fast-math, no target features beyond x86-64's own
@@ -25,30 +25,16 @@ find_all() {
 
 find_kit() {
     command -v rt >/dev/null || missing "there is no rt on the PATH: put the Rattle kit's bin folder there"
-    kit=$(dirname "$(dirname "$(rt doc)")")
+    kit=$(dirname "$(rt doc)")
 }
 
-# The compilers for x86-64, and how a program of theirs is started: `compile`, `compile_c`, `launch`.
 find_rust() {
-    case $(uname -m) in
-    x86_64)
-        command -v rustc >/dev/null || missing "there is no rustc on the PATH: install Rust, one whose integers have is_multiple_of"
-        command -v cc >/dev/null || missing "there is no cc on the PATH, by which rustc links: install a C compiler"
-        compile() { rustc "$@"; }
-        compile_c() { cc "$@"; }
-        launch() { "$@"; } ;;
-    aarch64)
-        find_kit
-        fetched=$root/target/oracle/rust-x64 # one without a C compiler is older than this
-        [ -x "$fetched/cc-x64" ] || { rm -rf "$fetched" && "$root/oracle/fetch-rust" "$fetched"; } || exit 2
-        compile() { "$fetched/rustc-x64" "$@"; }
-        compile_c() { "$fetched/cc-x64" "$@"; }
-        launch() { "$fetched/run-x64" "$@"; } ;;
-    *) missing "this machine is $(uname -m): this runs on x86_64 and aarch64" ;;
-    esac
+    [ "$(uname -m)" = x86_64 ] || missing "this machine is $(uname -m), and the static libraries are x86-64 code"
+    command -v rustc >/dev/null || missing "there is no rustc on the PATH: install Rust, one whose integers have is_multiple_of"
+    command -v cc >/dev/null || missing "there is no cc on the PATH, by which rustc links: install a C compiler"
 }
 
-# Every signature of an exported function that FILES state, as Rust declares it: a slice is a pointer and a length.
+# Every signature of an exported function that FILES state, once, as Rust declares it: a slice is a pointer and a length.
 signatures() { # FILES
     cat "$@" | sed -e 's|//.*||' -e "s/<'a>//" -e "s/&'a /\&/g" | tr '\n' ' ' | awk '{
         while (match($0, /fn fugnadri_[a-z0-9_]*( as [a-z0-9_]*)?\([^)]*\)( -> [a-z0-9]+)?/)) {
@@ -57,11 +43,11 @@ signatures() { # FILES
         }
     }' | sed -e 's/ as [a-z0-9_]*(/(/' -e 's/  */ /g' -e 's/( /(/' -e 's/,\{0,1\} )/)/' \
         -e 's/\([a-z0-9_]*\): &mut \[\([a-z0-9]*\)\]/\1: *mut \2, \1_len: usize/g' \
-        -e 's/\([a-z0-9_]*\): &\[\([a-z0-9]*\)\]/\1: *const \2, \1_len: usize/g' | sort
+        -e 's/\([a-z0-9_]*\): &\[\([a-z0-9]*\)\]/\1: *const \2, \1_len: usize/g' | sort -u
 }
 
-# The static libraries, proved, and the crate `boundary` over them: each crate whose name begins with `fugnadri` is one.
-doors() { sed -n 's/^\(fugnadri[a-z_0-9]*\):.*/\1/p' "$root/crates.txt"; }
+# The static libraries, proved, and the crate `boundary` over them.
+doors() { "$root/host/libraries" --names; }
 
 build_boundary() {
     signatures "$root"/crates/fugnadri*/src/*.rt >"$out/exported"
@@ -71,12 +57,7 @@ build_boundary() {
         diff "$out/exported" "$out/declared" | grep '^[<>]' >&2
         exit 1
     fi
-    for door in $(doors); do
-        lib=$root/target/staticlib/lib$door.a
-        if [ ! -f "$lib" ] || [ -n "$(find "$root/crates" "$root/crates.txt" "$kit/KIT-ID" -newer "$lib" | head -n 1)" ]; then
-            (cd "$root" && rt staticlib "$door") >"$out/staticlib.log" 2>&1 || failed "rt staticlib $door fails: see target/oracle/staticlib.log"
-        fi
-    done
+    "$root/host/libraries" >/dev/null || failed "the static libraries are not proved"
     build_boundary_crate "$root/target/staticlib"
 }
 
@@ -139,8 +120,8 @@ build() {
     file=$out/$name
     [ "$kind" = bin ] || file=$out/lib$name.rlib
     # shellcheck disable=SC2086
-    compile $flags --crate-type "$kind" --crate-name "$name" "$source" -L "$out" "$@" -o "$file" 2>"$out/$name.log" && return
-    why="$(compile --version) does not build $name: see ${out#"$root/"}/$name.log"
+    rustc $flags --crate-type "$kind" --crate-name "$name" "$source" -L "$out" "$@" -o "$file" 2>"$out/$name.log" && return
+    why="$(rustc --version) does not build $name: see ${out#"$root/"}/$name.log"
     # the original asks for a Rust that is new enough; what is this repository's own must build
     if [ "$name" = wow_dsp ]; then missing "$why"; else failed "$why"; fi
 }
