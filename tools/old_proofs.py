@@ -626,7 +626,13 @@ def turn(crate, fn, path, mode=None):
     sname = fnpath.split(".")[-1] + "_spec"
     stm = f"use Rattle.{cratename}.proofs.{fnpath}.Statement.{{statement}}\n"
     t = re.sub(r"^(use Rattle\.[^\s]*\.Tie as tie)$", stm + r"\1", t, count=1, flags=re.M)
-    t = t.rstrip("\n") + f"\n\npub {sname} : {{M : Type 1}} → statement M\n{sname} =\n    tie.close (tie.spec {' '.join(inv_names)} " + " ".join(kept) + ")\n"
+    lines = ["    tie.close (tie.spec"]
+    for w in inv_names + kept:
+        if len(lines[-1]) + len(w) > 117:
+            lines.append("   ")
+        lines[-1] += " " + w
+    closed = "\n".join(lines) + ")\n"
+    t = t.rstrip("\n") + f"\n\npub {sname} : {{M : Type 1}} → statement M\n{sname} =\n{closed}"
     return ("A", t, None, unanswered), said
 
 
