@@ -227,7 +227,7 @@ def word(w):
     return re.compile(rf"(?<![{IDC}.]){re.escape(w)}(?![{IDC}])")
 
 
-TRIVIAL = re.compile(r"^\(λ [^.]*\. search (rules|\(rules\))\)$")
+TRIVIAL = re.compile(r"^\(λ [^.]*\. (search (rules|\(rules\))|tt)\)$")
 
 
 def unalias(t):
@@ -267,6 +267,8 @@ def steps(fn, t, say, by_label=True):
     def sub(m):
         k = norm(m[1])
         s = fn.step.get(k)
+        if not s and m[1][0].isupper():
+            s = fn.step.get(norm(m[1][0].lower() + m[1][1:]))
         if not s:
             return m[0]
         if len(s) > 1:
