@@ -1,7 +1,9 @@
 -- A block of differences counted at once: the three sums of products of parts make the sum of the squares, and if no
 -- difference is above the largest so far, only the number and the sum change. By induction over the differences.
 -- Assumes nothing.
-use Rattle.std.proofs.Common.{◌≡◌, ℕ, suc, ◌+◌, ◌*◌, ◌/◌, ◌%◌, ◌^◌, ◌<◌, ◌≤◌, Bool, true, ◌&&◌, leb, List, [], ◌∷◌, length, sym, refl, ap, ◌∙◌, subst, mul_assoc, mul_comm, add-mul, mul-le-mul, zero-add, mul-add, mul_left_comm, arith, le-ltb, leb-true}
+use Rattle.std.proofs.Common.{◌≡◌, ℕ, suc, ◌+◌, ◌*◌, ◌/◌, ◌%◌, ◌^◌, ◌<◌, ◌≤◌, Bool, true, ◌&&◌, leb, List, [], ◌∷◌}
+use Rattle.std.proofs.Common.{length, sym, refl, ap, ◌∙◌, subst, mul_assoc, mul_comm, add-mul, mul-le-mul, zero-add}
+use Rattle.std.proofs.Common.{mul-add, mul_left_comm, arith, le-ltb, leb-true}
 use mathlib.Core.List.{foldl}
 use Rattle.residual.specs.declared.tally.Tally.{Tally}
 use Rattle.residual.specs.declared.parts.Parts.{Parts}

@@ -1,6 +1,7 @@
 -- W13. Cutting the stretch differently gives the same answers: after a call that is not refused, the next call gives
 -- the same report or refusal as one call over both stretches. Assumes nothing.
-use Rattle.std.proofs.Common.{◌≡◌, ℕ, ◌+◌, Bool, true, false, ◌&&◌, eqb, List, [], ◌∷◌, ◌++◌, length, ℤ, sym, refl, ap, ◌∙◌, arith, length-append, eq-eqb, ne_eqb, eqb-true}
+use Rattle.std.proofs.Common.{◌≡◌, ℕ, ◌+◌, Bool, true, false, ◌&&◌, eqb, List, [], ◌∷◌, ◌++◌, length, ℤ, sym, refl, ap}
+use Rattle.std.proofs.Common.{◌∙◌, arith, length-append, eq-eqb, ne_eqb, eqb-true}
 use mathlib.Core.List.{foldl}
 use borrow.Author.Tests.{eqb-false}
 use Rattle.residual.specs.declared.Report.{Report}

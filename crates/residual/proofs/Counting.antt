@@ -1,5 +1,6 @@
 -- Counting differences one by one, or a block of them at once: there is room for each. Assumes nothing.
-use Rattle.std.proofs.Common.{◌≡◌, ℕ, suc, ◌+◌, ◌*◌, ◌%◌, ◌^◌, ◌<◌, ◌≤◌, cond, ltb, List, [], ◌∷◌, length, take, drop, ℤ, sym, subst, zero-add, arith, length-take-le}
+use Rattle.std.proofs.Common.{◌≡◌, ℕ, suc, ◌+◌, ◌*◌, ◌%◌, ◌^◌, ◌<◌, ◌≤◌, cond, ltb, List, [], ◌∷◌, length, take, drop}
+use Rattle.std.proofs.Common.{ℤ, sym, subst, zero-add, arith, length-take-le}
 use mathlib.Core.List.{foldl}
 use Rattle.residual.specs.declared.tally.Tally.{Tally}
 use Rattle.residual.specs.Report.{differences}

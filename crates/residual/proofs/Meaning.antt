@@ -1,7 +1,9 @@
 -- W13. What a report says, without any running. Extended from the empty one, it is the number of all differences, the
 -- greatest, the index at which that stands first, and the sum of the squares. By one step behind any list. Assumes
 -- nothing.
-use Rattle.std.proofs.Common.{◌≡◌, ℕ, ◌+◌, ◌*◌, ◌/◌, ◌%◌, ◌^◌, ◌<◌, ◌≤◌, max, Bool, true, false, cond, ltb, List, [], ◌∷◌, ◌++◌, length, ℤ, sym, refl, ap, ◌∙◌, append_assoc, append-nil, le_of_lt, arith, ltb-false, ltb-true, ne_eqb}
+use Rattle.std.proofs.Common.{◌≡◌, ℕ, ◌+◌, ◌*◌, ◌/◌, ◌%◌, ◌^◌, ◌<◌, ◌≤◌, max, Bool, true, false, cond, ltb, List, []}
+use Rattle.std.proofs.Common.{◌∷◌, ◌++◌, length, ℤ, sym, refl, ap, ◌∙◌, append_assoc, append-nil, le_of_lt, arith}
+use Rattle.std.proofs.Common.{ltb-false, ltb-true, ne_eqb}
 use mathlib.Core.List.{foldl}
 use native.Mathlib.Nat.{max-eq_left, max-eq_right}
 use Rattle.residual.specs.declared.Report.{Report}
@@ -49,7 +51,8 @@ place-one [] d = first d
 place-one (e ∷ ds) d = go (ltb (greatest (e ∷ ds)) d) refl
   where
     go : (t : Bool) → ltb (greatest (e ∷ ds)) d ≡ t
-        → cond (newer (report_of (e ∷ ds)) d) (At (length (e ∷ ds))) (place_of (e ∷ ds)) ≡ place_of ((e ∷ ds) ++ (d ∷ []))
+        → cond (newer (report_of (e ∷ ds)) d) (At (length (e ∷ ds))) (place_of (e ∷ ds))
+        ≡ place_of ((e ∷ ds) ++ (d ∷ []))
     go true h =
         rw (ne_eqb (length (e ∷ ds)) 0 (λ z. omega arith), h) (placed-new e ds d (ltb-true (greatest (e ∷ ds)) d h))
     go false h =

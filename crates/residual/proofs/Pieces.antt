@@ -1,5 +1,6 @@
 -- The differences of a part of a stretch are a part of the stretch's. By induction over the elements. Assumes nothing.
-use Rattle.std.proofs.Common.{◌≡◌, ℕ, zero, suc, ◌+◌, ◌≤◌, true, List, [], ◌∷◌, ◌++◌, length, take, drop, ℤ, sym, refl, ap, ◌∙◌, suc-add, zero-add, arith, length-drop, length-take}
+use Rattle.std.proofs.Common.{◌≡◌, ℕ, zero, suc, ◌+◌, ◌≤◌, true, List, [], ◌∷◌, ◌++◌, length, take, drop, ℤ, sym, refl}
+use Rattle.std.proofs.Common.{ap, ◌∙◌, suc-add, zero-add, arith, length-drop, length-take}
 use Rattle.residual.specs.Report.{difference, differences}
 use Rattle.residual.specs.Refusals.{in24, all24}
 use Rattle.residual.specs.Tallies.{Alike}

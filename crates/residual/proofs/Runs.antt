@@ -1,11 +1,12 @@
 -- W13a, W13e, W13h. Any calls, of which some may be refused, leave the report of one call over the accepted ones
 -- joined; so cutting the stretch differently gives the same report. By induction over the calls. Assumes nothing.
-use Rattle.std.proofs.Common.{◌≡◌, ℕ, zero, suc, ◌+◌, ◌^◌, ◌≤◌, true, List, [], ◌∷◌, length, sym, refl, ap, ◌∙◌, true≢false, arith, le-leb}
+use Rattle.std.proofs.Common.{◌≡◌, ℕ, zero, suc, ◌+◌, ◌^◌, ◌≤◌, true, List, [], ◌∷◌, length, sym, refl, ap, ◌∙◌}
+use Rattle.std.proofs.Common.{true≢false, arith, le-leb}
 use Rattle.residual.specs.declared.Report.{Report}
 use Rattle.residual.specs.declared.Compared.TheVariants as compared
 use Rattle.residual.specs.Report.{differences, empty_report, sum_of, carried, squares, report_of}
 use Rattle.residual.specs.Refusals.{all24, report_ok, verdict, compared_of}
-use Rattle.residual.specs.Runs.{Call, answer, behind, ran, kept, all_taken, firsts, seconds}
+use Rattle.residual.specs.Runs.{Call, answer, ran, kept, all_taken, firsts, seconds}
 use Rattle.residual.proofs.ValidReport.{valid, accepted}
 use Rattle.residual.proofs.Cutting.{cut}
 use Rattle.residual.proofs.StaysInRange.{stays}

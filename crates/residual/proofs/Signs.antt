@@ -1,6 +1,7 @@
 -- The difference of two 24-bit values fits an `i32`, also with its sign changed if it is negative, and its size is
 -- below 2^24. Assumes nothing.
-use Rattle.std.proofs.Common.{◌≡◌, ℕ, zero, suc, ◌-◌, ◌^◌, ◌<◌, ◌≤◌, Bool, true, false, cond, T, ltb, leb, ℤ, pos, negsuc, ◌-ℤ◌, nat_abs, subst, arith, w32, Fits, SFits, ltb-true, leb-true}
+use Rattle.std.proofs.Common.{◌≡◌, ℕ, zero, suc, ◌-◌, ◌^◌, ◌<◌, ◌≤◌, Bool, true, false, cond, T, ltb, leb, ℤ, pos}
+use Rattle.std.proofs.Common.{negsuc, ◌-ℤ◌, nat_abs, subst, arith, w32, Fits, SFits, ltb-true, leb-true}
 use lib.IntN.{sub_ℕ}
 use lib.Signed.{mag, lt_z, non_neg}
 use Rattle.residual.specs.Refusals.{in24}

@@ -1,6 +1,8 @@
 -- W13. A report that the calls have made is never refused by 3: the empty one is in range, and a call that is not
 -- refused keeps a report in range. Assumes nothing.
-use Rattle.std.proofs.Common.{◌≡◌, ℕ, ◌+◌, ◌*◌, ◌^◌, ◌<◌, ◌≤◌, Bool, true, false, ltb, List, [], ◌∷◌, length, ℤ, refl, add-mul, mul-le-mul, mul-le-mul_left, one-mul, arith, ltb-false, ltb-true, lt-ltb, eq-eqb, ne_eqb}
+use Rattle.std.proofs.Common.{◌≡◌, ℕ, ◌+◌, ◌*◌, ◌^◌, ◌<◌, ◌≤◌, Bool, true, false, ltb, List, [], ◌∷◌, length, ℤ, refl}
+use Rattle.std.proofs.Common.{add-mul, mul-le-mul, mul-le-mul_left, one-mul, arith, ltb-false, ltb-true, lt-ltb, eq-eqb}
+use Rattle.std.proofs.Common.{ne_eqb}
 use mathlib.Core.List.{foldl}
 use Rattle.residual.specs.declared.Report.{Report}
 use Rattle.residual.specs.declared.Place.TheVariants.{At}

@@ -1,6 +1,7 @@
 -- Stretches of 24-bit values and their differences, element by element, as a loop over an index needs them. Assumes
 -- nothing.
-use Rattle.std.proofs.Common.{◌≡◌, ℕ, zero, suc, ◌^◌, ◌<◌, true, List, [], ◌∷◌, length, get_or, take, ℤ, pos, refl, ap, ◌∙◌, le_of_suc-le-suc, arith, w32, to_z, of_z}
+use Rattle.std.proofs.Common.{◌≡◌, ℕ, zero, suc, ◌^◌, ◌<◌, true, List, [], ◌∷◌, length, get_or, take, ℤ, pos, refl, ap}
+use Rattle.std.proofs.Common.{◌∙◌, le_of_suc-le-suc, arith, w32, to_z, of_z}
 use mir.ValLaws.{to_z-of_z}
 use Rattle.residual.specs.Report.{difference, differences}
 use Rattle.residual.specs.Refusals.{in24, all24}

@@ -1,5 +1,6 @@
 -- A sum that is held in two words: what is added to the low one, and the carry into the high one. Assumes nothing.
-use Rattle.std.proofs.Common.{◌≡◌, ℕ, ◌+◌, ◌*◌, ◌/◌, ◌%◌, ◌^◌, ◌<◌, ◌≤◌, Bool, true, false, cond, ltb, refl, arith, ltb-false, ltb-true}
+use Rattle.std.proofs.Common.{◌≡◌, ℕ, ◌+◌, ◌*◌, ◌/◌, ◌%◌, ◌^◌, ◌<◌, ◌≤◌, Bool, true, false, cond, ltb, refl, arith}
+use Rattle.std.proofs.Common.{ltb-false, ltb-true}
 
 -- s is added to h * 2^64 + l. The low half wraps around, and one is carried if it comes out below s.
 module _ (h l s : ℕ) (half : l < 2 ^ 64) (small : s < 2 ^ 64) where

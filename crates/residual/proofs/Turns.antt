@@ -1,6 +1,7 @@
 -- A loop over the differences of two stretches, by an index or by parts, whatever a turn does with a difference: before
 -- each turn the differences so far have been folded. Assumes nothing.
-use Rattle.std.proofs.Common.{◌≡◌, ℕ, ◌+◌, ◌<◌, ◌≤◌, List, [], ◌∷◌, length, get_or, take, drop, ℤ, pos, ap, ◌∙◌, add-one, arith, take_all, take-suc}
+use Rattle.std.proofs.Common.{◌≡◌, ℕ, ◌+◌, ◌<◌, ◌≤◌, List, [], ◌∷◌, length, get_or, take, drop, ℤ, pos, ap, ◌∙◌}
+use Rattle.std.proofs.Common.{add-one, arith, take_all, take-suc}
 use mathlib.Core.List.{foldl, foldl-append}
 use Rattle.residual.specs.Report.{difference, differences}
 use Rattle.residual.proofs.Stretches.{length-differences, at-difference}

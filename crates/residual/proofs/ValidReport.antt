@@ -1,5 +1,6 @@
 -- W13. What holds for a report that is not refused by 3, and for a call that is not refused. Assumes nothing.
-use Rattle.std.proofs.Common.{◌≡◌, ◌+◌, ◌*◌, ◌^◌, ◌<◌, ◌≤◌, Bool, true, false, ◌&&◌, T, eqb, List, length, ℤ, refl, le_trans, le_of_lt, mul-le-mul_left, eqb-true, leb-true}
+use Rattle.std.proofs.Common.{◌≡◌, ◌+◌, ◌*◌, ◌^◌, ◌<◌, ◌≤◌, Bool, true, false, ◌&&◌, T, eqb, List, length, ℤ, refl}
+use Rattle.std.proofs.Common.{le_trans, le_of_lt, mul-le-mul_left, eqb-true, leb-true}
 use Rattle.answer.proofs.Passed.{passed}
 use Rattle.residual.specs.declared.Report.{Report}
 use Rattle.residual.specs.Report.{sum_of}

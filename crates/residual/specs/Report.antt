@@ -1,6 +1,6 @@
 -- W13a to W13d, W13f. The report of two equally long stretches of whole samples: sample by sample, over many calls, and
 -- all at once. Definitions only.
-use Rattle.std.specs.Prelude.{ℕ, zero, suc, ◌+◌, ◌*◌, ◌/◌, ◌%◌, ◌^◌, max, Bool, cond, ◌||◌, List, [], ◌∷◌, length, ℤ}
+use Rattle.std.specs.Prelude.{ℕ, suc, ◌+◌, ◌*◌, ◌/◌, ◌%◌, ◌^◌, max, Bool, cond, ◌||◌, List, [], ◌∷◌, length, ℤ}
 use Rattle.std.specs.Prelude.{◌-ℤ◌, ◌==◌, nat_lt, unsigned_abs}
 use mathlib.Core.List.{foldl}
 use Rattle.residual.specs.declared.Report.{Report}

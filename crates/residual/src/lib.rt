@@ -17,14 +17,14 @@ use steps::counted;
 
 // Where the largest difference stands first, counted over all calls from the first sample compared. An empty report has
 // no such place.
-#[derive(Drop)]
+#[derive(Clone, Copy)]
 pub enum Place {
     Nowhere,
     At(u64),
 }
 
 // The sum is high * 2^64 + low.
-#[derive(Drop)]
+#[derive(Clone, Copy)]
 pub struct Report {
     pub number: u64,
     pub largest: u32,
@@ -33,7 +33,7 @@ pub struct Report {
     pub low: u64,
 }
 
-#[derive(Drop)]
+#[derive(Clone, Copy)]
 pub enum Compared {
     Carried(Report),
     Refused(u8),

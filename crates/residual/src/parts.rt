@@ -11,7 +11,7 @@ use crate::tally::Tally;
 use refusal_order::both;
 
 // The sums of high * high, of high * low and of low * low; `quiet` if no difference is above the bound.
-#[derive(Drop)]
+#[derive(Clone, Copy)]
 pub struct Parts {
     pub highs: u32,
     pub mixed: u32,

@@ -4,7 +4,7 @@ ghost use Rattle.residual.specs.Tallies.{index_of, tally_of, told_of};
 
 use crate::{Place, Report};
 
-#[derive(Drop)]
+#[derive(Clone, Copy)]
 pub struct Tally {
     pub number: u64,
     pub largest: u32,

@@ -20,7 +20,7 @@ right c = rw (to_z-of_z w32 c.args.x c.ranges.x, to_z-of_z w32 c.args.y c.ranges
 small : (c : tie.Start) {z : ℤ} → z ≡ c.args.x -ℤ c.args.y → nat_abs z < 2 ^ 24
 small c e = rw e (below-24 c.args.x c.args.y c.requires.0 c.requires.1)
 
-sub-d : tie.Need-overflow-sub-d
+sub-d : tie.Need-overflow_sub-d
 sub-d c = small-fits _ (small c (right c))
 
 whole : (c : tie.Start) → kept c ≡ c.args.x -ℤ c.args.y
@@ -32,27 +32,28 @@ round-small c h =
     subst (λ (n : ℕ). n < 2 ^ 24) (sym ((turned (kept c) (whole c) h).size_of ∙ ap nat_abs (sym (whole c))))
     (small c (whole c))
 
-sub-result : tie.Need-overflow-sub-result
-sub-result c = small-fits _ (round-small c.before c.if1.true)
+sub-result : tie.Need-overflow_sub-result
+sub-result c = small-fits _ (round-small c.before c.if-d-lt0.true)
 
-back : (c : tie.Then1) → to_z w32 (of_z w32 (pos 0 -ℤ kept c.before)) ≡ pos 0 -ℤ kept c.before
+back : (c : tie.Then-d-lt0) → to_z w32 (of_z w32 (pos 0 -ℤ kept c.before)) ≡ pos 0 -ℤ kept c.before
 back c = to_z-of_z w32 (pos 0 -ℤ kept c.before) (sub-result c)
 
-cast-result : tie.Need-overflow-cast-result
+cast-result : tie.Need-overflow_cast-result
 cast-result c =
     rw (back c)
-    (castable (pos 0 -ℤ kept c.before) (round-small c.before c.if1.true)
-    (turned (kept c.before) (whole c.before) c.if1.true).right-way)
+    (castable (pos 0 -ℤ kept c.before) (round-small c.before c.if-d-lt0.true)
+    (turned (kept c.before) (whole c.before) c.if-d-lt0.true).right-way)
 
-cast-result-2 : tie.Need-overflow-cast-result-2
+cast-result-2 : tie.Need-overflow_cast-result-else-d-lt0
 cast-result-2 c =
-    castable (kept c.before) (small c.before (whole c.before)) (not-below (kept c.before) c.if1.false)
+    castable (kept c.before) (small c.before (whole c.before)) (not-below (kept c.before) c.if-d-lt0.false)
 
-returns : tie.Need-returns
-returns c = ap nat_abs (back c) ∙ (turned (kept c.before) (whole c.before) c.if1.true).size_of
+returns : tie.Need-returns-then-d-lt0
+returns c = ap nat_abs (back c) ∙ (turned (kept c.before) (whole c.before) c.if-d-lt0.true).size_of
 
-returns-2 : tie.Need-returns-2
+returns-2 : tie.Need-returns-else-d-lt0
 returns-2 c = ap nat_abs (whole c.before)
 
-pub distance-spec : {M : Type 1} → statement M
-distance-spec = tie.close (tie.spec sub-d sub-result cast-result cast-result-2 returns returns-2)
+pub distance_spec : {M : Type 1} → statement M
+distance_spec =
+    tie.close (tie.spec sub-d sub-result cast-result cast-result-2 returns returns-2)
