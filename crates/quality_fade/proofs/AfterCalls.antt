@@ -1,6 +1,6 @@
 -- Q1. What a run of accepted calls leaves: within a fade the current quality is still the old one and the place is the
 -- number of mixed calls; after it the state is as opening with the new quality leaves it. Assumes nothing.
-use mathlib.Core.Path.{◌≡◌, refl, sym, ◌∙◌, ap}
+use mathlib.Core.Path.{◌≡◌, refl, ◌∙◌, ap}
 use mathlib.Core.Bool.{true, false}
 use mathlib.Core.List.{List, [], ◌∷◌, ◌++◌}
 use Prim.Native.Nat.{ℕ, zero, suc, ◌+◌, ◌<◌}

@@ -1,8 +1,7 @@
 -- G2. A step keeps a state in its ranges: the place of a running fade is below its length, and the call that reaches
 -- the length ends the fade. Assumes nothing.
-use mathlib.Core.Path.{◌≡◌, refl, sym, ◌∙◌, ap}
+use mathlib.Core.Path.{◌≡◌, refl, sym, ◌∙◌}
 use mathlib.Core.Bool.{Bool, true, false, ◌&&◌, ◌||◌, cond}
-use mathlib.Core.List.{List, [], ◌∷◌}
 use Prim.Native.Nat.{ℕ, ◌+◌, ◌≤◌, ◌<◌}
 use native.Mathlib.Omega.{arith}
 use borrow.Author.Tests.{ltb-true, leb-true, leb-false, eqb-false, le-leb, lt-ltb}
@@ -11,9 +10,8 @@ use Rattle.quality_mode.specs.declared.QualityMode.{QualityMode}
 use Rattle.quality_mode.specs.Quality.{same_q}
 use Rattle.quality_mode.proofs.Equal.{same_refl}
 use Rattle.quality_fade.specs.declared.Fade.{Fade}
-use Rattle.quality_fade.specs.Fade.{fade_of, length_ok, place_ok, valid_of, open_of, reset_of}
+use Rattle.quality_fade.specs.Fade.{fade_of, length_ok, place_ok, valid_of}
 use Rattle.quality_fade.specs.Step.{asked_of, plain_of, plain_turn, mix_turn, turn_of, still_turn, step_of}
-use Rattle.quality_fade.specs.Runs.{left_of}
 
 -- ---- booleans
 

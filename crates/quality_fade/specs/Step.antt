@@ -1,5 +1,5 @@
 -- Q1, Q2. What one accepted call reads and leaves, by 000's rule (01, 'Changing quality'). Definitions only.
-use Rattle.std.specs.Prelude.{ℕ, ◌+◌, Bool, true, false, ◌||◌, cond, leb, eqb}
+use Rattle.std.specs.Prelude.{◌+◌, Bool, true, false, ◌||◌, cond, leb, eqb}
 use Rattle.quality_mode.specs.declared.QualityMode.{QualityMode}
 use Rattle.quality_mode.specs.Quality.{same_q}
 use Rattle.quality_fade.specs.declared.Fade.{Fade}
