@@ -29,7 +29,8 @@ module _ (taps phases len : ℕ) (p : Float) where
   within h = rw (h, and-true (taps_ok taps && phases_ok phases))
 
   pub readable : sample_verdict taps phases len p ≡ 0 → Readable taps phases len p
-  readable h = go (taps_ok taps && phases_ok phases) (position_ok p) (eqb len (table_length taps phases)) refl refl refl h
+  readable h = go (taps_ok taps && phases_ok phases) (position_ok p) (eqb len (table_length taps phases)) refl refl
+      refl h
     where
       go : (a b c : Bool) → taps_ok taps && phases_ok phases ≡ a → position_ok p ≡ b
           → eqb len (table_length taps phases) ≡ c → due (a && b) c ≡ 0 → Readable taps phases len p
