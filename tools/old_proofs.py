@@ -274,7 +274,7 @@ def steps(fn, t, say, by_label=True):
         if len(s) > 1:
             say(f"step {m[1]} is one of {sorted(s)}")
             return m[0]
-        if by_label and next(iter(s)) == m[1] + "-1":
+        if next(iter(s)) == m[1] + "-1" and (by_label or not t[m.end():].startswith(".given")):
             # a step of Rattle's own, which answers do not name: it is a field of that name
             return m[0]
         return "." + next(iter(s))
