@@ -91,7 +91,7 @@ fn run(samples: u64, delays: u64, seed: u64, seen: Seen) -> Seen {
     turn.seen
 }
 
-fn main() {
+fn main(rt: HostRuntime) {
     let mut seen = Seen {
         calls: 0,
         refused: 0,
@@ -103,5 +103,5 @@ fn main() {
         seen = run(k / 4 % 4, k % 4, k, seen);
         k += 1;
     }
-    report(seen);
+    report(&rt, seen);
 }

@@ -2,7 +2,7 @@
 use crate::distance::{UNIT, distance};
 use crate::whole::{Wide, plus, times};
 use answer::Answer;
-use libc::STDOUT_FILENO;
+use streams::{print_decimal, write_all};
 
 #[derive(Drop)]
 pub struct Seen {
@@ -39,18 +39,23 @@ pub fn seen_too(seen: Seen, answer: Answer, e: Wide) -> Seen {
     }
 }
 
-fn line(text: &[u8], n: u64) {
-    io::write_all(STDOUT_FILENO, text);
-    io::print_decimal(STDOUT_FILENO, n);
-    io::write_all(STDOUT_FILENO, b"\n");
+fn line(rt: &HostRuntime, text: &[u8], n: u64) {
+    write_all(rt, text);
+    print_decimal(rt, n);
+    write_all(rt, b"\n");
 }
 
-pub fn report(seen: Seen) {
-    line(b"calls ", seen.calls);
-    line(b"refused ", seen.refused);
-    line(b"further than 2^-50 ", seen.beyond);
-    line(b"largest distance, in 1 / 786432 of 2^-54: ", seen.largest);
+pub fn report(rt: &HostRuntime, seen: Seen) {
+    line(rt, b"calls ", seen.calls);
+    line(rt, b"refused ", seen.refused);
+    line(rt, b"further than 2^-50 ", seen.beyond);
     line(
+        rt,
+        b"largest distance, in 1 / 786432 of 2^-54: ",
+        seen.largest,
+    );
+    line(
+        rt,
         b"that is, in thousandths of 2^-54: ",
         times(seen.largest, 1000) / UNIT,
     );

@@ -1,7 +1,7 @@
 // A file from standard input: the number of its bytes in four hex digits, a blank, two digits for each byte, and the
 // end of the line.
-use libc::STDIN_FILENO;
 use replay_lines::within;
+use streams::read_full;
 use word_bytes::word_at;
 
 // Whether there was a line, and how many bytes the file has.
@@ -15,14 +15,14 @@ pub struct Heard {
 const LONGEST: usize = 512;
 
 // Puts the file of the next line into a lent slice.
-pub fn hear(file: &mut [u8]) -> Heard {
+pub fn hear(rt: &HostRuntime, file: &mut [u8]) -> Heard {
     let mut count = [0u8; 4];
-    let told = io::read_full(STDIN_FILENO, &mut count);
+    let told = read_full(rt, &mut count);
     let bytes = within(word_at(&count, 0) as usize, LONGEST);
     let rest = 2 * bytes + 2;
     // There are sixteen more, so that a word can be read at every place.
     let mut text = [0u8; 1042];
-    let got = io::read_full(STDIN_FILENO, &mut text[..rest]);
+    let got = read_full(rt, &mut text[..rest]);
     put_bytes(&text, &mut file[..]);
     Heard {
         whole: told == 4 && got == rest,

@@ -39,61 +39,61 @@ fn sound(found: Found) -> Sound {
     }
 }
 
-fn tell(found: Found) {
+fn tell(rt: &HostRuntime, found: Found) {
     let f = sound(found);
     let kind = f.kind;
-    number(refusal(found) as u64);
-    number(code(kind) as u64);
-    number(f.channels as u64);
-    number(f.rate as u64);
-    number(f.start as u64);
-    number(f.length as u64);
+    number(rt, refusal(found) as u64);
+    number(rt, code(kind) as u64);
+    number(rt, f.channels as u64);
+    number(rt, f.rate as u64);
+    number(rt, f.start as u64);
+    number(rt, f.length as u64);
 }
 
-fn tell_chunks(told: Told) {
-    number(told.comm as u64);
-    number(told.channels as u64);
-    number(told.frames as u64);
-    number(told.bits as u64);
-    number(told.exponent as u64);
-    number(told.digits);
-    number(told.ssnd as u64);
-    number(told.offset as u64);
+fn tell_chunks(rt: &HostRuntime, told: Told) {
+    number(rt, told.comm as u64);
+    number(rt, told.channels as u64);
+    number(rt, told.frames as u64);
+    number(rt, told.bits as u64);
+    number(rt, told.exponent as u64);
+    number(rt, told.digits);
+    number(rt, told.ssnd as u64);
+    number(rt, told.offset as u64);
 }
 
-fn replay(file: &[u8]) {
+fn replay(rt: &HostRuntime, file: &[u8]) {
     let found = aiff::read(file);
-    tell(found);
-    tell(by_turns(file));
-    tell_chunks(aiff::chunks_told(file));
-    end_of_line();
+    tell(rt, found);
+    tell(rt, by_turns(file));
+    tell_chunks(rt, aiff::chunks_told(file));
+    end_of_line(rt);
     let f = sound(found);
     let kind = f.kind;
     let part = aiff::part(file, f);
     if f.channels > 0 {
-        channel(kind, f.channels, 0, part);
+        channel(rt, kind, f.channels, 0, part);
     }
     if f.channels > 1 {
-        channel(kind, f.channels, 1, part);
+        channel(rt, kind, f.channels, 1, part);
     }
 }
 
 // Goes line after line. The loop counts down from the largest u64, because the language demands that it ends; no input
 // is that long.
-fn run(file: &mut [u8]) {
-    let mut heard = hear(&mut file[..]);
+fn run(rt: &HostRuntime, file: &mut [u8]) {
+    let mut heard = hear(rt, &mut file[..]);
     let mut more = heard.whole;
     let mut turns = u64::MAX;
     while turns > 0 && more {
         let n = within(heard.bytes, file.len());
-        replay(&file[..n]);
-        heard = hear(&mut file[..]);
+        replay(rt, &file[..n]);
+        heard = hear(rt, &mut file[..]);
         more = heard.whole;
         turns -= 1;
     }
 }
 
-fn main() {
+fn main(rt: HostRuntime) {
     let mut file = [0u8; 512];
-    run(&mut file);
+    run(&rt, &mut file);
 }

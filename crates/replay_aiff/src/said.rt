@@ -1,17 +1,18 @@
 // Numbers on standard output, each with a blank behind it.
-use libc::STDOUT_FILENO;
 
-pub fn number(n: u64) {
-    io::print_decimal(STDOUT_FILENO, n);
-    io::write_all(STDOUT_FILENO, b" ");
+use streams::{print_decimal, print_hex, write_all};
+
+pub fn number(rt: &HostRuntime, n: u64) {
+    print_decimal(rt, n);
+    write_all(rt, b" ");
 }
 
 // Writes at least so many hex digits.
-pub fn pattern(n: u64, digits: usize) {
-    io::print_hex(STDOUT_FILENO, n, digits);
-    io::write_all(STDOUT_FILENO, b" ");
+pub fn pattern(rt: &HostRuntime, n: u64, digits: usize) {
+    print_hex(rt, n, digits);
+    write_all(rt, b" ");
 }
 
-pub fn end_of_line() {
-    io::write_all(STDOUT_FILENO, b"\n");
+pub fn end_of_line(rt: &HostRuntime) {
+    write_all(rt, b"\n");
 }

@@ -17,25 +17,40 @@ fn frames(kind: SampleKind, channels: u8, size: usize) -> usize {
     size / frame
 }
 
-pub fn channel(kind: SampleKind, channels: u8, channel: u8, part: &[u8]) {
+pub fn channel(rt: &HostRuntime, kind: SampleKind, channels: u8, channel: u8, part: &[u8]) {
     let n = within(frames(kind, channels, part.len()), MOST);
     let mut doubles = [0.0f64; MOST];
     let mut floats = [0.0f32; MOST];
     let mut wholes = [0i32; MOST];
-    number(filling::fill(kind, channels, channel, part, &mut doubles[..n]) as u64);
-    number(filling::fill_f32(kind, channels, channel, part, &mut floats[..n]) as u64);
-    number(filling::fill_whole(kind, channels, channel, part, &mut wholes[..n]) as u64);
-    tell(&doubles, &floats, &wholes, n);
-    end_of_line();
+    number(
+        rt,
+        filling::fill(kind, channels, channel, part, &mut doubles[..n]) as u64,
+    );
+    number(
+        rt,
+        filling::fill_f32(kind, channels, channel, part, &mut floats[..n]) as u64,
+    );
+    number(
+        rt,
+        filling::fill_whole(kind, channels, channel, part, &mut wholes[..n]) as u64,
+    );
+    tell(rt, &doubles, &floats, &wholes, n);
+    end_of_line(rt);
 }
 
-fn tell(doubles: &[f64; 128], floats: &[f32; 128], wholes: &[i32; 128], n: usize) {
+fn tell(
+    rt: &HostRuntime,
+    doubles: &[f64; 128],
+    floats: &[f32; 128],
+    wholes: &[i32; 128],
+    n: usize,
+) {
     let mut k: usize = 0;
     while k < MOST {
         if k < n {
-            pattern(bits_of(doubles[k]), 16);
-            pattern(bits_of_f32(floats[k]) as u64, 8);
-            pattern(twos_complement(wholes[k]), 8);
+            pattern(rt, bits_of(doubles[k]), 16);
+            pattern(rt, bits_of_f32(floats[k]) as u64, 8);
+            pattern(rt, twos_complement(wholes[k]), 8);
         }
         k += 1;
     }

@@ -10,10 +10,10 @@ mod sets; // a bank's sets, and the choice's two words
 mod slice; // a slice of samples, and Draft's reading of it
 
 use bit_patterns::float_of;
-use libc::{STDIN_FILENO, STDOUT_FILENO};
 use quality_mode::QualityMode;
 use replay_lines::{Heard, Line};
 use returning_fade::{Direction, Rule, RuledFade};
+use streams::{read_full, write_all};
 use word_bytes::hex16;
 
 // The two words that answer a line.
@@ -67,42 +67,42 @@ fn call(before: RuledFade, source: &mut [f32], letter: u8, a: u64, b: u64, c: u6
 }
 
 // The next 53 bytes, which are a line, if there are that many.
-fn hear() -> Heard {
+fn hear(rt: &HostRuntime) -> Heard {
     let mut text = [0u8; 53];
-    let n = io::read_full(STDIN_FILENO, &mut text);
+    let n = read_full(rt, &mut text);
     replay_lines::line_heard(n, &text)
 }
 
-fn say(first: u64, second: u64) {
-    io::write_all(STDOUT_FILENO, &hex16(first));
-    io::write_all(STDOUT_FILENO, b" ");
-    io::write_all(STDOUT_FILENO, &hex16(second));
-    io::write_all(STDOUT_FILENO, b"\n");
+fn say(rt: &HostRuntime, first: u64, second: u64) {
+    write_all(rt, &hex16(first));
+    write_all(rt, b" ");
+    write_all(rt, &hex16(second));
+    write_all(rt, b"\n");
 }
 
 // Answers line after line. The loop counts down from the largest u64, because the language demands that it ends; no
 // input is that long.
-fn run(source: &mut [f32]) {
+fn run(rt: &HostRuntime, source: &mut [f32]) {
     let mut fade = RuledFade {
         rule: Rule::Ported,
         direction: Direction::Onwards,
         fade: quality_fade::open(QualityMode::Draft, 0),
     };
-    let mut heard = hear();
+    let mut heard = hear(rt);
     let mut more = heard.whole;
     let mut turns = u64::MAX;
     while turns > 0 && more {
         let line = heard.line;
         let t = call(fade, source, line.letter, line.a, line.b, line.c);
         fade = t.fade;
-        say(t.words.first, t.words.second);
-        heard = hear();
+        say(rt, t.words.first, t.words.second);
+        heard = hear(rt);
         more = heard.whole;
         turns -= 1;
     }
 }
 
-fn main() {
+fn main(rt: HostRuntime) {
     let mut source = [0.0f32; 16];
-    run(&mut source);
+    run(&rt, &mut source);
 }

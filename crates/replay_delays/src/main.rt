@@ -8,23 +8,23 @@
 mod calls; // a reader, and the call that a line makes
 
 use calls::{Reader, Turn, call, part};
-use libc::{STDIN_FILENO, STDOUT_FILENO};
 use replay_lines::{Heard, Line};
+use streams::{read_full, write_all};
 use variable_delay::VariableDelay;
 use word_bytes::hex16;
 
 // The next 53 bytes, a line, if there are so many.
-fn hear() -> Heard {
+fn hear(rt: &HostRuntime) -> Heard {
     let mut text = [0u8; 53];
-    let n = io::read_full(STDIN_FILENO, &mut text);
+    let n = read_full(rt, &mut text);
     replay_lines::line_heard(n, &text)
 }
 
-fn say(answer: u64, accepted: u64) {
-    io::write_all(STDOUT_FILENO, &hex16(answer));
-    io::write_all(STDOUT_FILENO, b" ");
-    io::write_all(STDOUT_FILENO, &hex16(accepted));
-    io::write_all(STDOUT_FILENO, b"\n");
+fn say(rt: &HostRuntime, answer: u64, accepted: u64) {
+    write_all(rt, &hex16(answer));
+    write_all(rt, b" ");
+    write_all(rt, &hex16(accepted));
+    write_all(rt, b"\n");
 }
 
 fn replay(before: Reader, ring: &mut [f64], line: Line) -> Turn {
@@ -42,7 +42,7 @@ fn replay(before: Reader, ring: &mut [f64], line: Line) -> Turn {
 
 // Goes line after line. The loop counts down from the largest u64, because the language demands that it ends; no input
 // is that long.
-fn run(ring: &mut [f64]) {
+fn run(rt: &HostRuntime, ring: &mut [f64]) {
     let mut reader = Reader {
         kernel: 0,
         state: VariableDelay {
@@ -51,21 +51,21 @@ fn run(ring: &mut [f64]) {
             accepted: 0,
         },
     };
-    let mut heard = hear();
+    let mut heard = hear(rt);
     let mut more = heard.whole;
     let mut turns = u64::MAX;
     while turns > 0 && more {
         let line = heard.line;
         let t = replay(reader, ring, line);
         reader = t.reader;
-        say(t.answer, t.reader.state.accepted);
-        heard = hear();
+        say(rt, t.answer, t.reader.state.accepted);
+        heard = hear(rt);
         more = heard.whole;
         turns -= 1;
     }
 }
 
-fn main() {
+fn main(rt: HostRuntime) {
     let mut ring = [0.0f64; 64];
-    run(&mut ring);
+    run(&rt, &mut ring);
 }

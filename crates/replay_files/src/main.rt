@@ -37,58 +37,58 @@ fn wave(found: Found) -> Wave {
     }
 }
 
-fn tell(found: Found) {
+fn tell(rt: &HostRuntime, found: Found) {
     let w = wave(found);
     let kind = w.kind;
-    number(refusal(found) as u64);
-    number(code(kind) as u64);
-    number(w.channels as u64);
-    number(w.rate as u64);
-    number(w.start as u64);
-    number(w.length as u64);
+    number(rt, refusal(found) as u64);
+    number(rt, code(kind) as u64);
+    number(rt, w.channels as u64);
+    number(rt, w.rate as u64);
+    number(rt, w.start as u64);
+    number(rt, w.length as u64);
 }
 
-fn tell_format(told: Told) {
-    number(told.size as u64);
-    number(told.tag as u64);
-    number(told.channels as u64);
-    number(told.block as u64);
-    number(told.bits as u64);
-    number(told.samples as u64);
+fn tell_format(rt: &HostRuntime, told: Told) {
+    number(rt, told.size as u64);
+    number(rt, told.tag as u64);
+    number(rt, told.channels as u64);
+    number(rt, told.block as u64);
+    number(rt, told.bits as u64);
+    number(rt, told.samples as u64);
 }
 
-fn replay(file: &[u8]) {
+fn replay(rt: &HostRuntime, file: &[u8]) {
     let found = wav::read_wrapped(file);
-    tell(wav::read(file));
-    tell(found);
-    tell_format(wav::fmt_told(file));
-    end_of_line();
+    tell(rt, wav::read(file));
+    tell(rt, found);
+    tell_format(rt, wav::fmt_told(file));
+    end_of_line(rt);
     let w = wave(found);
     let kind = w.kind;
     let part = wav::part(file, w);
     if w.channels > 0 {
-        channel(kind, w.channels, 0, part);
+        channel(rt, kind, w.channels, 0, part);
     }
     if w.channels > 1 {
-        channel(kind, w.channels, 1, part);
+        channel(rt, kind, w.channels, 1, part);
     }
 }
 
 // Handles line after line. The bound is the largest u64, which no input exceeds.
-fn run(file: &mut [u8]) {
-    let mut heard = hear(&mut file[..]);
+fn run(rt: &HostRuntime, file: &mut [u8]) {
+    let mut heard = hear(rt, &mut file[..]);
     let mut more = heard.whole;
     let mut turns = u64::MAX;
     while turns > 0 && more {
         let n = within(heard.bytes, file.len());
-        replay(&file[..n]);
-        heard = hear(&mut file[..]);
+        replay(rt, &file[..n]);
+        heard = hear(rt, &mut file[..]);
         more = heard.whole;
         turns -= 1;
     }
 }
 
-fn main() {
+fn main(rt: HostRuntime) {
     let mut file = [0u8; 512];
-    run(&mut file);
+    run(&rt, &mut file);
 }

@@ -1,7 +1,7 @@
 // A header from standard input: the length of the file in sixteen hex digits, a blank, the number of lent bytes in
 // four, a blank, two digits for each byte, and the end of the line.
-use libc::STDIN_FILENO;
 use replay_lines::within;
+use streams::read_full;
 use word_bytes::word_at;
 
 // Whether a whole line was read, the length of the file, and the number of lent bytes.
@@ -16,14 +16,14 @@ pub struct Heard {
 const LONGEST: usize = 512;
 
 // Reads the header of the next line into a lent slice.
-pub fn hear(prefix: &mut [u8]) -> Heard {
+pub fn hear(rt: &HostRuntime, prefix: &mut [u8]) -> Heard {
     let mut head = [0u8; 21];
-    let told = io::read_full(STDIN_FILENO, &mut head);
+    let told = read_full(rt, &mut head);
     let bytes = within(word_at(&head, 17) as usize, LONGEST);
     let rest = 2 * bytes + 2;
     // This is sixteen bytes more than the longest rest of a line, so that a word can be read at every place.
     let mut text = [0u8; 1042];
-    let got = io::read_full(STDIN_FILENO, &mut text[..rest]);
+    let got = read_full(rt, &mut text[..rest]);
     put_bytes(&text, &mut prefix[..]);
     Heard {
         whole: told == 21 && got == rest,

@@ -39,28 +39,28 @@ fn wave(found: Found) -> Wave {
     }
 }
 
-fn tell(found: Found) {
+fn tell(rt: &HostRuntime, found: Found) {
     let w = wave(found);
     let kind = w.kind;
-    number(refusal(found) as u64);
-    number(code(kind) as u64);
-    number(w.channels as u64);
-    number(w.rate as u64);
-    number(w.start as u64);
-    number(w.length as u64);
+    number(rt, refusal(found) as u64);
+    number(rt, code(kind) as u64);
+    number(rt, w.channels as u64);
+    number(rt, w.rate as u64);
+    number(rt, w.start as u64);
+    number(rt, w.length as u64);
 }
 
-fn replay(prefix: &[u8], length: usize) {
-    number(needs(prefix, length) as u64);
-    tell(read_header(prefix, length));
+fn replay(rt: &HostRuntime, prefix: &[u8], length: usize) {
+    number(rt, needs(prefix, length) as u64);
+    tell(rt, read_header(prefix, length));
     let found = read_header_wrapped(prefix, length);
-    tell(found);
+    tell(rt, found);
     if at_hand(refusal(found)) {
-        tell(by_turns(prefix, length));
+        tell(rt, by_turns(prefix, length));
     } else {
-        tell(Found::Refused(0));
+        tell(rt, Found::Refused(0));
     }
-    end_of_line();
+    end_of_line(rt);
 }
 
 // Whether the header is refused neither by 1 nor by 2. Step by step it cannot be seen that more bytes are lent than the
@@ -70,20 +70,20 @@ fn at_hand(no: u8) -> bool {
 }
 
 // Handles line after line. The bound is the largest u64, which no input exceeds.
-fn run(prefix: &mut [u8]) {
-    let mut heard = hear(&mut prefix[..]);
+fn run(rt: &HostRuntime, prefix: &mut [u8]) {
+    let mut heard = hear(rt, &mut prefix[..]);
     let mut more = heard.whole;
     let mut turns = u64::MAX;
     while turns > 0 && more {
         let n = within(heard.bytes, prefix.len());
-        replay(&prefix[..n], heard.length);
-        heard = hear(&mut prefix[..]);
+        replay(rt, &prefix[..n], heard.length);
+        heard = hear(rt, &mut prefix[..]);
         more = heard.whole;
         turns -= 1;
     }
 }
 
-fn main() {
+fn main(rt: HostRuntime) {
     let mut prefix = [0u8; 512];
-    run(&mut prefix);
+    run(&rt, &mut prefix);
 }

@@ -1,11 +1,12 @@
 // Numbers on standard output, each followed by a blank.
-use libc::STDOUT_FILENO;
 
-pub fn number(n: u64) {
-    io::print_decimal(STDOUT_FILENO, n);
-    io::write_all(STDOUT_FILENO, b" ");
+use streams::{print_decimal, write_all};
+
+pub fn number(rt: &HostRuntime, n: u64) {
+    print_decimal(rt, n);
+    write_all(rt, b" ");
 }
 
-pub fn end_of_line() {
-    io::write_all(STDOUT_FILENO, b"\n");
+pub fn end_of_line(rt: &HostRuntime) {
+    write_all(rt, b"\n");
 }

@@ -8,47 +8,47 @@
 mod answers; // the function that a letter names
 
 use answers::{Reply, answer};
-use libc::{STDIN_FILENO, STDOUT_FILENO};
 use replay_lines::{Heard, Line};
+use streams::{read_full, write_all};
 use word_bytes::hex16;
 
 // The next 53 bytes, a line, if there are so many.
-fn hear() -> Heard {
+fn hear(rt: &HostRuntime) -> Heard {
     let mut text = [0u8; 53];
-    let n = io::read_full(STDIN_FILENO, &mut text);
+    let n = read_full(rt, &mut text);
     replay_lines::line_heard(n, &text)
 }
 
-fn say(reply: Reply) {
+fn say(rt: &HostRuntime, reply: Reply) {
     match reply {
         Reply::Word(n) => {
-            io::write_all(STDOUT_FILENO, &hex16(n));
+            write_all(rt, &hex16(n));
         }
         Reply::Unknown => {
-            io::write_all(STDOUT_FILENO, b"?");
+            write_all(rt, b"?");
         }
     }
 }
 
-fn replay(line: Line) {
-    say(answer(line.letter, line.a, line.b, line.c));
-    io::write_all(STDOUT_FILENO, b" ");
-    say(answer(line.letter, line.b, line.c, line.a));
-    io::write_all(STDOUT_FILENO, b" ");
-    say(answer(line.letter, line.c, line.a, line.b));
-    io::write_all(STDOUT_FILENO, b"\n");
+fn replay(rt: &HostRuntime, line: Line) {
+    say(rt, answer(line.letter, line.a, line.b, line.c));
+    write_all(rt, b" ");
+    say(rt, answer(line.letter, line.b, line.c, line.a));
+    write_all(rt, b" ");
+    say(rt, answer(line.letter, line.c, line.a, line.b));
+    write_all(rt, b"\n");
 }
 
 // Goes line after line. The loop counts down from the largest u64, because the language demands that it ends; no input
 // is that long.
-fn main() {
-    let mut heard = hear();
+fn main(rt: HostRuntime) {
+    let mut heard = hear(&rt);
     let mut more = heard.whole;
     let mut turns = u64::MAX;
     while turns > 0 && more {
         let line = heard.line;
-        replay(line);
-        heard = hear();
+        replay(&rt, line);
+        heard = hear(&rt);
         more = heard.whole;
         turns -= 1;
     }

@@ -16,10 +16,10 @@ fn element_f32(table: &[f32], at: usize) -> u64 {
     }
 }
 
-pub fn write<'a>(table: &'a [f64], table_f32: &'a [f32]) {
+pub fn write<'a>(rt: &HostRuntime, table: &'a [f64], table_f32: &'a [f32]) {
     let mut at: usize = 0;
     while at < table.len() {
-        say(bits_of(table[at]), element_f32(table_f32, at));
+        say(rt, bits_of(table[at]), element_f32(table_f32, at));
         at += 1;
     }
 }
@@ -37,8 +37,8 @@ fn put_f32(table: &mut [f32], at: usize, x: f32) {
 }
 
 // `e` sets an element of both tables.
-pub fn set(table: &mut [f64], table_f32: &mut [f32], line: Line) {
+pub fn set(rt: &HostRuntime, table: &mut [f64], table_f32: &mut [f32], line: Line) {
     put(table, line.a as usize, float_of(line.b));
     put_f32(table_f32, line.a as usize, single(line.c));
-    say(0, 0);
+    say(rt, 0, 0);
 }

@@ -1,7 +1,7 @@
 // A line of standard input, a line of standard output, which is two words of sixteen hex digits, and what is kept
 // between two lines.
-use libc::{STDIN_FILENO, STDOUT_FILENO};
 use replay_lines::Heard;
+use streams::{read_full, write_all};
 use variable_delay::VariableDelay;
 use word_bytes::hex16;
 
@@ -20,15 +20,15 @@ pub struct Shape {
 }
 
 // The next 53 bytes, a line, if there are so many.
-pub fn hear() -> Heard {
+pub fn hear(rt: &HostRuntime) -> Heard {
     let mut text = [0u8; 53];
-    let n = io::read_full(STDIN_FILENO, &mut text);
+    let n = read_full(rt, &mut text);
     replay_lines::line_heard(n, &text)
 }
 
-pub fn say(answer: u64, beside: u64) {
-    io::write_all(STDOUT_FILENO, &hex16(answer));
-    io::write_all(STDOUT_FILENO, b" ");
-    io::write_all(STDOUT_FILENO, &hex16(beside));
-    io::write_all(STDOUT_FILENO, b"\n");
+pub fn say(rt: &HostRuntime, answer: u64, beside: u64) {
+    write_all(rt, &hex16(answer));
+    write_all(rt, b" ");
+    write_all(rt, &hex16(beside));
+    write_all(rt, b"\n");
 }

@@ -25,6 +25,7 @@ fn concerned(letter: u8) -> u8 {
 }
 
 fn replay(
+    rt: &HostRuntime,
     before: Player,
     ring: &mut [f64],
     ring_f32: &mut [f32],
@@ -34,17 +35,23 @@ fn replay(
 ) -> Player {
     let whom = concerned(line.letter);
     if whom == 0 {
-        return tables::call(before, table, table_f32, line);
+        return tables::call(rt, before, table, table_f32, line);
     }
     if whom == 1 {
-        return readers_f32::call_f32(before, ring_f32, &table_f32[..], line);
+        return readers_f32::call_f32(rt, before, ring_f32, &table_f32[..], line);
     }
-    readers::call(before, ring, &table[..], line)
+    readers::call(rt, before, ring, &table[..], line)
 }
 
 // Goes line after line. The loop counts down from the largest u64, because the language demands that it ends; no input
 // is that long.
-fn run(ring: &mut [f64], ring_f32: &mut [f32], table: &mut [f64], table_f32: &mut [f32]) {
+fn run(
+    rt: &HostRuntime,
+    ring: &mut [f64],
+    ring_f32: &mut [f32],
+    table: &mut [f64],
+    table_f32: &mut [f32],
+) {
     let mut player = Player {
         shape: Shape {
             taps: 0,
@@ -57,23 +64,23 @@ fn run(ring: &mut [f64], ring_f32: &mut [f32], table: &mut [f64], table_f32: &mu
             accepted: 0,
         },
     };
-    let mut heard = hear();
+    let mut heard = hear(rt);
     let mut more = heard.whole;
     let mut turns = u64::MAX;
     while turns > 0 && more {
         let line = heard.line;
-        player = replay(player, ring, ring_f32, table, table_f32, line);
-        heard = hear();
+        player = replay(rt, player, ring, ring_f32, table, table_f32, line);
+        heard = hear(rt);
         more = heard.whole;
         turns -= 1;
     }
 }
 
 // The list has rings of at most 128 places and tables of at most 512 elements.
-fn main() {
+fn main(rt: HostRuntime) {
     let mut ring = [0.0f64; 128];
     let mut ring_f32 = [0.0f32; 128];
     let mut table = [0.0f64; 512];
     let mut table_f32 = [0.0f32; 512];
-    run(&mut ring, &mut ring_f32, &mut table, &mut table_f32);
+    run(&rt, &mut ring, &mut ring_f32, &mut table, &mut table_f32);
 }

@@ -40,6 +40,7 @@ fn process<'a>(
 // `o` opens a reader (maximum delay, margin), `p` hands it a sample (the sample, the delay), any other letter resets
 // it.
 fn called<'a>(
+    rt: &HostRuntime,
     s: VariableDelay,
     shape: Shape,
     ring: &mut [f64],
@@ -57,11 +58,17 @@ fn called<'a>(
     }
 }
 
-pub fn call<'a>(before: Player, ring: &mut [f64], table: &'a [f64], line: Line) -> Player {
+pub fn call<'a>(
+    rt: &HostRuntime,
+    before: Player,
+    ring: &mut [f64],
+    table: &'a [f64],
+    line: Line,
+) -> Player {
     let shape = before.shape;
     let s = before.state;
     let end = ring_part(s, line.letter == b'o', line, ring.len());
     let to = table_part(shape.taps, shape.phases, table.len());
-    let turn = called(s, shape, &mut ring[..end], &table[..to], line);
-    answered(shape, turn)
+    let turn = called(rt, s, shape, &mut ring[..end], &table[..to], line);
+    answered(rt, shape, turn)
 }

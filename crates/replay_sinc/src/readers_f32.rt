@@ -44,11 +44,17 @@ fn called_f32<'a>(
     }
 }
 
-pub fn call_f32<'a>(before: Player, ring: &mut [f32], table: &'a [f32], line: Line) -> Player {
+pub fn call_f32<'a>(
+    rt: &HostRuntime,
+    before: Player,
+    ring: &mut [f32],
+    table: &'a [f32],
+    line: Line,
+) -> Player {
     let shape = before.shape;
     let s = before.state;
     let end = ring_part(s, line.letter == b'O', line, ring.len());
     let to = table_part(shape.taps, shape.phases, table.len());
     let turn = called_f32(s, shape, &mut ring[..end], &table[..to], line);
-    answered(shape, turn)
+    answered(rt, shape, turn)
 }

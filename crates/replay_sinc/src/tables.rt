@@ -6,8 +6,8 @@ use replay_lines::{Line, refused, table_part};
 use sinc_settings::Settings;
 
 // `s` sets the taps, the phases and beta for the lines that follow.
-fn shaped(before: Player, line: Line) -> Player {
-    say(0, 0);
+fn shaped(rt: &HostRuntime, before: Player, line: Line) -> Player {
+    say(rt, 0, 0);
     let state = before.state;
     Player {
         shape: Shape {
@@ -69,25 +69,31 @@ fn build_f32(shape: Shape, table: &mut [f32], line: Line) -> u64 {
     ))
 }
 
-fn called(shape: Shape, table: &mut [f64], table_f32: &mut [f32], line: Line) {
+fn called(rt: &HostRuntime, shape: Shape, table: &mut [f64], table_f32: &mut [f32], line: Line) {
     if line.letter == b'e' {
-        set(table, table_f32, line);
+        set(rt, table, table_f32, line);
         return;
     }
     let a = build(shape, table, line);
     let b = build_f32(shape, table_f32, line);
-    say(a, b);
-    write(&table[..], &table_f32[..]);
+    say(rt, a, b);
+    write(rt, &table[..], &table_f32[..]);
 }
 
 // A call about the tables, with the parts of them that the settings take.
-pub fn call(before: Player, table: &mut [f64], table_f32: &mut [f32], line: Line) -> Player {
+pub fn call(
+    rt: &HostRuntime,
+    before: Player,
+    table: &mut [f64],
+    table_f32: &mut [f32],
+    line: Line,
+) -> Player {
     if line.letter == b's' {
-        return shaped(before, line);
+        return shaped(rt, before, line);
     }
     let shape = before.shape;
     let end = table_part(shape.taps, shape.phases, table.len());
     let to = table_part(shape.taps, shape.phases, table_f32.len());
-    called(shape, &mut table[..end], &mut table_f32[..to], line);
+    called(rt, shape, &mut table[..end], &mut table_f32[..to], line);
     before
 }

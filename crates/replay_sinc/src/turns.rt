@@ -12,9 +12,9 @@ pub struct Turn {
 }
 
 // Writes the answer of a reader and the number of samples it has accepted.
-pub fn answered(shape: Shape, turn: Turn) -> Player {
+pub fn answered(rt: &HostRuntime, shape: Shape, turn: Turn) -> Player {
     let state = turn.state;
-    say(turn.answer, state.accepted);
+    say(rt, turn.answer, state.accepted);
     Player { shape, state }
 }
 

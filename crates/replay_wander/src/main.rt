@@ -14,10 +14,10 @@ mod lines; // a line, and what it is compared with
 use calls::opened_first;
 use counts::{Seen, counted};
 use letters::Player;
-use libc::{STDIN_FILENO, STDOUT_FILENO};
 use lines::heard;
 use modulation_params::default_params;
 use replay_lines::{Heard, Line};
+use streams::{print_decimal, read_full, write_all};
 
 #[derive(Drop)]
 struct Course {
@@ -25,19 +25,19 @@ struct Course {
     seen: Seen,
 }
 
-fn tell(text: &[u8], n: u64) {
-    io::write_all(STDOUT_FILENO, text);
-    io::print_decimal(STDOUT_FILENO, n);
-    io::write_all(STDOUT_FILENO, b"\n");
+fn tell(rt: &HostRuntime, text: &[u8], n: u64) {
+    write_all(rt, text);
+    print_decimal(rt, n);
+    write_all(rt, b"\n");
 }
 
-fn replay(before: Course, line: Line) -> Course {
+fn replay(rt: &HostRuntime, before: Course, line: Line) -> Course {
     let player = before.player;
     let seen = before.seen;
     let verdict = heard(player, line);
     let after = counted(seen, verdict);
     if after.different != seen.different {
-        tell(b"differs: line ", after.lines);
+        tell(rt, b"differs: line ", after.lines);
     }
     let player = verdict.player;
     Course {
@@ -47,30 +47,30 @@ fn replay(before: Course, line: Line) -> Course {
 }
 
 // The next 53 bytes, a line, if there are so many.
-fn hear() -> Heard {
+fn hear(rt: &HostRuntime) -> Heard {
     let mut text = [0u8; 53];
-    let n = io::read_full(STDIN_FILENO, &mut text);
+    let n = read_full(rt, &mut text);
     replay_lines::line_heard(n, &text)
 }
 
 // Goes line after line. The loop counts down from the largest u64, because the language demands that it ends; no input
 // is that long.
-fn run(start: Course) -> Seen {
+fn run(rt: &HostRuntime, start: Course) -> Seen {
     let mut r = start;
-    let mut next = hear();
+    let mut next = hear(rt);
     let mut more = next.whole;
     let mut turns = u64::MAX;
     while turns > 0 && more {
         let line = next.line;
-        r = replay(r, line);
-        next = hear();
+        r = replay(rt, r, line);
+        next = hear(rt);
         more = next.whole;
         turns -= 1;
     }
     r.seen
 }
 
-fn main() {
+fn main(rt: HostRuntime) {
     let start = Course {
         player: Player {
             engine: opened_first(),
@@ -84,9 +84,9 @@ fn main() {
             noticed: 0,
         },
     };
-    let seen = run(start);
-    tell(b"answers compared: ", seen.compared);
-    tell(b"of these different: ", seen.different);
-    tell(b"changed on purpose: ", seen.changed);
-    tell(b"of these different: ", seen.noticed);
+    let seen = run(&rt, start);
+    tell(&rt, b"answers compared: ", seen.compared);
+    tell(&rt, b"of these different: ", seen.different);
+    tell(&rt, b"changed on purpose: ", seen.changed);
+    tell(&rt, b"of these different: ", seen.noticed);
 }

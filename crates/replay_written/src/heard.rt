@@ -2,8 +2,8 @@
 // blank behind each, and the end of the line.
 ghost use Rattle.std.specs.Prelude.{◌≤◌};
 
-use libc::STDIN_FILENO;
 use replay_lines::within;
+use streams::read_full;
 use word_bytes::word_at;
 
 // Whether a whole line was read, and the call that it describes.
@@ -22,14 +22,14 @@ pub struct Heard {
 const MOST: usize = 64;
 
 // Reads the call of the next line; the patterns of its samples go into a lent array.
-pub fn hear(words: &mut [u64; 64]) -> Heard {
+pub fn hear(rt: &HostRuntime, words: &mut [u64; 64]) -> Heard {
     let mut head = [0u8; 102];
-    let told = io::read_full(STDIN_FILENO, &mut head);
+    let told = read_full(rt, &mut head);
     let what = (word_at(&head, 68) % 0x100) as u8;
     let count = word_at(&head, 85) as usize;
     let rest = 17 * samples(what, count) + 1;
     let mut text = [0u8; 1089];
-    let got = io::read_full(STDIN_FILENO, &mut text[..rest]);
+    let got = read_full(rt, &mut text[..rest]);
     put_words(&text, words);
     Heard {
         whole: told == 102 && got == rest,

@@ -64,7 +64,7 @@ fn put_all_f32(words: &[u64; 64], samples: &mut [f32]) {
     }
 }
 
-fn replay(heard: Heard, words: &[u64; 64]) {
+fn replay(rt: &HostRuntime, heard: Heard, words: &[u64; 64]) {
     let kind = of_code(heard.kind);
     let n = within(heard.count, 64);
     let mut samples = [0.0f64; 64];
@@ -80,10 +80,10 @@ fn replay(heard: Heard, words: &[u64; 64]) {
         &mut out[..room],
     );
     let told = file_length_for(kind, heard.channels, n);
-    tell(refusal(answer), length(answer), told, &out, room);
+    tell(rt, refusal(answer), length(answer), told, &out, room);
 }
 
-fn replay_f32(heard: Heard, words: &[u64; 64]) {
+fn replay_f32(rt: &HostRuntime, heard: Heard, words: &[u64; 64]) {
     let kind = of_code(heard.kind);
     let n = within(heard.count, 64);
     let mut samples = [0.0f32; 64];
@@ -99,10 +99,10 @@ fn replay_f32(heard: Heard, words: &[u64; 64]) {
         &mut out[..room],
     );
     let told = file_length_for(kind, heard.channels, n);
-    tell(refusal(answer), length(answer), told, &out, room);
+    tell(rt, refusal(answer), length(answer), told, &out, room);
 }
 
-fn replay_header(heard: Heard) {
+fn replay_header(rt: &HostRuntime, heard: Heard) {
     let kind = of_code(heard.kind);
     let form = if heard.what == 2 {
         Form::Rf64
@@ -121,30 +121,30 @@ fn replay_header(heard: Heard) {
     );
     let long = header_length_for(kind, heard.count);
     let told = file_length_for(kind, heard.channels, heard.count);
-    tell(refused, long, told, &out, room);
+    tell(rt, refused, long, told, &out, room);
 }
 
-fn replay_one(heard: Heard, words: &[u64; 64]) {
+fn replay_one(rt: &HostRuntime, heard: Heard, words: &[u64; 64]) {
     if heard.what == 0 {
-        replay(heard, words);
+        replay(rt, heard, words);
         return;
     }
     if heard.what == 1 {
-        replay_f32(heard, words);
+        replay_f32(rt, heard, words);
         return;
     }
-    replay_header(heard);
+    replay_header(rt, heard);
 }
 
 // Handles line after line. The bound is the largest u64, which no input exceeds.
-fn main() {
+fn main(rt: HostRuntime) {
     let mut words = [0u64; 64];
-    let mut heard = hear(&mut words);
+    let mut heard = hear(&rt, &mut words);
     let mut more = heard.whole;
     let mut turns = u64::MAX;
     while turns > 0 && more {
-        replay_one(heard, &words);
-        heard = hear(&mut words);
+        replay_one(&rt, heard, &words);
+        heard = hear(&rt, &mut words);
         more = heard.whole;
         turns -= 1;
     }

@@ -5,20 +5,20 @@
 use answer::Answer;
 use bit_patterns::bits_of;
 use elementary::Answer as Power;
-use libc::STDOUT_FILENO;
+use streams::{print_decimal, write_all};
 use variable_delay::VariableDelay;
 
-fn number(name: &[u8], n: u64) {
-    io::write_all(STDOUT_FILENO, name);
-    io::print_decimal(STDOUT_FILENO, n);
-    io::write_all(STDOUT_FILENO, b"\n");
+fn number(rt: &HostRuntime, name: &[u8], n: u64) {
+    write_all(rt, name);
+    print_decimal(rt, n);
+    write_all(rt, b"\n");
 }
 
-fn word(name: &[u8], n: u64) {
+fn word(rt: &HostRuntime, name: &[u8], n: u64) {
     let digits = word_bytes::hex16(n);
-    io::write_all(STDOUT_FILENO, name);
-    io::write_all(STDOUT_FILENO, &digits);
-    io::write_all(STDOUT_FILENO, b"\n");
+    write_all(rt, name);
+    write_all(rt, &digits);
+    write_all(rt, b"\n");
 }
 
 // A reader over a ring of 8 that has accepted some samples.
@@ -31,15 +31,25 @@ fn reader(accepted: u64) -> VariableDelay {
 }
 
 // G1. For settings out of range 0 is printed.
-fn ring_lengths() {
-    number(b"ring for 0 and 0: ", ring::length_for(0, 0) as u64);
-    number(b"ring for 1016 and 0: ", ring::length_for(1016, 0) as u64);
-    number(b"ring for 1017 and 0: ", ring::length_for(1017, 0) as u64);
+fn ring_lengths(rt: &HostRuntime) {
+    number(rt, b"ring for 0 and 0: ", ring::length_for(0, 0) as u64);
     number(
+        rt,
+        b"ring for 1016 and 0: ",
+        ring::length_for(1016, 0) as u64,
+    );
+    number(
+        rt,
+        b"ring for 1017 and 0: ",
+        ring::length_for(1017, 0) as u64,
+    );
+    number(
+        rt,
         b"ring for 16777208 and 0: ",
         ring::length_for(16777208, 0) as u64,
     );
     number(
+        rt,
         b"ring for 16777209 and 0: ",
         ring::length_for(16777209, 0) as u64,
     );
@@ -52,17 +62,26 @@ fn due(accepted: u64, delay: f64) -> u64 {
     variable_delay::refusal(reader(accepted), no_settings, no_table, 8, 1.0, delay) as u64
 }
 
-fn refusals() {
-    number(b"refusal at delay -0.0: ", due(0, -0.0));
-    number(b"refusal at delay -1e-300: ", due(0, -1e-300));
-    number(b"refusal at delay 2^36: ", due(0, 68719476736.0));
+fn refusals(rt: &HostRuntime) {
+    number(rt, b"refusal at delay -0.0: ", due(0, -0.0));
+    number(rt, b"refusal at delay -1e-300: ", due(0, -1e-300));
+    number(rt, b"refusal at delay 2^36: ", due(0, 68719476736.0));
     number(
+        rt,
         b"refusal at delay 2^36 + 2^-16: ",
         due(0, 68719476736.0000152587890625),
     );
-    number(b"refusal after 2^36 - 1 samples: ", due(68719476735, 1.5));
-    number(b"refusal after 2^36 samples: ", due(68719476736, 1.5));
-    number(b"refusal after 2^36 + 1 samples: ", due(68719476737, 1.5));
+    number(
+        rt,
+        b"refusal after 2^36 - 1 samples: ",
+        due(68719476735, 1.5),
+    );
+    number(rt, b"refusal after 2^36 samples: ", due(68719476736, 1.5));
+    number(
+        rt,
+        b"refusal after 2^36 + 1 samples: ",
+        due(68719476737, 1.5),
+    );
 }
 
 // K3. What the cubic reader answers to its first sample. If it were refused, the number would be printed.
@@ -83,16 +102,17 @@ fn power(x: f64) -> u64 {
     }
 }
 
-fn main() {
-    ring_lengths();
-    refusals();
+fn main(rt: HostRuntime) {
+    ring_lengths(&rt);
+    refusals(&rt);
     word(
+        &rt,
         b"fraction of 0 - 1e-300: ",
         bits_of(integer_part::fraction(0.0 - 1e-300)),
     );
-    word(b"1 at delay 1e-300: ", first(1.0, 1e-300));
-    word(b"2^0: ", power(0.0));
-    word(b"2^1: ", power(1.0));
-    word(b"2^-1: ", power(-1.0));
-    word(b"seed 0: ", xorshift::normalized_seed(0));
+    word(&rt, b"1 at delay 1e-300: ", first(1.0, 1e-300));
+    word(&rt, b"2^0: ", power(0.0));
+    word(&rt, b"2^1: ", power(1.0));
+    word(&rt, b"2^-1: ", power(-1.0));
+    word(&rt, b"seed 0: ", xorshift::normalized_seed(0));
 }
