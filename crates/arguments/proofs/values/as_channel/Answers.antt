@@ -1,0 +1,13 @@
+-- `arguments::as_channel` meets its contract: each choice, from the last word to the first, is one of the definition's.
+-- Assumes nothing.
+use Rattle.text.specs.Text.{ascii}
+use Rattle.arguments.proofs.values.as_channel.Goals as goal
+
+pub returns : goal.returns
+unfolding ascii
+returns c =
+    rw (
+      c.pick.ensures,
+      c.pick-c-2.ensures,
+      c.pick-c.ensures,
+    )

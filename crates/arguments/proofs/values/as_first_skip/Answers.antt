@@ -1,0 +1,10 @@
+-- `arguments::as_first_skip` meets its contract, by its two cases. Assumes nothing.
+use mathlib.Core.Path.{sym, ap}
+use Rattle.arguments.specs.Meaning.{as_first_skip}
+use Rattle.arguments.proofs.values.as_first_skip.Goals as goal
+
+pub returns-in-Is : goal.returns-in-Is
+returns-in-Is c = ap as_first_skip (sym c.in-Is.is)
+
+pub returns-in-Not : goal.returns-in-Not
+returns-in-Not c = ap as_first_skip (sym c.in-Not.is)
