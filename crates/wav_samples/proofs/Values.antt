@@ -1,6 +1,6 @@
 -- W1k. What a sample is. Of PCM it is the stored number over 2^15 or 2^23, without rounding in either format. Of float
 -- 32 it is the value of the stored pattern in either format, where all NaN patterns are the one NaN. Assumes nothing.
-use mathlib.Core.Path.{◌≡◌, refl, sym}
+use mathlib.Core.Path.{◌≡◌, sym}
 use mathlib.Core.Bool.{true, true≢false, cond}
 use mathlib.Core.List.{List}
 use Prim.Native.Nat.{ℕ, ◌-◌, ◌*◌, ◌^◌, ◌<◌}

@@ -14,46 +14,47 @@ use Rattle.wav_samples.proofs.Blocks.{block, begins, shifted, block_written, las
 use Rattle.wav_samples.proofs.floats.of_two.Statement.{statement}
 use Rattle.wav_samples.proofs.floats.of_two.Tie as tie
 
-abbrev invariant-loop : tie.invariant-loop
-invariant-loop first part out₀ k₀ out k = Written (λ (j : ℕ). sample_of binary64 Float32 part (j * 8 + first)) out₀ out k
+abbrev invariant-loop : tie.invariant-loop-out
+invariant-loop first part out₀ k₀ out k =
+    Written (λ (j : ℕ). sample_of binary64 Float32 part (j * 8 + first)) out₀ out k
 
-abbrev decreases-loop : tie.decreases-loop
+abbrev decreases-loop : tie.decreases-loop-out
 decreases-loop first part out₀ k₀ out k = length out₀ - k
 
-abbrev begun : tie.In-loop invariant-loop decreases-loop → tie.Start invariant-loop decreases-loop
+abbrev begun : tie.In-loop-out invariant-loop decreases-loop → tie.Start invariant-loop decreases-loop
 begun c = c.before.before.before.before
 
-room : (c : tie.In-loop invariant-loop decreases-loop) → c.before.loop.k + 49 ≤ length c.before.loop.out
-room c = omega (arith, c.loop-test.true, c.before.loop.invariant.most)
+room : (c : tie.In-loop-out invariant-loop decreases-loop) → c.before.loop-out.k + 49 ≤ length c.before.loop-out.out
+room c = omega (arith, c.loop-out-test.true, c.before.loop-out.invariant.most)
 
 -- The places where the block and the remaining samples begin do not overflow.
-starts : (c : tie.In-loop invariant-loop decreases-loop)
-    → c.before.loop.k * 8 + (begun c).args.first ≤ length (begun c).args.part.now + 8
+starts : (c : tie.In-loop-out invariant-loop decreases-loop)
+    → c.before.loop-out.k * 8 + (begun c).args.first ≤ length (begun c).args.part.now + 8
 starts c =
-    let l = c.before.loop in
+    let l = c.before.loop-out in
     begins l.k (begun c).requires (omega (arith, l.invariant.most, l.invariant.long))
 
-left : (c : tie.After-loop invariant-loop decreases-loop)
+left : (c : tie.After-loop-out invariant-loop decreases-loop)
     → let s = c.before.before.before.before in
-    c.before.loop.k * 8 + s.args.first ≤ length s.args.part.now + 8
+    c.before.loop-out.k * 8 + s.args.first ≤ length s.args.part.now + 8
 left c =
-    let l = c.before.loop in
+    let l = c.before.loop-out in
     begins l.k c.before.before.before.before.requires (omega (arith, l.invariant.most, l.invariant.long))
 
-block-of-two-requires : tie.Need-block-of-two-requires invariant-loop decreases-loop
+block-of-two-requires : tie.Need-block_of_two-requires invariant-loop decreases-loop
 block-of-two-requires c κs =
     let i = c.before in
-    let l = i.before.loop in
+    let l = i.before.loop-out in
     let n = length_part l.out l.k (l.k + 49 - l.k) 49 (omega arith) (room i) in
     ((λ k b. block l.k 49 (begun i).requires (omega (arith, room i, l.invariant.long)) k (omega (arith, b, n))), n)
 
-loop-again : tie.Need-loop-preserved invariant-loop decreases-loop
+loop-again : tie.Need-loop-out-preserved invariant-loop decreases-loop
 loop-again c =
     let i = c.before.before.before.before in
-    let l = i.before.loop in
+    let l = i.before.loop-out in
     let s = (begun i).args in
     block_written l.invariant 49 _ (room i)
-    (c.before.before.block-of-two.ensures
+    (c.before.before.block_of_two.ensures
     ∙ shifted (sample_of binary64 Float32 s.part.now) 8 s.first l.k _ 49
     (length_part l.out l.k (l.k + 49 - l.k) 49 (omega arith) (room i)))
     (l.k + 49 - l.k) (omega arith)
@@ -61,16 +62,16 @@ loop-again c =
 tested-requires : tie.Need-tested-requires invariant-loop decreases-loop
 tested-requires c κs =
     let i = c.before in
-    let l = i.before.loop in
+    let l = i.before.loop-out in
     let w = length l.out - l.k in
     let n = length_part l.out l.k w w refl (omega (arith, l.invariant.most)) in
     λ k b. block l.k w i.before.before.before.before.requires (omega (arith, l.invariant.most, l.invariant.long)) k
     (omega (arith, b, n))
 
-same_length : tie.Need-same-length invariant-loop decreases-loop
+same_length : tie.Need-shape_of-out invariant-loop decreases-loop
 same_length c =
     let i = c.before.before.before.before in
-    let l = i.before.loop in
+    let l = i.before.loop-out in
     let s = i.before.before.before.before.args in
     let w = length l.out - l.k in
     let r : l.k + w ≤ length l.out = omega (arith, l.invariant.most) in
@@ -83,7 +84,7 @@ same_length c =
 returns : tie.Need-returns invariant-loop decreases-loop
 returns c =
     let i = c.before.before.before.before in
-    let l = i.before.loop in
+    let l = i.before.loop-out in
     let s = i.before.before.before.before.args in
     let w = length l.out - l.k in
     let r : l.k + w ≤ length l.out = omega (arith, l.invariant.most) in
@@ -93,16 +94,13 @@ returns c =
     (length_part l.out l.k w w refl r))
     _ refl (omega (arith, l.invariant.most))
 
-pub of-two-spec : {M : Type 1} → statement M
-of-two-spec =
-    tie.close (tie.spec invariant-loop decreases-loop (λ c. unwritten)
-    (λ c. omega (arith, c.loop.invariant.most))
-    (λ c. omega (arith, starts c)) (λ c. omega (arith, starts c))
-    (λ c. omega (arith, room c)) (λ c. search rules) (λ c. omega arith) (λ c. omega arith) (λ c. omega (arith, room c))
-    block-of-two-requires
+pub of_two_spec : {M : Type 1} → statement M
+of_two_spec =
+    tie.close (tie.spec invariant-loop decreases-loop (λ c. unwritten) (λ c. omega (arith, c.loop-out.invariant.most))
+    (λ c. omega (arith, starts c)) (λ c. omega (arith, starts c)) (λ c. omega (arith, room c)) (λ c. search rules)
+    (λ c. omega arith) (λ c. omega arith) (λ c. omega (arith, room c)) block-of-two-requires
     (λ c. let i = c.before.before.before.before in omega (arith, room i))
-    (λ c. let i = c.before.before.before.before in omega (arith, room i, i.before.loop.invariant.long))
-    loop-again
+    (λ c. let i = c.before.before.before.before in omega (arith, room i, i.before.loop-out.invariant.long)) loop-again
     (λ c. omega (arith, left c)) (λ c. omega (arith, left c)) (λ c. search rules)
-    (λ c. omega (arith, c.before.loop.invariant.most)) (λ c. omega (arith, c.before.loop.invariant.most)) (λ c. omega arith)
-    tested-requires same_length returns)
+    (λ c. omega (arith, c.before.loop-out.invariant.most)) (λ c. omega (arith, c.before.loop-out.invariant.most))
+    (λ c. omega arith) tested-requires same_length returns)

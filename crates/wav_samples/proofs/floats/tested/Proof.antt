@@ -12,25 +12,25 @@ use Rattle.wav_samples.specs.Samples.{sample_of}
 use Rattle.wav_samples.proofs.floats.tested.Statement.{statement}
 use Rattle.wav_samples.proofs.floats.tested.Tie as tie
 
-abbrev invariant-loop : tie.invariant-loop
-invariant-loop frame first part out₀ k₀ out k = Written (λ (j : ℕ). sample_of binary64 Float32 part (j * frame + first)) out₀
+abbrev invariant-loop : tie.invariant-loop-k
+invariant-loop frame first part out₀ k₀ out k =
+    Written (λ (j : ℕ). sample_of binary64 Float32 part (j * frame + first)) out₀
     out k
 
-abbrev decreases-loop : tie.decreases-loop
+abbrev decreases-loop : tie.decreases-loop-k
 decreases-loop frame first part out₀ k₀ out k = length out - k
 
 -- Sample k lies in the part.
-sample : (c : tie.In-loop invariant-loop decreases-loop)
+sample : (c : tie.In-loop-k invariant-loop decreases-loop)
     → let s = c.before.before.before.before.args in
-    c.before.loop.k * s.frame + s.first + 4 ≤ length s.part.now
-sample c = c.before.before.before.before.requires c.before.loop.k (omega (arith, c.before.loop.invariant.long))
+    c.before.loop-k.k * s.frame + s.first + 4 ≤ length s.part.now
+sample c = c.before.before.before.before.requires c.before.loop-k.k (omega (arith, c.before.loop-k.invariant.long))
 
-pub tested-spec : {M : Type 1} → statement M
-tested-spec =
-    tie.close (tie.spec invariant-loop decreases-loop (λ c. unwritten)
-    (λ c. omega (arith, sample c)) (λ c. omega (arith, sample c)) (λ c κs. omega (arith, sample c))
-    (λ c κs. search rules) (λ c. search rules) (λ c. search rules) (λ c. search rules)
-    (λ c. simp length-set (omega arith))
-    (λ c. written-more c.before.before.before.loop.invariant (omega arith)
-    (c.widened.ensures ∙ ap (of_bits binary32) c.before.four-at.ensures))
-    (λ c. search rules) (λ c. all-written c.before.loop.invariant (omega arith)))
+pub tested_spec : {M : Type 1} → statement M
+tested_spec =
+    tie.close (tie.spec invariant-loop decreases-loop (λ c. unwritten) (λ c. omega (arith, sample c))
+    (λ c. omega (arith, sample c)) (λ c κs. omega (arith, sample c)) (λ c κs. search rules) (λ c. search rules)
+    (λ c. search rules) (λ c. search rules) (λ c. simp length-set (omega arith))
+    (λ c. written-more c.before.before.before.loop-k.invariant (omega arith)
+    (c.widened.ensures ∙ ap (of_bits binary32) c.before.four_at.ensures))
+    (λ c. search rules) (λ c. all-written c.before.loop-k.invariant (omega arith)))

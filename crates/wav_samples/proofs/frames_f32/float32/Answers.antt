@@ -1,0 +1,31 @@
+-- `wav_samples::frames_f32::float32` meets its contract: the loop writes a list by a rule, and each sample lies in the
+-- part. Assumes nothing.
+use mathlib.Core.Path.{ap, ◌∙◌}
+use native.Mathlib.Omega.{arith}
+use lib.ListN.{length-set}
+use lib.Ieee.{binary32, of_bits}
+use Rattle.loop_laws.proofs.Writing.{unwritten, written-more, all-written}
+use Rattle.wav_samples.proofs.Framing.{place}
+use Rattle.wav_samples.proofs.frames_f32.float32.Goals as goal
+
+pub loop-k-init : goal.loop-k-init
+loop-k-init c = unwritten
+
+pub overflow_mul-k : goal.overflow_mul-k
+overflow_mul-k c = omega (arith, place c.loop-k.k c.requires (omega arith))
+
+pub overflow_add-k : goal.overflow_add-k
+overflow_add-k c = omega (arith, place c.loop-k.k c.requires (omega arith))
+
+pub four_at-requires : goal.four_at-requires
+four_at-requires c = omega (arith, place c.loop-k.k c.requires (omega arith))
+
+pub loop-k-smaller : goal.loop-k-smaller
+loop-k-smaller c = simp length-set (omega arith)
+
+pub loop-k-preserved : goal.loop-k-preserved
+loop-k-preserved c = written-more c.loop-k.invariant (omega arith)
+    (c.float_of_f32.ensures ∙ ap (of_bits binary32) c.four_at.ensures)
+
+pub returns : goal.returns
+returns c = all-written c.loop-k.invariant (omega arith)

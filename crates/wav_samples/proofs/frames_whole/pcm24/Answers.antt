@@ -1,0 +1,34 @@
+-- `wav_samples::frames_whole::pcm24` meets its contract: the loop writes a list by a rule, and each sample lies in the
+-- part. Assumes nothing.
+use mathlib.Core.Path.{ap, ◌∙◌}
+use native.Mathlib.Omega.{arith}
+use lib.Dec.{lit≤}
+use lib.ListN.{length-set}
+use Rattle.loop_laws.proofs.Writing.{unwritten, written-more, all-written}
+use Rattle.whole_samples.specs.Whole.{units_of}
+use Rattle.whole_samples.proofs.Signs.{units_small, kept}
+use Rattle.wav_samples.proofs.Framing.{place}
+use Rattle.wav_samples.proofs.frames_whole.pcm24.Goals as goal
+
+pub loop-k-init : goal.loop-k-init
+loop-k-init c = unwritten
+
+pub overflow_mul-k : goal.overflow_mul-k
+overflow_mul-k c = omega (arith, place c.loop-k.k c.requires (omega arith))
+
+pub overflow_add-k : goal.overflow_add-k
+overflow_add-k c = omega (arith, place c.loop-k.k c.requires (omega arith))
+
+pub three_at-requires : goal.three_at-requires
+three_at-requires c = omega (arith, place c.loop-k.k c.requires (omega arith))
+
+pub loop-k-smaller : goal.loop-k-smaller
+loop-k-smaller c = simp length-set (omega arith)
+
+pub loop-k-preserved : goal.loop-k-preserved
+loop-k-preserved c = written-more c.loop-k.invariant (omega arith)
+    (kept c.whole24.ensures (units_small 24 c.three_at.result (lit≤ tt) (lit≤ tt))
+    ∙ ap (units_of 24) c.three_at.ensures)
+
+pub returns : goal.returns
+returns c = all-written c.loop-k.invariant (omega arith)
