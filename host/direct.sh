@@ -1,7 +1,7 @@
 # host/direct.sh builds and runs the crate's programs and tests by rustc alone. It is sourced by host/test, after
 # oracle/rust.sh, with `root`, `out` and `libraries` set.
-# For a machine that has no cargo, or no test harness for its rustc: each program and each file of tests/ is copied below
-# target/, where host/direct.rs stands in for Rust's own `main` and for its harness.
+# For a machine that has no cargo, or no test harness for its rustc: each program and each file of tests/ is copied
+# below target/, where host/direct.rs stands in for Rust's own `main` and for its harness.
 
 export CARGO_MANIFEST_DIR="$root/host" # the tests find the stored lists from here, as they do under cargo
 

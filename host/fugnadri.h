@@ -1,6 +1,6 @@
 /* fugnadri.h: every function that Fugnadri's static libraries export, for C. Version 0.2.0.
  *
- * The libraries are x86-64 code for Linux (System V calls), and `rt staticlib NAME` makes each: libfugnadri.a,
+ * The libraries are x86-64 code for Linux (System V calls), and host/libraries makes them: libfugnadri.a,
  * libfugnadri_wander.a, libfugnadri_numbers.a, libfugnadri_tables.a, libfugnadri_bank.a, libfugnadri_told.a,
  * libfugnadri_stretches.a, libfugnadri_room.a, libfugnadri_oversampled.a, libfugnadri_oversampled_told.a,
  * libfugnadri_wav.a, libfugnadri_wav_write.a, libfugnadri_aiff.a, libfugnadri_residual.a. They want `memset` and

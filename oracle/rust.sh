@@ -34,7 +34,8 @@ find_rust() {
     command -v cc >/dev/null || missing "there is no cc on the PATH, by which rustc links: install a C compiler"
 }
 
-# Every signature of an exported function that FILES state, once, as Rust declares it: a slice is a pointer and a length.
+# Every signature of an exported function that FILES state, once, as Rust declares it: a slice is a pointer and a
+# length.
 signatures() { # FILES
     cat "$@" | sed -e 's|//.*||' -e "s/<'a>//" -e "s/&'a /\&/g" | tr '\n' ' ' | awk '{
         while (match($0, /fn fugnadri_[a-z0-9_]*( as [a-z0-9_]*)?\([^)]*\)( -> [a-z0-9]+)?/)) {
