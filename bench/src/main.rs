@@ -3,8 +3,6 @@
 //!
 //! Both sides answer the same inputs in one process, in turn; a side's time is its best pass. The
 //! answers are compared, so that a fast wrong loop is seen.
-// The emulator that runs this on Arm cannot open what Rust's own `main` opens.
-#![no_main]
 
 #[path = "../../oracle/src/full.rs"]
 mod full;
@@ -83,8 +81,12 @@ pub fn one_by_one<A: Copy + 'static>(inputs: &[A], answer: impl Fn(A) -> u64 + '
     })
 }
 
-#[no_mangle]
-pub extern "C" fn main(_: i32, _: *const *const u8) -> i32 {
+fn main() {
+    std::process::exit(status())
+}
+
+/// What the program does, and the exit status that it ends with.
+fn status() -> i32 {
     let words: Vec<String> = std::env::args().skip(1).collect();
     match words.iter().map(String::as_str).collect::<Vec<_>>()[..] {
         ["list"] => workloads().iter().for_each(|(name, _)| println!("{name}")),

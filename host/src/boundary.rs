@@ -106,9 +106,9 @@ numbers! {
     fn fugnadri_float_of_f32 as float_of_f32(n: u32) -> f32;
     /// The port's sine, cosine and 2^x: 0.0 where the argument is refused, or the refusal's number too.
     fn fugnadri_sine_value as sine(x: f64) -> f64;
-    fn fugnadri_sine as sine_or_refusal(x: f64, result: &mut f64) -> u8;
+    fn fugnadri_sine as sine_or_refusal(x: f64, res: &mut f64) -> u8;
     fn fugnadri_cosine_value as cosine(x: f64) -> f64;
-    fn fugnadri_cosine as cosine_or_refusal(x: f64, result: &mut f64) -> u8;
+    fn fugnadri_cosine as cosine_or_refusal(x: f64, res: &mut f64) -> u8;
     fn fugnadri_exp2_value as exp2(x: f64) -> f64;
-    fn fugnadri_exp2 as exp2_or_refusal(x: f64, result: &mut f64) -> u8;
+    fn fugnadri_exp2 as exp2_or_refusal(x: f64, res: &mut f64) -> u8;
 }

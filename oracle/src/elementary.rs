@@ -5,8 +5,6 @@
 //! status 1 where one is above 2^-40, or where an argument in the range is refused or one outside is
 //! not. The standard library's own errors count with the port's, so this shows that the two are near
 //! each other; how near the port's are to the true values is proved.
-// The emulator that runs this on Arm cannot open what Rust's own `main` opens.
-#![no_main]
 
 mod random;
 
@@ -112,8 +110,12 @@ impl Function {
     }
 }
 
-#[no_mangle]
-pub extern "C" fn main(_: i32, _: *const *const u8) -> i32 {
+fn main() {
+    std::process::exit(status())
+}
+
+/// What the program does, and the exit status that it ends with.
+fn status() -> i32 {
     let word = |n: usize| -> u64 { std::env::args().nth(n).expect("SEED MILLIONS").parse().expect("a number") };
     let (mut random, millions) = (Random::new(word(1)), word(2));
     println!("{:<10} {:>12}  {:<22} {:<12} at", "", "compared", "largest difference", "of 2^-40");

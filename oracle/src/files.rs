@@ -2,8 +2,6 @@
 //! by the static libraries; `files compare FOLDER` reads the WAV, RF64 and AIFF files that oracle/files had made of it,
 //! compares what the static libraries and what each program read with the tone, and so what each program read from the
 //! files written here.
-// The emulator that runs this on Arm cannot open what Rust's own `main` opens.
-#![no_main]
 
 use boundary as b;
 use std::{collections::BTreeMap, f64::consts::TAU, fs, io::Result, path::Path};
@@ -288,8 +286,12 @@ fn compare(folder: &Path) -> Result<i32> {
     Ok(i32::from(programs.is_empty() || programs.values().any(|s| s.wrong > 0)))
 }
 
-#[no_mangle]
-pub extern "C" fn main(_: i32, _: *const *const u8) -> i32 {
+fn main() {
+    std::process::exit(status())
+}
+
+/// What the program does, and the exit status that it ends with.
+fn status() -> i32 {
     let word = |n: usize| std::env::args().nth(n).unwrap_or_default();
     let folder = word(2);
     let done = match &word(1)[..] {

@@ -3,8 +3,6 @@
 //! `hostile SEED CALLS FROM LIMIT AGAIN`: the calls number FROM on, each export in its turn. Nothing may crash, and none may take longer than LIMIT seconds of the
 //! processor; after a refusal every byte that was lent is as it was, after an accepted call what it may not touch; no NaN is handed out but the one. A call's inputs come from the seed and its
 //! number alone, so a fault names both behind the command AGAIN. `hostile list` writes the exports' names.
-// The emulator that runs this on Arm cannot open what Rust's own `main` opens.
-#![no_main]
 
 mod random;
 mod hostile {
@@ -72,8 +70,12 @@ fn exports() -> Vec<OverKernel> {
     .collect()
 }
 
-#[no_mangle]
-pub extern "C" fn main(_: i32, _: *const *const u8) -> i32 {
+fn main() {
+    std::process::exit(status())
+}
+
+/// What the program does, and the exit status that it ends with.
+fn status() -> i32 {
     let exports = exports();
     if std::env::args().nth(1).as_deref() == Some("list") {
         exports.iter().for_each(|(name, _)| println!("{name}"));

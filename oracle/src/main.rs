@@ -3,8 +3,6 @@
 //! `main SEED ROUNDS SECONDS`: whole rounds over every subject, ROUNDS of them or, where SECONDS is
 //! not 0, until so many seconds have passed. Prints what was compared and how many, and stops at the
 //! first difference with exit status 1.
-// The emulator that runs this on Arm cannot open what Rust's own `main` opens.
-#![no_main]
 
 mod banks;
 mod context;
@@ -77,8 +75,12 @@ const SUBJECTS: &[fn(&mut Context)] = &[
     subjects::modulation::run,
 ];
 
-#[no_mangle]
-pub extern "C" fn main(_: i32, _: *const *const u8) -> i32 {
+fn main() {
+    std::process::exit(status())
+}
+
+/// What the program does, and the exit status that it ends with.
+fn status() -> i32 {
     let word = |n: usize| -> u64 {
         let text = std::env::args().nth(n).expect("SEED ROUNDS SECONDS");
         text.parse().expect("a number")

@@ -13,8 +13,6 @@
 //!
 //! `render finite SEED SAMPLES` writes samples of at most half of full scale, and no trailing
 //! part. `render wav` reads samples and writes them as a WAV file of one channel at 48000 Hz.
-// The emulator that runs this on Arm cannot open what Rust's own `main` opens.
-#![no_main]
 
 mod random;
 
@@ -104,8 +102,12 @@ fn input() -> Vec<u8> {
     bytes
 }
 
-#[no_mangle]
-pub extern "C" fn main(_: i32, _: *const *const u8) -> i32 {
+fn main() {
+    std::process::exit(status())
+}
+
+/// What the program does, and the exit status that it ends with.
+fn status() -> i32 {
     let words: Vec<String> = std::env::args().skip(1).collect();
     let number = |n: usize| -> u64 { words[n].parse().expect("a number") };
     let out = match words[0].as_str() {

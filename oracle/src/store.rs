@@ -4,7 +4,6 @@
 //! one blank between two. The answer is the line of stdout beside it, in words likewise, or stands
 //! among the words of the call, and stdout says how many there are. A float is its pattern; a NaN
 //! that is an answer is 7FF8000000000000, of f32 7FC00000. Every line of a list has the same length.
-#![no_main]
 
 mod random;
 mod lists {
@@ -66,8 +65,12 @@ pub fn pattern_f32(x: f32) -> u64 {
     }
 }
 
-#[no_mangle]
-pub extern "C" fn main(_: i32, _: *const *const u8) -> i32 {
+fn main() {
+    std::process::exit(status())
+}
+
+/// What the program does, and the exit status that it ends with.
+fn status() -> i32 {
     let dir = std::env::args().nth(1).expect("DIR");
     for (name, write) in LISTS {
         let mut list = List { stdin: String::new(), stdout: String::new() };

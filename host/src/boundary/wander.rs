@@ -11,15 +11,15 @@ numbers! {
 
 // The refusal's number, 0 for none; the value, 0.0 where it is refused, through the pointer.
 numbers! {
-    fn fugnadri_speed_delta as speed_delta(depth_cents: f64, result: &mut f64) -> u8;
-    fn fugnadri_advance_phase as advance_phase(phase: f64, rate_hz: f64, sample_rate: f64, result: &mut f64) -> u8;
-    fn fugnadri_shape_primitive as shape_primitive(phase: f64, shape: f64, result: &mut f64) -> u8;
-    fn fugnadri_oscillator_delay as oscillator_delay(phase: f64, rate_hz: f64, depth_cents: f64, shape: f64, sample_rate: f64, result: &mut f64) -> u8;
-    fn fugnadri_maximum_delay_excursion_samples as maximum_delay_excursion_samples(max_depth_cents: f64, min_rate_hz: f64, sample_rate: f64, result: &mut f64) -> u8;
+    fn fugnadri_speed_delta as speed_delta(depth_cents: f64, res: &mut f64) -> u8;
+    fn fugnadri_advance_phase as advance_phase(phase: f64, rate_hz: f64, sample_rate: f64, res: &mut f64) -> u8;
+    fn fugnadri_shape_primitive as shape_primitive(phase: f64, shape: f64, res: &mut f64) -> u8;
+    fn fugnadri_oscillator_delay as oscillator_delay(phase: f64, rate_hz: f64, depth_cents: f64, shape: f64, sample_rate: f64, res: &mut f64) -> u8;
+    fn fugnadri_maximum_delay_excursion_samples as maximum_delay_excursion_samples(max_depth_cents: f64, min_rate_hz: f64, sample_rate: f64, res: &mut f64) -> u8;
 }
 
 extern "C" {
-    fn fugnadri_maximum_rate_delta(depths_cents: *const f64, depths_cents_len: usize, result: &mut f64) -> u8;
+    fn fugnadri_maximum_rate_delta(depths_cents: *const f64, depths_cents_len: usize, res: &mut f64) -> u8;
 }
 
 #[inline]
