@@ -441,7 +441,7 @@ def turn(crate, fn, path, mode=None):
     # helpers over one place of the walk, `(c : tie.After-f) →` first
     over = {}
     for d in rest:
-        m = re.search(rf"^(?:abbrev |unfoldable )*(?:pub )?([^\s]+) : \((\w+) : tie\.([A-Z][{IDC}]*)\)", d, re.M)
+        m = re.search(rf"^(?:abbrev |unfoldable )*(?:pub )?([^\s]+) :\s+\((\w+) : tie\.([A-Z][{IDC}]*)(?: [{IDC}]+)*\)", d, re.M)
         if m and norm(m[3]) in fn.place:
             over[m[1]] = (m[2], fn.place[norm(m[3])])
     if mode is None:
@@ -471,7 +471,8 @@ def turn(crate, fn, path, mode=None):
                 return m[0]
             places_named.add(fn.place[norm(m[1])])
             return fn.place[norm(m[1])]
-        return re.sub(rf"\btie\.(?!Need-|spec|close|invariant|decreases)([A-Z][{IDC}]*)", place, t)
+        handed = "".join(rf"(?: {re.escape(i)})?" for i in inv_names)
+        return re.sub(rf"\btie\.(?!Need-|spec|close|invariant|decreases)([A-Z][{IDC}]*){handed}", place, t)
     head = re.sub(r"^use Rattle\.[^ ]*\.Statement\.\{\s*statement,?\s*\}\n", "", head, flags=re.M)
     head = "\n".join(l for l in head.split("\n") if not re.match(r"^use Rattle\.[^ ]*\.Statement\.", l))
     if mode == "B":
@@ -542,7 +543,7 @@ def turn(crate, fn, path, mode=None):
             text = None
         inv_text = None
         if invs:
-            uses = "\n".join(l for l in head.split("\n") if l.startswith("use ") and not l.endswith(".Goals as goal")
+            uses = "\n".join(l for l in head.split("\n") if l.startswith("use ") and ".Goals as goal" not in l and ".Goals.{" not in l
                              and ".Invariants.{" not in l)
             parts = []
             for r in moved:
