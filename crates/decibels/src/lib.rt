@@ -9,7 +9,7 @@ ghost use Rattle.decibels.specs.Decibels.{level_of};
 
 // The level of two stretches. There is none if nothing was compared or nothing differs; otherwise it is given by how
 // many tenths of a decibel it lies below +6.1 dB.
-#[derive(Drop)]
+#[derive(Clone, Copy)]
 pub enum Level {
     None,
     Below(u32),
