@@ -26,7 +26,7 @@ use Rattle.ring.specs.declared.Start.{Start}
 use Rattle.ring.proofs.Positions.{position-at-most}
 use Rattle.ring.proofs.HeldRuns as run
 use Rattle.cubic_farrow.specs.Cubic.{weighed}
-use Rattle.cubic_farrow_f32.specs.Draft.{draft_at, read_of}
+use Rattle.cubic_farrow_f32.specs.Draft.{read_of}
 use Rattle.cubic_farrow_f32.proofs.BothWays as ways
 
 -- The fraction is no larger than 1, as its narrowing asks.

@@ -1,7 +1,7 @@
 -- K3, K4. 000's cubic_sample_f32, which Draft reads: CubicFarrow's weights and their sum in single precision.
 -- Definitions only.
-use Rattle.std.specs.Prelude.{ℕ, false, cond, List, pos, ◌+ℤ◌, ◌-ℤ◌, Float}
-use Rattle.std.specs.Float.{fin, binary32}
+use Rattle.std.specs.Prelude.{ℕ, cond, List, pos, ◌+ℤ◌, ◌-ℤ◌, Float}
+use Rattle.std.specs.Float.{binary32}
 use Rattle.constants.specs.Numbers.{zero-f}
 use Rattle.rounding.specs.Operations.{narrowed}
 use Rattle.ring.specs.Taps.{tap_of}

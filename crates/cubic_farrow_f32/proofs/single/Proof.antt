@@ -3,7 +3,7 @@
 use borrow.Author.Rules.{rules}
 use mathlib.Core.Path.{◌≡◌, sym, subst, ◌∙◌, ap}
 use mathlib.Core.Bool.{false, not}
-use Prim.Native.Nat.{ℕ, ◌+◌, ◌-◌, ◌/◌, ◌^◌, ◌≤◌}
+use Prim.Native.Nat.{ℕ, ◌+◌, ◌-◌, ◌/◌, ◌^◌}
 use native.Mathlib.Nat.{zero-add}
 use native.Mathlib.Omega.{arith}
 use lib.Dec.{T}
@@ -35,7 +35,7 @@ reads x held r R =
     ∙ ap (λ (z : ℕ). narrowed (of_bits binary64 z)) (zero-add (to_bits binary64 x))
     ∙ ap narrowed (of_bits-to_bits binary64 x held)
 
-float-to-bits-b : tie.Need-float-to-bits-b
+float-to-bits-b : tie.Need-float_to_bits-b
 float-to-bits-b c = number c.args.x c.requires
 
 abbrev B : tie.Start → ℕ
@@ -44,28 +44,28 @@ B c = to_bits binary64 c.args.x
 abbrev pattern : ℕ → ℕ
 pattern b = (b - 0x3800_0000_0000_0000 + (0x0fff_ffff + bit_and (b / 2 ^ 29) 1)) / 2 ^ 29
 
-rounds : (c : tie.Then2) → Rounds (B c.before.before) (pattern (B c.before.before))
-rounds c = normal-code (B c.before.before) c.before.if1.true c.if2.true
+rounds : (c : tie.Then-b-lt5183643171103440896) → Rounds (B c.before.before) (pattern (B c.before.before))
+rounds c = normal-code (B c.before.before) c.before.if-b-ge4039728865751334912.true c.if-b-lt5183643171103440896.true
 
 held : (c : tie.Start) → T (fits binary64 c.args.x)
-held c = subst T (sym c.well-formed.0.1) tt
+held c = subst T (sym c.well_formed.0.1) tt
 
-add_r : tie.Need-overflow-add-r
+add_r : tie.Need-overflow_add-r
 add_r c = omega (arith, mask_lt (B c.before.before / 2 ^ 29) 1)
 
-add-r-2 : tie.Need-overflow-add-r-2
-add-r-2 c = omega (arith, mask_lt (B c.before.before / 2 ^ 29) 1, c.if2.true)
+add-r-2 : tie.Need-overflow_add-r-then-b-lt5183643171103440896
+add-r-2 c = omega (arith, mask_lt (B c.before.before / 2 ^ 29) 1, c.if-b-lt5183643171103440896.true)
 
-cast-result : tie.Need-overflow-cast-result
+cast-result : tie.Need-overflow_cast-result
 cast-result c = record { fits = omega (arith, (rounds c).small) }
 
-float-from-bits-result : tie.Need-float-from-bits-result
+float-from-bits-result : tie.Need-float_from_bits-result
 float-from-bits-result c = no_nan _ _ (rounds c)
 
-returns : tie.Need-returns
+returns : tie.Need-returns-then-b-lt5183643171103440896
 returns c = reads _ (held c.before.before) _ (rounds c)
 
-pub single-spec : {M : Type 1} → statement M
-single-spec =
+pub single_spec : {M : Type 1} → statement M
+single_spec =
     tie.close (tie.spec float-to-bits-b (λ c. search rules) add_r add-r-2 cast-result float-from-bits-result returns
     (λ c κs. search rules) (λ c. search rules))
