@@ -1,9 +1,8 @@
 # oracle/checked.sh builds the exports with the toolchain's checks of what LLVM assumes. It is sourced after
-# oracle/rust.sh, with `kit` and `out` set. `rt try` compiles a program three ways; the third has a check in front of
-# each assumption that the backend lets LLVM make, and fills what is not yet written with AA. `rt try` takes programs
-# alone. So a program that does nothing but depend on the libraries is tried, below target/, over an overlay of the kit
-# that keeps the module handed to clang; every function of the libraries is in it, and each export gets its C form as
-# the static library has it.
+# oracle/rust.sh, with `kit` and `out` set. `rt try` compiles a program with a check in front of each assumption that the
+# backend lets LLVM make. It takes programs alone. So a program that calls every export once is tried, below target/, in
+# a copy of the crates where the static libraries are libraries, over an overlay of the kit that keeps the module handed
+# to clang; and each export gets its C form as the static library has it.
 
 build_checked() { # leaves $out/libboundary.rlib over $out/libchecked.a
     signatures "$root"/crates/fugnadri*/src/*.rt >"$out/exported"
@@ -16,36 +15,64 @@ build_checked() { # leaves $out/libboundary.rlib over $out/libchecked.a
     "$clang" --target=x86_64-unknown-linux-gnu -march=x86-64 -ffunction-sections -fdata-sections -mllvm -trap-unreachable -mllvm -no-trap-after-noreturn \
         --no-default-config -c -x ir "$out/checked.ll" -o "$out/checked.o" -fPIC -O0 2>"$out/checked.log" || failed "the checked module does not compile: see target/hostile/checked.log"
     rm -f "$out/libchecked.a"
-    "$own/toolchain/bin/llvm-ar" rcs "$out/libchecked.a" "$out/checked.o"
+    "$kit/toolchain/bin/llvm-ar" rcs "$out/libchecked.a" "$out/checked.o"
     build rlib boundary "$root/host/src/boundary.rs" -L "native=$out" -l static=checked
 }
 
-# The module of the third way, as $out/module.bc.
+# The module that is compiled with checks, as $out/module.bc.
 try_module() {
-    own=$kit/on/$(uname -m) over=$out/kit/on/$(uname -m) repository=$out/repository
-    clang=$own/toolchain/bin/clang
-    rm -rf "$out/kit" "$repository" "$out/module.bc" && mkdir -p "$over/toolchain/bin" "$repository/crates/tried/src"
-    for f in "$kit"/*; do [ "$(basename "$f")" = on ] || ln -sfn "$f" "$out/kit/$(basename "$f")"; done
-    for f in "$own"/*; do [ "$(basename "$f")" = toolchain ] || ln -sfn "$f" "$over/$(basename "$f")"; done
-    for f in "$own"/toolchain/*; do [ "$(basename "$f")" = bin ] || ln -sfn "$f" "$over/toolchain/$(basename "$f")"; done
-    for f in "$own"/toolchain/bin/*; do printf '#!/bin/sh\nexec "%s" "$@"\n' "$f" >"$over/toolchain/bin/$(basename "$f")"; done
+    over=$out/kit repository=$out/repository clang=$kit/toolchain/bin/clang
+    rm -rf "$over" "$repository" "$out/module.bc" && mkdir -p "$over/bin" "$over/toolchain/bin" "$repository/crates/tried/src"
+    for f in "$kit"/*; do case ${f##*/} in bin | toolchain) ;; *) ln -s "$f" "$over/${f##*/}" ;; esac; done
+    # rt takes the kit that it stands in: so it is copied, and what it starts is linked
+    for f in "$kit"/bin/*; do case ${f##*/} in rt | *.py) cp "$f" "$over/bin" ;; *) ln -s "$f" "$over/bin/${f##*/}" ;; esac; done
+    ln -s "$kit/toolchain/lib" "$over/toolchain/lib"
+    for f in "$kit"/toolchain/bin/*; do printf '#!/bin/sh\nexec "%s" "$@"\n' "$f" >"$over/toolchain/bin/${f##*/}"; done
     printf '#!/bin/sh\nfor a in "$@"; do case $a in *.bc) cp "$a" "%s" ;; esac; done\nexec "%s" "$@"\n' "$out/module.bc" "$clang" >"$over/toolchain/bin/clang"
     chmod +x "$over"/toolchain/bin/*
-    for f in "$root"/crates/*; do ln -sfn "$f" "$repository/crates/$(basename "$f")"; done
-    { cat "$root/crates.txt" && echo "tried: $(doors | tr '\n' ' ')"; } >"$repository/crates.txt"
-    echo 'fn main() {}' >"$repository/crates/tried/src/main.rt"
-    (cd "$repository" && RATTLE_HOME=$out/kit rt try tried) >"$out/try.log" 2>&1 || {
-        # rt try hands the compiler every library at once, and it does not tell a module from a crate of its name
-        for name in $(sed -n 's/^\([a-z0-9_]*\):.*/\1/p' "$root/crates.txt"); do ls "$root"/crates/*/src/"$name".rt 2>/dev/null; done >>"$out/try.log" || true
-        failed "rt try fails: see target/hostile/try.log, which ends with the modules that bear a crate's name, if there are any: give them another"
-    }
+    for crate in "$root"/crates/*/; do
+        to=$repository/crates/$(basename "$crate")
+        mkdir -p "$to"
+        for part in src specs proofs; do [ ! -d "$crate/$part" ] || cp -r "$crate/$part" "$to/$part"; done
+    done
+    { sed 's/ staticlib:/:/' "$root/crates.txt" && echo "tried: $(doors | tr '\n' ' ')"; } >"$repository/crates.txt"
+    for door in $(doors); do
+        for source in "$root/crates/$door"/src/*.rt; do
+            module=$(basename "$source" .rt)
+            case $module in lib) path=$door ;; *) path=$door::$module ;; esac
+            sed -e 's|//.*||' "$source" | tr '\n' ' ' | grep -o 'fn fugnadri_[a-z0-9_]*([^)]*)' | sed "s/^fn /$path::/"
+        done
+    done | calls >"$repository/crates/tried/src/main.rt"
+    (cd "$repository/crates/tried" && "$over/bin/rt" try </dev/null) >"$out/try.log" 2>&1 || failed "rt try fails: see target/hostile/try.log"
     [ -f "$out/module.bc" ] || missing "this kit's rt try hands clang no module: see target/hostile/try.log; --checked cannot be had"
 }
 
-# The C form of each export: a slice comes as a pointer and a length, and goes on as the address of both.
+# A program that calls each export once, on zeros: only what is called is in the module.
+calls() {
+    awk '
+        function zero(type) { return type ~ /^f/ ? "0.0" : "0" }
+        BEGIN { print "#![tactic(auto)]\n" }
+        {
+            path = $0; sub(/\(.*/, "", path); line = $0; sub(/^[^(]*\( */, "", line); sub(/,? *\) *$/, "", line)
+            many = split(line, part, / *, +/); lets = handed = ""
+            for (i = 1; i <= many; i++) {
+                type = part[i]; sub(/^[a-z0-9_]*: */, "", type); sub(/^&\047a /, "\\&", type)
+                lent = ""; if (type ~ /^&/) lent = "&"; if (type ~ /^&mut /) lent = "&mut "
+                sub(/^&(mut )?/, "", type); size = 0
+                if (type ~ /^\[/) { size = 1; gsub(/[\[\]]/, "", type); if (split(type, both, "; ") == 2) { type = both[1]; size = both[2] } }
+                lets = lets "    let " (lent == "&mut " ? "mut " : "") "p" i (size ? " = [" zero(type) type "; " size "]" : ": " type " = " zero(type)) ";\n"
+                handed = handed (i > 1 ? ", " : "") lent "p" i
+            }
+            print "fn call_" NR "() {\n" lets "    " path "(" handed ");\n}\n"
+            all = all "    call_" NR "();\n"
+        }
+        END { print "fn main() {\n" all "}" }'
+}
+
+# The C form of each export: a slice is a pointer and a length in both.
 c_forms() { # MODULE SIGNATURES
     awk '
-        BEGIN { split("usize i64 u64 i64 i64 i64 u32 i32 u8 i8 f64 double f32 float", w, " "); for (i = 1; i in w; i += 2) is[w[i]] = w[i + 1] }
+        BEGIN { split("usize i64 u64 i64 i64 i64 u32 i32 i32 i32 u8 i8 f64 double f32 float", w, " "); for (i = 1; i in w; i += 2) is[w[i]] = w[i + 1] }
         NR == FNR {
             if (match($0, /^define [^@]*@"[a-z0-9_:]*::fugnadri_[a-z0-9_]*"\(/)) {
                 whole = substr($0, RSTART, RLENGTH); sub(/^[^@]*/, "", whole); sub(/\($/, "", whole)
@@ -60,26 +87,15 @@ c_forms() { # MODULE SIGNATURES
             if (!(name in inner)) { print name > "/dev/stderr"; bad = 1; exit }
             result = line; if (!sub(/.* -> /, "", result)) result = ""
             sub(/^[^(]*\(/, "", line); sub(/\).*/, "", line)
-            many = split(line, part, ", "); formal = handed = body = ""
+            many = split(line, part, ", "); formal = ""
             for (i = 1; i <= many; i++) {
                 type = part[i]; sub(/^[a-z0-9_]*: /, "", type)
-                from = "%a" i
-                if (type ~ /^\*/) {
-                    t = "ptr"
-                    body = body "  %s" i " = alloca [16 x i8], align 8\n  store ptr " from ", ptr %s" i ", align 8\n  %l" i " = getelementptr i8, ptr %s" i ", i64 8\n  store i64 %a" (i + 1) ", ptr %l" i ", align 8\n"
-                    handed = handed (handed == "" ? "" : ", ") "ptr %s" i
-                    formal = formal (formal == "" ? "" : ", ") "ptr noundef " from ", i64 noundef %a" (i + 1)
-                    i++
-                    continue
-                }
-                t = type ~ /^&mut / ? "ptr" : is[type]
-                formal = formal (formal == "" ? "" : ", ") t " noundef " from
-                handed = handed (handed == "" ? "" : ", ") t " " from
+                formal = formal (i > 1 ? ", " : "") (type ~ /^(\*|&mut )/ ? "ptr" : is[type]) " noundef %a" i
             }
             if (result == "")
-                printf "\ndefine void @%s(%s) {\nstart:\n%s  call void %s(%s)\n  ret void\n}\n", name, formal, body, inner[name], handed
+                printf "\ndefine void @%s(%s) {\nstart:\n  call void %s(%s)\n  ret void\n}\n", name, formal, inner[name], formal
             else
-                printf "\ndefine noundef %s @%s(%s) {\nstart:\n%s  %%r = call %s %s(%s)\n  ret %s %%r\n}\n", is[result], name, formal, body, is[result], inner[name], handed, is[result]
+                printf "\ndefine noundef %s @%s(%s) {\nstart:\n  %%r = call noundef %s %s(%s)\n  ret %s %%r\n}\n", is[result], name, formal, is[result], inner[name], formal, is[result]
         }
         END { exit bad }
     ' "$1" "$2"
