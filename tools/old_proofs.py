@@ -48,15 +48,19 @@ def labels(root):
             m = re.match(r"^\s*(?:pub(?:\(\w+\))? )?(?:const )?(?:unsafe )?(?:extern \"C\" )?fn (\w+)", l)
             if m:
                 cur = (p.split("/crates/")[1].split("/")[0], m[1])
-                LABELS.setdefault(cur, []).append({"ensures": [], "requires": []})
+                mod = os.path.splitext(p.split("/src/")[1])[0].split("/")
+                LABELS.setdefault(cur, []).append({"ensures": [], "requires": [], "mod": mod})
             m = re.match(r"^\s+(ensures|requires) (\w+ )?\{", l)
             if m and cur:
                 LABELS[cur][-1][m[1]].append((m[2] or "").strip())
 
 
-def labels_of(crate, name, kind):
-    """The labels, where every function of that name that can be meant agrees."""
+def labels_of(crate, name, kind, path=None):
+    """The labels, where every function of that name that can be meant agrees; of the function at path, if it is given."""
     got = LABELS.get((crate, name)) or [x for (c, n), xs in LABELS.items() if n == name for x in xs]
+    if path and len(got) > 1:
+        mods = path.split(".")[:-1] or ["lib"]
+        got = [x for x in got if x["mod"] == mods] or got
     sets = {tuple(x[kind]) for x in got}
     return list(next(iter(sets))) if len(sets) == 1 else None
 
@@ -171,6 +175,11 @@ class Fn:
         for pl in v["places"]:
             for o, n in pl[4]:
                 self.field.setdefault(pl[2][1], {}).setdefault(o, set()).add(n)
+        # what a call leaves in its arguments goes by the parameter's name
+        self.news = {}
+        for pl in v["places"]:
+            if pl[2][1] and pl[3] and v.get("params", {}).get(pl[3]):
+                self.news[pl[2][1]] = v["params"][pl[3]]
         self.clauses = {}
         for pl, cl in zip(v["places"], v["clauses"]):
             if cl and cl.get("fields") and pl[2][1]:
@@ -288,6 +297,9 @@ def steps(fn, t, say, by_label=True):
                 return m[0]
             return m[1] + next(iter(ns))
         t = re.sub(rf"(\.{re.escape(st)}\.)([A-Za-z][{IDC}]*)", fd, t)
+    for st, ps in fn.news.items():
+        t = re.sub(rf"(\.{re.escape(st)}\.new)\.([0-9]+)(?![{IDC}])",
+                   lambda m: m[1] + "." + ps[int(m[2])] if int(m[2]) < len(ps) else m[0], t)
     for st, fields in fn.clauses.items() if by_label else ():
         def cl(m):
             if len(fields) == 1:
@@ -349,6 +361,19 @@ def steps(fn, t, say, by_label=True):
     return t
 
 
+def without_ways(text):
+    """Writes out `abbrev begun : tie.PLACE .. → tie.EARLIER ..` with `begun c = c.before..` where it is used."""
+    while True:
+        m = re.search(rf"^abbrev ([^\s]+) :\s+tie\.[A-Z][^→]*→\s+tie\.[A-Z][^→\n]*\n\1 (\w+) = \2((?:\.before)+)\n+",
+                      text, re.M)
+        if not m:
+            return text
+        name, chain = m[1], m[3]
+        text = text[:m.start()] + text[m.end():]
+        text = re.sub(rf"\({re.escape(name)} ([a-z][{IDC}]*(?:\.before)*)\)", rf"\1{chain}", text)
+        text = re.sub(rf"(?<![{IDC}.]){re.escape(name)} ([a-z][{IDC}]*(?:\.before)*)(?![{IDC}.])", rf"\1{chain}", text)
+
+
 def turn(crate, fn, path, mode=None):
     """path: the folder of the function's proof."""
     said = []
@@ -356,6 +381,7 @@ def turn(crate, fn, path, mode=None):
     p = os.path.join(path, "Proof.antt")
     with open(p) as f:
         text = f.read()
+    text = without_ways(text)
     ds = decls(text)
     head, ds = ds[0], ds[1:]
     # the last piece that closes
@@ -418,14 +444,14 @@ def turn(crate, fn, path, mode=None):
 
     def goal_labels(g):
         if g and g.startswith("returns"):
-            return labels_of(cratename, own, "ensures")
+            return labels_of(cratename, own, "ensures", fnpath)
         m = re.match(r"^(\w+)(-\w+)*-requires", g or "")
         if m:
             return labels_of(cratename, m[1], "requires")
         return None
 
     def own_requires(t):
-        ls = labels_of(cratename, own, "requires")
+        ls = labels_of(cratename, own, "requires", fnpath)
         if not ls or len(ls) < 2 or not all(ls):
             return t
         def one(m):
