@@ -1,6 +1,7 @@
 -- W7. Cutting a stretch of samples differently gives the same report, and so does cutting it into any blocks. By
 -- induction over the samples. Assumes nothing.
-use Rattle.std.proofs.Common.{◌≡◌, ℕ, suc, ◌+◌, ◌≤◌, min, max, List, [], ◌∷◌, ◌++◌, length, sym, refl, ap, ◌∙◌, add-zero, zero-add, arith}
+use Rattle.std.proofs.Common.{◌≡◌, ℕ, suc, ◌+◌, ◌≤◌, min, max, List, [], ◌∷◌, ◌++◌, length, sym, refl, ap, ◌∙◌}
+use Rattle.std.proofs.Common.{add-zero, zero-add, arith}
 use mathlib.Core.List.{flatten}
 use lib.Ieee.{Float}
 use Rattle.sizes.specs.Sizes.{most}

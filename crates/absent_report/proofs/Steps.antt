@@ -1,6 +1,8 @@
 -- One sample more: from what the code holds, as a block of one, and at the end of the samples that are counted so far.
 -- Assumes nothing.
-use Rattle.std.proofs.Common.{◌≡◌, ℕ, ◌+◌, ◌-◌, ◌<◌, min, Bool, true, false, eqb, leb, List, [], ◌∷◌, length, get_or, take, sym, refl, ap, ◌∙◌, add-zero, add-one, arith, length-take-le, take_all, take-suc, eq-eqb, ne_eqb, eqb-true, leb-false, leb-true}
+use Rattle.std.proofs.Common.{◌≡◌, ℕ, ◌+◌, ◌-◌, ◌<◌, min, Bool, true, false, eqb, leb, List, [], ◌∷◌, length, get_or}
+use Rattle.std.proofs.Common.{take, sym, refl, ap, ◌∙◌, add-zero, add-one, arith, length-take-le, take_all, take-suc}
+use Rattle.std.proofs.Common.{eq-eqb, ne_eqb, eqb-true, leb-false, leb-true}
 use borrow.Author.Tests.{eqb-false}
 use lib.Ieee.{Float}
 use Rattle.constants.specs.Numbers.{limit}

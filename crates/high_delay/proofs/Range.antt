@@ -1,7 +1,8 @@
 -- W11e. Between two delays from 0 to 2^34 every phase's delay lies from 0 to 2^34, so that 4 times it is at most 2^36.
 -- The lower end follows from the order alone. For the upper end, the difference is off by at most 2^-20, and 2^34 +
 -- 2^-20 rounds to 2^34. Assumes nothing.
-use Rattle.std.proofs.Common.{◌≡◌, ℕ, ◌+◌, ◌*◌, ◌^◌, ◌<◌, ◌≤◌, true, false, T, pos, refl, ◌∙◌, inl, inr, mul-le-mul_right, mul-le-mul_left, mul-pos, le_of_mul-le-mul_right, arith, lit<, lit≤}
+use Rattle.std.proofs.Common.{◌≡◌, ℕ, ◌+◌, ◌*◌, ◌^◌, ◌<◌, ◌≤◌, true, false, T, pos, refl, ◌∙◌, inl, inr}
+use Rattle.std.proofs.Common.{mul-le-mul_right, mul-le-mul_left, mul-pos, le_of_mul-le-mul_right, arith, lit<, lit≤}
 use lib.Ieee.{Float, fin, binary64, round, neg, add, sub, mul, lt, le, fits}
 use lib.Ieee.Fits.{neg-fits, add-fits}
 use lib.Ieee.Positive.{den, den_pos}

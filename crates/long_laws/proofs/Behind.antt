@@ -111,7 +111,8 @@ module _ (tag_of : List ℕ → ℕ → ℕ) (b : List ℕ) (size : ℕ) (z : ve
   room : 12 + 8 ≤ end_of b size
   room =
       let over = not-true _ (both_hold (riff_held b size) (not (walk_in b size).overruns) (test 5)).1 in
-      let inside = fits (end_of b size) data_id (walked_from riff_sought (chunk_in b) (end_of b size) 12) over (test 7) in
+      let inside = fits (end_of b size) data_id (walked_from riff_sought (chunk_in b) (end_of b size) 12) over
+      (test 7) in
       omega (arith, behind-12, inside)
 
   long-prefix : length prefix ≡ start
@@ -129,7 +130,8 @@ module _ (tag_of : List ℕ → ℕ → ℕ) (b : List ℕ) (size : ℕ) (z : ve
           let made : has_letters prefix && (is_long prefix && leb 20 size) ≡ false =
           ap (λ (t : Bool). has_letters prefix && (t && leb 20 size)) m ∙ and-false (has_letters prefix) in
           met-12 prefix size (omega (arith, behind-12, long-prefix))
-          (unmade (length prefix) (has_letters prefix && (is_long prefix && leb 20 size)) 20 (fixed_of prefix size) made)
+          (unmade (length prefix) (has_letters prefix && (is_long prefix && leb 20 size)) 20 (fixed_of prefix size)
+          made)
       by true l =
           let d : has_ds64 b size ≡ true = sym (rw l) ∙ test 3 in
           let table = table_before b size d (test 7) room in
@@ -168,7 +170,8 @@ module _ (tag_of : List ℕ → ℕ → ℕ) (b : List ℕ) (size : ℕ) (z : ve
       chunks : walked_from riff_sought (chunk_in b) (end_of b size) 12
           ≡ walked_from riff_sought (chunk_in prefix) (end_of b size) 12
       chunks =
-          same-up-to (chunk_in b) (chunk_in prefix) (end_of b size) riff_sought refl (λ at. refl) start alike 12 (test 7)
+          same-up-to (chunk_in b) (chunk_in prefix) (end_of b size) riff_sought refl (λ at. refl) start alike 12
+          (test 7)
           (omega arith)
 
   decides : (c : List ℕ) → start ≤ length c → length c ≤ size → prefix ≡ take start c
@@ -195,7 +198,8 @@ header-decides tag_of b c size w e same h inside =
     ∙ e
 
 -- W10b. So those bytes alone are answered as the file is, whatever follows.
-pub prefix-decides : (tag_of : List ℕ → ℕ → ℕ) (b : List ℕ) (size : ℕ) (w : Wave) → header_by tag_of b size ≡ found.Wave w
+pub prefix-decides : (tag_of : List ℕ → ℕ → ℕ) (b : List ℕ) (size : ℕ) (w : Wave) → header_by tag_of b size
+    ≡ found.Wave w
     → header_by tag_of (take w.start b) size ≡ found.Wave w
 prefix-decides tag_of b size w e =
     let o = wave-of (verdict tag_of b size) (wave_in tag_of b size) w e in

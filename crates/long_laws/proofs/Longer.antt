@@ -109,7 +109,8 @@ module _ (tag_of : List ℕ → ℕ → ℕ) (b c : List ℕ) (size : ℕ) (long
           → fmt_in b size ≡ part_of c (walk_in b size).format.body (walk_in b size).format.size
       body q f g =
           let o = in_order riff_sought (chunk_in b) (λ at. refl) end refl refl end (leb (12 + 8) end) 12 f g in
-          let n = found-at-hand (length b) riff_sought.samples (walked_from riff_sought (chunk_in b) end 12) at-hand g in
+          let n = found-at-hand (length b) riff_sought.samples (walked_from riff_sought (chunk_in b) end 12) at-hand
+          g in
           same-part (length b) b c same (walk_in b size).format.body (walk_in b size).format.size (omega arith)
 
   -- W10b. More bytes are answered alike.

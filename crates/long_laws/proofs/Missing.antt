@@ -39,7 +39,8 @@ more-at-hand n m (c ∷ cs) h z =
     let a = here n c cs z in
     there m c cs (omega (arith, a.0)) (more-at-hand n m cs h a.1)
 
-pub found-at-hand : (n id : ℕ) (cs : List Chunk) → missing n cs ≡ 0 → (first id cs).found ≡ true → (first id cs).body ≤ n
+pub found-at-hand : (n id : ℕ) (cs : List Chunk) → missing n cs ≡ 0 → (first id cs).found ≡ true
+    → (first id cs).body ≤ n
 unfolding first
 found-at-hand n id [] z f = absurd (true≢false (sym f))
 found-at-hand n id (c ∷ cs) z f = let a = here n c cs z in by (eqb c.id id) f a.0 (found-at-hand n id cs a.1)
@@ -71,7 +72,8 @@ module _ (s : Sought) (f : ℕ → Chunk) (placed : Placed f) (end n : ℕ) wher
         by true z h = refl
         by false z h = h z
 
-    pub same-at-hand : (at : ℕ) → missing n (walked_from s f end at) ≡ 0 → walked_from s f end at ≡ walked_from s g end at
+    pub same-at-hand : (at : ℕ) → missing n (walked_from s f end at) ≡ 0 → walked_from s f end at
+        ≡ walked_from s g end at
     same-at-hand at z = same_from end (leb (at + 8) end) at z
 
   -- The heads up to the samples.

@@ -5,7 +5,8 @@ use mathlib.Core.Path.{◌≡◌, ap, ◌∙◌}
 use Prim.Native.Nat.{ℕ, zero, suc}
 use lib.Count.{count_trailing_zeros}
 use lib.Dec.{T, lit≤}
-use lib.Ieee.{Float, binary64, size, span, climb, odd, units, round, neg, sum, add, sub, mul, div, lt, eq, le, of_fields}
+use lib.Ieee.{Float, binary64, size, span, climb, odd, units, round, neg, sum, add, sub, mul, div, lt, eq, le}
+use lib.Ieee.{of_fields}
 use lib.Ieee.{of_bits}
 use lib.Ieee.Bits.{is_true}
 use lib.Ieee.Fits.{and_i, and_l, and_r}
@@ -75,11 +76,13 @@ module _ (amount phase : Float) (real : T (finite amount)) (cycle : T (cycle_ok 
       b.below.order
 
   right : Cosines (add binary64 phase (value (at displaced phase) side))
-  unfolding lies sure ends count_trailing_zeros size span climb odd units round neg sum add mul lt eq le of_fields of_bits
+  unfolding lies sure ends count_trailing_zeros size span climb odd units round neg sum add mul lt eq le of_fields
+      of_bits
   right = cosines-answer _ (near (plus (var 1) side) tt)
 
   left : Cosines (add binary64 phase (neg (value (at displaced phase) side)))
-  unfolding lies sure ends count_trailing_zeros size span climb odd units round neg sum add sub mul lt eq le of_fields of_bits
+  unfolding lies sure ends count_trailing_zeros size span climb odd units round neg sum add sub mul lt eq le
+      of_fields of_bits
   left = cosines-answer _ (near (minus (var 1) side) tt)
 
 -- ---- a drift

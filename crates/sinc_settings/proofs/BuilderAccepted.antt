@@ -21,7 +21,8 @@ fitting s len h =
     let p = passed (settings_ok s) (eqb len (table_length s.taps s.phases)) true true true true true true h in
     record { settings = is_true _ p.p1; long = eqb→eq len (table_length s.taps s.phases) p.p2 }
 
-pub by-rate : (s : Settings) (rate passband : Float) (len : ℕ) → rate_verdict s rate passband len ≡ 0 → verdict s len ≡ 0
+pub by-rate : (s : Settings) (rate passband : Float) (len : ℕ) → rate_verdict s rate passband len ≡ 0
+    → verdict s len ≡ 0
 by-rate s rate passband len h =
     let p =
     passed ((rate_ok rate && passband_ok passband) && settings_ok s)

@@ -54,5 +54,6 @@ then xs a b at {r} {q} {ys} {zs} p s = by (leb (at + length a) (length xs)) refl
               (min-eq_left (omega arith) ∙ sym (min-eq_left (omega arith)));
           out_after =
               s.out_after
-              ∙ rw (p.out_after, end) (past (length xs) (omega arith) ∙ sym (put_both a b xs at ∙ past (at + length a) h));
+              ∙ rw (p.out_after, end) (past (length xs) (omega arith)
+              ∙ sym (put_both a b xs at ∙ past (at + length a) h));
         }

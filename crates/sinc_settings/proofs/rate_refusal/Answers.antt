@@ -10,7 +10,8 @@ tested : (c : After-rate_ok) → let a = c.args in
 tested c = sym c.rate_ok.ensures
 
 pub returns-then-rate_ok : goal.returns-then-rate_ok
-returns-then-rate_ok c = c.refusal.ensures ∙ rw (tested (goal.at.returns-then-rate_ok c).After-rate_ok ∙ c.if-rate_ok.true)
+returns-then-rate_ok c = c.refusal.ensures ∙ rw (tested (goal.at.returns-then-rate_ok c).After-rate_ok
+    ∙ c.if-rate_ok.true)
 
 pub returns-else-rate_ok : goal.returns-else-rate_ok
 returns-else-rate_ok c = rw (tested (goal.at.returns-else-rate_ok c).After-rate_ok ∙ c.if-rate_ok.false)

@@ -34,4 +34,5 @@ returns-3 c = rw (tested c.before, c.if-both.false)
 
 pub table_refusal_spec : {M : Type 1} → statement M
 table_refusal_spec =
-    tie.close (tie.spec (λ c κs. search rules) (λ c κs. search rules) (λ c κs. search rules) add-if2 mul-if2 returns returns-2 returns-3)
+    tie.close (tie.spec (λ c κs. search rules) (λ c κs. search rules) (λ c κs. search rules) add-if2 mul-if2 returns
+    returns-2 returns-3)

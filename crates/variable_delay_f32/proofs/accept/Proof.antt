@@ -66,4 +66,5 @@ returns-2 c =
 
 pub accept_spec : {M : Type 1} → statement M
 accept_spec =
-    tie.close (tie.spec (λ c κs. search rules) returns (λ c κs. search rules) mul-ring slice-write-ring add-t14 cast-t15 int-to-float-t16 (λ c. search rules) returns-2)
+    tie.close (tie.spec (λ c κs. search rules) returns (λ c κs. search rules) mul-ring slice-write-ring add-t14
+    cast-t15 int-to-float-t16 (λ c. search rules) returns-2)

@@ -8,7 +8,11 @@ returns-then-length-opening c = rw (lt-leb _ _ c.if-length-opening.true)
 
 pub returns-then-opening_needs-ne0 : goal.returns-then-opening_needs-ne0
 returns-then-opening_needs-ne0 c =
-    rw (le-leb _ _ c.if-length-opening.false, ne_eqb _ _ (λ h. c.if-opening_needs-ne0.true (c.opening_needs.ensures ∙ h)))
+    rw (
+      le-leb _ _ c.if-length-opening.false,
+      ne_eqb _ _
+          (λ h. c.if-opening_needs-ne0.true (c.opening_needs.ensures ∙ h)),
+    )
 
 pub returns : goal.returns
 returns c =

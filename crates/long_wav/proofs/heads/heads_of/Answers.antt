@@ -25,7 +25,8 @@ overflow_add-result c =
 pub returns-then-prefix-at : goal.returns-then-prefix-at
 returns-then-prefix-at c =
     record {
-      asked_value = stopped c.args.prefix.now c.args.end c.loop-walking.walking c.loop-walking.invariant c.loop-walking-test.true
+      asked_value = stopped c.args.prefix.now c.args.end c.loop-walking.walking c.loop-walking.invariant
+          c.loop-walking-test.true
           c.if-prefix-at.true;
       seen_value = λ z. absurd (omega (arith, z));
     }
@@ -50,6 +51,7 @@ pub returns : goal.returns
 returns c =
     let b = c.args.prefix.now in record {
       asked_value = ended b c.args.end c.loop-walking.walking c.loop-walking.invariant c.loop-walking-test.false;
-      seen_value = λ z. on-ended riff_sought (chunk_in b) (λ at. refl) c.args.end c.loop-walking.walking c.loop-walking-test.false
+      seen_value = λ z. on-ended riff_sought (chunk_in b) (λ at. refl) c.args.end c.loop-walking.walking
+          c.loop-walking-test.false
           c.loop-walking.invariant.on;
     }
