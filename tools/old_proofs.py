@@ -353,6 +353,11 @@ def steps(fn, t, say, by_label=True):
     t = re.sub(r"\.fits(?=\.)", ".ranges", t)
     t = re.sub(r"\.good(?=\.[01])", ".well_formed", t)
     t = re.sub(r"\.type-inv\b", ".type_inv", t)
+    # what an arm knows of the value that is matched
+    t = re.sub(rf"\.enum_told-(in-[{IDC}]+?)-1\.given\.1\b", r".\1.is", t)
+    arms = [new for pl in fn.v["places"] for new in (pl[2][1],) if new and new.startswith("in-")]
+    if arms:
+        t = re.sub(r"\.enum_told\.given\.1\b", f".{arms[0]}.is", t)
     # the two ways of a test
     t = re.sub(rf"(\.if-[{IDC}]+)\.taken\b", r"\1.true", t)
     t = re.sub(rf"(\.if-[{IDC}]+)\.left\b", r"\1.false", t)
