@@ -1,14 +1,12 @@
 -- `aiff_samples::places::three_of_four_at` meets its contract: of four bytes read low byte first, the first three are
 -- reversed. Assumes nothing.
-use borrow.Author.Rules.{rules}
 use mathlib.Core.Path.{◌≡◌, ap, ◌∙◌}
 use Prim.Native.Nat.{ℕ, ◌+◌, ◌*◌, ◌/◌, ◌%◌, ◌<◌}
 use native.Mathlib.Omega.{arith}
 use Rattle.word_bytes.specs.Bytes.{bytes_value}
 use Rattle.high_first.specs.High.{big_value}
 use Rattle.aiff_samples.proofs.Bytes.{three-bytes}
-use Rattle.aiff_samples.proofs.places.three_of_four_at.Statement.{statement}
-use Rattle.aiff_samples.proofs.places.three_of_four_at.Tie as tie
+use Rattle.aiff_samples.proofs.places.three_of_four_at.Goals as goal
 
 -- Dividing by 256 or by 65536 removes the lowest byte or the lowest two.
 but-one : (x a w : ℕ) → a < 256 → w ≡ x * 256 + a → w / 256 ≡ x
@@ -27,17 +25,12 @@ turned a b c d v w h i j e k =
     rw (but-two (d * 256 + c) (b * 256 + a) w (omega arith) (omega arith)) (omega arith) in
     omega arith
 
-returns : tie.Need-returns
+pub returns : goal.returns
 unfolding bytes_value
 returns c =
-    let o = c.before in
-    let known = o.before in
-    let s = known.before.args in
-    let byte = known.shared-slice-known.given in
-    turned _ _ _ _ c.first_three.result o.low-four-at.result
+    let s = c.args in
+    let byte = c.shared_slice_known-1.given in
+    turned _ _ _ _ c.first_three.result c.low_four_at.result
     (omega (arith, byte s.at)) (omega (arith, byte (s.at + 1))) (omega (arith, byte (s.at + 2)))
-    o.low-four-at.ensures c.first_three.ensures
-    ∙ omega (arith, ap big_value (three-bytes s.part.now s.at (omega (arith, known.before.requires))))
-
-pub three-of-four-at-spec : {M : Type 1} → statement M
-three-of-four-at-spec = tie.close (tie.spec (λ c κs. search rules) (λ c κs. search rules) returns)
+    c.low_four_at.ensures c.first_three.ensures
+    ∙ omega (arith, ap big_value (three-bytes s.part.now s.at (omega (arith, c.requires))))
