@@ -1,8 +1,8 @@
 # oracle/checked.sh builds the exports with the toolchain's checks of what LLVM assumes. It is sourced after
-# oracle/rust.sh, with `kit` and `out` set. `rt try` compiles a program with a check in front of each assumption that the
-# backend lets LLVM make. It takes programs alone. So a program that calls every export once is tried, below target/, in
-# a copy of the crates where the static libraries are libraries, over an overlay of the kit that keeps the module handed
-# to clang; and each export gets its C form as the static library has it.
+# oracle/rust.sh, with `kit` and `out` set. `rt try` compiles a program with a check in front of each assumption that
+# the backend lets LLVM make. It takes programs alone. So a program that calls every export once is tried, below
+# target/, in a copy of the crates where the static libraries are libraries, over an overlay of the kit that keeps the
+# module handed to clang; and each export gets its C form as the static library has it.
 
 build_checked() { # leaves $out/libboundary.rlib over $out/libchecked.a
     signatures "$root"/crates/fugnadri*/src/*.rt >"$out/exported"
