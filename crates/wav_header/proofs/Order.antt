@@ -36,4 +36,5 @@ module _ (kind : SampleKind) (channels rate count : ℕ) where
   pub refused-keeps : (old : List ℕ) → (header_verdict kind channels rate count (length old) ≡ 0 → ⊥)
       → header_in kind channels rate count old ≡ old
   refused-keeps old h =
-      sym (kept (header_verdict kind channels rate count (length old)) _ (header_of kind channels rate count) old refl h)
+      sym (kept (header_verdict kind channels rate count (length old)) _ (header_of kind channels rate count) old refl
+      h)

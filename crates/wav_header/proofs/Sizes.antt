@@ -1,7 +1,7 @@
 -- W2. The length of a file of fewer than 2^32 samples fits a word, and that of a longer one does not fit 32 bits. By
 -- the kinds. Assumes nothing.
 use mathlib.Core.Path.{◌≡◌, refl}
-use mathlib.Core.Bool.{true, ◌&&◌}
+use mathlib.Core.Bool.{true}
 use Prim.Native.Nat.{ℕ, ◌-◌, ◌^◌, ◌≤◌, ◌<◌}
 use native.Mathlib.Omega.{arith}
 use borrow.Author.Tests.{leb-true}
@@ -9,9 +9,7 @@ use Rattle.sample_kind.specs.declared.SampleKind.{SampleKind}
 use Rattle.sample_kind.specs.declared.SampleKind.TheVariants.{Pcm16, Pcm24, Float32}
 use Rattle.sample_kind.specs.Kinds.{width_of}
 use Rattle.wav_header.specs.Header.{header_length, size_of, file_length}
-use Rattle.wav_header.proofs.Planned.{both_hold}
-use Rattle.wav_header.specs.Refusals.{fits_riff, count_ok}
-use Rattle.wav_settings.specs.Settings.{one_or_two, whole_frames}
+use Rattle.wav_header.specs.Refusals.{fits_riff}
 
 pub few_bytes : (kind : SampleKind) (count : ℕ) → count < 2 ^ 32 → size_of kind count < 2 ^ 34
 few_bytes Pcm16 count h = omega arith

@@ -1,5 +1,5 @@
 -- W2. The refusal of a header, and what the lent block holds afterwards. Definitions only.
-use Rattle.std.specs.Prelude.{ℕ, zero, suc, ◌-◌, ◌^◌, Bool, false, cond, ◌&&◌, List, [], ◌∷◌, eqb, leb, length}
+use Rattle.std.specs.Prelude.{ℕ, zero, suc, ◌-◌, ◌^◌, Bool, false, ◌&&◌, List, [], ◌∷◌, eqb, leb, length}
 use Rattle.refusal_order.specs.Order.{◌unless◌, first_of}
 use Rattle.sample_kind.specs.declared.SampleKind.{SampleKind}
 use Rattle.wav_settings.specs.Settings.{rate_ok, one_or_two, whole_frames}
