@@ -184,6 +184,12 @@ class Fn:
         for pl, cl in zip(v["places"], v["clauses"]):
             if cl and cl.get("fields") and pl[2][1]:
                 self.clauses[pl[2][1]] = cl["fields"]
+        # what an arm of a `match` tells: of an older step, the path to it
+        self.arm = {}
+        for a in v.get("arms") or []:
+            for new, old, path in (a[2] if a else []):
+                if path and path[0] == "given":
+                    self.arm.setdefault((norm(old), tuple(path)), set()).add(f"{a[0]}.{new}")
         self.loops = [(a, b) for a, b in v["loops"]]
         self.changed = v["changed"]
 
@@ -273,6 +279,16 @@ def flatten(t):
 
 
 def steps(fn, t, say, by_label=True):
+    def told(m):
+        path = m[2].strip(".").split(".")
+        for n in range(len(path), 0, -1):
+            got = fn.arm.get((norm(m[1]), tuple(path[:n])))
+            if got and len(got) == 1:
+                return "." + next(iter(got)) + "".join("." + x for x in path[n:])
+        return m[0]
+    if by_label:
+        t = re.sub(rf"\.([A-Za-z][{IDC}]*)(\.given(?:\.[0-9]+)*)", told, t)
+
     def sub(m):
         k = norm(m[1])
         s = fn.step.get(k)
@@ -448,6 +464,9 @@ def turn(crate, fn, path, mode=None):
     own = fnpath.split(".")[-1]
 
     def goal_labels(g):
+        for old, new in fn.needs:
+            if new == g and fn.v.get("asked", {}).get(old):
+                return fn.v["asked"][old]
         if g and g.startswith("returns"):
             return labels_of(cratename, own, "ensures", fnpath)
         m = re.match(r"^(\w+)(-\w+)*-requires", g or "")

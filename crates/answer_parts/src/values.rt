@@ -6,12 +6,12 @@ ghost use Rattle.answer_parts.specs.Values.{value_of};
 
 use elementary::Answer;
 
-fn refusal(a: Answer) -> u8
-    ensures { result ≡ refusal_of a }
+fn refusal(a: &Answer) -> u8
+    ensures { result ≡ refusal_of a.now }
 {
     match a {
         Answer::Value(_) => 0,
-        Answer::Refused(n) => n,
+        Answer::Refused(n) => *n,
     }
 }
 
@@ -29,6 +29,7 @@ pub fn handed(a: Answer, res: &mut f64) -> u8
     ensures value { result ≡ refusal_of a }
     ensures res_after { res.new ≡ value_of a }
 {
+    let number = refusal(&a);
     *res = value(a);
-    refusal(a)
+    number
 }

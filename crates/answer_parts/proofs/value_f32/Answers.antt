@@ -1,0 +1,9 @@
+-- `answer_parts::value_f32` meets its contract, by the two cases; the literal 0.0 is +0.0. Assumes nothing.
+use mathlib.Core.Path.{sym, ap}
+use lib.Ieee.{of_bits}
+use Rattle.answer.specs.Answers.{value_f32_of}
+use Rattle.answer_parts.proofs.value_f32.Goals as goal
+
+pub returns-in-Refused : goal.returns-in-Refused
+unfolding of_bits
+returns-in-Refused c = sym (ap value_f32_of c.in-Refused.is)
