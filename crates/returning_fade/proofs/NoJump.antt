@@ -88,7 +88,8 @@ moved n q (runs c t p direction) f r =
     go true false g l m =
         let o = leb-false p 1 l in
         let i : p ≡ p - 1 + 1 = omega arith in
-        subst (λ (w : ℕ). Close (both-parts (same_q r c) (same_q r t) n w) (both-parts (same_q r c) (same_q r t) n (p - 1)))
+        subst (λ (w : ℕ). Close (both-parts (same_q r c) (same_q r t) n w)
+        (both-parts (same_q r c) (same_q r t) n (p - 1)))
         (sym i) (flip (up (same_q r c) (same_q r t) n (p - 1) (omega (arith, f.2))))
     go false e true l m =
         let o = leb-true n (p + 1) m in
@@ -143,7 +144,8 @@ module _ (n : ℕ) (fits : length_ok n ≡ true) where
   smooth s f (q ∷ p ∷ qs) =
       let k = next n q s in
       let g = fine-next n q s f in
-      subst (λ (x : RuledFade). Smooth ((step_of (held n s) q).turn ∷ turns_of x (p ∷ qs))) (sym (reaches n q s fits f)) (
+      subst (λ (x : RuledFade). Smooth ((step_of (held n s) q).turn ∷ turns_of x (p ∷ qs)))
+      (sym (reaches n q s fits f)) (
         (λ r. subst (λ (a : ℕ). Close a (share r (step_of (held n k) p))) (sym (read q s f r))
             (subst (λ (b : ℕ). Close (standing n k r) b) (sym (read p k g r)) (moved n p k g r))),
         smooth k g (p ∷ qs),

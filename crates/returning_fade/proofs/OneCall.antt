@@ -1,7 +1,7 @@
 -- W9c, W9d. What one accepted call does by the second rule, for each quality that it may request. Assumes nothing.
 use mathlib.Core.Path.{◌≡◌, ◌∙◌}
 use mathlib.Core.Bool.{true, false, cond}
-use Prim.Native.Nat.{ℕ, ◌-◌, ◌<◌}
+use Prim.Native.Nat.{ℕ, ◌<◌}
 use native.Mathlib.Omega.{arith}
 use borrow.Author.Tests.{eq-eqb, ne_eqb, le-leb, lt-leb}
 use Rattle.quality_mode.specs.declared.QualityMode.{QualityMode}
@@ -75,7 +75,8 @@ module _ (n : ℕ) (c t : QualityMode) (p : ℕ) (direction : Direction) (fits :
 
   -- W9d. A third quality waits: the fade keeps its direction.
   pub waits : (q : QualityMode) → same_q q t ≡ false → same_q q c ≡ false
-      → step_of (held n running) q ≡ cond (backwards direction) (lower_turn (fade_of c t p n)) (on_turn (fade_of c t p n))
+      → step_of (held n running) q ≡ cond (backwards direction) (lower_turn (fade_of c t p n))
+      (on_turn (fade_of c t p n))
   waits q a b = taken n q running fits fine ∙ rw (fine.0, a, b)
 
 -- W9d. Once the fade has ended, the next call starts the fade to the third quality with the weight 1.

@@ -52,7 +52,8 @@ nearer n q (rests c p) f = go (same_q q c) (leb n 1) refl refl
     go true b e l = rw e
     go false true e l = let m = leb-true n 1 l in rw (same_refl q) (omega arith)
     go false false e l = rw (same_refl q)
-nearer n q (runs c t p direction) f = go (same_q q t) (same_q q c) direction (leb p 1) (leb n (p + 1)) refl refl refl refl
+nearer n q (runs c t p direction) f = go (same_q q t) (same_q q c) direction (leb p 1) (leb n (p + 1)) refl refl refl
+    refl
   where
     go : (a b : Bool) (way : Direction) (d g : Bool) → same_q q t ≡ a → same_q q c ≡ b → leb p 1 ≡ d → leb n (p + 1) ≡ g
         → to_go n q

@@ -1,0 +1,17 @@
+-- `returning_fade::returning::goes_back` meets its contract, by its three cases. Assumes nothing.
+use mathlib.Core.Path.{sym, ◌∙◌}
+use Rattle.returning_fade.proofs.returning.goes_back.Goals as goal
+
+pub returns-then-same : goal.returns-then-same
+returns-then-same c = rw (sym c.same.ensures ∙ c.if-same.true)
+
+pub returns-then-same-2 : goal.returns-then-same-2
+returns-then-same-2 c =
+    rw (sym c.same.ensures ∙ c.if-same.false, sym c.same-2.ensures ∙ c.if-same-2.true)
+
+pub returns : goal.returns
+returns c =
+    rw (
+      sym c.same.ensures ∙ c.if-same.false,
+      sym c.same-2.ensures ∙ c.if-same-2.false,
+    ) c.back.ensures
