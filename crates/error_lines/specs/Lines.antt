@@ -18,9 +18,9 @@ line_text command name words = start_text command name ++ words
 unfoldable pub plain_text : List ℕ → List ℕ → List ℕ
 plain_text command words = command ++ (ascii ": " ++ words)
 
--- The signs that ./run looks for: that everything went well, and that the arguments of a command were wrong.
-abbrev pub end_sign : List ℕ
-end_sign = ascii "end\n"
+-- The statuses that a program ends with: that everything went well, and that the arguments of a command were wrong.
+abbrev pub end_sign : ℕ
+end_sign = 0
 
-abbrev pub usage_sign : List ℕ
-usage_sign = ascii "usage\n"
+abbrev pub usage_sign : ℕ
+usage_sign = 2

@@ -1,18 +1,22 @@
-// What a program says on standard error, one whole line at a time, and the sign that ./run looks for because a program
-// has no exit status. What a line says is given by equations; that C's `write` takes it is assumed (docs/TRUST.md), so
-// each call gives the number of bytes that it has handed over.
+// What a program says on standard error, one whole line at a time, and the status that it ends with. What a line says is
+// given by equations; that C's `write` takes it is assumed (docs/TRUST.md), so each call gives the number of bytes that
+// it has handed over.
 #![tactic(auto)]
 
 ghost use Rattle.std.specs.Prelude.{◌≡◌, length};
 ghost use Rattle.text.specs.Text.{put_at, place_after};
+ghost use Rattle.std.specs.Process.{exit_status};
 ghost use Rattle.error_lines.specs.Lines.{name_text, start_text, line_text, plain_text, end_sign, usage_sign};
 
-use libc::STDERR_FILENO;
 use sizes::begun;
+use std::process::ExitCode;
+use system::{STANDARD_ERROR, System};
 use text::put;
 
-// The descriptor that ./run opens for the sign.
-const SIGN: i32 = 3;
+// The status of a program that ended well, and of one whose arguments were wrong. Any other end has the status 1.
+const END: u8 = 0;
+
+const USAGE: u8 = 2;
 
 // Puts a file's name as a line shows it.
 pub fn put_name(out: &mut [u8], at: usize, name: &[u8]) -> usize
@@ -60,60 +64,59 @@ pub fn put_plain(out: &mut [u8], at: usize, command: &[u8], words: &[u8]) -> usi
     put(out, two, words)
 }
 
-fn hand_over(fd: i32, words: &[u8]) -> usize
+// The status that says that everything went well.
+pub fn succeed() -> ExitCode
+    ensures { exit_status result ≡ end_sign }
+{
+    ExitCode::from(END)
+}
+
+// The status that says that the arguments were wrong.
+pub fn misused() -> ExitCode
+    ensures { exit_status result ≡ usage_sign }
+{
+    ExitCode::from(USAGE)
+}
+
+fn hand_over(system: &System, words: &[u8]) -> usize
     ensures { result ≡ length words.now }
 {
-    io::write_all(fd, words);
+    system.write_all(STANDARD_ERROR, words);
     words.len()
 }
 
-// Gives ./run the sign that everything went well.
-pub fn succeed() -> usize
-    ensures { result ≡ length end_sign }
-{
-    hand_over(SIGN, b"end\n")
-}
-
-// Gives ./run the sign that the arguments were wrong.
-pub fn misused() -> usize
-    ensures { result ≡ length usage_sign }
-{
-    hand_over(SIGN, b"usage\n")
-}
-
-pub fn say(words: &[u8]) -> usize
+pub fn say(system: &System, words: &[u8]) -> usize
     ensures { result ≡ length words.now }
 {
-    hand_over(STDERR_FILENO, words)
+    hand_over(system, words)
 }
 
 // The line has room for two names of 4096 bytes and for what is said of them.
-pub fn say_of(command: &[u8], name: &[u8], words: &[u8]) -> usize
+pub fn say_of(system: &System, command: &[u8], name: &[u8], words: &[u8]) -> usize
     ensures { result ≡ place_after 9216 0
         (line_text command.now name.now words.now) }
 {
     let mut line = [0u8; 9216];
     let n = put_line(&mut line, 0, command, name, words);
-    io::write_all(STDERR_FILENO, begun(&line, n));
+    system.write_all(STANDARD_ERROR, begun(&line, n));
     n
 }
 
-pub fn say_plain(command: &[u8], words: &[u8]) -> usize
+pub fn say_plain(system: &System, command: &[u8], words: &[u8]) -> usize
     ensures { result ≡ place_after 1024 0 (plain_text command.now words.now) }
 {
     let mut line = [0u8; 1024];
     let n = put_plain(&mut line, 0, command, words);
-    io::write_all(STDERR_FILENO, begun(&line, n));
+    system.write_all(STANDARD_ERROR, begun(&line, n));
     n
 }
 
-// Says that a call of C's failed: the beginning of a line, and then errno's text, which is not counted. Nothing is
-// called before errno is read, so that it is still that of the failed call.
-pub fn say_failed(command: &[u8], name: &[u8]) -> usize
+// Says that a call of the system's failed: the beginning of a line, and then the reason, which is not counted.
+pub fn say_failed(system: &System, command: &[u8], name: &[u8]) -> usize
     ensures { result ≡ place_after 4608 0 (start_text command.now name.now) }
 {
     let mut line = [0u8; 4608];
     let n = put_start(&mut line, 0, command, name);
-    os::fail(begun(&line, n));
+    system.fail(begun(&line, n));
     n
 }
