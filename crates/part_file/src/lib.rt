@@ -1,6 +1,6 @@
 // A file that is written whole or not at all: it is written as NAME.part, and gets its name at the end. A file that
 // exists is never touched. `-` is standard output. Errors are reported on standard error, after the command's name.
-// Whether a file is made, written and named is C's answer, so the contracts state what holds whatever C answers.
+// Whether a file is made, written and named is the system's answer, so the contracts state what holds whatever it is.
 #![tactic(auto)]
 
 ghost use Rattle.std.specs.Prelude.{◌≡◌, length};
@@ -10,10 +10,10 @@ ghost use Rattle.part_file.specs.Parts.{is_standard, shown_name, part_text, Made
 ghost use Rattle.part_file.specs.Parts.{FinishedAs};
 
 use error_lines::{say_failed, say_of};
-use libc::{EEXIST, STDOUT_FILENO};
 use sizes::begun;
+use system::{STANDARD_OUTPUT, System};
 
-// A descriptor that is open for writing.
+// The number of a file that is open for writing.
 #[derive(Drop)]
 pub enum Made {
     Open(i32),
@@ -35,46 +35,48 @@ fn put_part(part: &mut [u8], name: &[u8]) -> usize
 }
 
 // Opens NAME.part, or says why it cannot.
-pub fn make(command: &[u8], name: &[u8]) -> Made
+pub fn make(system: &System, command: &[u8], name: &[u8]) -> Made
     ensures { MadeFor name.now result }
 {
     if is_standard(name) {
-        return Made::Open(STDOUT_FILENO);
+        return Made::Open(STANDARD_OUTPUT);
     }
-    make_named(command, name)
+    make_named(system, command, name)
 }
 
 // The name itself is made and removed again, so that a name that is taken or cannot be made is reported before the work
 // begins.
-fn make_named(command: &[u8], name: &[u8]) -> Made {
-    if !claim(command, name) {
+fn make_named(system: &System, command: &[u8], name: &[u8]) -> Made {
+    if !claim(system, command, name) {
         return Made::Failed;
     }
-    os::unlink(name);
+    system.unlink(name);
     let mut part = [0u8; 4110];
     let n = put_part(&mut part, name);
-    make_part(command, begun(&part, n))
+    make_part(system, command, begun(&part, n))
 }
 
 // Makes the file under its own name, which fails if a file of that name exists.
-fn claim(command: &[u8], name: &[u8]) -> bool {
-    let fd = os::create(name);
+fn claim(system: &System, command: &[u8], name: &[u8]) -> bool {
+    let fd = system.create(name);
     if fd < 0 {
         say_taken(
+            system,
             command,
             name,
             b" exists already: remove it or choose another name\n",
         );
         return false;
     }
-    libc::close(fd);
+    system.close(fd);
     true
 }
 
-fn make_part(command: &[u8], part: &[u8]) -> Made {
-    let fd = os::create(part);
+fn make_part(system: &System, command: &[u8], part: &[u8]) -> Made {
+    let fd = system.create(part);
     if fd < 0 {
         say_taken(
+            system,
             command,
             part,
             b" exists already: another run is writing it, or one broke off: remove it then\n",
@@ -84,108 +86,108 @@ fn make_part(command: &[u8], part: &[u8]) -> Made {
     Made::Open(fd)
 }
 
-fn say_taken(command: &[u8], name: &[u8], words: &[u8]) {
-    if os::errno() == EEXIST {
-        say_of(command, name, words);
+fn say_taken(system: &System, command: &[u8], name: &[u8], words: &[u8]) {
+    if system.existed() {
+        say_of(system, command, name, words);
         return;
     }
-    say_failed(command, name);
+    say_failed(system, command, name);
 }
 
 // Writes a block, or says why it cannot.
-pub fn write(command: &[u8], name: &[u8], fd: i32, bytes: &[u8]) -> bool
+pub fn write(system: &System, command: &[u8], name: &[u8], fd: i32, bytes: &[u8]) -> bool
     ensures { WrittenOf bytes.now result }
 {
     if bytes.len() == 0 {
         return true;
     }
-    if io::write_all(fd, bytes) {
+    if system.write_all(fd, bytes) {
         return true;
     }
-    say_unwritten(command, name);
+    say_unwritten(system, command, name);
     false
 }
 
-// Says that a block was not written. It must be called right after the call that failed, for errno's text; it gives the
-// number of bytes before that text.
-pub fn say_unwritten(command: &[u8], name: &[u8]) -> usize
+// Says that a block was not written. It must be called right after the call that failed, for its reason; it gives the
+// number of bytes before that reason.
+pub fn say_unwritten(system: &System, command: &[u8], name: &[u8]) -> usize
     ensures { result ≡ place_after 4608 0 (start_text command.now (shown_name name.now)) }
 {
     if is_standard(name) {
-        return say_failed(command, b"standard output");
+        return say_failed(system, command, b"standard output");
     }
-    say_failed(command, name)
+    say_failed(system, command, name)
 }
 
 // Ends a file, which gets its name if everything went well and is removed otherwise. The answer is whether the file
 // stands under its name, whole.
-pub fn finish(command: &[u8], name: &[u8], fd: i32, well: bool) -> bool
+pub fn finish(system: &System, command: &[u8], name: &[u8], fd: i32, well: bool) -> bool
     ensures { FinishedAs name.now well result }
 {
     if well {
-        return stands(command, name, fd);
+        return stands(system, command, name, fd);
     }
-    discard(name, fd);
+    discard(system, name, fd);
     false
 }
 
-fn stands(command: &[u8], name: &[u8], fd: i32) -> bool
+fn stands(system: &System, command: &[u8], name: &[u8], fd: i32) -> bool
     ensures { StandsAs name.now result }
 {
     if is_standard(name) {
         return true;
     }
-    keep(command, name, fd)
+    keep(system, command, name, fd)
 }
 
-fn discard(name: &[u8], fd: i32) {
+fn discard(system: &System, name: &[u8], fd: i32) {
     if is_standard(name) {
         return;
     }
     let mut part = [0u8; 4110];
     let n = put_part(&mut part, name);
-    libc::close(fd);
-    os::unlink(begun(&part, n));
+    system.close(fd);
+    system.unlink(begun(&part, n));
 }
 
-fn keep(command: &[u8], name: &[u8], fd: i32) -> bool {
+fn keep(system: &System, command: &[u8], name: &[u8], fd: i32) -> bool {
     let mut part = [0u8; 4110];
     let n = put_part(&mut part, name);
-    keep_part(command, name, begun(&part, n), fd)
+    keep_part(system, command, name, begun(&part, n), fd)
 }
 
-fn keep_part(command: &[u8], name: &[u8], part: &[u8], fd: i32) -> bool {
-    if kept(command, name, fd) {
-        return give_name(command, name, part);
+fn keep_part(system: &System, command: &[u8], name: &[u8], part: &[u8], fd: i32) -> bool {
+    if kept(system, command, name, fd) {
+        return give_name(system, command, name, part);
     }
-    os::unlink(part);
+    system.unlink(part);
     false
 }
 
 // The name is claimed again and then replaced, so that a file that was made under it meanwhile is kept.
-fn give_name(command: &[u8], name: &[u8], part: &[u8]) -> bool {
-    if !claim(command, name) {
-        os::unlink(part);
+fn give_name(system: &System, command: &[u8], name: &[u8], part: &[u8]) -> bool {
+    if !claim(system, command, name) {
+        system.unlink(part);
         return false;
     }
-    if os::rename(part, name) < 0 {
-        say_failed(command, name);
-        os::unlink(part);
-        os::unlink(name);
+    if !system.rename(part, name) {
+        say_failed(system, command, name);
+        system.unlink(part);
+        system.unlink(name);
         return false;
     }
     true
 }
 
 // Waits until what was written has reached its device, because some systems report only then that it is full.
-fn kept(command: &[u8], name: &[u8], fd: i32) -> bool {
-    if libc::fsync(fd) < 0 {
-        say_failed(command, name);
-        libc::close(fd);
+fn kept(system: &System, command: &[u8], name: &[u8], fd: i32) -> bool {
+    if !system.sync(fd) {
+        say_failed(system, command, name);
+        system.close(fd);
         return false;
     }
-    if libc::close(fd) < 0 {
-        say_failed(command, name);
+    if !system.close(fd) {
+        say_failed(system, command, name);
         return false;
     }
     true
