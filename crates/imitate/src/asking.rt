@@ -1,7 +1,7 @@
 // What the arguments of `imitate FROM TO [NAME=VALUE …]` ask for.
 use arguments::Argument;
 use asked::{Imitated, Imitation};
-use libc::STDERR_FILENO;
+use system::{STANDARD_ERROR, System};
 use words_asked::{
     Names, none, of_two, refused, say_bad, say_elsewhere, say_too_long, say_unknown, with_file,
 };
@@ -12,8 +12,8 @@ pub(crate) struct ToImitate {
     pub settings: Imitation,
 }
 
-pub(crate) fn to_imitate() -> ToImitate {
-    let count = os::arg_count();
+pub(crate) fn to_imitate(system: &System) -> ToImitate {
+    let count = system.arg_count();
     let settings = asked::plain_imitation();
     let names = none();
     let mut asked = ToImitate {
@@ -22,34 +22,34 @@ pub(crate) fn to_imitate() -> ToImitate {
     };
     let mut i: usize = 1;
     while i < count {
-        asked = with_argument(asked, i);
+        asked = with_argument(system, asked, i);
         i += 1;
     }
-    both_named(asked)
+    both_named(system, asked)
 }
 
-pub(crate) fn help_asked() -> bool {
-    let mut words = io::buffer();
-    let n = os::arg(1, &mut words);
+pub(crate) fn help_asked(system: &System) -> bool {
+    let mut words = [0u8; 4096];
+    let n = system.arg(1, &mut words).unwrap_or(0);
     words_asked::is_help(&words[..n])
 }
 
-pub(crate) fn tell_usage(fd: i32) {
-    io::write_all(
+pub(crate) fn tell_usage(system: &System, fd: i32) {
+    system.write_all(
         fd,
         b"usage: ./run imitate FROM TO [NAME=VALUE ...] (./run --help tells more)\n",
     );
 }
 
 // Unless exactly two files were named, the usage is shown and the names are not good.
-fn both_named(asked: ToImitate) -> ToImitate {
+fn both_named(system: &System, asked: ToImitate) -> ToImitate {
     let names = asked.names;
     if !names.good {
         return asked;
     }
     let two = of_two(names);
     if !two.good {
-        tell_usage(STDERR_FILENO);
+        tell_usage(system, STANDARD_ERROR);
     }
     with_names(asked, two)
 }
@@ -62,14 +62,13 @@ fn with_names(asked: ToImitate, names: Names) -> ToImitate {
     }
 }
 
-fn with_argument(asked: ToImitate, i: usize) -> ToImitate {
-    let mut words = io::buffer();
-    let n = os::arg(i, &mut words);
-    if os::errno() != 0 {
-        say_too_long(b"imitate");
+fn with_argument(system: &System, asked: ToImitate, i: usize) -> ToImitate {
+    let mut words = [0u8; 4096];
+    let Some(n) = system.arg(i, &mut words) else {
+        say_too_long(system, b"imitate");
         return without(asked);
-    }
-    with_text(asked, i, &words[..n])
+    };
+    with_text(system, asked, i, &words[..n])
 }
 
 fn without(asked: ToImitate) -> ToImitate {
@@ -77,24 +76,24 @@ fn without(asked: ToImitate) -> ToImitate {
     with_names(asked, refused(names))
 }
 
-fn with_text(asked: ToImitate, i: usize, words: &[u8]) -> ToImitate {
+fn with_text(system: &System, asked: ToImitate, i: usize, words: &[u8]) -> ToImitate {
     let names = asked.names;
     let argument = arguments::meaning(words);
     match argument {
         Argument::File => with_names(asked, with_file(names, i)),
         Argument::Unknown => {
-            say_unknown(b"imitate", words);
+            say_unknown(system, b"imitate", words);
             without(asked)
         }
         Argument::Bad(name) => {
-            say_bad(b"imitate", words, name);
+            say_bad(system, b"imitate", words, name);
             without(asked)
         }
-        _ => with_setting(asked, words, argument),
+        _ => with_setting(system, asked, words, argument),
     }
 }
 
-fn with_setting(asked: ToImitate, words: &[u8], argument: Argument) -> ToImitate {
+fn with_setting(system: &System, asked: ToImitate, words: &[u8], argument: Argument) -> ToImitate {
     let names = asked.names;
     let settings = asked.settings;
     let changed = asked::imitated_with(settings, argument);
@@ -104,7 +103,7 @@ fn with_setting(asked: ToImitate, words: &[u8], argument: Argument) -> ToImitate
             settings: s,
         },
         Imitated::Other => {
-            say_elsewhere(b"imitate", words);
+            say_elsewhere(system, b"imitate", words);
             without(asked)
         }
     }

@@ -14,13 +14,14 @@ use asked::Imitation;
 use asking::{help_asked, tell_usage, to_imitate};
 use error_lines::{misused, succeed};
 use file_words::{say_unopened, say_wrapped};
-use libc::{STDERR_FILENO, STDOUT_FILENO};
 use outcomes::{Outcome, is_well};
 use part_file::Made;
 use running::Job;
 use sample_kind::SampleKind;
 use sayings::{say_absent, say_outcome, suits};
 use sizes::times;
+use std::process::ExitCode;
+use system::{STANDARD_OUTPUT, System};
 use wave_file::{Opened, WaveFile};
 use wave_output::{can_be_written, write_header, write_pad};
 
@@ -31,57 +32,57 @@ struct Written {
     absent: Absences,
 }
 
-fn main() {
-    if help_asked() {
-        tell_usage(STDOUT_FILENO);
-        succeed();
-        return;
+fn main(rt: HostRuntime) -> ExitCode {
+    let system = System::new(rt);
+    if help_asked(&system) {
+        tell_usage(&system, STANDARD_OUTPUT);
+        return succeed();
     }
-    let asked = to_imitate();
+    let asked = to_imitate(&system);
     let names = asked.names;
     let settings = asked.settings;
     if !names.good {
-        misused();
-        return;
+        return misused();
     }
-    let mut from = io::buffer();
-    let n = os::arg(names.first, &mut from);
-    let mut to = io::buffer();
-    let m = os::arg(names.second, &mut to);
-    if imitate(settings, &from[..n], &to[..m]) {
-        succeed();
+    let mut from = [0u8; 4096];
+    let n = system.arg(names.first, &mut from).unwrap_or(0);
+    let mut to = [0u8; 4096];
+    let m = system.arg(names.second, &mut to).unwrap_or(0);
+    if imitate(&system, settings, &from[..n], &to[..m]) {
+        return succeed();
     }
+    ExitCode::FAILURE
 }
 
-fn imitate(settings: Imitation, from: &[u8], to: &[u8]) -> bool {
-    let opened = wave_file::open(from);
+fn imitate(system: &System, settings: Imitation, from: &[u8], to: &[u8]) -> bool {
+    let opened = wave_file::open(system, from);
     match opened {
-        Opened::File(file) => imitate_of(settings, from, to, file),
+        Opened::File(file) => imitate_of(system, settings, from, to, file),
         _ => {
-            say_unopened(b"imitate", from, opened);
+            say_unopened(system, b"imitate", from, opened);
             false
         }
     }
 }
 
 // Everything that can be checked beforehand is checked before the file is made, so that such a refusal comes at once.
-fn imitate_of(settings: Imitation, from: &[u8], to: &[u8], file: WaveFile) -> bool {
+fn imitate_of(system: &System, settings: Imitation, from: &[u8], to: &[u8], file: WaveFile) -> bool {
     let asked = settings.kind;
     let same = file.kind;
     let kind = kind_of(asked, same);
     let params = settings.params;
     let count = times(file.frames, file.channels as usize);
-    if !can_be_written(b"imitate", from, kind, file.channels, file.rate, count) {
+    if !can_be_written(system, b"imitate", from, kind, file.channels, file.rate, count) {
         return false;
     }
-    if !suits(params, settings.delay, file.rate) {
+    if !suits(system, params, settings.delay, file.rate) {
         return false;
     }
-    let made = part_file::make(b"imitate", to);
+    let made = part_file::make(system, b"imitate", to);
     match made {
         Made::Open(fd) => {
-            say_wrapped(b"imitate", from, file);
-            let written = write_all(
+            say_wrapped(system, b"imitate", from, file);
+            let written = write_all(system, 
                 from,
                 to,
                 Job {
@@ -92,18 +93,18 @@ fn imitate_of(settings: Imitation, from: &[u8], to: &[u8], file: WaveFile) -> bo
                 },
                 count,
             );
-            finish(to, fd, file.channels, written)
+            finish(system, to, fd, file.channels, written)
         }
         Made::Failed => false,
     }
 }
 
 // What the samples lacked is said once the file is whole.
-fn finish(to: &[u8], fd: i32, channels: u8, written: Written) -> bool {
+fn finish(system: &System, to: &[u8], fd: i32, channels: u8, written: Written) -> bool {
     let absent = written.absent;
-    let whole = part_file::finish(b"imitate", to, fd, written.well);
+    let whole = part_file::finish(system, b"imitate", to, fd, written.well);
     if whole {
-        say_absent(channels, absent);
+        say_absent(system, channels, absent);
     }
     whole
 }
@@ -115,11 +116,11 @@ fn kind_of(asked: Kind, same: SampleKind) -> SampleKind {
     }
 }
 
-fn write_all(from: &[u8], to: &[u8], job: Job, count: usize) -> Written {
+fn write_all(system: &System, from: &[u8], to: &[u8], job: Job, count: usize) -> Written {
     let file = job.file;
     let kind = job.kind;
     if !write_header(
-        b"imitate",
+        system, b"imitate",
         to,
         job.fd,
         kind,
@@ -133,26 +134,26 @@ fn write_all(from: &[u8], to: &[u8], job: Job, count: usize) -> Written {
             absent: absent,
         };
     }
-    let ran = running::imitate(job);
+    let ran = running::imitate(system, job);
     let outcome = ran.outcome;
     let absent = ran.absent;
     Written {
-        well: ended_well(from, to, job, count, outcome),
+        well: ended_well(system, from, to, job, count, outcome),
         absent: absent,
     }
 }
 
-fn ended_well(from: &[u8], to: &[u8], job: Job, count: usize, outcome: Outcome) -> bool {
+fn ended_well(system: &System, from: &[u8], to: &[u8], job: Job, count: usize, outcome: Outcome) -> bool {
     let kind = job.kind;
     if is_well(outcome) {
-        progress::clear(libc::isatty(STDERR_FILENO) == 1);
+        progress::clear(system.is_terminal());
         return write_pad(
-            b"imitate",
+            system, b"imitate",
             to,
             job.fd,
             times(count, sample_kind::width(kind)),
         );
     }
-    say_outcome(from, to, outcome);
+    say_outcome(system, from, to, outcome);
     false
 }

@@ -5,12 +5,12 @@ use crate::absences::{Absences, none_absent, with_block};
 use crate::hearing::hear;
 use crate::storing::store;
 use asked::Imitation;
-use libc::STDERR_FILENO;
 use modulation_engine::ModulationEngine;
 use outcomes::{Outcome, broken, is_well, refused_at, well};
 use sample_kind::SampleKind;
 use sinc_settings::Settings;
 use sizes::{fewer, less, plus};
+use system::System;
 use variable_delay::VariableDelay;
 use wave_file::WaveFile;
 
@@ -55,7 +55,7 @@ struct Read {
 }
 
 // The sizes are those of `render`: rings of 65536, which hold delays up to 65528, and a table of 65 rows of 32.
-pub(crate) fn imitate(job: Job) -> Ran {
+pub(crate) fn imitate(system: &System, job: Job) -> Ran {
     let mut ring = [0.0f32; 65536];
     let mut second = [0.0f32; 65536];
     let mut table = [0.0f32; 2080];
@@ -84,7 +84,7 @@ pub(crate) fn imitate(job: Job) -> Ran {
     ) else {
         return unread(1);
     };
-    run(
+    run(system, 
         job,
         Sides {
             engine: engine,
@@ -106,7 +106,7 @@ fn unread(channel: u8) -> Ran {
 }
 
 // Block after block. The rings are arrays, so that their lengths are those that the readers were opened with.
-fn run<'a>(
+fn run<'a>(system: &System, 
     job: Job,
     start: Sides,
     ring: &mut [f32; 65536],
@@ -122,7 +122,7 @@ fn run<'a>(
     let mut turns = u64::MAX;
     while turns > 0 && done < frames {
         let n = fewer(less(frames, done), FRAMES);
-        let turn = block(job, sides, absent, ring, second, table, done, n);
+        let turn = block(system, job, sides, absent, ring, second, table, done, n);
         let outcome = turn.outcome;
         if !is_well(outcome) {
             return Ran {
@@ -133,7 +133,7 @@ fn run<'a>(
         sides = turn.sides;
         absent = turn.absent;
         done = plus(done, n);
-        said = tell(done, frames, said);
+        said = tell(system, done, frames, said);
         turns -= 1;
     }
     Ran {
@@ -143,15 +143,14 @@ fn run<'a>(
 }
 
 // Shows how far the run is, if standard error is a terminal.
-fn tell(done: usize, frames: usize, said: i64) -> i64 {
-    let mut now: i64 = 0;
-    let terminal = libc::isatty(STDERR_FILENO) == 1;
-    let second = libc::time(&mut now);
-    progress::tell(b"imitate", done, frames, terminal, said, second)
+fn tell(system: &System, done: usize, frames: usize, said: i64) -> i64 {
+    let terminal = system.is_terminal();
+    let second = system.second();
+    progress::tell(system, b"imitate", done, frames, terminal, said, second)
 }
 
 // Computes the delays of one block's frames, then which of its samples read absent taps and what its bytes become.
-fn block<'a>(
+fn block<'a>(system: &System, 
     job: Job,
     sides: Sides,
     before: Absences,
@@ -181,7 +180,7 @@ fn block<'a>(
         &right,
         n,
     );
-    let read = read_block(
+    let read = read_block(system, 
         job,
         Sides {
             engine: turned,
@@ -207,7 +206,7 @@ fn block<'a>(
 
 // Computes what the bytes of n frames become, after `done` frames. What is written replaces what was read in the same
 // bytes.
-fn read_block<'a>(
+fn read_block<'a>(system: &System, 
     job: Job,
     sides: Sides,
     ring: &mut [f32],
@@ -222,7 +221,7 @@ fn read_block<'a>(
     let mut both = [0.0f32; 8192];
     let file = job.file;
     let kind = job.kind;
-    let io = wave_file::read_frames(file, done, &mut bytes, n);
+    let io = wave_file::read_frames(system, file, done, &mut bytes, n);
     if io != 0 {
         return Read {
             sides: sides,
@@ -241,6 +240,6 @@ fn read_block<'a>(
     }
     Read {
         sides: after,
-        outcome: store(job.fd, kind, file.channels, &both, &mut bytes, done, n),
+        outcome: store(system, job.fd, kind, file.channels, &both, &mut bytes, done, n),
     }
 }

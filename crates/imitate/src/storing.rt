@@ -2,8 +2,9 @@
 use outcomes::{Outcome, broken, misfit_at, well};
 use sample_kind::{SampleKind, frame_width};
 use sizes::{begun_f32, times};
+use system::System;
 
-pub(crate) fn store(
+pub(crate) fn store(system: &System, 
     fd: i32,
     kind: SampleKind,
     channels: u8,
@@ -15,12 +16,12 @@ pub(crate) fn store(
     let samples = begun_f32(both, times(n, channels as usize));
     let size = times(n, frame_width(kind, channels));
     if size <= bytes.len() {
-        return store_into(fd, kind, channels, samples, &mut bytes[..size], done);
+        return store_into(system, fd, kind, channels, samples, &mut bytes[..size], done);
     }
     broken(3)
 }
 
-fn store_into(
+fn store_into(system: &System, 
     fd: i32,
     kind: SampleKind,
     channels: u8,
@@ -29,13 +30,13 @@ fn store_into(
     done: usize,
 ) -> Outcome {
     if wav_store::store_f32(kind, samples, bytes) == 0 {
-        return write(fd, bytes);
+        return write(system, fd, bytes);
     }
     misfit_at(channels, done, rounded_samples::first_misfit(kind, samples))
 }
 
-fn write(fd: i32, bytes: &[u8]) -> Outcome {
-    if io::write_all(fd, bytes) {
+fn write(system: &System, fd: i32, bytes: &[u8]) -> Outcome {
+    if system.write_all(fd, bytes) {
         return well();
     }
     broken(3)

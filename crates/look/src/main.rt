@@ -3,48 +3,49 @@
 #![tactic(auto)]
 
 use error_lines::{misused, say_failed, succeed};
-use libc::{STDERR_FILENO, STDOUT_FILENO};
 use sizes::begun;
+use std::process::ExitCode;
+use system::{STANDARD_ERROR, STANDARD_OUTPUT, System};
 use text::put;
 use wave_file::{Opened, WaveFile};
 use words_asked::say_too_long;
 
-fn main() {
-    let count = os::arg_count();
-    if help_asked() {
-        tell_usage(STDOUT_FILENO);
-        succeed();
-        return;
+fn main(rt: HostRuntime) -> ExitCode {
+    let system = System::new(rt);
+    let count = system.arg_count();
+    if help_asked(&system) {
+        tell_usage(&system, STANDARD_OUTPUT);
+        return succeed();
     }
     if count < 2 {
-        tell_usage(STDERR_FILENO);
-        misused();
-        return;
+        tell_usage(&system, STANDARD_ERROR);
+        return misused();
     }
-    if look(count) {
-        succeed();
+    if look(&system, count) {
+        return succeed();
     }
+    ExitCode::FAILURE
 }
 
-fn help_asked() -> bool {
-    let mut words = io::buffer();
-    let n = os::arg(1, &mut words);
+fn help_asked(system: &System) -> bool {
+    let mut words = [0u8; 4096];
+    let n = system.arg(1, &mut words).unwrap_or(0);
     words_asked::is_help(&words[..n])
 }
 
-fn tell_usage(fd: i32) {
-    io::write_all(
+fn tell_usage(system: &System, fd: i32) {
+    system.write_all(
         fd,
         b"usage: ./run look FILE ... (./run --help tells more)\n",
     );
 }
 
 // Writes a line for each file, in order, and answers whether all of them were read.
-fn look(count: usize) -> bool {
+fn look(system: &System, count: usize) -> bool {
     let mut well = true;
     let mut i: usize = 1;
     while i < count {
-        if !look_at(i) {
+        if !look_at(system, i) {
             well = false;
         }
         i += 1;
@@ -52,31 +53,30 @@ fn look(count: usize) -> bool {
     well
 }
 
-fn look_at(i: usize) -> bool {
-    let mut name = io::buffer();
-    let n = os::arg(i, &mut name);
-    if os::errno() != 0 {
-        say_too_long(b"look");
+fn look_at(system: &System, i: usize) -> bool {
+    let mut name = [0u8; 4096];
+    let Some(n) = system.arg(i, &mut name) else {
+        say_too_long(system, b"look");
         return false;
-    }
-    look_into(&name[..n])
+    };
+    look_into(system, &name[..n])
 }
 
-fn look_into(name: &[u8]) -> bool {
-    let opened = wave_file::open(name);
+fn look_into(system: &System, name: &[u8]) -> bool {
+    let opened = wave_file::open(system, name);
     match opened {
         Opened::File(file) => {
-            libc::close(file.fd);
-            tell(name, file)
+            system.close(file.fd);
+            tell(system, name, file)
         }
         _ => {
-            file_words::say_unopened(b"look", name, opened);
+            file_words::say_unopened(system, b"look", name, opened);
             false
         }
     }
 }
 
-fn tell(name: &[u8], file: WaveFile) -> bool {
+fn tell(system: &System, name: &[u8], file: WaveFile) -> bool {
     let mut line = [0u8; 4400];
     let kind = file.kind;
     let layout = file.layout;
@@ -92,9 +92,9 @@ fn tell(name: &[u8], file: WaveFile) -> bool {
         file.frames as u64,
         file.wrapped,
     );
-    if io::write_all(STDOUT_FILENO, begun(&line, at)) {
+    if system.write_all(STANDARD_OUTPUT, begun(&line, at)) {
         return true;
     }
-    say_failed(b"look", b"standard output");
+    say_failed(system, b"look", b"standard output");
     false
 }

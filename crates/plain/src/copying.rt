@@ -1,56 +1,62 @@
 // The stored samples of a file, block after block, their low byte first. Each sample of a float kind is checked,
 // because one that is not finite is refused.
-use libc::STDERR_FILENO;
 use outcomes::{Outcome, broken, is_well, misfit_at, well};
 use sample_kind::SampleKind;
 use sizes::{begun, begun_f32, fewer, less, plus, times};
+use system::System;
 use wave_file::WaveFile;
 
 // The number of frames in a block.
 const FRAMES: usize = 4096;
 
-pub(crate) fn copy(file: WaveFile, fd: i32) -> Outcome {
+pub(crate) fn copy(system: &System, file: WaveFile, fd: i32) -> Outcome {
     let frames = file.frames;
     let mut done: usize = 0;
     let mut said: i64 = 0;
     let mut turns = u64::MAX;
     while turns > 0 && done < frames {
         let n = fewer(less(frames, done), FRAMES);
-        let outcome = copy_block(file, fd, done, n);
+        let outcome = copy_block(system, file, fd, done, n);
         if !is_well(outcome) {
             return outcome;
         }
         done = plus(done, n);
-        said = tell(done, frames, said);
+        said = tell(system, done, frames, said);
         turns -= 1;
     }
     well()
 }
 
 // Shows how far the run is, if standard error is a terminal.
-fn tell(done: usize, frames: usize, said: i64) -> i64 {
-    let mut now: i64 = 0;
-    let terminal = libc::isatty(STDERR_FILENO) == 1;
-    let second = libc::time(&mut now);
-    progress::tell(b"plain", done, frames, terminal, said, second)
+fn tell(system: &System, done: usize, frames: usize, said: i64) -> i64 {
+    let terminal = system.is_terminal();
+    let second = system.second();
+    progress::tell(system, b"plain", done, frames, terminal, said, second)
 }
 
-fn copy_block(file: WaveFile, fd: i32, done: usize, n: usize) -> Outcome {
+fn copy_block(system: &System, file: WaveFile, fd: i32, done: usize, n: usize) -> Outcome {
     let mut bytes = [0u8; 32768];
-    let io = wave_file::read_frames(file, done, &mut bytes, n);
+    let io = wave_file::read_frames(system, file, done, &mut bytes, n);
     if io != 0 {
         return broken(io);
     }
-    copy_part(file, fd, done, &bytes, times(n, file.frame))
+    copy_part(system, file, fd, done, &bytes, times(n, file.frame))
 }
 
-fn copy_part(file: WaveFile, fd: i32, done: usize, bytes: &[u8; 32768], size: usize) -> Outcome {
+fn copy_part(
+    system: &System,
+    file: WaveFile,
+    fd: i32,
+    done: usize,
+    bytes: &[u8; 32768],
+    size: usize,
+) -> Outcome {
     let part = begun(bytes, size);
     let looked = look_at(file, done, part);
     if !is_well(looked) {
         return looked;
     }
-    if io::write_all(fd, part) {
+    if system.write_all(fd, part) {
         return well();
     }
     broken(3)

@@ -1,5 +1,5 @@
 // How far a command is, shown anew each second if standard error is a terminal, in a line that the next one is written
-// over. The program finds out from C whether there is a terminal and which second it is.
+// over. The program finds out from the system whether there is a terminal and which second it is.
 #![tactic(auto)]
 
 ghost use Rattle.std.specs.Prelude.{◌≡◌, cond, length};
@@ -8,6 +8,7 @@ ghost use Rattle.progress.specs.Progress.{hundredths_of, percent_text, progress_
 
 use error_lines::say;
 use sizes::{begun, quotient, times};
+use system::System;
 use text::put;
 
 // The number of hundredths done.
@@ -36,39 +37,54 @@ pub fn put_progress(out: &mut [u8], at: usize, command: &[u8], done: usize, all:
     put_percent(out, at, command, n)
 }
 
-fn say_progress(command: &[u8], done: usize, all: usize) {
+fn say_progress(system: &System, command: &[u8], done: usize, all: usize) {
     let mut line = [0u8; 64];
     let n = put_progress(&mut line, 0, command, done, all);
-    say(begun(&line, n));
+    say(system, begun(&line, n));
 }
 
 // Shows the line if a new second has begun since the last time.
-fn tell_anew(command: &[u8], done: usize, all: usize, last: i64, second: i64) -> i64
+fn tell_anew(
+    system: &System,
+    command: &[u8],
+    done: usize,
+    all: usize,
+    last: i64,
+    second: i64,
+) -> i64
     ensures { result ≡ second }
 {
     if second == last {
         return second;
     }
-    say_progress(command, done, all);
+    say_progress(system, command, done, all);
     second
 }
 
 // Shows the line if there is a terminal, and gives the second to pass to the next call.
-pub fn tell(command: &[u8], done: usize, all: usize, terminal: bool, last: i64, second: i64) -> i64
+pub fn tell(
+    system: &System,
+    command: &[u8],
+    done: usize,
+    all: usize,
+    terminal: bool,
+    last: i64,
+    second: i64,
+) -> i64
     ensures { result ≡ cond terminal second last }
 {
     if terminal {
-        return tell_anew(command, done, all, last, second);
+        return tell_anew(system, command, done, all, last, second);
     }
     last
 }
 
 // Blanks the line, and gives the number of bytes that this took.
-pub fn clear(terminal: bool) -> usize
+pub fn clear(system: &System, terminal: bool) -> usize
     ensures { result ≡ cond terminal (length blank_text) 0 }
 {
     if terminal {
-        return say(b"                              \r");
+        return say(system, b"                              \r");
     }
     0
 }

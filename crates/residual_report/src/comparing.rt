@@ -3,10 +3,10 @@
 // compared in compared_frames.
 use crate::channels::compare_channels;
 use compared_frames::{Extent, block_of, stretch_end, stretch_of};
-use libc::STDERR_FILENO;
 use outcomes::{Outcome, broken, is_well, well};
 use residual::Report;
 use sizes::{less, plus};
+use system::System;
 use wave_file::{WaveFile, read_frames};
 
 // Two files, the frames of them that are compared, and the channel, 0 for all. If a picture is wanted, `stretches` is
@@ -32,7 +32,7 @@ pub(crate) struct Reports {
 
 // The peaks are those of the samples and then of the differences of channel 1, followed by those of channel 2, with
 // 1000 places for each.
-pub(crate) fn compare(job: Job, peaks: &mut [u32]) -> Reports {
+pub(crate) fn compare(system: &System, job: Job, peaks: &mut [u32]) -> Reports {
     let extent = job.extent;
     let frames = extent.frames;
     let mut reports = none();
@@ -44,13 +44,13 @@ pub(crate) fn compare(job: Job, peaks: &mut [u32]) -> Reports {
         k = stretch_of(frames, job.stretches, k, done);
         let end = stretch_end(frames, job.stretches, plus(k, 1));
         let n = block_of(less(end, done));
-        reports = block(job, reports, peaks, k, done, n);
+        reports = block(system, job, reports, peaks, k, done, n);
         let outcome = reports.outcome;
         if !is_well(outcome) {
             return reports;
         }
         done = plus(done, n);
-        said = tell(done, frames, said);
+        said = tell(system, done, frames, said);
         turns -= 1;
     }
     reports
@@ -68,11 +68,10 @@ fn none() -> Reports {
 }
 
 // Shows how far the run is, if standard error is a terminal.
-fn tell(done: usize, frames: usize, said: i64) -> i64 {
-    let mut now: i64 = 0;
-    let terminal = libc::isatty(STDERR_FILENO) == 1;
-    let second = libc::time(&mut now);
-    progress::tell(b"residual", done, frames, terminal, said, second)
+fn tell(system: &System, done: usize, frames: usize, said: i64) -> i64 {
+    let terminal = system.is_terminal();
+    let second = system.second();
+    progress::tell(system, b"residual", done, frames, terminal, said, second)
 }
 
 fn ended(reports: Reports, outcome: Outcome, second: bool) -> Reports {
@@ -87,7 +86,7 @@ fn ended(reports: Reports, outcome: Outcome, second: bool) -> Reports {
 }
 
 // Compares n frames of both files, after `done` frames.
-fn block(
+fn block(system: &System, 
     job: Job,
     reports: Reports,
     peaks: &mut [u32],
@@ -100,11 +99,11 @@ fn block(
     let extent = job.extent;
     let first = job.first;
     let second = job.second;
-    let io = read_frames(first, plus(extent.first, done), &mut left, n);
+    let io = read_frames(system, first, plus(extent.first, done), &mut left, n);
     if io != 0 {
         return ended(reports, broken(io), false);
     }
-    let io = read_frames(second, plus(extent.second, done), &mut right, n);
+    let io = read_frames(system, second, plus(extent.second, done), &mut right, n);
     if io != 0 {
         return ended(reports, broken(io), true);
     }

@@ -18,85 +18,85 @@ use comparing::{Job, Reports};
 use drawing::Drawing;
 use error_lines::{misused, say_of, succeed};
 use file_words::{say_unopened, say_wrapped};
-use libc::{STDERR_FILENO, STDOUT_FILENO};
 use outcomes::is_well;
 use part_file::Made;
 use sayings::{comparable, say_outcome};
 use sizes::fewer;
+use std::process::ExitCode;
+use system::{STANDARD_OUTPUT, System};
 use wave_file::{Opened, WaveFile};
 
-fn main() {
-    if help_asked() {
-        tell_usage(STDOUT_FILENO);
-        succeed();
-        return;
+fn main(rt: HostRuntime) -> ExitCode {
+    let system = System::new(rt);
+    if help_asked(&system) {
+        tell_usage(&system, STANDARD_OUTPUT);
+        return succeed();
     }
-    let asked = to_compare();
+    let asked = to_compare(&system);
     let names = asked.names;
     let settings = asked.settings;
     if !names.good {
-        misused();
-        return;
+        return misused();
     }
-    let mut first = io::buffer();
-    let n = os::arg(names.first, &mut first);
-    let mut second = io::buffer();
-    let m = os::arg(names.second, &mut second);
-    let mut picture = io::buffer();
-    let p = os::arg(asked.picture, &mut picture);
-    run(settings, &picture[..p], &first[..n], &second[..m]);
+    let mut first = [0u8; 4096];
+    let n = system.arg(names.first, &mut first).unwrap_or(0);
+    let mut second = [0u8; 4096];
+    let m = system.arg(names.second, &mut second).unwrap_or(0);
+    let mut picture = [0u8; 4096];
+    let p = system.arg(asked.picture, &mut picture).unwrap_or(0);
+    run(&system, settings, &picture[..p], &first[..n], &second[..m])
 }
 
 // The name of the picture stands after `picture=`.
-fn run(settings: Comparison, argument: &[u8], first: &[u8], second: &[u8]) {
+fn run(system: &System, settings: Comparison, argument: &[u8], first: &[u8], second: &[u8]) -> ExitCode {
     let at = arguments::value_at(argument);
-    run_named(settings, &argument[at..], first, second);
+    run_named(system, settings, &argument[at..], first, second)
 }
 
-fn run_named(settings: Comparison, picture: &[u8], first: &[u8], second: &[u8]) {
+fn run_named(system: &System, settings: Comparison, picture: &[u8], first: &[u8], second: &[u8]) -> ExitCode {
     if spelling::same(picture, b"-") {
         say_of(
-            b"residual",
+            system, b"residual",
             b"picture=-",
             b" will not do: a picture is a file's name\n",
         );
-        misused();
-        return;
+        return misused();
     }
-    if compare(settings, picture, first, second) {
-        succeed();
+    if compare(system, settings, picture, first, second) {
+        return succeed();
     }
+    ExitCode::FAILURE
 }
 
-fn compare(settings: Comparison, picture: &[u8], first: &[u8], second: &[u8]) -> bool {
-    let opened = wave_file::open(first);
+fn compare(system: &System, settings: Comparison, picture: &[u8], first: &[u8], second: &[u8]) -> bool {
+    let opened = wave_file::open(system, first);
     match opened {
-        Opened::File(a) => compare_with(settings, picture, first, second, a),
+        Opened::File(a) => compare_with(system, settings, picture, first, second, a),
         _ => {
-            say_unopened(b"residual", first, opened);
+            say_unopened(system, b"residual", first, opened);
             false
         }
     }
 }
 
-fn compare_with(
+fn compare_with(system: &System, 
     settings: Comparison,
     picture: &[u8],
     first: &[u8],
     second: &[u8],
     a: WaveFile,
 ) -> bool {
-    let opened = wave_file::open(second);
+    let opened = wave_file::open(system, second);
     match opened {
-        Opened::File(b) => compare_both(settings, picture, first, second, a, b),
+        Opened::File(b) => compare_both(system, settings, picture, first, second, a, b),
         _ => {
-            say_unopened(b"residual", second, opened);
+            say_unopened(system, b"residual", second, opened);
             false
         }
     }
 }
 
-fn compare_both(
+fn compare_both(system: &System, 
     settings: Comparison,
     picture: &[u8],
     first: &[u8],
@@ -106,16 +106,16 @@ fn compare_both(
 ) -> bool {
     let asked = settings.channel;
     let channel = channel_of(asked);
-    if !comparable(first, second, a, b, channel) {
+    if !comparable(system, first, second, a, b, channel) {
         return false;
     }
-    say_wrapped(b"residual", first, a);
-    say_wrapped(b"residual", second, b);
+    say_wrapped(system, b"residual", first, a);
+    say_wrapped(system, b"residual", second, b);
     let job = job_of(settings, a, b, channel);
     if settings.picture {
-        return draw(job, picture, first, second);
+        return draw(system, job, picture, first, second);
     }
-    tell(job, first, second)
+    tell(system, job, first, second)
 }
 
 // The channel's number, or 0 for all channels.
@@ -149,49 +149,49 @@ fn stretches_of(drawn: bool, frames: usize) -> usize {
     if drawn { fewer(frames, 1000) } else { 1 }
 }
 
-fn tell(job: Job, first: &[u8], second: &[u8]) -> bool {
+fn tell(system: &System, job: Job, first: &[u8], second: &[u8]) -> bool {
     let mut peaks = [0u32; 1];
-    let reports = comparing::compare(job, &mut peaks);
-    if ended_well(reports, first, second) {
-        return reporting::tell(job, reports, first, second);
+    let reports = comparing::compare(system, job, &mut peaks);
+    if ended_well(system, reports, first, second) {
+        return reporting::tell(system, job, reports, first, second);
     }
     false
 }
 
-fn ended_well(reports: Reports, first: &[u8], second: &[u8]) -> bool {
+fn ended_well(system: &System, reports: Reports, first: &[u8], second: &[u8]) -> bool {
     let outcome = reports.outcome;
     if is_well(outcome) {
-        progress::clear(libc::isatty(STDERR_FILENO) == 1);
+        progress::clear(system.is_terminal());
         return true;
     }
     if reports.second {
-        say_outcome(second, outcome);
+        say_outcome(system, second, outcome);
         return false;
     }
-    say_outcome(first, outcome);
+    say_outcome(system, first, outcome);
     false
 }
 
 // The picture gets its name before the report is printed, so that a report never stands beside a picture that failed.
-fn draw(job: Job, picture: &[u8], first: &[u8], second: &[u8]) -> bool {
-    let made = part_file::make(b"residual", picture);
+fn draw(system: &System, job: Job, picture: &[u8], first: &[u8], second: &[u8]) -> bool {
+    let made = part_file::make(system, b"residual", picture);
     match made {
-        Made::Open(fd) => draw_into(job, picture, fd, first, second),
+        Made::Open(fd) => draw_into(system, job, picture, fd, first, second),
         Made::Failed => false,
     }
 }
 
-fn draw_into(job: Job, picture: &[u8], fd: i32, first: &[u8], second: &[u8]) -> bool {
+fn draw_into(system: &System, job: Job, picture: &[u8], fd: i32, first: &[u8], second: &[u8]) -> bool {
     let mut peaks = [0u32; 4000];
-    let reports = comparing::compare(job, &mut peaks);
-    let well = drawn(job, reports, picture, fd, first, second, &peaks);
-    if part_file::finish(b"residual", picture, fd, well) {
-        return reporting::tell(job, reports, first, second);
+    let reports = comparing::compare(system, job, &mut peaks);
+    let well = drawn(system, job, reports, picture, fd, first, second, &peaks);
+    if part_file::finish(system, b"residual", picture, fd, well) {
+        return reporting::tell(system, job, reports, first, second);
     }
     false
 }
 
-fn drawn(
+fn drawn(system: &System, 
     job: Job,
     reports: Reports,
     picture: &[u8],
@@ -200,10 +200,10 @@ fn drawn(
     second: &[u8],
     peaks: &[u32; 4000],
 ) -> bool {
-    if !ended_well(reports, first, second) {
+    if !ended_well(system, reports, first, second) {
         return false;
     }
-    drawing::draw(picture, fd, drawing_of(job), first, second, peaks)
+    drawing::draw(system, picture, fd, drawing_of(job), first, second, peaks)
 }
 
 fn drawing_of(job: Job) -> Drawing {

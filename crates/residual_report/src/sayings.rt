@@ -2,11 +2,12 @@
 use error_lines::say_of;
 use file_words::{say_differ, say_place, say_unread};
 use outcomes::Outcome;
+use system::System;
 use wave_file::WaveFile;
 
 // Files of different rates or numbers of channels cannot be compared frame by frame, nor can a channel that a file does
 // not have.
-pub(crate) fn comparable(
+pub(crate) fn comparable(system: &System, 
     first: &[u8],
     second: &[u8],
     a: WaveFile,
@@ -15,7 +16,7 @@ pub(crate) fn comparable(
 ) -> bool {
     if a.rate != b.rate {
         say_differ(
-            b"residual",
+            system, b"residual",
             first,
             second,
             a.rate,
@@ -26,7 +27,7 @@ pub(crate) fn comparable(
     }
     if a.channels != b.channels {
         say_differ(
-            b"residual",
+            system, b"residual",
             first,
             second,
             a.channels as u32,
@@ -36,20 +37,20 @@ pub(crate) fn comparable(
         return false;
     }
     if channel > a.channels {
-        say_of(b"residual", first, b" has one channel only\n");
+        say_of(system, b"residual", first, b" has one channel only\n");
         return false;
     }
     true
 }
 
-pub(crate) fn say_outcome(name: &[u8], outcome: Outcome) {
+pub(crate) fn say_outcome(system: &System, name: &[u8], outcome: Outcome) {
     if outcome.io != 0 {
-        say_unread(b"residual", name, outcome.io);
+        say_unread(system, b"residual", name, outcome.io);
         return;
     }
     if outcome.number == 15 {
         say_place(
-            b"residual",
+            system, b"residual",
             name,
             15,
             outcome.frame,
@@ -59,7 +60,7 @@ pub(crate) fn say_outcome(name: &[u8], outcome: Outcome) {
         return;
     }
     say_of(
-        b"residual",
+        system, b"residual",
         name,
         b" is refused by 8: more than 68719476736 frames: compare a part of them by frames=\n",
     );

@@ -226,8 +226,8 @@ impl System {
         }
     }
 
-    // Writes a line to standard error: what failed, as the caller says it, a colon, and the reason of the last call that
-    // failed.
+    // Writes a line to standard error: what failed, as the caller says it, a colon, and the reason of the last call
+    // that failed.
     pub fn fail(&self, what: &[u8]) {
         let error = io::Error::from_raw_os_error(self.reason.get());
         self.write_all(STANDARD_ERROR, what);

@@ -8,9 +8,9 @@ use crate::reading::{read_at, read_begun};
 use crate::{Opened, Refused, WaveFile};
 use file_layout::{Layout, layout_of};
 use file_turns::Told;
-use libc::SEEK_END;
 use riff_chunks::{Walked, Walking};
 use sizes::{begun, fewer, quotient};
+use system::System;
 use wav::{Found, Wave};
 
 // How many of the file's first bytes are read as its opening. This is enough for a `ds64` with a table of 337 sizes; a
@@ -30,31 +30,28 @@ pub enum Turned {
     Broken(u8),
 }
 
-// `pread` fails on a folder, whose length may be reported as 0 like that of an empty file, so `pread` comes first.
-pub(crate) fn look_into(fd: i32) -> Opened
+// Reading fails on a folder, whose length may be reported as 0 like that of an empty file, so it comes first.
+pub(crate) fn look_into(system: &System, fd: i32) -> Opened
     ensures { Opens result }
 {
-    let mut opening = io::buffer();
-    let got = libc::pread(fd, &mut opening, 0);
-    if got < 0 {
+    let mut opening = [0u8; OPENING];
+    let Some(n) = system.read_at(fd, &mut opening, 0) else {
         return Opened::Unread;
-    }
-    let n = io::count(got, &opening);
-    let length = libc::lseek(fd, 0, SEEK_END);
-    if length < 0 {
+    };
+    let Some(length) = system.length(fd) else {
         return Opened::Unread;
-    }
+    };
     if length == 0 {
         return Opened::Empty;
     }
-    look_behind(fd, &opening[..n], size_of(length))
+    look_behind(system, fd, &opening[..n], size_of(length))
 }
 
-fn size_of(length: i64) -> usize {
-    if length < 0 { 0 } else { length as usize }
+fn size_of(length: u64) -> usize {
+    length as usize
 }
 
-fn look_behind(fd: i32, opening: &[u8], length: usize) -> Opened
+fn look_behind(system: &System, fd: i32, opening: &[u8], length: usize) -> Opened
     ensures { Opens result }
 {
     if opening.len() != fewer(length, OPENING) {
@@ -65,9 +62,9 @@ fn look_behind(fd: i32, opening: &[u8], length: usize) -> Opened
     if start.refusal != 0 {
         return Opened::Refused(refusal(start.refusal, file_turns::told_of(layout, b"")));
     }
-    let walk = walk_all(fd, layout, opening, start.end);
+    let walk = walk_all(system, fd, layout, opening, start.end);
     match walk {
-        Walk::Done(walked) => find(fd, layout, start.end, walked),
+        Walk::Done(walked) => find(system, fd, layout, start.end, walked),
         Walk::Broken(number) => broken(number),
     }
 }
@@ -95,12 +92,12 @@ fn refusal(number: u8, told: Told) -> Refused
 }
 
 // Walks chunk after chunk. The loop ends because each step passes at least 8 bytes.
-fn walk_all(fd: i32, layout: Layout, opening: &[u8], end: usize) -> Walk
+fn walk_all(system: &System, fd: i32, layout: Layout, opening: &[u8], end: usize) -> Walk
     ensures { Walks layout opening.now end result }
 {
     let mut walking = riff_chunks::begin(end);
     while walking.left >= 8 {
-        let turned = one_turn(fd, layout, opening, walking, end);
+        let turned = one_turn(system, fd, layout, opening, walking, end);
         match turned {
             Turned::Walking(w) => {
                 walking = w;
@@ -114,7 +111,14 @@ fn walk_all(fd: i32, layout: Layout, opening: &[u8], end: usize) -> Walk
     Walk::Done(seen)
 }
 
-fn one_turn(fd: i32, layout: Layout, opening: &[u8], walking: Walking, end: usize) -> Turned
+fn one_turn(
+    system: &System,
+    fd: i32,
+    layout: Layout,
+    opening: &[u8],
+    walking: Walking,
+    end: usize,
+) -> Turned
     ensures { Turns layout opening.now end walking result }
 {
     let mut head = [0u8; 8];
@@ -122,7 +126,7 @@ fn one_turn(fd: i32, layout: Layout, opening: &[u8], walking: Walking, end: usiz
     if end < left {
         return Turned::Broken(2);
     }
-    let number = read_at(fd, end - left, &mut head);
+    let number = read_at(system, fd, end - left, &mut head);
     if number != 0 {
         return Turned::Broken(number);
     }
@@ -137,22 +141,23 @@ fn turn_by(layout: Layout, opening: &[u8], walking: Walking, end: usize, head: &
 }
 
 // Reads the first bytes of the chunk that describes the samples, then those of the one that holds them.
-fn find(fd: i32, layout: Layout, end: usize, walked: Walked) -> Opened
+fn find(system: &System, fd: i32, layout: Layout, end: usize, walked: Walked) -> Opened
     ensures { Finds layout end walked result }
 {
     let mut bytes = [0u8; 40];
     let format = walked.format;
     let n = fewer(format.size, file_layout::format_bytes(layout));
     if format.found {
-        let number = read_begun(fd, format.body, &mut bytes, n);
+        let number = read_begun(system, fd, format.body, &mut bytes, n);
         if number != 0 {
             return broken(number);
         }
     }
-    find_in(fd, layout, end, walked, &bytes, n)
+    find_in(system, fd, layout, end, walked, &bytes, n)
 }
 
 fn find_in(
+    system: &System,
     fd: i32,
     layout: Layout,
     end: usize,
@@ -162,17 +167,24 @@ fn find_in(
 ) -> Opened
     ensures { Finds layout end walked result }
 {
-    find_samples(fd, layout, end, walked, begun(bytes, n))
+    find_samples(system, fd, layout, end, walked, begun(bytes, n))
 }
 
-fn find_samples(fd: i32, layout: Layout, end: usize, walked: Walked, format: &[u8]) -> Opened
+fn find_samples(
+    system: &System,
+    fd: i32,
+    layout: Layout,
+    end: usize,
+    walked: Walked,
+    format: &[u8],
+) -> Opened
     ensures { Finds layout end walked result }
 {
     let mut bytes = [0u8; 8];
     let samples = walked.samples;
     let n = fewer(samples.size, file_layout::samples_bytes(layout));
     if samples.found {
-        let number = read_begun(fd, samples.body, &mut bytes, n);
+        let number = read_begun(system, fd, samples.body, &mut bytes, n);
         if number != 0 {
             return broken(number);
         }

@@ -12,7 +12,7 @@ pub use words::{say_bad, say_elsewhere, say_too_long, say_unknown};
 
 // The places of the two files among the arguments, 0 for none, and how many files were named, at most 3. `good` is
 // false if an argument cannot be used.
-#[derive(Drop)]
+#[derive(Clone, Copy)]
 pub struct Names {
     pub first: usize,
     pub second: usize,

@@ -7,6 +7,7 @@ ghost use Rattle.words_asked.specs.Words.{unknown_text, bad_text, unknown_line, 
 use arguments::Name;
 use error_lines::{put_start, say, say_of, say_plain};
 use sizes::begun;
+use system::System;
 use text::put;
 
 fn put_unknown(out: &mut [u8], at: usize, words: &[u8]) -> usize
@@ -52,36 +53,42 @@ fn put_bad_line(out: &mut [u8], at: usize, command: &[u8], words: &[u8], name: N
 }
 
 // The line has room for an argument of 4096 bytes, which it shows twice.
-pub fn say_unknown(command: &[u8], words: &[u8]) -> usize
+pub fn say_unknown(system: &System, command: &[u8], words: &[u8]) -> usize
     ensures { result ≡ place_after 9216 0 (unknown_line command.now words.now) }
 {
     let mut line = [0u8; 9216];
     let n = put_unknown_line(&mut line, 0, command, words);
-    say(begun(&line, n));
+    say(system, begun(&line, n));
     n
 }
 
-pub fn say_bad(command: &[u8], words: &[u8], name: Name) -> usize
+pub fn say_bad(system: &System, command: &[u8], words: &[u8], name: Name) -> usize
     ensures { result ≡ place_after 9216 0 (bad_line command.now words.now name) }
 {
     let mut line = [0u8; 9216];
     let n = put_bad_line(&mut line, 0, command, words, name);
-    say(begun(&line, n));
+    say(system, begun(&line, n));
     n
 }
 
-pub fn say_elsewhere(command: &[u8], words: &[u8]) -> usize
+pub fn say_elsewhere(system: &System, command: &[u8], words: &[u8]) -> usize
     ensures { result ≡ place_after 9216 0
         (line_text command.now words.now (ascii " is a setting of another command\n")) }
 {
-    say_of(command, words, b" is a setting of another command\n")
+    say_of(
+        system,
+        command,
+        words,
+        b" is a setting of another command\n",
+    )
 }
 
-pub fn say_too_long(command: &[u8]) -> usize
+pub fn say_too_long(system: &System, command: &[u8]) -> usize
     ensures { result ≡ place_after 1024 0
         (plain_text command.now (ascii "an argument is longer than any file's name can be\n")) }
 {
     say_plain(
+        system,
         command,
         b"an argument is longer than any file's name can be\n",
     )

@@ -1,0 +1,11 @@
+-- `part_file::make` meets its contract: what is not standard output is none. Assumes nothing.
+use borrow.Author.Rules.{rules}
+use mathlib.Core.Path.{◌≡◌, refl, sym, ◌∙◌}
+use mathlib.Core.Bool.{true≢false}
+use Rattle.part_file.proofs.make.Goals as goal
+
+pub returns-then-is_standard : goal.returns-then-is_standard
+returns-then-is_standard c = λ h. refl
+
+pub returns : goal.returns
+returns c = λ h. absurd (true≢false (sym h ∙ sym c.is_standard.ensures ∙ c.if-is_standard.false))
