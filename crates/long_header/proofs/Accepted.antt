@@ -1,29 +1,29 @@
 -- W10. What follows if a header is not refused, and the header in its place. Assumes nothing.
-use mathlib.Core.Path.{◌≡◌, refl, sym, ap, ◌∙◌}
-use mathlib.Core.Bool.{Bool, true, false, ◌&&◌}
+use mathlib.Core.Path.{◌≡◌, refl, sym, ◌∙◌}
+use mathlib.Core.Bool.{true, false}
 use mathlib.Core.List.{List, ◌++◌}
-use Prim.Native.Nat.{ℕ, ◌+◌, ◌^◌, ◌≤◌}
-use native.Mathlib.Omega.{arith}
+use Prim.Native.Nat.{ℕ, ◌^◌, ◌≤◌}
 use borrow.Author.Tests.{leb-true, eq-eqb}
-use lib.Dec.{leb}
-use lib.ListN.{length, take, drop, length-take}
+use lib.ListN.{length, drop}
 use Rattle.refusal_order.proofs.First.{none}
 use Rattle.sample_kind.specs.declared.SampleKind.{SampleKind}
 use Rattle.wav_header.specs.Header.{header_length, size_of, header_of}
-use Rattle.wav_header.specs.Refusals.{fits_riff, header_verdict, header_in, written_by}
+use Rattle.wav_header.specs.Refusals.{fits_riff, header_verdict, header_in}
 use Rattle.wav_settings.specs.Settings.{rate_ok, whole_frames}
 use Rattle.wav_header.proofs.Planned.{both_hold}
 use Rattle.wav_header.proofs.Taken.{given}
 use Rattle.long_header.specs.declared.Form.{Form}
-use Rattle.long_header.specs.LongHeader.{header_length_for, long_header_length, long_header_of, header_for}
+use Rattle.long_header.specs.LongHeader.{header_length_for, long_header_length, header_for}
 use Rattle.long_header.specs.Refusals.{header_tests_for, header_verdict_for, header_after, Room}
 
 module _ (kind : SampleKind) (channels rate count room : ℕ) (z : header_verdict_for kind channels rate count room
     ≡ 0) where
   pub holds : header_length_for kind count ≤ room
-  holds = leb-true (header_length_for kind count) room ((none (header_tests_for kind channels rate count room) refl).0 z 3)
+  holds = leb-true (header_length_for kind count) room
+      ((none (header_tests_for kind channels rate count room) refl).0 z 3)
 
-  pub roomy : (n : ℕ) → n ≡ header_length_for kind count → Room kind channels rate count (header_length_for kind count) n
+  pub roomy : (n : ℕ) → n ≡ header_length_for kind count
+      → Room kind channels rate count (header_length_for kind count) n
   roomy n e =
       let test = (none (header_tests_for kind channels rate count room) refl).0 z in
       let first = both_hold (rate_ok rate) (whole_frames channels count) (test 0) in

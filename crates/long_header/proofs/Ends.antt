@@ -5,7 +5,7 @@ use mathlib.Core.List.{[], ◌∷◌}
 use Prim.Native.Nat.{◌-◌, ◌+◌, ◌^◌}
 use Rattle.word_bytes.specs.Bytes.{low_bytes}
 use Rattle.sample_kind.specs.declared.SampleKind.TheVariants.{Pcm16, Pcm24, Float32}
-use Rattle.long_header.specs.declared.Form.TheVariants.{Rf64, Bw64}
+use Rattle.long_header.specs.declared.Form.TheVariants.{Bw64}
 use Rattle.long_header.specs.LongHeader.{header_length_for, file_length_for, opening_of, long_header_of, header_for}
 use Rattle.long_header.specs.Refusals.{file_verdict_for, header_verdict_for, length_for64}
 
@@ -46,7 +46,8 @@ thirteen-next = refl
 pub fourteen-last : (header_verdict_for Pcm16 1 8000 1 43 ≡ 14) × (header_verdict_for Pcm16 1 8000 1 44 ≡ 0)
 fourteen-last = (refl, refl)
 
-pub fourteen-long : (header_verdict_for Pcm16 1 8000 (2 ^ 32) 79 ≡ 14) × (header_verdict_for Pcm16 1 8000 (2 ^ 32) 80 ≡ 0)
+pub fourteen-long : (header_verdict_for Pcm16 1 8000 (2 ^ 32) 79 ≡ 14)
+    × (header_verdict_for Pcm16 1 8000 (2 ^ 32) 80 ≡ 0)
 fourteen-long = (refl, refl)
 
 -- ---- BW64 of float, two channels at 48000 Hz, 2^31 samples: 2^33 bytes behind 94

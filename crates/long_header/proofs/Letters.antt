@@ -13,12 +13,15 @@ bytes n a b c =
     get_or n 0 0 ∷ get_or n 1 0 ∷ get_or n 2 0 ∷ get_or n 3 0 ∷ 255 ∷ 255 ∷ 255 ∷ 255 ∷
     87 ∷ 65 ∷ 86 ∷ 69 ∷ 100 ∷ 115 ∷ 54 ∷ 52 ∷
     28 ∷ 0 ∷ 0 ∷ 0 ∷ get_or a 0 0 ∷ get_or a 1 0 ∷ get_or a 2 0 ∷ get_or a 3 0 ∷
-    get_or a 4 0 ∷ get_or a 5 0 ∷ get_or a 6 0 ∷ get_or a 7 0 ∷ get_or b 0 0 ∷ get_or b 1 0 ∷ get_or b 2 0 ∷ get_or b 3 0 ∷
-    get_or b 4 0 ∷ get_or b 5 0 ∷ get_or b 6 0 ∷ get_or b 7 0 ∷ get_or c 0 0 ∷ get_or c 1 0 ∷ get_or c 2 0 ∷ get_or c 3 0 ∷
+    get_or a 4 0 ∷ get_or a 5 0 ∷ get_or a 6 0 ∷ get_or a 7 0 ∷ get_or b 0 0 ∷ get_or b 1 0 ∷ get_or b 2 0
+    ∷ get_or b 3 0 ∷
+    get_or b 4 0 ∷ get_or b 5 0 ∷ get_or b 6 0 ∷ get_or b 7 0 ∷ get_or c 0 0 ∷ get_or c 1 0 ∷ get_or c 2 0
+    ∷ get_or c 3 0 ∷
     get_or c 4 0 ∷ get_or c 5 0 ∷ get_or c 6 0 ∷ get_or c 7 0 ∷ 0 ∷ 0 ∷ 0 ∷ 0 ∷ []
 
 spelt : (form : Form) (riff size frames : ℕ)
-    → bytes (form_name form) (low_bytes 8 riff) (low_bytes 8 size) (low_bytes 8 frames) ≡ opening_of form riff size frames
+    → bytes (form_name form) (low_bytes 8 riff) (low_bytes 8 size) (low_bytes 8 frames)
+    ≡ opening_of form riff size frames
 unfolding low_bytes opening_of
 spelt Rf64 riff size frames = refl
 spelt Bw64 riff size frames = refl

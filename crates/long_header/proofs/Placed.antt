@@ -2,7 +2,7 @@
 -- header behind 36 bytes. Assumes nothing.
 use mathlib.Core.Path.{◌≡◌, refl, sym, ap, ◌∙◌}
 use mathlib.Core.Bool.{Bool, true, false, true≢false, ◌||◌}
-use mathlib.Core.List.{List, [], ◌∷◌, ◌++◌, append-nil}
+use mathlib.Core.List.{List, [], ◌++◌, append-nil}
 use Prim.Native.Nat.{ℕ, ◌+◌, ◌-◌, ◌≤◌}
 use native.Mathlib.Omega.{arith}
 use borrow.Author.Tests.{eqb-true, eq-eqb}
@@ -14,7 +14,7 @@ use Rattle.sample_kind.specs.declared.SampleKind.{SampleKind}
 use Rattle.sample_kind.specs.declared.SampleKind.TheVariants.{Pcm16, Pcm24, Float32}
 use Rattle.wav_header.specs.Header.{header_length, header_of}
 use Rattle.wav_header.specs.Refusals.{count_ok, header_verdict, header_in}
-use Rattle.wav_settings.specs.Settings.{rate_ok, one_or_two}
+use Rattle.wav_settings.specs.Settings.{one_or_two}
 use Rattle.wav_header.proofs.Taken.{given}
 use Rattle.wav_header.proofs.Long.{length-header}
 use Rattle.long_header.specs.LongHeader.{full, long_header_length}

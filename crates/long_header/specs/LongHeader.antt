@@ -2,11 +2,11 @@
 -- those of Wish 2. Otherwise they are those of RF64 (EBU Tech 3306) or BW64 (ITU-R BS.2088): the 32-bit numbers of the
 -- RIFF, of `fact` and of `data` are FFFFFFFF, and the true ones stand in `ds64`, which comes first and has no table.
 -- Definitions only.
-use Rattle.std.specs.Prelude.{ℕ, ◌+◌, ◌-◌, ◌/◌, ◌^◌, Bool, cond, List, [], ◌∷◌, ◌++◌}
+use Rattle.std.specs.Prelude.{ℕ, ◌+◌, ◌-◌, ◌/◌, ◌^◌, cond, List, [], ◌∷◌, ◌++◌}
 use Rattle.word_bytes.specs.Bytes.{low_bytes}
 use Rattle.sample_kind.specs.declared.SampleKind.{SampleKind}
 use Rattle.sample_kind.specs.declared.SampleKind.TheVariants.{Pcm16, Pcm24, Float32}
-use Rattle.wav_header.specs.Header.{header_length, size_of, pad_of, file_length, wave_name, fmt_name, fact_name}
+use Rattle.wav_header.specs.Header.{header_length, size_of, pad_of, wave_name, fmt_name, fact_name}
 use Rattle.wav_header.specs.Header.{data_name}
 use Rattle.wav_header.specs.Header.{chunk_of, format_of, header_of}
 use Rattle.wav_header.specs.Refusals.{fits_riff}

@@ -1,5 +1,5 @@
 -- W10. The refusal of a header of any length, and what the lent block holds afterwards. Definitions only.
-use Rattle.std.specs.Prelude.{ℕ, ◌+◌, ◌^◌, ◌≤◌, ◌≡◌, Bool, true, cond, ◌&&◌, List, [], ◌∷◌, ◌++◌, eqb, leb, length}
+use Rattle.std.specs.Prelude.{ℕ, ◌^◌, ◌≤◌, ◌≡◌, Bool, true, cond, ◌&&◌, List, [], ◌∷◌, ◌++◌, leb, length}
 use Rattle.std.specs.Prelude.{drop}
 use Rattle.refusal_order.specs.Order.{Test, ◌unless◌, first_of}
 use Rattle.sample_kind.specs.declared.SampleKind.{SampleKind}
@@ -7,7 +7,7 @@ use Rattle.wav_header.specs.Header.{size_of}
 use Rattle.wav_header.specs.Refusals.{written_by}
 use Rattle.wav_settings.specs.Settings.{rate_ok, one_or_two, whole_frames}
 use Rattle.long_header.specs.declared.Form.{Form}
-use Rattle.long_header.specs.LongHeader.{header_length_for, file_length_for, long_header_length, header_for}
+use Rattle.long_header.specs.LongHeader.{header_length_for, file_length_for, header_for}
 
 -- The samples have at most 2^40 bytes.
 abbrev pub size_ok : SampleKind → ℕ → Bool

@@ -18,7 +18,7 @@ use wav_header::{fits_riff, header_length};
 use wav_settings::{one_or_two, whole_frames};
 
 // The identifier of a file that is too long for RIFF.
-#[derive(Drop)]
+#[derive(Clone, Copy)]
 pub enum Form {
     Rf64,
     Bw64,
