@@ -60,7 +60,8 @@ at-sample w (suc j) (suc n) b l h =
 -- ---- the number at a sample's place
 turned-number : (kind : SampleKind) → is_pcm kind ≡ true → (b : List ℕ) (j : ℕ)
     → j * width_of kind + width_of kind ≤ length b
-    → big_number (width_of kind) b (j * width_of kind) ≡ number (width_of kind) (turned_round kind b) (j * width_of kind)
+    → big_number (width_of kind) b (j * width_of kind) ≡ number (width_of kind) (turned_round kind b) (j * width_of
+    kind)
 turned-number Pcm16 p b j h =
     ap bytes_value (sym (at-sample 2 j (length b / 2) b (omega arith) (omega arith)))
 turned-number Pcm24 p b j h =

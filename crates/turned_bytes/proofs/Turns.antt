@@ -1,6 +1,6 @@
 -- One sample is reversed in place, and then one more. By the bytes before the sample and those from it on. Assumes
 -- nothing.
-use mathlib.Core.Path.{◌≡◌, refl, sym, ap, ◌∙◌}
+use mathlib.Core.Path.{◌≡◌, refl, ap, ◌∙◌}
 use mathlib.Core.List.{List, [], ◌∷◌, ◌++◌, reverse, append_assoc}
 use Prim.Native.Nat.{ℕ, zero, suc, ◌+◌, ◌*◌, ◌≤◌, ◌<◌}
 use native.Mathlib.Numerals.{add-one}
@@ -32,7 +32,12 @@ three-behind p [] h = absurd (omega arith)
 three-behind p (a ∷ []) h = absurd (omega arith)
 three-behind p (a ∷ b ∷ []) h = absurd (omega arith)
 three-behind p (a ∷ b ∷ c ∷ r) h =
-    rw (get_or-append-add p (a ∷ b ∷ c ∷ r) 2 0, get_or-append_seam p a (b ∷ c ∷ r) 0, set-append_seam p a (b ∷ c ∷ r) c)
+    rw (
+      get_or-append-add p (a ∷ b ∷ c ∷ r) 2 0,
+      get_or-append_seam p a (b ∷ c ∷ r) 0,
+      set-append_seam p a (b ∷ c ∷
+          r) c,
+    )
     (set-behind p (c ∷ b ∷ c ∷ r) 2 a)
 
 module _ (b : List ℕ) (at : ℕ) where
