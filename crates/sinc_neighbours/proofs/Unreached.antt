@@ -10,7 +10,7 @@ use native.Mathlib.Omega.{arith}
 use borrow.Author.Tests.{eqb-true, le-ltb}
 use lib.Dec.{eqb}
 use lib.IntN.{ℤ, pos, ◌+ℤ◌}
-use lib.ListN.{length, get_or, set, length-set}
+use lib.ListN.{length, set, length-set}
 use lib.Seq.{get_or-set_other}
 use lib.Ieee.{Float, nan}
 use Rattle.answer.specs.Answers.{zero-f}
@@ -18,10 +18,9 @@ use Rattle.loop_laws.proofs.Folds.{same}
 use Rattle.ring.specs.Taps.{tap_of}
 use Rattle.ring.specs.Places.{position_ok}
 use Rattle.ring.specs.Quick.{start_of}
-use Rattle.ring.proofs.HeldRuns.{Run, run_of}
+use Rattle.ring.proofs.HeldRuns.{run_of}
 use Rattle.sinc_settings.specs.Refusals.{table_verdict}
 use Rattle.sinc_phases.specs.Phases.{first_tap}
-use Rattle.sinc_read.specs.Reading.{sample_verdict}
 use Rattle.sinc_read.proofs.AcceptedReading.{Readable, readable, same_test}
 use Rattle.sinc_read.proofs.BothWays.{first-is}
 use Rattle.sinc_read_f32.specs.Reading.{sinc_f32_at, read_of}

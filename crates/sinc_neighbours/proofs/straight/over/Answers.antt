@@ -1,6 +1,5 @@
 -- `sinc_neighbours::straight::over` meets its contract: each chain goes over samples that stand side by side, with rows
 -- that are longer. Assumes nothing.
-use borrow.Author.Rules.{rules}
 use mathlib.Core.Path.{◌≡◌, ◌∙◌}
 use mathlib.Core.List.{List}
 use Prim.Native.Nat.{ℕ, ◌+◌, ◌-◌, ◌*◌, ◌%◌}
@@ -13,8 +12,7 @@ use Rattle.fused_chain.specs.Chain.{chain_of, run_length}
 use Rattle.sinc_read_f32.specs.Sums.{tap_turn}
 use Rattle.sinc_read_f32.proofs.Chains.{one-chain, one-run}
 use Rattle.sinc_neighbours.specs.Straight.{Lies}
-use Rattle.sinc_neighbours.proofs.straight.over.Statement.{statement}
-use Rattle.sinc_neighbours.proofs.straight.over.Tie as tie
+use Rattle.sinc_neighbours.proofs.straight.over.Goals as goal
 
 sum_is : (table xs : List Float) (taps place phase : ℕ) (blend : Float)
     → Lies (length table) taps (length xs) place phase
@@ -31,50 +29,12 @@ sum_is table xs taps place phase blend l =
     ∙ one-run xs table blend taps phase place taps (omega (arith, l.inside)) (omega (arith, l.inside, l.some))
     (omega (arith, l.inside))
 
-returns : tie.Need-returns
+pub returns : goal.returns
 returns c =
-    let s = c.before.before.before.before.before.before.before.before.before in
-    let a = s.args in (
-      c.neighbours.ensures.0
-          ∙ sum_is a.table.now a.source.now a.taps a.place a.phase a.blend s.requires.0,
-      c.neighbours.ensures.1
-          ∙ sum_is a.table.now a.source.now a.taps a.other_place a.other-phase a.other
-          s.requires.1,
-    )
-
-pub over-spec : {M : Type 1} → statement M
-over-spec =
-    tie.close
-    (tie.spec
-    (λ c. search rules)
-    (λ c. search rules)
-    (λ c. search rules)
-    (λ c. search rules)
-    (λ c. search rules)
-    (λ c. search rules)
-    (λ c. search rules)
-    (λ c. search rules)
-    (λ c. search rules)
-    (λ c. search rules)
-    (λ c. search rules)
-    (λ c. search rules)
-    (λ c. search rules)
-    (λ c. search rules)
-    (λ c. search rules)
-    (λ c. search rules)
-    (λ c. search rules)
-    (λ c. search rules)
-    (λ c. search rules)
-    (λ c. search rules)
-    (λ c. search rules)
-    (λ c. search rules)
-    (λ c. search rules)
-    (λ c. search rules)
-    (λ c. search rules)
-    (λ c. search rules)
-    (λ c. search rules)
-    (λ c. search rules)
-    (λ c. search rules)
-    (λ c. search rules)
-    (λ c κs. search rules)
-    returns)
+    let a = c.args in record {
+      a_value = c.neighbours.ensures.a_value
+          ∙ sum_is a.table.now a.source.now a.taps a.place a.phase a.blend c.requires.0;
+      b_value = c.neighbours.ensures.b_value
+          ∙ sum_is a.table.now a.source.now a.taps a.other_place a.other_phase a.other
+          c.requires.1;
+    }
