@@ -1,8 +1,9 @@
 # oracle/checked.sh builds the exports with the toolchain's checks of what LLVM assumes. It is sourced after
 # oracle/rust.sh, with `kit` and `out` set. `rt try` compiles a program with a check in front of each assumption that
-# the backend lets LLVM make. It takes programs alone. So a program that calls every export once is tried, below
-# target/, in a copy of the crates where the static libraries are libraries, over an overlay of the kit that keeps the
-# module handed to clang; and each export gets its C form as the static library has it.
+# the backend lets LLVM make. It takes programs alone. So a program that calls every export once is tried in a copy of
+# the crates where the static libraries are libraries, over an overlay of the kit that keeps the module handed to clang;
+# and each export gets its C form as the static library has it. Copy and overlay stand in a temporary folder and are
+# removed, for `rt ci` refuses a source that is in no crate of the repository.
 
 build_checked() { # leaves $out/libboundary.rlib over $out/libchecked.a
     signatures "$root"/crates/fugnadri*/src/*.rt >"$out/exported"
@@ -21,8 +22,9 @@ build_checked() { # leaves $out/libboundary.rlib over $out/libchecked.a
 
 # The module that is compiled with checks, as $out/module.bc.
 try_module() {
-    over=$out/kit repository=$out/repository clang=$kit/toolchain/bin/clang
-    rm -rf "$over" "$repository" "$out/module.bc" && mkdir -p "$over/bin" "$over/toolchain/bin" "$repository/crates/tried/src"
+    room=$(mktemp -d) clang=$kit/toolchain/bin/clang
+    over=$room/kit repository=$room/repository
+    rm -f "$out/module.bc" && mkdir -p "$over/bin" "$over/toolchain/bin" "$repository/crates/tried/src"
     for f in "$kit"/*; do case ${f##*/} in bin | toolchain) ;; *) ln -s "$f" "$over/${f##*/}" ;; esac; done
     # rt takes the kit that it stands in: so it is copied, and what it starts is linked
     for f in "$kit"/bin/*; do case ${f##*/} in rt | *.py) cp "$f" "$over/bin" ;; *) ln -s "$f" "$over/bin/${f##*/}" ;; esac; done
@@ -43,7 +45,10 @@ try_module() {
             sed -e 's|//.*||' "$source" | tr '\n' ' ' | grep -o 'fn fugnadri_[a-z0-9_]*([^)]*)' | sed "s/^fn /$path::/"
         done
     done | calls >"$repository/crates/tried/src/main.rt"
-    (cd "$repository/crates/tried" && "$over/bin/rt" try </dev/null) >"$out/try.log" 2>&1 || failed "rt try fails: see target/hostile/try.log"
+    tried=yes
+    (cd "$repository/crates/tried" && "$over/bin/rt" try </dev/null) >"$out/try.log" 2>&1 || tried=
+    rm -rf "$room"
+    [ -n "$tried" ] || failed "rt try fails: see target/hostile/try.log"
     [ -f "$out/module.bc" ] || missing "this kit's rt try hands clang no module: see target/hostile/try.log; --checked cannot be had"
 }
 
