@@ -1,15 +1,13 @@
 -- `peaks::raise` meets its contract, by whether the place exists and its number is smaller. Assumes nothing.
-use borrow.Author.Rules.{rules}
 use mathlib.Core.Path.{◌≡◌, sym, ap, ◌∙◌}
 use mathlib.Core.List.{List}
-use Prim.Native.Nat.{ℕ, ◌≤◌, max}
+use Prim.Native.Nat.{ℕ, ◌≤◌}
 use native.Mathlib.Nat.{max-eq_left, max-eq_right}
 use native.Mathlib.Omega.{arith}
 use lib.ListN.{length, get_or, set}
 use lib.Seq.{set_out, set-get_or}
 use Rattle.peaks.specs.Peaks.{raised}
-use Rattle.peaks.proofs.raise.Statement.{statement}
-use Rattle.peaks.proofs.raise.Tie as tie
+use Rattle.peaks.proofs.raise.Goals as goal
 
 higher : (xs : List ℕ) (at n : ℕ) → get_or xs at 0 ≤ n → set xs at n ≡ raised xs at n
 unfolding raised
@@ -23,23 +21,17 @@ not_there : (xs : List ℕ) (at n : ℕ) → length xs ≤ at → xs ≡ raised 
 unfolding raised
 not_there xs at n h = sym (set_out xs at _ h)
 
-returns : tie.Need-returns
-returns c =
-    let s = c.before.before.before.args in
+pub returns-then-peaks-at : goal.returns-then-peaks-at
+returns-then-peaks-at c =
+    let s = c.args in
     higher s.peaks.now s.at s.n (omega arith)
 
-returns-2 : tie.Need-returns-2
-returns-2 c =
-    let s = c.before.before.before.args in
+pub returns-else-peaks-at : goal.returns-else-peaks-at
+returns-else-peaks-at c =
+    let s = c.args in
     as_high s.peaks.now s.at s.n (omega arith)
 
-returns-3 : tie.Need-returns-3
-returns-3 c =
-    let s = c.before.args in
+pub returns-else-at-peaks : goal.returns-else-at-peaks
+returns-else-at-peaks c =
+    let s = c.args in
     not_there s.peaks.now s.at s.n (omega arith)
-
-pub raise-spec : {M : Type 1} → statement M
-raise-spec =
-    tie.close
-    (tie.spec (λ c. search rules) (λ c. search rules) (λ c. search rules) (λ c. search rules) (λ c. search rules)
-    returns returns-2 returns-3)
