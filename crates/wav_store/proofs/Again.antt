@@ -29,7 +29,8 @@ module _ (f : Format) (kind : SampleKind) (b : List ℕ) (n : ℕ) where
       let whole : length old ≡ length xs * width_of kind = e ∙ l ∙ ap (λ (m : ℕ). m * width_of kind) (sym k) in
       written kind xs old refl (eq-eqb (length old) (length xs * width_of kind) whole) refl r.0 (sym r.1)
 
-  pub one-channel : list_of (λ (k : ℕ). sample_of f kind b (k * frame_of kind 1 + frame_of kind 0)) n ≡ samples_of f kind b n
+  pub one-channel : list_of (λ (k : ℕ). sample_of f kind b (k * frame_of kind 1 + frame_of kind 0)) n
+      ≡ samples_of f kind b n
   one-channel =
       same-list _ _ n
       (λ k l.

@@ -137,7 +137,8 @@ pcm-finite f Float32 p b n k l = absurd (p refl)
 
 -- ---- the sample of frame q and channel c: its place among all samples
 pub interleaved : (f : Format) (kind : SampleKind) (b : List ℕ) (n channels q c : ℕ) (d : Float) → q * channels + c < n
-    → get_or (samples_of f kind b n) (q * channels + c) d ≡ sample_of f kind b (q * frame_of kind channels + frame_of kind c)
+    → get_or (samples_of f kind b n) (q * channels + c) d
+    ≡ sample_of f kind b (q * frame_of kind channels + frame_of kind c)
 interleaved f kind b n channels q c d h =
     element _ n (q * channels + c) d h
     ∙ ap (sample_of f kind b)

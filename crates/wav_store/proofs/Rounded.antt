@@ -3,7 +3,7 @@
 use mathlib.Core.Path.{◌≡◌, refl, sym, ap, ◌∙◌, subst}
 use mathlib.Core.Logic.{inl, inr}
 use mathlib.Core.Bool.{Bool, true, false, cond, ◌&&◌}
-use Prim.Native.Nat.{ℕ, zero, ◌+◌, ◌-◌, ◌*◌, ◌/◌, ◌%◌, ◌^◌, ◌≤◌, ◌<◌}
+use Prim.Native.Nat.{ℕ, ◌+◌, ◌-◌, ◌*◌, ◌/◌, ◌%◌, ◌^◌, ◌≤◌, ◌<◌}
 use native.Mathlib.Nat.{zero-add, add_comm, add-mul, mul_assoc, mul-pos, zero-mul, mul-le-mul_right, mul-le-mul_left}
 use native.Mathlib.Nat.{mul-lt-mul_of_pos_right, lt_of_le_of_lt, lt_of_lt_of_le, le_of_eq, le_trans}
 use borrow.Author.Tests.{lt-ltb, le-ltb}

@@ -6,9 +6,8 @@ use mathlib.Core.Bool.{Bool, true, false, cond, not, true≢false}
 use mathlib.Core.List.{List, [], ◌∷◌}
 use Prim.Native.Nat.{ℕ, zero, suc, ◌+◌, max, ◌*◌, ◌/◌, ◌%◌, ◌^◌, ◌≤◌, ◌<◌}
 use native.Mathlib.Omega.{arith}
-use denote.Floats.{passes}
 use native.Mathlib.Nat.{le-max_left, le-max_right, max-le}
-use lib.Bits.{bit_and, bit_or, or_step, or_shr, and_high, and_comm, and_le_l, and_le_r}
+use lib.Bits.{bit_and, bit_or, or_step, or_shr, and_high, and_comm, and_le_l}
 use lib.Dec.{T, leb}
 use lib.ListN.{length, get_or}
 use lib.Ieee.{Float, nan, inf, fin, binary64, fits, lt, is_nan, of_bits, to_bits}
@@ -19,7 +18,7 @@ use Rattle.rounding.proofs.NumberOrders.{lt-or-ge}
 use Rattle.rounding.proofs.Patterns.{sign-rest}
 use Rattle.sample_kind.specs.declared.SampleKind.TheVariants.{Float32}
 use Rattle.stored_samples.specs.Stored.{fits_in}
-use Rattle.wav_store.specs.Inner.{Plain, AllPlain, PlainFrom, Tells, two, four}
+use Rattle.wav_store.specs.Inner.{Plain, AllPlain, Tells, two, four}
 use Rattle.wav_store.specs.Storing.{all_fit}
 use Rattle.wav_store.proofs.Rounded.{below_two}
 
@@ -29,7 +28,8 @@ module _ (x : Float) (held : T (fits binary64 x)) where
   n = to_bits binary64 x
 
   own : of_bits binary64 (cond (leb (2 ^ 63) n) (2 ^ 63) 0 + n % 2 ^ 63) ≡ x
-  own = ap (of_bits binary64) (sym (sign-rest binary64 n (to_bits-lt binary64 x held))) ∙ of_bits-to_bits binary64 x held
+  own = ap (of_bits binary64) (sym (sign-rest binary64 n (to_bits-lt binary64 x held))) ∙ of_bits-to_bits binary64 x
+      held
 
   pub fits_below : n / 2 ^ 62 % 2 ≡ 0 → fits_in Float32 x ≡ true
   fits_below e =

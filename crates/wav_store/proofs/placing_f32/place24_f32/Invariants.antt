@@ -1,0 +1,11 @@
+use Prim.Native.Nat.{◌-◌}
+use lib.ListN.{length}
+use Rattle.sample_kind.specs.declared.SampleKind.TheVariants.{Pcm24}
+use Rattle.wav_store.specs.Inner.{Placed}
+use Rattle.wav_store.proofs.placing_f32.place24_f32.Given as goal
+
+abbrev pub invariant-loop-i : goal.invariant-loop-i
+invariant-loop-i l = Placed Pcm24 l.samples l.out l.i
+
+abbrev pub decreases-loop-i : goal.decreases-loop-i
+decreases-loop-i l = length l.samples - l.i
