@@ -9,7 +9,7 @@ use Rattle.cubic_bound.specs.Exact.{M, weight0, weight1, weight2, weight3}
 abbrev unit : ℤ
 unit = pos (6 * 65536 ^ 3)
 
--- The weights at a node k, where m = k_m.
+-- The weights at a node k, where m = kM.
 abbrev at : ℤ → List ℤ
 at k = let m = k *ℤ M in weight0 m ∷ weight1 m ∷ weight2 m ∷ weight3 m ∷ []
 
