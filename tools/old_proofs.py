@@ -343,9 +343,9 @@ def steps(fn, t, say, by_label=True):
                     idx = k
                 return m[1] + "." + fields[idx] + "".join("." + r for r in rest)
             return m[0]
-        t = re.sub(rf"(\.{re.escape(st)}\.ensures)((?:\.[0-9]+)*)(?![{IDC}.])", cl, t)
+        t = re.sub(rf"(\.{re.escape(st)}\.ensures)((?:\.[0-9]+)*)(?![{IDC}])(?!\.[0-9])", cl, t)
         for name in re.findall(rf"\blet ([^\s:=]+) = \w+\.{re.escape(st)} in\b", t):
-            t = re.sub(rf"((?<![{IDC}.]){re.escape(name)}\.ensures)((?:\.[0-9]+)*)(?![{IDC}.])", cl, t)
+            t = re.sub(rf"((?<![{IDC}.]){re.escape(name)}\.ensures)((?:\.[0-9]+)*)(?![{IDC}])(?!\.[0-9])", cl, t)
         # all clauses as one argument
         if len(fields) > 1:
             t = re.sub(rf"(?<![{IDC}.])((?!let)[A-Za-z][{IDC}]*(?:\.[{IDC}]+)*\.{re.escape(st)}\.ensures)(?=[\s)])(?!\s+in\b)",
