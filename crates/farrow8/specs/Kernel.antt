@@ -1,7 +1,7 @@
 -- K3, K4, K6. 000's Farrow8: a sum for each column of the table, then fused steps in the fraction, in 000's order.
 -- Definitions only.
-use Rattle.std.specs.Prelude.{ℕ, false, cond, List, [], ◌∷◌, ℤ, pos, ◌+ℤ◌, ◌-ℤ◌, Float}
-use Rattle.std.specs.Float.{fin, binary64}
+use Rattle.std.specs.Prelude.{ℕ, cond, List, [], ◌∷◌, ℤ, pos, ◌+ℤ◌, ◌-ℤ◌, Float}
+use Rattle.std.specs.Float.{binary64}
 use Rattle.constants.specs.Numbers.{zero-f}
 use Rattle.rounding.specs.Operations.{fused}
 use Rattle.ring.specs.Taps.{tap_of}
