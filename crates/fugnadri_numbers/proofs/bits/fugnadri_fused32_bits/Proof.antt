@@ -1,8 +1,0 @@
--- `fugnadri_numbers::bits::fugnadri_fused32_bits` meets its contract, by the contracts of the functions that it calls,
--- which have no premises. Assumes nothing.
-use Rattle.fugnadri_numbers.proofs.bits.fugnadri_fused32_bits.Statement.{statement}
-use Rattle.fugnadri_numbers.proofs.bits.fugnadri_fused32_bits.Tie as tie
-
-pub fugnadri-fused32-bits-spec : {M : Type 1} → statement M
-fugnadri-fused32-bits-spec =
-    tie.close (tie.spec (λ c κs. tt) (λ c κs. tt) (λ c κs. tt) (λ c κs. tt) (λ c κs. tt) (λ c. cc))

@@ -1,0 +1,6 @@
+-- `fugnadri_numbers::numbers::fugnadri_clamp_f32` meets its contract, by the contracts of the functions that it calls,
+-- which have no premises. Assumes nothing.
+use Rattle.fugnadri_numbers.proofs.numbers.fugnadri_clamp_f32.Goals as goal
+
+pub returns : goal.returns
+returns c = cc

@@ -1,0 +1,6 @@
+-- `fugnadri_numbers::numbers::fugnadri_min` meets its contract, by the contracts of the functions that it calls, which
+-- have no premises. Assumes nothing.
+use Rattle.fugnadri_numbers.proofs.numbers.fugnadri_min.Goals as goal
+
+pub returns : goal.returns
+returns c = cc
