@@ -14,7 +14,7 @@ pub use narrow_samples::write_f32;
 use sample_kind::{SampleKind, width};
 
 // The length of the written file, or the number of the refusal.
-#[derive(Drop)]
+#[derive(Clone, Copy)]
 pub enum Written {
     Length(usize),
     Refused(u8),
