@@ -51,7 +51,8 @@ fields-ok kind channels count t f s w h p q r e =
     rw (p, q, r, e, frames-ok kind channels count s w h) (by kind channels s w)
   where
     by : (kind : SampleKind) (channels : ℕ) → 1 ≤ channels → channels ≤ 2
-        → leb 16 (format_size kind) && ((listed (tag_of kind) (8 * width_of kind)) && ((eqb channels 1 || eqb channels 2)
+        → leb 16 (format_size kind) && ((listed (tag_of kind) (8 * width_of kind))
+        && ((eqb channels 1 || eqb channels 2)
         && (eqb (frame_of kind channels) (channels * (8 * width_of kind / 8)) && true))) ≡ true
     by kind zero s w = absurd (omega arith)
     by Pcm16 (suc zero) s w = refl

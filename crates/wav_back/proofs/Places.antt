@@ -2,13 +2,13 @@
 -- then `data`. Kind by kind. Assumes nothing.
 use mathlib.Core.Path.{◌≡◌, refl, ap, ◌∙◌}
 use mathlib.Core.List.{List, [], ◌++◌}
-use Prim.Native.Nat.{ℕ, ◌+◌, ◌-◌, ◌/◌, ◌^◌, ◌<◌}
+use Prim.Native.Nat.{ℕ, ◌-◌, ◌/◌, ◌^◌, ◌<◌}
 use Rattle.word_bytes.specs.Bytes.{low_bytes, bytes_value}
 use Rattle.word_bytes.proofs.ReadBack.{bytes_back}
 use Rattle.sample_kind.specs.declared.SampleKind.{SampleKind}
 use Rattle.sample_kind.specs.declared.SampleKind.TheVariants.{Pcm16, Pcm24, Float32}
 use Rattle.riff_chunks.specs.declared.Chunk.{Chunk}
-use Rattle.riff_chunks.specs.Chunks.{chunk_at, first}
+use Rattle.riff_chunks.specs.Chunks.{chunk_at}
 use Rattle.riff_chunks.specs.Walk.{fmt_id, data_id}
 use Rattle.wav_header.specs.Header.{header_length, size_of, file_length, header_of}
 use Rattle.wav_header.specs.Fields.{format_size, riff_for, format_start, format_end, start_for, fact_for, data_for}

@@ -44,7 +44,8 @@ pub stored_bytes : (kind : SampleKind) (xs : List Float) → Bytes (bytes_of kin
 unfolding bytes_of
 stored_bytes kind [] = λ i. lit≤ tt
 stored_bytes kind (x ∷ xs) =
-    both_bytes (low_bytes (width_of kind) (word_of kind x)) (bytes_of kind xs) (low-bytes (width_of kind) (word_of kind x))
+    both_bytes (low_bytes (width_of kind) (word_of kind x)) (bytes_of kind xs)
+    (low-bytes (width_of kind) (word_of kind x))
     (stored_bytes kind xs)
 
 -- ---- a float that fits is stored as a finite one
