@@ -1,7 +1,7 @@
 -- The error budget of Demand 3, in units of 2 ^ -54. A term is at most b / 6 in magnitude and off by e units; sums add
 -- both up and round once more. With whole samples of magnitude at most 1 the four terms are off by 2, 1, 1 and 2 units,
 -- and the three sums add 2, 4 and 4: together 16 units, which is 2 ^ -50. Assumes nothing.
-use Prim.Native.Nat.{ℕ, ◌+◌, ◌-◌, ◌*◌, ◌^◌, ◌≤◌, ◌<◌}
+use Prim.Native.Nat.{ℕ, ◌+◌, ◌-◌, ◌*◌, ◌^◌, ◌≤◌}
 use native.Mathlib.Nat.{add-sub_of_le, le_trans, mul-le-mul, mul-le-mul_left}
 use native.Mathlib.Omega.{arith}
 use lib.Dec.{T, lit≤, lit<}

@@ -3,7 +3,7 @@
 use mathlib.Core.Path.{◌≡◌, refl, ap, ◌∙◌}
 use mathlib.Core.Bool.{Bool, true, false, ◌&&◌, cond}
 use mathlib.Core.List.{List, [], ◌∷◌, ◌++◌}
-use Prim.Native.Nat.{ℕ, zero, suc, ◌+◌, ◌^◌, ◌≤◌, ◌<◌}
+use Prim.Native.Nat.{ℕ, zero, suc, ◌+◌, ◌^◌, ◌<◌}
 use native.Mathlib.Nat.{zero-add, add-zero}
 use native.Mathlib.Omega.{arith}
 use borrow.Author.Tests.{ltb-true}
@@ -65,7 +65,8 @@ numbered_is len {xs} {ss} w (pos k) = rw (as_many w) (go (ltb k (length ss)) (le
 -- ---- the ring that a run from opening left, with one more sample
 pub neighbour-is : (len : ℕ) {xs : List Float} {ss : List ℤ} {x : Float} {s : ℤ} → WholeSamples xs ss → WholeSample x s
     → (z : ℤ)
-    → Part (tap_of (stored (length xs) (filled len xs) x) (length xs + 1) z) (neighbour len (ss ++ s ∷ []) z) 23 (2 ^ 23)
+    → Part (tap_of (stored (length xs) (filled len xs) x) (length xs + 1) z) (neighbour len (ss ++ s ∷ []) z) 23
+    (2 ^ 23)
 neighbour-is len {xs} {x = x} w v z =
     let ring : filled len (xs ++ x ∷ []) ≡ stored (length xs) (filled len xs) x =
     stored_last 0 (zeros len) xs x ∙ ap (λ (k : ℕ). stored k (filled len xs) x) (zero-add (length xs)) in

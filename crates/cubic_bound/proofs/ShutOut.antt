@@ -4,7 +4,7 @@
 use mathlib.Core.Path.{◌≡◌, refl, subst}
 use mathlib.Core.Bool.{false, not}
 use mathlib.Core.List.{[]}
-use Prim.Native.Nat.{ℕ, ◌^◌, ◌≤◌, ◌<◌}
+use Prim.Native.Nat.{ℕ, ◌^◌, ◌≤◌}
 use native.Mathlib.Omega.{arith}
 use lib.Dec.{T, T_not, leb, le→leb, lit≤, lit<}
 use lib.IntN.{ℤ, pos, negsuc}

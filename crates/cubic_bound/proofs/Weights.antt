@@ -37,7 +37,8 @@ under a b c h k l = mul-le-mul (mul-le-mul h k) l
 three-more : (x y z : ℤ) → Rep (pos 3 *ℤ (x *ℤ y *ℤ z)) (3 * zp (x *ℤ y *ℤ z)) (3 * zn (x *ℤ y *ℤ z))
 three-more x y z = rep-to (rep_mul (rep_pos 3) (rep-own (x *ℤ y *ℤ z))) (omega arith)
 
-three-less : (x y z : ℤ) → Rep (neg_ℤ (pos 3) *ℤ (x *ℤ y *ℤ z)) (3 * zp (neg_ℤ x *ℤ y *ℤ z)) (3 * zn (neg_ℤ x *ℤ y *ℤ z))
+three-less : (x y z : ℤ) → Rep (neg_ℤ (pos 3) *ℤ (x *ℤ y *ℤ z)) (3 * zp (neg_ℤ x *ℤ y *ℤ z))
+    (3 * zn (neg_ℤ x *ℤ y *ℤ z))
 three-less x y z =
     let r = rep_mul (rep_mul (rep-own x) (rep-own y)) (rep-own z) in
     let s = rep_mul (rep_mul (rep_neg (rep-own x)) (rep-own y)) (rep-own z) in
