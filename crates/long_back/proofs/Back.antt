@@ -2,9 +2,9 @@
 -- file that fits RIFF has the header of Wish 2. The case of RIFF follows from the law of Wish 2, since only the bytes
 -- before the samples are read. Assumes nothing.
 use mathlib.Core.Path.{◌≡◌, refl, sym, ap, ◌∙◌}
-use mathlib.Core.Bool.{Bool, true, false, true≢false, cond, ◌&&◌, ◌||◌}
-use mathlib.Core.List.{List, [], ◌∷◌, ◌++◌, append-nil}
-use Prim.Native.Nat.{ℕ, ◌+◌, ◌-◌, ◌%◌, ◌^◌, ◌≤◌}
+use mathlib.Core.Bool.{Bool, true, false, true≢false, ◌||◌}
+use mathlib.Core.List.{List, [], ◌++◌, append-nil}
+use Prim.Native.Nat.{ℕ, ◌+◌, ◌%◌, ◌^◌, ◌≤◌}
 use native.Mathlib.Omega.{arith}
 use borrow.Author.Tests.{leb-true, eqb-true}
 use lib.Dec.{eqb, leb}
@@ -32,10 +32,9 @@ use Rattle.wav_back.proofs.Read.{read_plain as riff-plain}
 use Rattle.wav_back.proofs.Read.{read-wrapped as riff-wrapped}
 use Rattle.wav_back.proofs.Written.{wave_of_any}
 use Rattle.long_header.specs.declared.Form.{Form}
-use Rattle.long_header.specs.declared.Form.TheVariants.{Rf64, Bw64}
-use Rattle.long_header.specs.LongHeader.{long_header_length, header_length_for, file_length_for, opening_of, long_header_of}
+use Rattle.long_header.specs.LongHeader.{long_header_length, file_length_for, long_header_of}
 use Rattle.long_header.specs.LongHeader.{header_for}
-use Rattle.long_header.specs.Refusals.{size_ok, file_tests, file_verdict_for}
+use Rattle.long_header.specs.Refusals.{file_tests, file_verdict_for}
 use Rattle.wav_write.proofs.Planned.{length-long}
 use Rattle.long_back.proofs.Read.{Fits, long_wave, read_plain, read-wrapped}
 
@@ -75,7 +74,8 @@ module _ (kind : SampleKind) (channels rate count : ℕ) (p : Planned kind chann
   riff-read told e =
       let whole = as_before told file (not-long kind channels rate count behind) ∙ e in
       let front : take (header_length kind) file ≡ header_of kind channels rate count =
-      take_at (header_of kind channels rate count) behind (header_length kind) (length-header kind channels rate count) in
+      take_at (header_of kind channels rate count) behind (header_length kind) (length-header kind channels rate count)
+      in
       ap (λ (n : ℕ). header_by told (header_of kind channels rate count) n) (sym file-long)
       ∙ ap (λ (b : List ℕ). header_by told b (length file)) (sym front)
       ∙ prefix-decides told file (length file) (wave_for kind channels rate count) whole
@@ -141,7 +141,8 @@ module _ (form : Form) (kind : SampleKind) (channels rate count : ℕ) (z : file
   held p = simp length-replicate (omega arith)
 
   room : length (long_header_of form kind channels rate count ++ []) ≡ long_header_length kind
-  room = ap length (append-nil (long_header_of form kind channels rate count)) ∙ length-long form kind channels rate count
+  room = ap length (append-nil (long_header_of form kind channels rate count)) ∙ length-long form kind channels rate
+      count
 
   -- W10d. What was written is read back.
   pub back-plain : header_in (header_for form kind channels rate count) (file_length_for kind count)

@@ -1,9 +1,9 @@
 -- W10d. The chunks of a written RF64 or BW64 are at their places, whatever bytes follow: `ds64` at 12, `fmt ` at 48,
 -- for float `fact` at 74, then `data`. Kind by kind, by computing. Assumes nothing.
-use mathlib.Core.Path.{◌≡◌, refl, ap, ◌∙◌}
+use mathlib.Core.Path.{◌≡◌, refl}
 use mathlib.Core.Bool.{true}
 use mathlib.Core.List.{List, ◌++◌}
-use Prim.Native.Nat.{ℕ, ◌+◌, ◌-◌, ◌/◌, ◌^◌, ◌<◌}
+use Prim.Native.Nat.{ℕ, ◌+◌, ◌-◌, ◌^◌, ◌<◌}
 use lib.ListN.{drop}
 use Rattle.word_bytes.specs.Bytes.{low_bytes, bytes_value}
 use Rattle.word_bytes.proofs.ReadBack.{bytes_back}
@@ -101,7 +101,8 @@ module _ (channels rate count : ℕ) (rest : List ℕ) where
   no-entries Bw64 Pcm24 = refl
   no-entries Bw64 Float32 = refl
 
-  pub true-riff : (form : Form) (kind : SampleKind) → riff_of kind < 256 ^ 8 → riff_size64 (bytes form kind) ≡ riff_of kind
+  pub true-riff : (form : Form) (kind : SampleKind) → riff_of kind < 256 ^ 8
+      → riff_size64 (bytes form kind) ≡ riff_of kind
   unfolding low_bytes opening_of long_header_of
   true-riff Rf64 Pcm16 h = bytes_back 8 (riff_of Pcm16) h
   true-riff Rf64 Pcm24 h = bytes_back 8 (riff_of Pcm24) h

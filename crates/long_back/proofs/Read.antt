@@ -2,39 +2,39 @@
 -- channels and rate, and the place and the number of bytes of its samples. From the walk and the fields. Assumes
 -- nothing.
 use mathlib.Core.Path.{◌≡◌, refl, sym, ap, ◌∙◌}
-use mathlib.Core.Bool.{Bool, true, false, not, cond, ◌&&◌}
-use mathlib.Core.List.{List, [], ◌∷◌, ◌++◌}
-use Prim.Native.Nat.{ℕ, ◌+◌, ◌-◌, ◌*◌, ◌/◌, ◌%◌, ◌^◌, ◌≤◌, ◌<◌}
+use mathlib.Core.Bool.{true, false, not}
+use mathlib.Core.List.{List, ◌++◌}
+use Prim.Native.Nat.{ℕ, ◌+◌, ◌*◌, ◌%◌, ◌^◌, ◌≤◌}
 use native.Mathlib.Omega.{arith}
 use borrow.Author.Tests.{le-leb, ne_eqb}
-use lib.Dec.{eqb, leb, lit≤}
-use lib.ListN.{length, take, drop, length-append}
-use Rattle.refusal_order.specs.Order.{◌unless◌, first_of}
+use lib.Dec.{leb, lit≤}
+use lib.ListN.{length, drop}
+use Rattle.refusal_order.specs.Order.{first_of}
 use Rattle.sample_kind.specs.declared.SampleKind.{SampleKind}
 use Rattle.sample_kind.specs.Kinds.{width_of, frame_of}
 use Rattle.sample_kind.proofs.Widths.{few_bytes}
 use Rattle.riff_chunks.specs.declared.Walked.{Walked}
 use Rattle.riff_chunks.specs.Walk.{riff_sought, seen_of, walked_from, walk_to}
-use Rattle.wav_format.specs.Format.{number, tag, rate, block, bits, kind_of, format_ok}
+use Rattle.wav_format.specs.Format.{number, tag, rate, block, bits, format_ok}
 use Rattle.wav_format.specs.Format.{channels as channels_of}
 use Rattle.wav_format.specs.Tags.{plain_tag, wrapper, wraps, wrapped_tag}
 use Rattle.wav.specs.declared.Found.TheVariants as found
 use Rattle.wav.specs.declared.Wave.{Wave}
 use Rattle.wav.specs.Wave.{part_of}
 use Rattle.wav.proofs.Answers.{judged_by}
-use Rattle.true_sizes.specs.Sizes.{is_long, full, entry_count, table_of, entries_from, all_small, small_sizes}
+use Rattle.true_sizes.specs.Sizes.{full, entry_count, entries_from, all_small, small_sizes}
 use Rattle.wav_opening.specs.Opening.{has_ds64, true_riff, end_of, opening_needs, opening_tests}
-use Rattle.long_wav.specs.Reading.{chunk_in, walk_in, fmt_in, missing, header_by, header_in, header_wrapped}
+use Rattle.long_wav.specs.Reading.{chunk_in, walk_in, missing, header_by, header_in, header_wrapped}
 use Rattle.long_laws.proofs.Openings.{met, met-12, met-20, met-48}
 use Rattle.long_laws.proofs.Longer.{walked-is as walk-answers}
-use Rattle.wav_header.specs.Header.{header_length, size_of, pad_of, tag_of}
+use Rattle.wav_header.specs.Header.{size_of, pad_of, tag_of}
 use Rattle.wav_header.specs.Fields.{format_size, start_for, data_for}
 use Rattle.wav_header.proofs.Sizes.{narrow, long-header, short-header}
 use Rattle.wav_back.proofs.Formats.{format-long, small-tag, kind-is, fields-ok}
 use Rattle.wav_back.proofs.Fields.{tag_is, channels-are, rate-is, block-is, bits_are, number-inside}
 use Rattle.wav_back.proofs.Places.{middle}
 use Rattle.long_header.specs.declared.Form.{Form}
-use Rattle.long_header.specs.LongHeader.{long_header_length, long_header_of}
+use Rattle.long_header.specs.LongHeader.{long_header_length}
 use Rattle.long_back.proofs.Places.{bytes, riff_of, is-long, letters, riff-full, ds64-there, ds64-size}
 use Rattle.long_back.proofs.Places.{no-entries, true-riff, true-data, body_same}
 use Rattle.long_back.proofs.Walk.{seen, walked, walked-is, seen-is, heads-there}
@@ -42,7 +42,14 @@ use Rattle.long_back.proofs.Walk.{seen, walked, walked-is, seen-is, heads-there}
 -- The answer for a file of `count` samples past RIFF.
 abbrev pub long_wave : SampleKind → ℕ → ℕ → ℕ → Wave
 long_wave kind channels rate count =
-    record { kind = kind; channels = channels; rate = rate; start = long_header_length kind; length = size_of kind count }
+    record {
+      kind = kind;
+      channels = channels;
+      rate = rate;
+      start = long_header_length kind;
+      length =
+          size_of kind count;
+    }
 
 -- What follows if the file is not refused.
 pub record Fits (kind : SampleKind) (channels rate count : ℕ) : Type 0 where
