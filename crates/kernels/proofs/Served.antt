@@ -1,6 +1,6 @@
 -- W11, K4. If a kernel's settings, its table's length and the position are in range, what is read is the kernel's own
 -- reading, kernel by kernel. Assumes nothing.
-use mathlib.Core.Path.{◌≡◌, refl}
+use mathlib.Core.Path.{◌≡◌}
 use mathlib.Core.Bool.{true}
 use mathlib.Core.List.{List}
 use Prim.Native.Nat.{ℕ}
