@@ -1,7 +1,25 @@
 -- T4. The blend at the maximum of a bank of two sets or more. The rate of the last set lies at most a step of 2^-40
 -- above the maximum, and the rate of the set below lies at least 2^28 steps below it, so the blend is 1 or so near to 1
 -- that it counts as 1. Assumes nothing.
-use Rattle.std.proofs.Common.{◌≡◌, ℕ, ◌+◌, ◌-◌, ◌*◌, ◌/◌, ◌<◌, ◌≤◌, true, false, T, pos, refl, add-mul, mul-pos, one-mul, arith}
+use Rattle.std.proofs.Common.{
+  ◌≡◌,
+  ℕ,
+  ◌+◌,
+  ◌-◌,
+  ◌*◌,
+  ◌/◌,
+  ◌<◌,
+  ◌≤◌,
+  true,
+  false,
+  T,
+  pos,
+  refl,
+  add-mul,
+  mul-pos,
+  one-mul,
+  arith,
+}
 use lib.Ieee.{Float, fin, binary64, sub, div, lt, le}
 use lib.Ieee.Positive.{den, den_pos}
 use Rattle.magnitude.proofs.Comparisons.{lt→le}

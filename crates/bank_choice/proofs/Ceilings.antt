@@ -1,6 +1,41 @@
 -- The ceiling of a number above 1, by its floor, which is the number cut towards zero, and a test: if the cut lies
 -- below the number, the ceiling is one more. Assumes nothing.
-use Rattle.std.proofs.Common.{◌≡◌, ℕ, suc, ◌+◌, ◌-◌, ◌*◌, ◌/◌, ◌^◌, ◌<◌, ◌≤◌, max, Bool, true, false, ℤ, pos, sym, refl, ap, ◌∙◌, subst, true≢false, le_trans, suc-mul, add-mul, lt_of_mul-lt-mul_right, le-div_iff_mul-le, mul-one, mul_right_comm, div-mul-le_self, le_of_mul-le-mul_right, add-one, arith, lit≤, ltb-false, ltb-true}
+use Rattle.std.proofs.Common.{
+  ◌≡◌,
+  ℕ,
+  suc,
+  ◌+◌,
+  ◌-◌,
+  ◌*◌,
+  ◌/◌,
+  ◌<◌,
+  ◌≤◌,
+  max,
+  true,
+  false,
+  ℤ,
+  pos,
+  sym,
+  refl,
+  ap,
+  ◌∙◌,
+  subst,
+  true≢false,
+  le_trans,
+  suc-mul,
+  add-mul,
+  lt_of_mul-lt-mul_right,
+  le-div_iff_mul-le,
+  mul-one,
+  mul_right_comm,
+  div-mul-le_self,
+  le_of_mul-le-mul_right,
+  add-one,
+  arith,
+  lit≤,
+  ltb-false,
+  ltb-true,
+}
 use native.Mathlib.Nat.{min-eq_left, max-eq_right, max-eq_left, div-eq_of_lt-le}
 use lib.Ieee.{Float, nan, inf, fin, binary64, up, down, lt, to_unsigned}
 use lib.Ieee.Fits.{down_pos}
@@ -93,7 +128,8 @@ held : (m : ℕ) (e : ℤ) → m * up e ≤ 50 * down e → HasValue (num (m * u
 held m e h =
     whole-value binary64 (pos (m * up e / down e)) (le_trans (quotient-at-most _ _ 50 (down_pos e) h) (lit≤ tt))
 
-pub stepped : (x : Float) → Inside x → lt (num (to_unsigned 64 x)) x ≡ true → to_unsigned 64 x + 1 ≡ max 1 (ceiling_of x)
+pub stepped : (x : Float) → Inside x → lt (num (to_unsigned 64 x)) x ≡ true
+    → to_unsigned 64 x + 1 ≡ max 1 (ceiling_of x)
 unfolding ceiling_of
 stepped nan u h = absurd u
 stepped (inf s) u h = absurd u

@@ -1,7 +1,33 @@
 -- A number counted in steps of 2^-40, which are coarse compared with those of an f64. What lies below such a number
 -- stays below it through a difference, a product, a quotient and a sum with 1, each rounded. Assumes nothing.
-use Rattle.std.proofs.Common.{◌≡◌, ℕ, ◌+◌, ◌*◌, ◌^◌, ◌<◌, ◌≤◌, true, false, T, sym, refl, ap, ◌∙◌, true≢false, lt_of_lt_of_le, mul-le-mul_right, mul_assoc, lt_of_mul-lt-mul_right, mul-lt-mul_of_pos_right, mul-pos, le_of_mul-le-mul_right, arith, lit<, lit≤, pow_pos}
-use lib.Ieee.{Float, nan, inf, fin, binary64, round, add, sub, mul, div, le, lt, up, down}
+use Rattle.std.proofs.Common.{
+  ◌≡◌,
+  ℕ,
+  ◌+◌,
+  ◌*◌,
+  ◌^◌,
+  ◌<◌,
+  ◌≤◌,
+  true,
+  false,
+  T,
+  sym,
+  refl,
+  ap,
+  true≢false,
+  lt_of_lt_of_le,
+  mul-le-mul_right,
+  mul_assoc,
+  lt_of_mul-lt-mul_right,
+  mul-lt-mul_of_pos_right,
+  mul-pos,
+  le_of_mul-le-mul_right,
+  arith,
+  lit<,
+  lit≤,
+  pow_pos,
+}
+use lib.Ieee.{Float, nan, inf, fin, binary64, round, add, sub, mul, div, le, lt}
 use lib.Ieee.Exact.{HasValue, round_exact}
 use lib.Ieee.Positive.{den, den_pos}
 use lib.Ieee.Scale.{finite}

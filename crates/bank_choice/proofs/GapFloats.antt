@@ -1,6 +1,26 @@
 -- Facts about floats for the rates and the gaps between them: 1 times a number, a number divided by itself, the order
 -- of three, and the sign of a difference. Assumes nothing.
-use Rattle.std.proofs.Common.{◌≡◌, ℕ, ◌+◌, ◌*◌, ◌<◌, true, false, T, pos, refl, ap, true≢false, mul_comm, mul-pos, zero-mul, arith, lit<, ltb→lt, ne_eqb}
+use Rattle.std.proofs.Common.{
+  ◌≡◌,
+  ℕ,
+  ◌+◌,
+  ◌*◌,
+  ◌<◌,
+  true,
+  false,
+  T,
+  pos,
+  refl,
+  ap,
+  true≢false,
+  mul_comm,
+  mul-pos,
+  zero-mul,
+  arith,
+  lit<,
+  ltb→lt,
+  ne_eqb,
+}
 use lib.Ieee.{Float, nan, inf, fin, binary64, up, down, round, neg, sub, div, lt, le, Format, mul, of_int}
 use lib.Ieee.Positive.{den, den_pos}
 use lib.Ieee.Fits.{down_pos}

@@ -2,7 +2,30 @@
 -- Every set before the last is slower, and the blend counts as 1, or the rate of the last set is within f64 epsilon of
 -- that of the set below. So it does not matter whether rounding left that rate at the maximum, below or above it.
 -- Assumes nothing.
-use Rattle.std.proofs.Common.{◌≡◌, ℕ, ◌+◌, ◌-◌, ◌<◌, min, Bool, true, false, cond, T, ◌⊎◌, negsuc, sym, refl, ap, ◌∙◌, inl, inr, eq-or-lt_of_le, arith, T_not, ne_eqb}
+use Rattle.std.proofs.Common.{
+  ◌≡◌,
+  ℕ,
+  ◌+◌,
+  ◌-◌,
+  ◌<◌,
+  min,
+  Bool,
+  true,
+  false,
+  cond,
+  T,
+  negsuc,
+  sym,
+  refl,
+  ap,
+  ◌∙◌,
+  inl,
+  inr,
+  eq-or-lt_of_le,
+  arith,
+  T_not,
+  ne_eqb,
+}
 use native.Mathlib.Nat.{min-eq_right}
 use lib.Dec.{not_T}
 use lib.Ieee.{Float, nan, inf, fin, binary64, lt, le, fits}

@@ -1,6 +1,23 @@
 -- T4. A quotient that is nearly 1 still counts as 1 when it is rounded to f64 and then to f32: each rounding keeps the
 -- order, and 1 less f32's epsilon is a value of both formats. Assumes nothing.
-use Rattle.std.proofs.Common.{◌≡◌, ℕ, ◌+◌, ◌*◌, ◌<◌, ◌≤◌, true, false, T, negsuc, refl, mul-le-mul_right, mul-pos, le_of_mul-le-mul_right, arith, lit<}
+use Rattle.std.proofs.Common.{
+  ◌≡◌,
+  ℕ,
+  ◌+◌,
+  ◌*◌,
+  ◌<◌,
+  ◌≤◌,
+  true,
+  false,
+  T,
+  negsuc,
+  refl,
+  mul-le-mul_right,
+  mul-pos,
+  le_of_mul-le-mul_right,
+  arith,
+  lit<,
+}
 use lib.Ieee.{Float, nan, inf, fin, binary32, binary64, up, down, round, div, le}
 use lib.Ieee.Fits.{down_pos}
 use lib.Ieee.Order.{round_mono}

@@ -1,7 +1,23 @@
 -- The rate of a set that is not the last is below the bank's. (max - 1) * i / n with i < n falls short of max - 1 by at
 -- least a fiftieth of it, and more than one set means that max - 1 is above 1/64, so at least 2^28 steps of 2^-40 lie
 -- between the rate of the set and that of the bank. Assumes nothing.
-use Rattle.std.proofs.Common.{◌≡◌, ℕ, ◌+◌, ◌-◌, ◌*◌, ◌<◌, ◌≤◌, max, true, T, refl, add-mul, lt_of_not-le, le_of_mul-le-mul_right, arith, lit≤}
+use Rattle.std.proofs.Common.{
+  ◌≡◌,
+  ℕ,
+  ◌+◌,
+  ◌-◌,
+  ◌*◌,
+  ◌<◌,
+  ◌≤◌,
+  true,
+  T,
+  refl,
+  add-mul,
+  lt_of_not-le,
+  le_of_mul-le-mul_right,
+  arith,
+  lit≤,
+}
 use native.Mathlib.Nat.{max-le}
 use lib.Ieee.{Float, binary64, round, sub, div, le, lt}
 use lib.Ieee.Positive.{den, den_pos}

@@ -1,6 +1,46 @@
 -- T3, T4. The rate of a bank's only set is that of the bank: max is a whole number of 2^-52, so max - 1 is exact; times
 -- 1 and divided by 1 it stays the same, and adding 1 gives max again. Assumes nothing.
-use Rattle.std.proofs.Common.{◌≡◌, ℕ, suc, ◌+◌, ◌-◌, ◌*◌, ◌^◌, ◌<◌, ◌≤◌, true, false, T, ℤ, pos, sym, refl, ap, ◌∙◌, true≢false, le_trans, le_of_eq, lt_of_lt_of_le, lt_of_le_of_lt, lt_irrefl, mul_assoc, mul_comm, add-mul, mul-le-mul_left, mul-lt-mul_of_pos_right, mul-pos, lt_of_not-le, mul-one, mul_right_comm, le_of_mul-le-mul_right, arith, lit<, lit≤, pow_pos, pow_mono, pow-add, le-ltb}
+use Rattle.std.proofs.Common.{
+  ◌≡◌,
+  ℕ,
+  ◌+◌,
+  ◌-◌,
+  ◌*◌,
+  ◌^◌,
+  ◌<◌,
+  ◌≤◌,
+  true,
+  false,
+  T,
+  ℤ,
+  sym,
+  refl,
+  ap,
+  ◌∙◌,
+  true≢false,
+  le_trans,
+  le_of_eq,
+  lt_of_lt_of_le,
+  lt_of_le_of_lt,
+  lt_irrefl,
+  mul_assoc,
+  mul_comm,
+  add-mul,
+  mul-le-mul_left,
+  mul-lt-mul_of_pos_right,
+  mul-pos,
+  lt_of_not-le,
+  mul-one,
+  mul_right_comm,
+  le_of_mul-le-mul_right,
+  arith,
+  lit<,
+  lit≤,
+  pow_pos,
+  pow_mono,
+  pow-add,
+  le-ltb,
+}
 use native.Mathlib.Nat.{eq_of_mul-eq-mul_right}
 use lib.Ieee.{Float, nan, inf, fin, Format, binary64, up, down, round, neg, add, sub, mul, div, of_int, fits}
 use lib.Ieee.Exact.{HasValue, round_exact}

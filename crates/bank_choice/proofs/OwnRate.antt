@@ -1,7 +1,30 @@
 -- T4. Both sets are sets of the bank. A rate equal to a set's own rate reads the next tighter set, not that one, unless
 -- it is the last set (`LastSet`) or its rate is within f64 epsilon of that of the set below. Otherwise the sets before
 -- it are slower, and the blend is x / x, which is 1. Assumes nothing.
-use Rattle.std.proofs.Common.{◌≡◌, ℕ, ◌+◌, ◌-◌, ◌<◌, min, Bool, true, false, cond, T, eqb, pos, negsuc, sym, refl, ◌∙◌, true≢false, arith, T_not, ne_eqb, eqb-true}
+use Rattle.std.proofs.Common.{
+  ◌≡◌,
+  ℕ,
+  ◌+◌,
+  ◌-◌,
+  ◌<◌,
+  min,
+  Bool,
+  true,
+  false,
+  cond,
+  T,
+  eqb,
+  pos,
+  negsuc,
+  sym,
+  refl,
+  ◌∙◌,
+  true≢false,
+  arith,
+  T_not,
+  ne_eqb,
+  eqb-true,
+}
 use native.Mathlib.Nat.{min-eq_left}
 use borrow.Author.Tests.{eqb-false}
 use lib.Dec.{not_T}

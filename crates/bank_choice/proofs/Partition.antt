@@ -1,6 +1,25 @@
 -- The first set that is not slower, from what is known of it: every set before it is slower, and it is not, or there is
 -- none left. Assumes nothing.
-use Rattle.std.proofs.Common.{◌≡◌, ℕ, zero, suc, ◌+◌, ◌<◌, ◌≤◌, Bool, true, false, cond, ◌⊎◌, sym, refl, ap, ◌∙◌, inl, inr, eq-or-lt_of_le, arith}
+use Rattle.std.proofs.Common.{
+  ◌≡◌,
+  ℕ,
+  zero,
+  suc,
+  ◌+◌,
+  ◌<◌,
+  ◌≤◌,
+  Bool,
+  true,
+  false,
+  cond,
+  sym,
+  ap,
+  ◌∙◌,
+  inl,
+  inr,
+  eq-or-lt_of_le,
+  arith,
+}
 use Rattle.bank_choice.specs.Choosing.{first_from}
 
 module _ (slower : ℕ → Bool) where

@@ -1,6 +1,24 @@
 -- The rates of the sets grow with their numbers and lie from 1 to 2: each step of computing a rate keeps the order, and
 -- for the last set (max - 1) * n / n is at most 1. Assumes nothing.
-use Rattle.std.proofs.Common.{◌≡◌, ℕ, ◌+◌, ◌<◌, ◌≤◌, true, false, T, pos, refl, zero-le, le_trans, mul-le-mul_right, one-mul, arith, lit<, lit≤}
+use Rattle.std.proofs.Common.{
+  ◌≡◌,
+  ℕ,
+  ◌+◌,
+  ◌<◌,
+  ◌≤◌,
+  true,
+  false,
+  T,
+  pos,
+  refl,
+  zero-le,
+  le_trans,
+  mul-le-mul_right,
+  one-mul,
+  arith,
+  lit<,
+  lit≤,
+}
 use lib.Ieee.{Float, fin, binary64, add, sub, mul, div, le, lt, of_int}
 use lib.Ieee.Bits.{is_true}
 use lib.Ieee.Exact.{HasValue}

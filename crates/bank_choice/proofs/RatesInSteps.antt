@@ -1,6 +1,24 @@
 -- The rates of the sets, bounded in steps of 2^-40. If k steps reach max - 1 and j steps reach k * i / n, the rate of
 -- set i is at most 1 plus j steps, whatever is rounded on the way. Assumes nothing.
-use Rattle.std.proofs.Common.{◌≡◌, ℕ, ◌+◌, ◌-◌, ◌*◌, ◌≤◌, true, T, pos, refl, le_trans, le_refl, add-mul, mul-le-mul, le_of_mul-le-mul_right, arith, lit≤}
+use Rattle.std.proofs.Common.{
+  ◌≡◌,
+  ℕ,
+  ◌+◌,
+  ◌-◌,
+  ◌*◌,
+  ◌≤◌,
+  true,
+  T,
+  pos,
+  refl,
+  le_trans,
+  le_refl,
+  add-mul,
+  mul-le-mul,
+  le_of_mul-le-mul_right,
+  arith,
+  lit≤,
+}
 use lib.Ieee.{Float, binary64, add, sub, mul, div, le}
 use lib.Ieee.Positive.{den, den_pos}
 use lib.Ieee.Scale.{finite}
@@ -11,7 +29,7 @@ use Rattle.interval.proofs.Products.{rises}
 use Rattle.interval.proofs.MonotoneOperations.{sum-grows, product-grows, quotient-grows}
 use Rattle.sinc_settings.specs.Ranges.{one-f}
 use Rattle.bank_choice.specs.Rates.{num, bank_ok, steps_of, rate_of}
-use Rattle.bank_choice.proofs.SetCounts.{in-range, span, least, most}
+use Rattle.bank_choice.proofs.SetCounts.{in-range, span, most}
 use Rattle.bank_choice.proofs.RatesGrow.{number, sets, many, product, share, itself, exact, rate-finite}
 use Rattle.bank_choice.proofs.CoarseSteps.{unit, Value, coarse, value_of, exactly, difference-under}
 use Rattle.bank_choice.proofs.CoarseSteps.{product-under, quotient-under, sum-under}

@@ -1,8 +1,8 @@
 -- The ranges of a bank's numbers, by their ends: max - 1 lies from 0 to 1, so that (max - 1)/0.02 is at most 50 and
 -- there are 1 to 50 sets. Assumes nothing.
-use Rattle.std.proofs.Common.{◌≡◌, ℕ, ◌≤◌, max, true, false, pos, negsuc, refl, zero-le, lit≤}
+use Rattle.std.proofs.Common.{◌≡◌, ℕ, ◌≤◌, true, false, pos, refl, zero-le, lit≤}
 use native.Mathlib.Nat.{le-max_left, max-le}
-use lib.Ieee.{Float, nan, inf, fin, binary64, round, add, sub, div, le, lt, of_int}
+use lib.Ieee.{Float, nan, inf, fin, binary64, sub, div, le, lt}
 use lib.Ieee.Fits.{and_l, and_r, down_pos}
 use denote.Floats.{passes}
 use Rattle.magnitude.specs.Bounds.{AtMost}

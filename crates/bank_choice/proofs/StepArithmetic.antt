@@ -1,7 +1,23 @@
 -- The arithmetic of `NotLast` and `AtMaximum`, over whole numbers. X is 2^40 (max - 1), over B. k steps of 2^-40 lie
 -- above max - 1, j of them above k * i / n, and yet j of them and 2^28 more lie below max - 1, if i < n. Assumes
 -- nothing.
-use Rattle.std.proofs.Common.{◌≡◌, ℕ, ◌+◌, ◌-◌, ◌*◌, ◌/◌, ◌<◌, ◌≤◌, ap, ◌∙◌, mul-le-mul_right, add-mul, mul-le-mul_left, one-mul, le_of_mul-le-mul_right, arith}
+use Rattle.std.proofs.Common.{
+  ◌≡◌,
+  ℕ,
+  ◌+◌,
+  ◌*◌,
+  ◌/◌,
+  ◌<◌,
+  ◌≤◌,
+  ap,
+  ◌∙◌,
+  mul-le-mul_right,
+  add-mul,
+  mul-le-mul_left,
+  one-mul,
+  le_of_mul-le-mul_right,
+  arith,
+}
 use Rattle.interval.proofs.Signed.{ring}
 use Rattle.integer_part.proofs.Floors.{quotient-around}
 use Rattle.bank_choice.proofs.CoarseSteps.{unit}

@@ -23,7 +23,8 @@ fifty-sets = refl
 -- T4. Of the two sets up to 1.03, the own rate of the first reads the second set alone.
 reads_second : chosen_of (of_bits binary64 0x3ff0_7ae1_47ae_147b) (rate_of (of_bits binary64 0x3ff0_7ae1_47ae_147b) 2 1)
     ≡ record { safe = 0; tighter = 1; which = 1; blend = one-f }
-unfolding chosen_of first_from blend_of steps_of ceiling_of rate_of clamped narrowed add sub mul div lt le of_int of_bits
+unfolding chosen_of first_from blend_of steps_of ceiling_of rate_of clamped narrowed add sub mul div lt le of_int
+    of_bits
 reads_second = refl
 
 -- T4. Up to 0x1.d5f4b3ac79505p+0 there are 42 sets, and by rounding the last of them is faster than the bank. All the
@@ -41,5 +42,6 @@ last-above = refl
 
 reads-last-alone : ((chosen_of past past).safe ≡ 41) × ((chosen_of past past).tighter ≡ 41)
     × ((chosen_of past past).which ≡ 1)
-unfolding chosen_of first_from blend_of steps_of ceiling_of rate_of clamped narrowed add sub mul div lt le of_int of_bits
+unfolding chosen_of first_from blend_of steps_of ceiling_of rate_of clamped narrowed add sub mul div lt le of_int
+    of_bits
 reads-last-alone = (refl, refl, refl)

@@ -1,6 +1,6 @@
 -- T4. Which two sets a rate reads, counted from 0, and how they are blended: 000's SincBankF32::sample up to the
 -- reading. Definitions only.
-use Rattle.std.specs.Prelude.{ℕ, zero, suc, ◌+◌, ◌-◌, min, Bool, true, false, cond, not, ◌&&◌, [], ◌∷◌, pos, negsuc}
+use Rattle.std.specs.Prelude.{ℕ, zero, suc, ◌+◌, ◌-◌, min, Bool, true, false, cond, not, ◌&&◌, [], ◌∷◌, negsuc}
 use Rattle.std.specs.Prelude.{◌==◌, is_nan, Float}
 use Rattle.std.specs.Float.{fin, binary64}
 use Rattle.std.specs.Float.Ieee.{sub, div, lt, le}

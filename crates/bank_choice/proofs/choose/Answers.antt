@@ -1,14 +1,13 @@
 -- `bank_choice::choose` meets its contract: if nothing is refused the bank's rate is in range, and the choice is the
 -- definition's. Assumes nothing.
-use Rattle.std.proofs.Common.{◌≡◌, ℕ, zero, suc, Bool, true, false, cond, not, sym, refl, ◌∙◌, arith, rules}
+use Rattle.std.proofs.Common.{◌≡◌, ℕ, zero, suc, Bool, true, false, cond, not, sym, refl, ◌∙◌, arith}
 use lib.Ieee.{Float, is_nan}
 use Rattle.bank_choice.specs.declared.Choice.{Choice}
 use Rattle.bank_choice.specs.declared.Selected.TheVariants.{Refused}
 use Rattle.bank_choice.specs.Rates.{bank_ok}
 use Rattle.bank_choice.specs.Choosing.{chosen_of, no_choice, choose_verdict, selected_by}
 use Rattle.bank_choice.specs.Inner.{choice_of, pick_choice}
-use Rattle.bank_choice.proofs.choose.Statement.{statement}
-use Rattle.bank_choice.proofs.choose.Tie as tie
+use Rattle.bank_choice.proofs.choose.Goals as goal
 
 -- If nothing is refused the bank's rate is in range.
 in-range : (top rate : Float) → choose_verdict top rate ≡ 0 → choice_of top rate ≡ chosen_of top rate
@@ -23,16 +22,11 @@ refused : (k : ℕ) (c : Choice) → (k ≡ 0 → ⊥) → Refused k ≡ selecte
 refused zero c h = absurd (h refl)
 refused (suc k) c h = refl
 
-returns : tie.Need-returns
-returns c =
-    let t = c.before in
-    let n = t.before in
-    let a = n.before.args in
-    let none : choose_verdict a.max-rate a.rate ≡ 0 = sym n.refusal.ensures ∙ t.if1.true in
-    rw (c.«choice-or-zero».ensures, in-range a.max-rate a.rate none, none)
+pub returns-then-no-eq0 : goal.returns-then-no-eq0
+returns-then-no-eq0 c =
+    let a = c.args in
+    let none : choose_verdict a.max_rate a.rate ≡ 0 = sym c.refusal-no.ensures ∙ c.if-no-eq0.true in
+    rw (c.choice_or_zero.ensures, in-range a.max_rate a.rate none, none)
 
-returns-2 : tie.Need-returns-2
-returns-2 c = rw (← c.before.refusal.ensures) (refused _ _ c.if1.false)
-
-pub choose_spec : {M : Type 1} → statement M
-choose_spec = tie.close (tie.spec (λ c κs. search rules) (λ c κs. search rules) returns returns-2)
+pub returns-else-no-eq0 : goal.returns-else-no-eq0
+returns-else-no-eq0 c = rw (← c.refusal-no.ensures) (refused _ _ c.if-no-eq0.false)
