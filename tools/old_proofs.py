@@ -44,12 +44,16 @@ def labels(root):
         with open(p) as f:
             lines = f.read().split("\n")
         cur = None
-        for l in lines:
+        for k, l in enumerate(lines):
             m = re.match(r"^\s*(?:pub(?:\(\w+\))? )?(?:const )?(?:unsafe )?(?:extern \"C\" )?fn (\w+)", l)
             if m:
                 cur = (p.split("/crates/")[1].split("/")[0], m[1])
                 mod = os.path.splitext(p.split("/src/")[1])[0].split("/")
-                LABELS.setdefault(cur, []).append({"ensures": [], "requires": [], "mod": mod})
+                sig = " ".join(lines[k:k + 40])
+                sig = sig[sig.find("fn "):]
+                sig = re.split(r"\)\s*(?:->|ensures|requires|\{|where)", sig)[0]
+                LABELS.setdefault(cur, []).append({"ensures": [], "requires": [], "mod": mod,
+                                                   "params": re.findall(r"(\w+): ", sig)})
             m = re.match(r"^\s+(ensures|requires) (\w+ )?\{", l)
             if m and cur:
                 LABELS[cur][-1][m[1]].append((m[2] or "").strip())
@@ -403,6 +407,14 @@ def turn(crate, fn, path, mode=None):
     with open(p) as f:
         text = f.read()
     text = without_ways(text)
+    text = re.sub(r"\.«([^»]*)»", r".\1", text)
+    # arguments have the names of the source
+    way = fn.key.split("-proofs.", 1)[1].rsplit(".Lts", 1)[0].split(".")
+    for x in LABELS.get((os.path.basename(crate), way[-1]), []):
+        if x["mod"] == (way[:-1] or ["lib"]) or len(way) == 1:
+            for q in x["params"]:
+                if "_" in q:
+                    text = re.sub(rf"\.{q.replace('_', '-')}(?![{IDC}])", "." + q, text)
     ds = decls(text)
     head, ds = ds[0], ds[1:]
     # the last piece that closes
