@@ -146,7 +146,7 @@ fn write_all(system: &System, from: &[u8], to: &[u8], job: Job, count: usize) ->
 fn ended_well(system: &System, from: &[u8], to: &[u8], job: Job, count: usize, outcome: Outcome) -> bool {
     let kind = job.kind;
     if is_well(outcome) {
-        progress::clear(system.is_terminal());
+        progress::clear(system, system.is_terminal());
         return write_pad(
             system, b"imitate",
             to,

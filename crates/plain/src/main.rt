@@ -96,7 +96,7 @@ fn write_plain(
     }
     let outcome = copying::copy(system, file, fd);
     if is_well(outcome) {
-        progress::clear(system.is_terminal());
+        progress::clear(system, system.is_terminal());
         return write_pad(system, b"plain", to, fd, times(file.frames, file.frame));
     }
     say_outcome(system, from, to, outcome);

@@ -161,7 +161,7 @@ fn tell(system: &System, job: Job, first: &[u8], second: &[u8]) -> bool {
 fn ended_well(system: &System, reports: Reports, first: &[u8], second: &[u8]) -> bool {
     let outcome = reports.outcome;
     if is_well(outcome) {
-        progress::clear(system.is_terminal());
+        progress::clear(system, system.is_terminal());
         return true;
     }
     if reports.second {

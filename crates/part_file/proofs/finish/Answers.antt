@@ -1,6 +1,5 @@
 -- `part_file::finish` meets its contract, by whether all went well. Assumes nothing.
-use borrow.Author.Rules.{rules}
-use mathlib.Core.Path.{◌≡◌, refl, sym, ◌∙◌}
+use mathlib.Core.Path.{refl, sym, ◌∙◌}
 use mathlib.Core.Bool.{true≢false}
 use Rattle.part_file.proofs.finish.Goals as goal
 

@@ -1,6 +1,5 @@
 -- `part_file::make` meets its contract: what is not standard output is none. Assumes nothing.
-use borrow.Author.Rules.{rules}
-use mathlib.Core.Path.{◌≡◌, refl, sym, ◌∙◌}
+use mathlib.Core.Path.{refl, sym, ◌∙◌}
 use mathlib.Core.Bool.{true≢false}
 use Rattle.part_file.proofs.make.Goals as goal
 
