@@ -5,7 +5,7 @@ use modulation_engine::{ModulationEngine, Opened};
 use modulation_params::ModulationParams;
 use modulation_sample::Offset;
 
-#[derive(Drop)]
+#[derive(Clone, Copy)]
 pub struct Turn {
     pub engine: ModulationEngine,
     pub refusal: u64,

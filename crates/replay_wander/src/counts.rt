@@ -2,7 +2,7 @@
 use crate::lines::Verdict;
 
 // The lines that were read, those with an answer (without and with a star), and how many of these differ.
-#[derive(Drop)]
+#[derive(Clone, Copy)]
 pub struct Seen {
     pub lines: u64,
     pub compared: u64,

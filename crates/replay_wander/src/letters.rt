@@ -3,14 +3,14 @@ use modulation_engine::ModulationEngine;
 use modulation_params::ModulationParams;
 
 // The engine, and the settings of its next steps.
-#[derive(Drop)]
+#[derive(Clone, Copy)]
 pub struct Player {
     pub engine: ModulationEngine,
     pub params: ModulationParams,
 }
 
 // What a letter does, and whether the result is what the line says.
-#[derive(Drop)]
+#[derive(Clone, Copy)]
 pub struct Found {
     pub player: Player,
     pub answers: bool,

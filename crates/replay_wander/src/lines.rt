@@ -5,7 +5,7 @@ use bit_patterns::float_of;
 use replay_lines::Line;
 
 // What a line leaves, whether it has an answer and a star, and whether another answer was found.
-#[derive(Drop)]
+#[derive(Clone, Copy)]
 pub struct Verdict {
     pub player: Player,
     pub answers: bool,

@@ -19,7 +19,7 @@ use modulation_params::default_params;
 use replay_lines::{Heard, Line};
 use streams::{print_decimal, read_full, write_all};
 
-#[derive(Drop)]
+#[derive(Clone, Copy)]
 struct Course {
     player: Player,
     seen: Seen,
