@@ -1,6 +1,5 @@
 -- `inner_reader::step` meets its contract: `accept` refuses or stores, and what is read behind the stored sample is the
 -- kernel's reading, by the laws for any kernel. Assumes nothing.
-use borrow.Author.Rules.{rules}
 use mathlib.Core.Path.{◌≡◌, refl, ap, ◌∙◌}
 use mathlib.Core.Bool.{true}
 use Prim.Native.Nat.{ℕ, zero, suc}
@@ -13,8 +12,7 @@ use Rattle.variable_delay.proofs.Calls.{made, silent}
 use Rattle.variable_delay.specs.declared.VariableDelay.{VariableDelay}
 use Rattle.inner_reader.specs.Inner.{stepped_of}
 use Rattle.inner_reader.specs.declared.Stepped.{Stepped}
-use Rattle.inner_reader.proofs.step.Statement.{statement}
-use Rattle.inner_reader.proofs.step.Tie as tie
+use Rattle.inner_reader.proofs.step.Goals as goal
 
 -- The answer of a refusal has no value; 0.0 stands for it.
 none : (k : ℕ) (d : VariableDelay)
@@ -22,28 +20,21 @@ none : (k : ℕ) (d : VariableDelay)
 none zero d = refl
 none (suc k) d = refl
 
-returns : tie.Need-returns
+pub returns-then-a-ne0 : goal.returns-then-a-ne0
 unfolding of_bits
-returns c =
-    let a = c.before.before.before.before in
-    let s = a.before.before.before.before.args in
+returns-then-a-ne0 c =
+    let s = c.args in
     let e =
     refused-call made answer_of silent (read_by s.kernel s.table.now) true true s.state s.ring.now
-    s.input s.delay (λ f still. refl) a.accept.ensures c.if1.true zero-f refl in
-    (none a.accept.result.refusal s.state ∙ ap stepped_of e.0, e.1)
+    s.input s.delay (λ f still. refl) (c.accept-a.ensures.value, c.accept-a.ensures.ring_after) c.if-a-ne0.true zero-f
+    refl in
+    record { value = none c.accept-a.result.refusal s.state ∙ ap stepped_of e.0; ring_after = e.1 }
 
-returns-2 : tie.Need-returns-2
-returns-2 c =
-    let i = c.before.before in
-    let a = i.before.before.before.before in
-    let s = a.before.before.before.before.args in
+pub returns : goal.returns
+returns c =
+    let s = c.args in
     let e =
     taken-call made answer_of silent (read_by s.kernel s.table.now) true true s.state s.ring.now
-    s.input s.delay (λ f still. refl) a.accept.ensures i.if1.false
-    (λ own lent here. c.read.ensures) refl in
-    (ap stepped_of e.0, e.1)
-
-pub step_spec : {M : Type 1} → statement M
-step_spec =
-    tie.close (tie.spec (λ c κs. search rules) (λ c. search rules) returns (λ c κs. search rules) (λ c. search rules)
-    returns-2)
+    s.input s.delay (λ f still. refl) (c.accept-a.ensures.value, c.accept-a.ensures.ring_after) c.if-a-ne0.false
+    (λ own lent here. c.read-y.ensures) refl in
+    record { value = ap stepped_of e.0; ring_after = e.1 }
