@@ -58,12 +58,12 @@ unfolding lines_of run_of
 turn r out at {x} {all} {xs} n e f p =
     let t =
     then out (line_of r.state.accepted (answer_to r (call x))) (lines_of (after r (call x)) xs) at (rw e at p)
-    (refl, refl) in
+    record { value = refl; out_after = refl } in
     rw (
       n,
       e,
       f,
-    ) (λ i. record { reader = reader_after (after r (call x)) xs; place = sym t.0 i; bytes = sym t.1 i })
+    ) (λ i. record { reader = reader_after (after r (call x)) xs; place = sym t.value i; bytes = sym t.out_after i })
 
 -- No samples are to come.
 pub ended : (r : Reader) (out : List ℕ) (at : ℕ) {all : List Float} → all ≡ [] → at ≤ length out
@@ -71,7 +71,8 @@ pub ended : (r : Reader) (out : List ℕ) (at : ℕ) {all : List Float} → all 
 unfolding lines_of run_of
 ended r out at n h = rw (n, add-zero at, min-eq_right h)
 
-pub in_blocks : (r : Reader) (xs ys : List Float) → lines_of r (xs ++ ys) ≡ lines_of r xs ++ lines_of (reader_after r xs) ys
+pub in_blocks : (r : Reader) (xs ys : List Float)
+    → lines_of r (xs ++ ys) ≡ lines_of r xs ++ lines_of (reader_after r xs) ys
 unfolding lines_of run_of
 in_blocks r [] ys = refl
 in_blocks r (x ∷ xs) ys =

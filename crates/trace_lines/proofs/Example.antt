@@ -23,6 +23,7 @@ bytes =
 
 pub four-lines : text_of (opened 0 0 8).state (opened 0 0 8).ring bytes
     ≡ ascii "0 BFB0000000000000\n1 3FDC000000000000\n2 3FF8000000000000\n3 4004000000000000\n"
-unfolding lines_of samples_of bytes_value hex_digits ascii decimal_to run_of cubic_at length_for size floor_of fraction_of le add
+unfolding lines_of samples_of bytes_value hex_digits ascii decimal_to run_of cubic_at length_for size floor_of
+    fraction_of le add
     sub mul div neg of_int of_bits to_bits
 four-lines = refl

@@ -21,7 +21,8 @@ use Rattle.trace_lines.specs.Lines.{answer_text, line_of, call, answer_to, lines
 hex-digits : (k n : ℕ) → length (hex_digits k n) ≡ k
 unfolding hex_digits
 hex-digits zero n = refl
-hex-digits (suc k) n = length-append (hex_digits k (n / 16)) (glyph (n % 16) ∷ []) ∙ omega (arith, hex-digits k (n / 16))
+hex-digits (suc k) n = length-append (hex_digits k (n / 16)) (glyph (n % 16) ∷ [])
+    ∙ omega (arith, hex-digits k (n / 16))
 
 short-answer : (a : Answer) → length (answer_text a) ≤ 28
 unfolding ascii
@@ -69,6 +70,6 @@ whole d ring bytes out h p =
       short-lines (record { state = d; ring = ring }) (samples_in bytes),
       in-samples (length bytes / 8) bytes,
     ) in
-    let e = p.1 ∙ sets-eq text out 0 (omega arith) in
-    let n = p.0 ∙ min-eq_right {n = 0 + length text} {m = length out} (omega arith) ∙ zero-add (length text) in
+    let e = p.out_after ∙ sets-eq text out 0 (omega arith) in
+    let n = p.value ∙ min-eq_right {n = 0 + length text} {m = length out} (omega arith) ∙ zero-add (length text) in
     rw (e, n) (take_at text (drop (0 + length text) out) (length text) refl)
