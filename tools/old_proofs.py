@@ -318,8 +318,16 @@ def steps(fn, t, say, by_label=True):
             return m[1] + next(iter(ns))
         t = re.sub(rf"(\.{re.escape(st)}\.)([A-Za-z][{IDC}]*)", fd, t)
     for st, ps in fn.news.items():
-        t = re.sub(rf"(\.{re.escape(st)}\.new)\.([0-9]+)(?![{IDC}])",
-                   lambda m: m[1] + "." + ps[int(m[2])] if int(m[2]) < len(ps) else m[0], t)
+        def nw(m):
+            # nested pairs over all parameters
+            ds = m[2].strip(".").split(".")
+            n = 0
+            while n < len(ds) and ds[n] == "1":
+                n += 1
+            if n >= len(ps):
+                return m[0]
+            return m[1] + "." + ps[n] + "".join("." + d for d in ds[n + 1:])
+        t = re.sub(rf"(\.{re.escape(st)}\.new)((?:\.[01])+)(?![{IDC}])", nw, t)
     for st, fields in fn.clauses.items() if by_label else ():
         def cl(m):
             if len(fields) == 1:
@@ -371,6 +379,7 @@ def steps(fn, t, say, by_label=True):
     # older names of what is known at the start
     t = re.sub(r"\.pre(?=[.\s)]|$)", ".requires", t)
     t = re.sub(r"\.fits(?=\.)", ".ranges", t)
+    t = re.sub(r"\.inv(?=[.\s)]|$)", ".invariant", t)
     t = re.sub(r"\.good(?=\.[01])", ".well_formed", t)
     t = re.sub(r"\.type-inv\b", ".type_inv", t)
     # what an arm knows of the value that is matched
@@ -388,15 +397,21 @@ def steps(fn, t, say, by_label=True):
 
 def without_ways(text):
     """Writes out `abbrev begun : tie.PLACE .. → tie.EARLIER ..` with `begun c = c.before..` where it is used."""
+    ways = []
     while True:
         m = re.search(rf"^abbrev ([^\s]+) :\s+tie\.[A-Z][^→]*→\s+tie\.[A-Z][^→\n]*\n\1 (\w+) = \2((?:\.before)+)\n+",
                       text, re.M)
         if not m:
-            return text
-        name, chain = m[1], m[3]
+            break
+        ways.append((m[1], m[3]))
         text = text[:m.start()] + text[m.end():]
-        text = re.sub(rf"\({re.escape(name)} ([a-z][{IDC}]*(?:\.before)*)\)", rf"\1{chain}", text)
-        text = re.sub(rf"(?<![{IDC}.]){re.escape(name)} ([a-z][{IDC}]*(?:\.before)*)(?![{IDC}.])", rf"\1{chain}", text)
+    was = None
+    while ways and was != text:
+        was = text
+        for name, chain in ways:
+            text = re.sub(rf"\({re.escape(name)} ([a-z][{IDC}]*(?:\.before)*)\)", rf"\1{chain}", text)
+            text = re.sub(rf"(?<![{IDC}.]){re.escape(name)} ([a-z][{IDC}]*(?:\.before)*)(?![{IDC}.])", rf"\1{chain}", text)
+    return text
 
 
 def turn(crate, fn, path, mode=None):
