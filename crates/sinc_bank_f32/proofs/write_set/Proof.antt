@@ -3,7 +3,6 @@
 use borrow.Author.Rules.{rules}
 use mathlib.Core.Path.{◌≡◌, refl, ◌∙◌, ap}
 use mathlib.Core.Bool.{false}
-use Prim.Native.Nat.{◌≤◌}
 use native.Mathlib.Omega.{arith}
 use lib.Dec.{lit≤}
 use lib.ListN.{length}
@@ -17,7 +16,7 @@ use Rattle.sinc_bank_f32.proofs.Lengths.{normal-long, hq-long, ultra-long}
 use Rattle.sinc_bank_f32.proofs.write_set.Statement.{statement}
 use Rattle.sinc_bank_f32.proofs.write_set.Tie as tie
 
-write-part-requires : tie.Need-write-part-requires
+write-part-requires : tie.Need-write_part-requires
 unfolding of_bits le
 write-part-requires c κs =
     let b = c.before.before in (
@@ -26,18 +25,18 @@ write-part-requires c κs =
       unrefused 80 2048 b.args.rate (fin false 3 (pos 2)) 163920 b.requires.0 refl refl refl refl,
     )
 
-first-long : (c : tie.After-write-part) → length c.write-part.new.1.1.1.1.0 ≡ set_length
+first-long : (c : tie.After-write_part) → length c.write_part.new.set ≡ set_length
 unfolding of_bits
 first-long c =
     let b = c.before.before.before in
     let r = b.args.rate in
     let m = b.args.mode in
-    ap length c.write-part.ensures
+    ap length c.write_part.ensures
     ∙ sections.same_length 0 163920 (table_f32_in m (normal_at r)) b.args.set.now (omega arith)
     (omega (arith, b.requires.1)) (normal-long m r)
     ∙ b.requires.1
 
-write-part-requires-2 : tie.Need-write-part-requires-2
+write-part-requires-2 : tie.Need-write_part-requires-2
 unfolding of_bits le
 write-part-requires-2 c κs =
     let u = c.before.before.before in
@@ -47,18 +46,18 @@ write-part-requires-2 c κs =
       unrefused 96 4096 b.args.rate (fin false 7 (pos 1)) 393312 b.requires.0 refl refl refl refl,
     )
 
-second-long : (c : tie.After-write-part2) → length c.write-part2.new.1.1.1.1.0 ≡ set_length
+second-long : (c : tie.After-write_part-2) → length c.write_part-2.new.set ≡ set_length
 unfolding of_bits
 second-long c =
     let u = c.before.before.before.before in
     let r = u.before.before.before.args.rate in
     let m = u.before.before.before.args.mode in
-    ap length c.write-part2.ensures
-    ∙ sections.same_length 163920 557232 (table_f32_in m (hq_at r)) u.write-part.new.1.1.1.1.0 (omega arith)
+    ap length c.write_part-2.ensures
+    ∙ sections.same_length 163920 557232 (table_f32_in m (hq_at r)) u.write_part.new.set (omega arith)
     (omega (arith, first-long u)) (hq-long m r)
     ∙ first-long u
 
-write-part-requires-3 : tie.Need-write-part-requires-3
+write-part-requires-3 : tie.Need-write_part-requires-3
 unfolding of_bits le
 write-part-requires-3 c κs =
     let v = c.before.before.before in
@@ -77,12 +76,13 @@ returns c =
     let b = u.before.before.before in
     let r = b.args.rate in
     let m = b.args.mode in
-    sections.three 163920 557232 1081648 (table_f32_in m (normal_at r)) (table_f32_in m (hq_at r)) (table_f32_in m (ultra_at r))
-    b.args.set.now u.write-part.new.1.1.1.1.0 v.write-part2.new.1.1.1.1.0
-    w.write-part3.new.1.1.1.1.0
-    (lit≤ tt) (lit≤ tt) b.requires.1 (normal-long m r) (hq-long m r) (ultra-long m r) u.write-part.ensures
-    v.write-part2.ensures w.write-part3.ensures
+    sections.three 163920 557232 1081648 (table_f32_in m (normal_at r)) (table_f32_in m (hq_at r))
+    (table_f32_in m (ultra_at r))
+    b.args.set.now u.write_part.new.set v.write_part-2.new.set
+    w.write_part-3.new.set
+    (lit≤ tt) (lit≤ tt) b.requires.1 (normal-long m r) (hq-long m r) (ultra-long m r) u.write_part.ensures
+    v.write_part-2.ensures w.write_part-3.ensures
 
-pub write-set-spec : {M : Type 1} → statement M
-write-set-spec =
+pub write_set_spec : {M : Type 1} → statement M
+write_set_spec =
     tie.close (tie.spec write-part-requires write-part-requires-2 write-part-requires-3 (λ c. search rules) returns)

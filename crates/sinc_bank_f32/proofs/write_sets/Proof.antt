@@ -29,64 +29,58 @@ own-rate top n i r ok e h q =
     let own : r ≡ rate_of top (steps_of top) (i + 1) = rw (ok, lt-ltb i (steps_of top) (omega arith)) at q in
     (own, ap bank_ok own ∙ set-in-range top ok (i + 1) (omega arith))
 
-abbrev invariant-loop : tie.invariant-loop
+abbrev invariant-loop : tie.invariant-loop-i
 invariant-loop max-rate n width sets₀ mode i₀ sets i = Filled (set mode max-rate) width n sets i
 
-abbrev decreases-loop : tie.decreases-loop
+abbrev decreases-loop : tie.decreases-loop-i
 decreases-loop max-rate n width sets₀ mode i₀ sets i = n - i
 
-abbrev begun : tie.In-loop invariant-loop decreases-loop → tie.Start invariant-loop decreases-loop
-begun c = c.before.before.before
+below : (c : tie.In-loop-i invariant-loop decreases-loop) → c.before.loop-i.i < c.before.before.before.args.n
+below c = c.loop-i-test.true
 
-below : (c : tie.In-loop invariant-loop decreases-loop) → c.before.loop.i < (begun c).args.n
-below c = c.loop-test.true
-
-inside : (c : tie.In-loop invariant-loop decreases-loop) → let a = (begun c).args in
-    c.before.loop.i * a.width + a.width ≤ length a.sets.now
+inside : (c : tie.In-loop-i invariant-loop decreases-loop) → let a = c.before.before.before.args in
+    c.before.loop-i.i * a.width + a.width ≤ length a.sets.now
 inside c =
-    let a = (begun c).args in
+    let a = c.before.before.before.args in
     omega (
       arith,
-      row-end (set a.mode a.max-rate) a.width a.n c.before.loop.i (below c),
-      (begun c).requires.3,
+      row-end (set a.mode a.max_rate) a.width a.n c.before.loop-i.i (below c),
+      c.before.before.before.requires.3,
     )
 
 -- The rate that the code holds.
-rate : (c : tie.After-set-rate invariant-loop decreases-loop) → let a = (begun c.before).args in
-    (c.set-rate.result ≡ rate_of a.max-rate (steps_of a.max-rate) (c.before.before.loop.i + 1))
-    × (bank_ok c.set-rate.result ≡ true)
+rate : (c : tie.After-set_rate-rate invariant-loop decreases-loop) → let a = c.before.before.before.before.args in
+    (c.set_rate-rate.result ≡ rate_of a.max_rate (steps_of a.max_rate) (c.before.before.loop-i.i + 1))
+    × (bank_ok c.set_rate-rate.result ≡ true)
 rate c =
-    let b = begun c.before in
-    own-rate b.args.max-rate b.args.n c.before.before.loop.i c.set-rate.result b.pre.0 b.pre.1
-    (below c.before) c.set-rate.ensures
+    let b = c.before.before.before.before in
+    own-rate b.args.max_rate b.args.n c.before.before.loop-i.i c.set_rate-rate.result b.requires.0 b.requires.1
+    (below c.before) c.set_rate-rate.ensures
 
-write-set-requires : tie.Need-write-set-requires invariant-loop decreases-loop
+write-set-requires : tie.Need-write_set-requires invariant-loop decreases-loop
 write-set-requires c κs =
     let r = c.before in
     let l = r.before.before in
-    let b = begun r.before in
+    let b = r.before.before.before.before in
     let a = b.args in (
       (rate r).1,
-      length-lent (set a.mode a.max-rate) a.width a.n l.loop.sets l.loop.i l.loop.invariant
+      length-lent (set a.mode a.max_rate) a.width a.n l.loop-i.sets l.loop-i.i l.loop-i.invariant
           (below r.before)
-          ∙ b.pre.2,
+          ∙ b.requires.2,
     )
 
 -- From the end of the loop's body back to its test.
-abbrev turn : tie.After-slice-known2 invariant-loop decreases-loop → tie.In-loop invariant-loop decreases-loop
-turn c = c.before.before.before.before.before
-
-loop-again : tie.Need-loop-preserved invariant-loop decreases-loop
+loop-again : tie.Need-loop-i-preserved invariant-loop decreases-loop
 loop-again c =
     let w = c.before.before in
     let r = w.before.before in
-    let i = turn c in
+    let i = c.before.before.before.before.before in
     let l = i.before in
-    let b = begun i in
+    let b = i.before.before.before in
     let a = b.args in
-    filled_more (set a.mode a.max-rate) a.width a.n l.loop.sets l.loop.i l.loop.inv (below i)
-    w.write-set.new.1.0 (w.write-set.ensures ∙ ap (set_in a.mode) (rate r).0)
-    (set_long _ _ ∙ sym b.pre.2)
+    filled_more (set a.mode a.max_rate) a.width a.n l.loop-i.sets l.loop-i.i l.loop-i.invariant (below i)
+    w.write_set.new.set (w.write_set.ensures ∙ ap (set_in a.mode) (rate r).0)
+    (set_long _ _ ∙ sym b.requires.2)
 
 returns : tie.Need-returns invariant-loop decreases-loop
 unfolding bank_in
@@ -94,24 +88,26 @@ returns c =
     let l = c.before in
     let b = l.before.before in
     let a = b.args in
-    filled (set a.mode a.max-rate) a.width a.n l.loop.sets l.loop.i l.loop.invariant
-    (omega (arith, c.loop-test.false, l.loop.invariant.most))
-    ∙ ap (rows (set a.mode a.max-rate)) b.requires.1
+    filled (set a.mode a.max_rate) a.width a.n l.loop-i.sets l.loop-i.i l.loop-i.invariant
+    (omega (arith, c.loop-i-test.false, l.loop-i.invariant.most))
+    ∙ ap (rows (set a.mode a.max_rate)) b.requires.1
 
-pub write-sets-spec : {M : Type 1} → statement M
-write-sets-spec =
-    tie.close (tie.spec invariant-loop decreases-loop
-    (λ c. unfilled _ _ _ _ c.before.requires.3)
+pub write_sets_spec : {M : Type 1} → statement M
+write_sets_spec =
+    tie.close (tie.spec invariant-loop decreases-loop (λ c. unfilled _ _ _ _ c.before.requires.3)
     (λ c κs. search rules)
-    (λ c. let i = c.before in omega (arith, inside i, (begun i).well-formed.1.1.1.0.1))
-    (λ c. let i = c.before in omega (arith, inside i, (begun i).well-formed.1.1.1.0.1))
-    (λ c. let i = c.before in omega (arith, inside i, (begun i).well-formed.1.1.1.0.1))
-    (λ c. search rules)
-    (λ c. search rules)
-    (λ c. let i = c.before in omega (arith, inside i, i.before.loop.invariant.long, (begun i).requires.3))
+    (λ c. let i = c.before in omega (arith, inside i, i.before.before.before.well_formed.1.1.1.0.1))
+    (λ c. let i = c.before in omega (arith, inside i, i.before.before.before.well_formed.1.1.1.0.1))
+    (λ c. let i = c.before in omega (arith, inside i, i.before.before.before.well_formed.1.1.1.0.1))
+    (λ c. search rules) (λ c. search rules)
+    (λ c. let i = c.before in omega (
+      arith,
+      inside i,
+      i.before.loop-i.invariant.long,
+      i.before.before.before.requires.3,
+    ))
     write-set-requires
-    (λ c. let b = begun (turn c) in omega (arith, below (turn c), b.pre.1, most b.args.max-rate b.pre.0))
-    (λ c. let h = below (turn c) in omega arith)
-    loop-again
-    (λ c. c.before.loop.invariant.long ∙ sym c.before.before.before.requires.3)
-    returns)
+    (λ c. let b = c.before.before.before.before.before.before.before.before in omega
+    (arith, below c.before.before.before.before.before, b.requires.1, most b.args.max_rate b.requires.0))
+    (λ c. let h = below c.before.before.before.before.before in omega arith) loop-again
+    (λ c. c.before.loop-i.invariant.long ∙ sym c.before.before.before.requires.3) returns)
