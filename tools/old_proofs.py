@@ -408,9 +408,15 @@ def without_ways(text):
     was = None
     while ways and was != text:
         was = text
-        for name, chain in ways:
-            text = re.sub(rf"\({re.escape(name)} ([a-z][{IDC}]*(?:\.before)*)\)", rf"\1{chain}", text)
-            text = re.sub(rf"(?<![{IDC}.]){re.escape(name)} ([a-z][{IDC}]*(?:\.before)*)(?![{IDC}.])", rf"\1{chain}", text)
+        lines = text.split("\n")
+        for i, l in enumerate(lines):
+            if l.lstrip().startswith("--"):
+                continue
+            for name, chain in ways:
+                l = re.sub(rf"\({re.escape(name)} ([a-z][{IDC}]*(?:\.before)*)\)", rf"\1{chain}", l)
+                l = re.sub(rf"(?<![{IDC}.]){re.escape(name)} ([a-z][{IDC}]*(?:\.before)*)(?![{IDC}.])", rf"\1{chain}", l)
+            lines[i] = l
+        text = "\n".join(lines)
     return text
 
 
