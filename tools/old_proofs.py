@@ -650,6 +650,9 @@ def turn(crate, fn, path, mode=None):
                     continue
                 ps = mm[1].split()
                 want = len(vs) + sum(ch)
+                if len(ps) == want - 1 and vs[0] == "rt" and not ch[0]:
+                    # the handle, which older programs had not
+                    vs, ch, want = vs[1:], ch[1:], want - 1
                 if len(ps) != want:
                     say(f"{kind}: {len(ps)} parameters, {want} wanted: {vs} {ch}")
                     continue

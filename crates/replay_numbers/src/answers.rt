@@ -2,7 +2,7 @@
 use bit_patterns::{bits_of, bits_of_f32, float_of, float_of_f32};
 use magnitude::{is_finite, is_finite_f32, within};
 
-#[derive(Drop)]
+#[derive(Clone, Copy)]
 pub enum Reply {
     Word(u64),
     Unknown,
