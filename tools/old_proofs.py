@@ -676,7 +676,7 @@ def turn(crate, fn, path, mode=None):
                             if depth == 0:
                                 break
                         expr = expr[:i] + re.sub(rf"(?<![{IDC}.]){re.escape(q)}(?![{IDC}])", q + q, expr[i:j]) + expr[j:]
-                expr = re.sub(rf"(?<![{IDC}.])[A-Za-z][{IDC}]*", one, expr)
+                expr = re.sub(rf"(?<![{IDC}.])[A-Za-z][{IDC}]*(?![{IDC}])(?! = )", one, expr)
                 # a signed variable is an integer already
                 expr = re.sub(rf"\(to_z w[0-9]+ (l\.[{IDC}.]+)\)", r"\1", expr)
                 expr = re.sub(rf"(?<![{IDC}.])to_z w[0-9]+ (l\.[{IDC}.]+)", r"\1", expr)
