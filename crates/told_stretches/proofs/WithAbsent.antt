@@ -14,7 +14,7 @@ use Rattle.sinc_settings.specs.Ranges as sinc
 use Rattle.variable_delay.specs.Reader.{Reading}
 use Rattle.variable_delay.specs.declared.VariableDelay.{VariableDelay}
 use Rattle.stretch.specs.Stretch.{Ran}
-use Rattle.stretch.specs.Whole.{whole_of, done_of, out_after}
+use Rattle.stretch.specs.Whole.{whole_of}
 use Rattle.stretch_call.specs.Items.{delay_reader, Left, left_by}
 use Rattle.stretch_call.specs.Items as plain
 use Rattle.stretch_call.specs.declared.StretchAnswer.{StretchAnswer}
