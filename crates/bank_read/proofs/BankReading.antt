@@ -3,10 +3,10 @@
 use mathlib.Core.Path.{◌≡◌, refl, sym, ◌∙◌}
 use mathlib.Core.Bool.{Bool, true, false, true≢false, not, ◌&&◌, cond}
 use mathlib.Core.List.{List}
-use Prim.Native.Nat.{ℕ, ◌+◌, ◌*◌, ◌≤◌, ◌<◌}
+use Prim.Native.Nat.{ℕ, ◌+◌, ◌*◌, ◌≤◌}
 use native.Mathlib.Omega.{arith}
 use borrow.Author.Tests.{le-leb, eqb-true}
-use lib.Dec.{eqb, leb}
+use lib.Dec.{eqb}
 use lib.ListN.{length}
 use lib.Ieee.{Float, is_nan}
 use Rattle.answer.specs.Answers.{zero-f, answer_f32_of}
@@ -34,7 +34,8 @@ module _ (c : Choice) (sets xs : List Float) (count : ℕ) (p : Float) where
   draft-read Ultra h = absurd (true≢false (sym h))
 
   as-tables : (q : QualityMode) → same_q q Draft ≡ false
-      → read_of c q sets xs count p ≡ cond (sets_ok c (length sets) && position_ok p) (tables_at c q sets xs count p) zero-f
+      → read_of c q sets xs count p ≡ cond (sets_ok c (length sets) && position_ok p) (tables_at c q sets xs count p)
+      zero-f
   unfolding chosen_at
   as-tables Draft h = absurd (true≢false h)
   as-tables Normal h = refl
@@ -67,14 +68,16 @@ module _ (top rate : Float) (ok : bank_ok top ≡ true) where
       let t : (c.tighter + 1) * 1081648 ≤ n = omega (arith, tighter-inside top rate) in
       rw (le-leb _ _ s, le-leb _ _ t)
 
-  pub bank-read : (q : QualityMode) (sets xs : List Float) (count : ℕ) (p : Float) → length sets ≡ steps_of top * 1081648
+  pub bank-read : (q : QualityMode) (sets xs : List Float) (count : ℕ) (p : Float)
+      → length sets ≡ steps_of top * 1081648
       → position_ok p ≡ true
       → read_of (choice_of top rate) q sets xs count p ≡ bank_at sets top rate q xs count p
   bank-read q sets xs count p l h = rw (ok, held (chosen_of top rate) q (length sets) (sets-chosen (length sets) l), h)
 
 -- If nothing is refused, the reading is the bank's.
 module _ (top rate : Float) (q : QualityMode) (sets xs : List Float) (count : ℕ) (p : Float) where
-  pub answered : answer_f32_of (sample_verdict top rate (length sets) p) (read_of (choice_of top rate) q sets xs count p)
+  pub answered : answer_f32_of (sample_verdict top rate (length sets) p)
+      (read_of (choice_of top rate) q sets xs count p)
       ≡ sampled_of sets top rate q xs count p
   answered = go (bank_ok top) (position_ok p) (eqb (length sets) (bank_length top)) refl refl refl
     where

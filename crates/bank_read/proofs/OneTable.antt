@@ -1,6 +1,6 @@
 -- T4, T5. A quality that reads one table reads by the bank what that table reads. Assumes nothing.
-use mathlib.Core.Path.{◌≡◌, refl, sym, ap, ◌∙◌}
-use mathlib.Core.Bool.{Bool, true, false, ◌&&◌, cond}
+use mathlib.Core.Path.{◌≡◌, refl, ap, ◌∙◌}
+use mathlib.Core.Bool.{Bool, true, false, ◌&&◌}
 use mathlib.Core.List.{List, []}
 use Prim.Native.Nat.{ℕ, zero, suc}
 use native.Mathlib.Omega.{arith}
@@ -14,7 +14,7 @@ use Rattle.sinc_settings.specs.Refusals.{table_length, table_verdict}
 use Rattle.sinc_read_f32.specs.Reading as sinc
 use Rattle.bank_choice.specs.declared.Choice.{Choice}
 use Rattle.sinc_bank_f32.specs.Sets.{set_length}
-use Rattle.sinc_bank_f32.specs.Parts.{pick_slice, part_of, lent_of}
+use Rattle.sinc_bank_f32.specs.Parts.{pick_slice, lent_of}
 use Rattle.quality_mode.specs.declared.QualityMode.{QualityMode}
 use Rattle.quality_mode.specs.declared.QualityMode.TheVariants.{Draft, Normal, Hq, Ultra}
 use Rattle.quality_mode.specs.Quality.{same_q, taps_of, phases_of}

@@ -14,8 +14,8 @@ use constants::SET_LENGTH;
 use quality_mode::QualityMode;
 use refusal_order::both;
 
-fn sets_ok(choice: Choice, len: usize) -> bool
-    ensures { result ≡ sets_ok choice len }
+fn sets_ok(choice: &Choice, len: usize) -> bool
+    ensures { result ≡ sets_ok choice.now len }
 {
     let n = len / SET_LENGTH;
     if choice.safe < n {
@@ -40,7 +40,7 @@ pub fn read<'a>(
     if quality_mode::same(quality, QualityMode::Draft) {
         return cubic_farrow_f32::read(source, count, position);
     }
-    if sets_ok(choice, sets.len()) {
+    if sets_ok(&choice, sets.len()) {
         if ring::position_ok(position) {
             return lent::tables_read(sets, choice, quality, source, count, position);
         }
@@ -53,7 +53,7 @@ pub fn read<'a>(
 pub fn one_table<'a>(sets: &'a [f32], choice: Choice, quality: QualityMode) -> &'a [f32]
     ensures { result.now ≡ one_table choice quality sets.now }
 {
-    if !sets_ok(choice, sets.len()) {
+    if !sets_ok(&choice, sets.len()) {
         return &sets[0..0];
     }
     if choice.which == 0 {
