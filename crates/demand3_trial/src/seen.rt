@@ -4,7 +4,7 @@ use crate::whole::{Wide, plus, times};
 use answer::Answer;
 use streams::{print_decimal, write_all};
 
-#[derive(Drop)]
+#[derive(Clone, Copy)]
 pub struct Seen {
     pub calls: u64,
     pub refused: u64,

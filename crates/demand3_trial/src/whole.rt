@@ -22,7 +22,7 @@ pub fn size(a: u64) -> u64 {
 }
 
 // The number is a * 2^32 + b.
-#[derive(Drop)]
+#[derive(Clone, Copy)]
 pub struct Wide {
     pub a: u64,
     pub b: u64,
