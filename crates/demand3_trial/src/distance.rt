@@ -5,7 +5,7 @@ use crate::whole::{Wide, below_zero, minus, plus, size, times};
 pub const UNIT: u64 = 786432;
 
 // An answer by its bits: its magnitude in units of 2^-71, and 1 if digits below that were cut off.
-#[derive(Clone, Copy)]
+#[derive(Drop)]
 struct Given {
     magnitude: Wide,
     cut: u64,

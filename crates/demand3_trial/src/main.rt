@@ -22,7 +22,7 @@ const RUNS: u64 = 256;
 const CALLS: usize = 4096;
 
 // The state between two calls of a run: the generator, the reader, and what was seen.
-#[derive(Clone, Copy)]
+#[derive(Drop)]
 struct Turn {
     g: u64,
     state: VariableDelay,

@@ -4,7 +4,7 @@ use crate::whole::{Wide, plus, times};
 use answer::Answer;
 use streams::{print_decimal, write_all};
 
-#[derive(Clone, Copy)]
+#[derive(Drop)]
 pub struct Seen {
     pub calls: u64,
     pub refused: u64,

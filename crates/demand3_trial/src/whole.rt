@@ -22,7 +22,7 @@ pub fn size(a: u64) -> u64 {
 }
 
 // The number is a * 2^32 + b.
-#[derive(Clone, Copy)]
+#[derive(Drop)]
 pub struct Wide {
     pub a: u64,
     pub b: u64,
