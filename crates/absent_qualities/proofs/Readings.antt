@@ -3,12 +3,12 @@
 use mathlib.Core.Path.{◌≡◌, refl}
 use mathlib.Core.Bool.{true, false}
 use mathlib.Core.List.{List}
-use Prim.Native.Nat.{ℕ, zero, suc, ◌+◌, ◌≤◌, ◌<◌}
+use Prim.Native.Nat.{ℕ, zero, suc, ◌≤◌, ◌<◌}
 use native.Mathlib.Omega.{arith}
 use lib.Dec.{lit≤}
 use lib.Ieee.{Float}
 use Rattle.absent_taps.specs.declared.Absent.{Absent}
-use Rattle.absent_taps.specs.Absent.{absent_from, first_tap, absent_at, plus, held_from}
+use Rattle.absent_taps.specs.Absent.{first_tap, absent_at, plus}
 use Rattle.absent_taps.proofs.Laws.{all_told}
 use Rattle.bank_choice.specs.declared.Choice.{Choice}
 use Rattle.quality_mode.specs.declared.QualityMode.{QualityMode}
