@@ -8,7 +8,7 @@ ghost use Rattle.file_layout.specs.Layouts.{layout_by, layout_of, is_aiff, forma
 use word_bytes::low_first_u32;
 
 // RIFF WAVE (W1), its two forms past four gigabytes (W10), and AIFF (W12).
-#[derive(Drop)]
+#[derive(Clone, Copy)]
 pub enum Layout {
     Riff,
     Rf64,

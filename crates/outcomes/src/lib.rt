@@ -10,7 +10,7 @@ use sizes::plus;
 // `io` is 0; or 1 if the file could not be read, for the reason in errno; 2 if it became shorter; 3 if nothing more
 // could be written, for the reason in errno. `number` is 0, or the refusal of a sample, of which `frame` is counted
 // from 0 and `channel` from 1.
-#[derive(Drop)]
+#[derive(Clone, Copy)]
 pub struct Outcome {
     pub io: u8,
     pub number: u8,

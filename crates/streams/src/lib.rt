@@ -57,12 +57,23 @@ pub fn print_decimal(rt: &HostRuntime, n: u64) -> bool {
 // The same in hexadecimal, in lower case, with zeros in front up to `width` digits. A width of 0 counts as 1, and one
 // above 16 as 16.
 pub fn print_hex(rt: &HostRuntime, n: u64, width: usize) -> bool {
-    let digits = word_bytes::hex16(n);
+    let digits = in_lower_case(word_bytes::hex16(n));
     let from = first_digit(&digits, width);
     if from < 16 {
         return write_all(rt, &digits[from..]);
     }
     write_all(rt, b"0")
+}
+
+// The letters A to F become a to f, whose bytes have one bit more; the digits have it already.
+fn in_lower_case(digits: [u8; 16]) -> [u8; 16] {
+    let mut lower = digits;
+    let mut i: usize = 0;
+    while i < 16 {
+        lower[i] = lower[i] | 0x20;
+        i += 1;
+    }
+    lower
 }
 
 // The place of the first digit that is not 0, or of the one from which on there are `width`.
