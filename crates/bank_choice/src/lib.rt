@@ -14,7 +14,7 @@ pub use rates::{set_rate, steps};
 
 // Which sets a rate reads, counted from 0. `which` is 0 for the safe set alone, 1 for the tighter one alone, and 2 for
 // both, mixed by `blend` (T4).
-#[derive(Drop)]
+#[derive(Clone, Copy)]
 pub struct Choice {
     pub safe: usize,
     pub tighter: usize,
@@ -23,7 +23,7 @@ pub struct Choice {
 }
 
 // A choice, or the number of a refusal.
-#[derive(Drop)]
+#[derive(Clone, Copy)]
 pub enum Selected {
     Sets(Choice),
     Refused(u8),
