@@ -1,0 +1,9 @@
+-- `fugnadri_aiff::samples::fugnadri_aiff_whole` meets its contract, by the contracts of the functions that it calls.
+-- Assumes nothing.
+use Rattle.fugnadri_aiff.proofs.samples.fugnadri_aiff_whole.Goals as goal
+
+pub returns : goal.returns
+returns c =
+    let k = c.of_code-k.ensures in
+    let n = c.channels_of-n.ensures in
+    record { value = rw (k, n) at c.fill_whole.ensures.value; out_after = rw (k, n) at c.fill_whole.ensures.out_after }
