@@ -108,7 +108,8 @@ and_assoc true b c = refl
 and_assoc false b c = refl
 
 pub slot-by-slot : (rates : List Float) (marks : List ℕ) (i : ℕ) → i < shorter rates marks
-    → room_ok (drop i rates) (drop i marks) ≡ alone_at rates marks i && room_ok (drop (suc i) rates) (drop (suc i) marks)
+    → room_ok (drop i rates) (drop i marks)
+    ≡ alone_at rates marks i && room_ok (drop (suc i) rates) (drop (suc i) marks)
 unfolding room_ok alone_at
 slot-by-slot rates marks i h =
     let l : i < length rates = omega arith in

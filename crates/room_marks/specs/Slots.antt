@@ -1,5 +1,5 @@
 -- W4. The slots of a room, as two lists with an element a slot, their rates and their marks. Definitions only.
-use Rattle.std.specs.Prelude.{ℕ, zero, suc, Bool, true, false, not, cond, ◌&&◌, ◌||◌, List, [], ◌∷◌, Float}
+use Rattle.std.specs.Prelude.{ℕ, suc, Bool, true, false, not, cond, ◌&&◌, ◌||◌, List, [], ◌∷◌, Float}
 use Rattle.std.specs.Float.Ieee.{eq}
 use Rattle.bessel.specs.declared.Mode.{Mode}
 use Rattle.sinc_settings.specs.Ranges.{rate_ok}

@@ -16,7 +16,7 @@ pub use search::room_ok;
 use search::{Wanted, first, first_set};
 
 // At the boundary, where only numbers pass, they are 1 and 2.
-#[derive(Drop)]
+#[derive(Clone, Copy)]
 pub enum Desk {
     One,
     Two,

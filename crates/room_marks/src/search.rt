@@ -10,7 +10,7 @@ use bessel::Mode;
 use refusal_order::both;
 
 // What is looked for: a free slot, or one with a set that a desk holds.
-#[derive(Drop)]
+#[derive(Clone, Copy)]
 pub enum Wanted {
     Free,
     Own(Desk, f64, Mode),
