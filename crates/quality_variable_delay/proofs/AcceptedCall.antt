@@ -1,6 +1,6 @@
 -- What is known of an accepted call: every test passed, also those of a plain delay reader, so its position is in range
 -- and its ring has room. And what the call leaves. Assumes nothing.
-use Rattle.std.proofs.Common.{◌≡◌, ℕ, ◌+◌, ◌^◌, ◌<◌, Bool, true, false, not, ◌&&◌, T, eqb, ltb, leb, List, pos, refl}
+use Rattle.std.proofs.Common.{◌≡◌, ℕ, ◌+◌, ◌^◌, ◌<◌, Bool, true, false, not, ◌&&◌, eqb, ltb, leb, List, pos}
 use lib.Ieee.{Float, fin, le, is_nan}
 use lib.Ieee.Bits.{is_true}
 use lib.Ieee.Fits.{and_l, and_r}

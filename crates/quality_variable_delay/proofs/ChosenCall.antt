@@ -3,7 +3,6 @@
 -- bank's. Assumes nothing.
 use Rattle.std.proofs.Common.{◌≡◌, ℕ, zero, suc, ◌+◌, ◌*◌, eqb, List, length, refl, eqb-true}
 use lib.Ieee.{Float}
-use Rattle.ring.specs.Places.{position_ok}
 use Rattle.variable_delay.specs.Reader.{Reading, stored, position_of}
 use Rattle.bank_choice.specs.Rates.{bank_ok, steps_of}
 use Rattle.bank_choice.specs.Inner.{choice_of}
@@ -31,7 +30,8 @@ same-readings read other (suc k) d xs x y q h = refl
 
 pub bank-call : (sets : List Float) (top : Float) (d : QualityVariableDelayF32) (xs : List Float) (x y : Float)
     (q : QualityMode) (rate : Float)
-    → chosen_call (choice_of top rate) sets (bank_ok top) (eqb (length sets) (steps_of top * set_length)) d xs x y q rate
+    → chosen_call (choice_of top rate) sets (bank_ok top) (eqb (length sets) (steps_of top * set_length)) d xs x y q
+    rate
     ≡ processed sets top d xs x y q rate
 bank-call sets top d xs x y q rate =
     same-readings (read_by (choice_of top rate) sets) (bank_at sets top rate)

@@ -17,7 +17,8 @@ use Rattle.quality_variable_delay.specs.declared.QualityVariableDelayF32.{Qualit
 -- The bank's and its sets' tests are the caller's.
 pub passes : (bank lent : Bool) (d : QualityVariableDelayF32) (len : ℕ) (x y rate : Float)
     → d.accepted < 2 ^ 36 → length_ok d.crossfade_samples ≡ true → place_ok (fade_part d) ≡ true
-    → le (fin false 0 (pos 0)) y ≡ true → le y (fin false 1 (pos 36)) ≡ true → finite x ≡ true → not (is_nan rate) ≡ true
+    → le (fin false 0 (pos 0)) y ≡ true → le y (fin false 1 (pos 36)) ≡ true → finite x ≡ true
+    → not (is_nan rate) ≡ true
     → settings_ok d.maximum d.margin ≡ true → eqb len (length_for d.maximum d.margin) ≡ true
     → bank ≡ true → lent ≡ true
     → verdict bank lent d len x y rate ≡ 0
@@ -40,7 +41,8 @@ passes bank lent d len x y rate room long placed a b f number settings ring bank
 
 pub none-due : (lent : ℕ) (top : Float) (d : QualityVariableDelayF32) (len : ℕ) (x y rate : Float)
     → d.accepted < 2 ^ 36 → length_ok d.crossfade_samples ≡ true → place_ok (fade_part d) ≡ true
-    → le (fin false 0 (pos 0)) y ≡ true → le y (fin false 1 (pos 36)) ≡ true → finite x ≡ true → not (is_nan rate) ≡ true
+    → le (fin false 0 (pos 0)) y ≡ true → le y (fin false 1 (pos 36)) ≡ true → finite x ≡ true
+    → not (is_nan rate) ≡ true
     → settings_ok d.maximum d.margin ≡ true → eqb len (length_for d.maximum d.margin) ≡ true
     → bank_ok top ≡ true → eqb lent (steps_of top * set_length) ≡ true
     → due_of lent top d len x y rate ≡ 0

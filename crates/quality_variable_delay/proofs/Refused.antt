@@ -6,7 +6,7 @@ use Rattle.answer.specs.Answers.{answer_f32_of, number_f32_of}
 use Rattle.answer.proofs.Cases.{number-f32-is}
 use Rattle.variable_delay.specs.Reader.{Reading}
 use Rattle.quality_mode.specs.declared.QualityMode.{QualityMode}
-use Rattle.quality_variable_delay.specs.Reader.{state_after, ring_after, processed_by}
+use Rattle.quality_variable_delay.specs.Reader.{ring_after, processed_by}
 use Rattle.quality_variable_delay.specs.Opening as opening
 use Rattle.quality_variable_delay.specs.Opening.{opened_by}
 use Rattle.quality_variable_delay.specs.declared.QualityVariableDelayF32.{QualityVariableDelayF32}

@@ -1,6 +1,6 @@
 -- W4. The reader's call over two sets that its caller chose, for sets that do not lie side by side as a bank's do: what
 -- each quality reads of them. Definitions only.
-use Rattle.std.specs.Prelude.{ℕ, Bool, List, length, Float}
+use Rattle.std.specs.Prelude.{Bool, List, length, Float}
 use Rattle.variable_delay.specs.Reader.{Reading}
 use Rattle.bank_choice.specs.declared.Choice.{Choice}
 use Rattle.bank_read.specs.Inner.{read_of}

@@ -1,6 +1,6 @@
 -- K1, Q3. Opening a quality reader over a lent ring, and resetting one: both zero the ring and the count, and end any
 -- fade. Definitions only.
-use Rattle.std.specs.Prelude.{ℕ, zero, suc, ◌^◌, true, ◌&&◌, List, [], ◌∷◌, length, nat_eq, nat_le, Float}
+use Rattle.std.specs.Prelude.{ℕ, zero, suc, ◌&&◌, List, [], ◌∷◌, length, nat_eq, nat_le, Float}
 use Rattle.constants.specs.Numbers.{limit}
 use Rattle.refusal_order.specs.Order.{◌unless◌, first_of}
 use Rattle.ring.specs.Length.{settings_ok, length_for}

@@ -1,6 +1,6 @@
 -- 000's QualityVariableDelayF32::process_sample_rate_aware, over what each quality reads: which calls are refused, what
 -- an accepted call stores, which qualities it reads, and what it leaves. Definitions only.
-use Rattle.std.specs.Prelude.{ℕ, zero, suc, ◌+◌, ◌^◌, Bool, true, false, cond, not, ◌&&◌, List, [], ◌∷◌, pos, ◌==◌}
+use Rattle.std.specs.Prelude.{ℕ, zero, suc, ◌+◌, Bool, false, cond, not, ◌&&◌, List, [], ◌∷◌, pos, ◌==◌}
 use Rattle.std.specs.Prelude.{is_nan, nat_le, nat_lt, Float}
 use Rattle.std.specs.Float.{fin, binary32}
 use Rattle.std.specs.Float.Ieee.{add, sub, mul, div, le, of_int}

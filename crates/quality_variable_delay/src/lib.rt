@@ -21,7 +21,7 @@ pub use refusing::refusal;
 use returning_fade::{Direction, Rule};
 
 // F1. The qualities are fields, which are written anew when a fade starts or ends. Opening chooses the rule (W9a).
-#[derive(Drop)]
+#[derive(Clone, Copy)]
 pub struct QualityVariableDelayF32 {
     pub maximum: usize,
     pub margin: usize,
