@@ -18,9 +18,15 @@ line_text command name words = start_text command name ++ words
 unfoldable pub plain_text : List ℕ → List ℕ → List ℕ
 plain_text command words = command ++ (ascii ": " ++ words)
 
--- The statuses that a program ends with: that everything went well, and that the arguments of a command were wrong.
-abbrev pub end_sign : ℕ
-end_sign = 0
+-- The signs that ./run looked for: that everything went well, and that the arguments of a command were wrong.
+abbrev pub end_sign : List ℕ
+end_sign = ascii "end\n"
 
-abbrev pub usage_sign : ℕ
-usage_sign = 2
+abbrev pub usage_sign : List ℕ
+usage_sign = ascii "usage\n"
+
+-- The exit status that ./run gave for a sign, and that a program has itself today: 0 where everything went well, 2
+-- where the arguments were wrong, and 1 without either sign. The signs differ in length.
+abbrev pub status_of : List ℕ → ℕ
+status_of sign =
+    cond (eqb (length sign) (length end_sign)) 0 (cond (eqb (length sign) (length usage_sign)) 2 1)

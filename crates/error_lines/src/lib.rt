@@ -7,6 +7,7 @@ ghost use Rattle.std.specs.Prelude.{◌≡◌, length};
 ghost use Rattle.text.specs.Text.{put_at, place_after};
 ghost use Rattle.std.specs.Process.{exit_status};
 ghost use Rattle.error_lines.specs.Lines.{name_text, start_text, line_text, plain_text, end_sign, usage_sign};
+ghost use Rattle.error_lines.specs.Lines.{status_of};
 
 use sizes::begun;
 use std::process::ExitCode;
@@ -66,14 +67,14 @@ pub fn put_plain(out: &mut [u8], at: usize, command: &[u8], words: &[u8]) -> usi
 
 // The status that says that everything went well.
 pub fn succeed() -> ExitCode
-    ensures { exit_status result ≡ end_sign }
+    ensures { exit_status result ≡ status_of end_sign }
 {
     ExitCode::from(END)
 }
 
 // The status that says that the arguments were wrong.
 pub fn misused() -> ExitCode
-    ensures { exit_status result ≡ usage_sign }
+    ensures { exit_status result ≡ status_of usage_sign }
 {
     ExitCode::from(USAGE)
 }
