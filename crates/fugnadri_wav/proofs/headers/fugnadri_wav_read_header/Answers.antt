@@ -1,0 +1,8 @@
+-- `fugnadri_wav::headers::fugnadri_wav_read_header` meets its contract: it writes what was found. Assumes nothing.
+use mathlib.Core.Path.{◌∙◌, ap}
+use Rattle.fugnadri_wav.specs.Exports.{left_by}
+use Rattle.fugnadri_wav.proofs.headers.fugnadri_wav_read_header.Goals as goal
+
+pub returns : goal.returns
+returns c =
+    c.hand_out.ensures ∙ ap left_by c.read_header-found.ensures
