@@ -8,7 +8,6 @@ use Rattle.bessel.specs.declared.Mode.TheVariants.{Ported, Full}
 use Rattle.room_marks.specs.declared.Desk.TheVariants.{One, Two}
 use Rattle.room_marks.specs.Marks.{built_by, shared_by, left_by}
 use Rattle.room_marks.specs.Slots.{some, first_slot, room_ok}
-use Rattle.room_grants.specs.declared.Place.{Place}
 use Rattle.room_grants.specs.declared.Place.TheVariants.{Shared, Anew, Refused}
 use Rattle.room_grants.specs.Grants.{open_verdict, ask_verdict, asked_place, give_up_verdict}
 

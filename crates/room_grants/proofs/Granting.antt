@@ -6,7 +6,7 @@ use mathlib.Core.List.{List, [], ◌∷◌}
 use Prim.Native.Nat.{ℕ, ◌+◌, ◌*◌, ◌≤◌, ◌<◌}
 use native.Mathlib.Omega.{arith}
 use borrow.Author.Tests.{ltb-true, eqb-true}
-use lib.Dec.{eqb, ltb}
+use lib.Dec.{eqb}
 use lib.ListN.{length, get_or}
 use lib.Ieee.{Float, nan}
 use Rattle.constants.specs.Numbers.{set_length}
@@ -15,7 +15,7 @@ use Rattle.sinc_settings.specs.Ranges.{rate_ok}
 use Rattle.bessel.specs.declared.Mode.{Mode}
 use Rattle.room_marks.specs.declared.Desk.{Desk}
 use Rattle.room_grants.specs.declared.Place.{Place}
-use Rattle.room_grants.specs.declared.Place.TheVariants.{Shared, Anew, Refused}
+use Rattle.room_grants.specs.declared.Place.TheVariants.{Shared, Anew}
 use Rattle.room_marks.specs.Slots.{some, first_slot, free, has_set, own_set, room_ok}
 use Rattle.room_marks.specs.Asking.{lengths_agree, set_slot, free_slot}
 use Rattle.room_grants.specs.Grants.{ask_verdict, place_by, asked_place, give_up_verdict}

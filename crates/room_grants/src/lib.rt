@@ -14,7 +14,7 @@ use bessel::Mode;
 use room_marks::{Desk, free_slot, lengths_agree, own_slot, room_ok, set_slot};
 
 // Where an asked set is: in a slot that has it, or in a free one, which is to be built.
-#[derive(Drop)]
+#[derive(Clone, Copy)]
 pub enum Place {
     Shared(usize),
     Anew(usize),
