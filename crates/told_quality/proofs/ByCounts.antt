@@ -1,7 +1,8 @@
 -- The numbers that the code computes from the counts before and after a call are the call's absent taps, whatever its
 -- verdict. Of the ring only the length matters, and for an accepted call the choice of sets is the definition's.
 -- Assumes nothing.
-use Rattle.std.proofs.Common.{◌≡◌, ℕ, zero, suc, ◌+◌, ◌*◌, true, eqb, List, length, sym, refl, ap, ◌∙◌, arith, length-set, eq-eqb, ne_eqb}
+use Rattle.std.proofs.Common.{◌≡◌, ℕ, zero, suc, ◌+◌, ◌*◌, true, eqb, List, length, sym, refl, ap, ◌∙◌, arith}
+use Rattle.std.proofs.Common.{length-set, eq-eqb, ne_eqb}
 use lib.ListN.{length-replicate}
 use lib.Ieee.{Float}
 use Rattle.ring.specs.Length.{zeros}
