@@ -14,7 +14,7 @@ use room_grants::Place;
 use room_marks::Desk;
 
 // What a desk that asks is answered: the number of a slot, or a refusal.
-#[derive(Drop)]
+#[derive(Clone, Copy)]
 pub enum Asked {
     Granted(usize),
     Refused(u8),

@@ -12,26 +12,17 @@ use Rattle.loop_laws.proofs.Rows.{length_part}
 use Rattle.windowed_sinc.specs.Table.{table_after}
 use Rattle.sinc_bank_f32.specs.Sets.{set_in, with_part}
 use Rattle.sinc_bank_f32.specs.Building.{set_verdict}
-use Rattle.set_room.proofs.build.Statement.{statement}
-use Rattle.set_room.proofs.build.Tie as tie
+use Rattle.set_room.proofs.build.Goals as goal
 
-returns : tie.Need-returns
+pub returns : goal.returns
 unfolding with_part
 returns c =
-    let w = c.before.before in
-    let b = w.before.before.before in
-    let a = b.args in
+    let a = c.args in
     let xs = a.slots.now in
     let start = a.k * set_length in
     let n = start + set_length - start in
     let lent = take n (drop start xs) in
-    let long : length lent ≡ set_length = length_part xs start n set_length (omega arith) b.requires.1 in
-    let none : set_verdict a.rate (length lent) ≡ 0 = rw (b.requires.0, eq-eqb (length lent) set_length long) in
+    let long : length lent ≡ set_length = length_part xs start n set_length (omega arith) c.requires.1 in
+    let none : set_verdict a.rate (length lent) ≡ 0 = rw (c.requires.0, eq-eqb (length lent) set_length long) in
     ap (λ (ys : List Float). take start xs ++ (ys ++ drop n (drop start xs)))
-    (w.build-set-in.ensures.1 ∙ ap (λ (v : ℕ). table_after v (set_in a.mode a.rate) lent) none)
-
-pub build-spec : {M : Type 1} → statement M
-build-spec =
-    tie.close
-    (tie.spec (λ c. search rules) (λ c. search rules) (λ c. search rules) (λ c. search rules) (λ c. search rules)
-    (λ c. search rules) (λ c κs. search rules) (λ c. search rules) returns)
+    (c.build_set_in-built.ensures.set_after ∙ ap (λ (v : ℕ). table_after v (set_in a.mode a.rate) lent) none)
