@@ -24,7 +24,8 @@ use Rattle.render_samples.specs.Samples.{Held, delay_of, after_sample, sample_fo
 
 -- The reader's refusal, with the tests of the settings 32 and 64 as it makes them.
 abbrev pub due : List Float → VariableDelay → List Float → Float → Float → ℕ
-due table d ring x y = verdict (taps_ok 32 && phases_ok 64) (eqb (length table) (table_length 32 64)) d (length ring) x y
+due table d ring x y =
+    verdict (taps_ok 32 && phases_ok 64) (eqb (length table) (table_length 32 64)) d (length ring) x y
 
 pub stepped : (table : List Float) (h : Held) (z : Float) {p : ModulationParams} {n : Next} {x y v : Float}
     {q : ProcessedF32} {ring : List Float} {w : ℕ}
