@@ -1,4 +1,0 @@
-pub mod Damage
-pub mod Calls
-pub mod Sharp
-pub mod Qualities

@@ -1,4 +1,0 @@
-pub mod Tests
-pub mod Steps
-pub mod OneCall
-pub mod Renewal

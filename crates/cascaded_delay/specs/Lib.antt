@@ -1,3 +1,0 @@
-pub mod Halves
-pub mod Reader
-pub mod Opening

@@ -1,4 +1,0 @@
-pub mod RoomRefusal
-pub mod HeldSets
-pub mod DeskCalls
-pub mod BankRead

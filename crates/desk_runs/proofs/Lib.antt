@@ -1,4 +1,0 @@
-pub mod OneCall
-pub mod OneTurn
-pub mod AsAlone
-pub mod Grants

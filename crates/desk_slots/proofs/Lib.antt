@@ -1,4 +1,0 @@
-pub mod FloatOrder
-pub mod RisingRooms
-pub mod RisingSlots
-pub mod OnlySlots

@@ -1,4 +1,0 @@
-pub mod ByEquations
-pub mod Readers
-pub mod Openings
-pub mod Builders

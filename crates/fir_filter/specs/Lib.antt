@@ -1,3 +1,0 @@
-pub mod Filters
-pub mod Runs
-pub mod Pairs

@@ -1,4 +1,0 @@
-pub mod Fronts
-pub mod Calls
-pub mod EngineTurns
-pub mod LikeRender

@@ -1,4 +1,0 @@
-pub mod Codes
-pub mod Openings
-pub mod Left
-pub mod CascadedLeft

@@ -1,5 +1,0 @@
-pub mod Phases
-pub mod Reader
-pub mod Opening
-pub mod Upsampled
-pub mod Inside

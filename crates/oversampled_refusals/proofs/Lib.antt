@@ -1,3 +1,0 @@
-pub mod Factors
-pub mod Tests
-pub mod Accepted

@@ -1,4 +1,0 @@
-pub mod Names
-pub mod Bars
-pub mod Page
-pub mod Panel

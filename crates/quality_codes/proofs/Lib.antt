@@ -1,3 +1,0 @@
-pub mod NamedQualities
-pub mod DraftCalls
-pub mod SetsByTwoTests

@@ -1,3 +1,0 @@
-pub mod Codes
-pub mod Calls
-pub mod Left

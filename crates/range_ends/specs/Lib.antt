@@ -1,6 +1,0 @@
-pub mod Floats
-pub mod Readers
-pub mod Wander
-pub mod Files
-pub mod Sounds
-pub mod Reports

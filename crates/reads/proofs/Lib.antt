@@ -1,3 +1,0 @@
-pub mod Kernels
-pub mod Qualities
-pub mod Mixing

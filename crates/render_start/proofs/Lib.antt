@@ -1,2 +1,0 @@
-pub mod LengthsFit
-pub mod EngineNeverRefuses

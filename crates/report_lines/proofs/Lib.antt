@@ -1,4 +1,0 @@
-pub mod Examples
-pub mod Reports
-pub mod Room
-pub mod ReportRoom

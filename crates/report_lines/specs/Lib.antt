@@ -1,4 +1,0 @@
-pub mod Files
-pub mod Times
-pub mod Looked
-pub mod Lines

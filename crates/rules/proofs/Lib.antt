@@ -1,4 +1,0 @@
-pub mod Lowest
-pub mod Unchanged
-pub mod Edges
-pub mod Slices

@@ -1,5 +1,0 @@
-pub mod Alike
-pub mod TableTests
-pub mod Turns
-pub mod TwoItems
-pub mod TwoTurns

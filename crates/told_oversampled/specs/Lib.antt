@@ -1,4 +1,0 @@
-pub mod Inside
-pub mod Direct
-pub mod Cascaded
-pub mod Reckoned

@@ -1,3 +1,0 @@
-pub mod PcmIsWhole
-pub mod Filled
-pub mod Files
