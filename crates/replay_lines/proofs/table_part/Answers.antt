@@ -27,8 +27,13 @@ returns-then-phases-gt4096 c =
 pub overflow_mul-phases : goal.overflow_mul-phases
 overflow_mul-phases c =
     let a = c.args in
-    omega (arith, short a.taps a.phases (omega (arith, c.if-taps-gt128.false)) (omega (arith,
-    c.if-phases-gt4096.false)))
+    omega (
+      arith,
+      short a.taps a.phases (omega (arith, c.if-taps-gt128.false)) (omega (
+        arith,
+        c.if-phases-gt4096.false,
+      )),
+    )
 
 pub returns : goal.returns
 returns c =
