@@ -1,0 +1,14 @@
+-- `told_quality::process_sample_rate_aware_told` meets its contract: the quality reader answers, and the taps of its
+-- readings are counted beside it. Assumes nothing.
+use Rattle.std.proofs.Common.{rules}
+use Rattle.told_quality.proofs.ByCounts.{told}
+use Rattle.told_quality.proofs.process_sample_rate_aware_told.Goals as goal
+
+pub returns : goal.returns
+returns c =
+    let s = c.args in record {
+      value = told s.sets.now s.max_rate s.state s.ring.now s.input s.delay s.quality
+          s.playback_rate c.process_sample_rate_aware-p.result c.of_call-absent.result
+          c.process_sample_rate_aware-p.ensures.value c.of_call-absent.ensures;
+      ring_after = c.process_sample_rate_aware-p.ensures.ring_after;
+    }
