@@ -1,0 +1,5 @@
+pub mod Alike
+pub mod TableTests
+pub mod Turns
+pub mod TwoItems
+pub mod TwoTurns
