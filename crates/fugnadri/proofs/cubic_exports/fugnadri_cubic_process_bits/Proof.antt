@@ -1,0 +1,13 @@
+-- `fugnadri::cubic_exports::fugnadri_cubic_process_bits` meets its contract: it leaves what the call without `_bits`
+-- leaves, with the sample as a bit pattern. Assumes nothing.
+use borrow.Author.Rules.{rules}
+use lib.Ieee.{binary64}
+use Rattle.answer_parts.proofs.LeftByExports.{in-bits}
+use Rattle.fugnadri.proofs.cubic_exports.fugnadri_cubic_process_bits.Statement.{statement}
+use Rattle.fugnadri.proofs.cubic_exports.fugnadri_cubic_process_bits.Tie as tie
+
+returns : tie.Need-returns
+returns c = in-bits binary64 c.before.before.before.fugnadri-cubic-process.ensures c.bits_of.ensures
+
+pub fugnadri-cubic-process-bits-spec : {M : Type 1} → statement M
+fugnadri-cubic-process-bits-spec = tie.close (tie.spec (λ c κs. tt) (λ c κs. tt) (λ c. search rules) returns)

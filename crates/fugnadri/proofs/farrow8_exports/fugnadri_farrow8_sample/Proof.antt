@@ -1,0 +1,12 @@
+-- `fugnadri::farrow8_exports::fugnadri_farrow8_sample` meets its contract: it hands out the answer of the reading.
+-- Assumes nothing.
+use Rattle.answer.specs.Answers.{number_of, value_of}
+use Rattle.answer_parts.proofs.LeftByExports.{told}
+use Rattle.fugnadri.proofs.farrow8_exports.fugnadri_farrow8_sample.Statement.{statement}
+use Rattle.fugnadri.proofs.farrow8_exports.fugnadri_farrow8_sample.Tie as tie
+
+returns : tie.Need-returns
+returns c = told number_of value_of c.before.before.sample.ensures c.number.ensures c.before.value.ensures
+
+pub fugnadri-farrow8-sample-spec : {M : Type 1} → statement M
+fugnadri-farrow8-sample-spec = tie.close (tie.spec (λ c κs. tt) (λ c κs. tt) (λ c κs. tt) returns)

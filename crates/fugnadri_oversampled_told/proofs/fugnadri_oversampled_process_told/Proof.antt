@@ -1,0 +1,18 @@
+-- `fugnadri_oversampled_told::fugnadri_oversampled_process_told` meets its contract: it hands out what the reader
+-- gives. Assumes nothing.
+use borrow.Author.Rules.{rules}
+use Rattle.fugnadri_oversampled_told.proofs.HandedOut.{direct-told}
+use Rattle.fugnadri_oversampled_told.proofs.fugnadri_oversampled_process_told.Statement.{statement}
+use Rattle.fugnadri_oversampled_told.proofs.fugnadri_oversampled_process_told.Tie as tie
+
+returns : tie.Need-returns
+returns c =
+    let b = c.before.before.before.before.before.before in
+    let t = b.before.before.before.before.before in
+    let k = t.before.before.before.before.named in
+    direct-told t.oversampled-told.result _ (rw k.ensures at t.oversampled-told.ensures) c.handed.ensures
+
+pub fugnadri-oversampled-process-told-spec : {M : Type 1} → statement M
+fugnadri-oversampled-process-told-spec =
+    tie.close (tie.spec (λ c κs. tt) (λ c κs. tt) (λ c κs. tt) (λ c. search rules) (λ c. search rules)
+    (λ c. search rules) returns)

@@ -1,0 +1,15 @@
+-- `fugnadri_tables::readers_f32::fugnadri_windowed_sinc_f32_process_bits` meets its contract: it leaves what the call
+-- without `_bits` leaves, with the sample as a bit pattern. Assumes nothing.
+use borrow.Author.Rules.{rules}
+use lib.Ieee.{binary32}
+use Rattle.answer_parts.proofs.LeftByExports.{in-bits}
+use Rattle.fugnadri_tables.proofs.readers_f32.fugnadri_windowed_sinc_f32_process_bits.Statement.{statement}
+use Rattle.fugnadri_tables.proofs.readers_f32.fugnadri_windowed_sinc_f32_process_bits.Tie as tie
+
+returns : tie.Need-returns
+returns c =
+    in-bits binary32 c.before.before.before.fugnadri-windowed-sinc-f32-process.ensures c.bits-of-f32.ensures
+
+pub fugnadri-windowed-sinc-f32-process-bits-spec : {M : Type 1} → statement M
+fugnadri-windowed-sinc-f32-process-bits-spec =
+    tie.close (tie.spec (λ c κs. search rules) (λ c κs. search rules) (λ c. search rules) returns)

@@ -1,0 +1,12 @@
+-- `fugnadri_tables::readings::fugnadri_windowed_sinc_sample` meets its contract: it hands out the answer of the
+-- reading. Assumes nothing.
+use Rattle.answer.specs.Answers.{number_of, value_of}
+use Rattle.answer_parts.proofs.LeftByExports.{told}
+use Rattle.fugnadri_tables.proofs.readings.fugnadri_windowed_sinc_sample.Statement.{statement}
+use Rattle.fugnadri_tables.proofs.readings.fugnadri_windowed_sinc_sample.Tie as tie
+
+returns : tie.Need-returns
+returns c = told number_of value_of c.before.before.sample.ensures c.number.ensures c.before.value.ensures
+
+pub fugnadri-windowed-sinc-sample-spec : {M : Type 1} → statement M
+fugnadri-windowed-sinc-sample-spec = tie.close (tie.spec (λ c κs. tt) (λ c κs. tt) (λ c κs. tt) returns)

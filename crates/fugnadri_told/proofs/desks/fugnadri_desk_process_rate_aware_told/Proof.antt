@@ -1,0 +1,11 @@
+-- `fugnadri_told::desks::fugnadri_desk_process_rate_aware_told` meets its contract, by that of the call. Assumes
+-- nothing.
+use borrow.Author.Rules.{rules}
+use Rattle.fugnadri_told.proofs.desks.fugnadri_desk_process_rate_aware_told.Statement.{statement}
+use Rattle.fugnadri_told.proofs.desks.fugnadri_desk_process_rate_aware_told.Tie as tie
+
+returns : tie.Need-returns
+returns c = c.before.before.call-through.ensures
+
+pub fugnadri-desk-process-rate-aware-told-spec : {M : Type 1} → statement M
+fugnadri-desk-process-rate-aware-told-spec = tie.close (tie.spec (λ c κs. search rules) (λ c. search rules) returns)

@@ -1,0 +1,15 @@
+-- `fugnadri_told::readers::fugnadri_cubic_process_told` meets its contract: it writes what `cubic_told` gives. Assumes
+-- nothing.
+use borrow.Author.Rules.{rules}
+use Rattle.fugnadri_told.proofs.HandedOut.{left}
+use Rattle.fugnadri_told.proofs.readers.fugnadri_cubic_process_told.Statement.{statement}
+use Rattle.fugnadri_told.proofs.readers.fugnadri_cubic_process_told.Tie as tie
+
+returns : tie.Need-returns
+returns c =
+    let t = c.before.before.before.before.before.before.before in
+    left t.cubic-told.result _ t.cubic-told.ensures c.handed.ensures
+
+pub fugnadri-cubic-process-told-spec : {M : Type 1} → statement M
+fugnadri-cubic-process-told-spec =
+    tie.close (tie.spec (λ c κs. search rules) (λ c κs. search rules) (λ c. search rules) returns)
