@@ -16,13 +16,13 @@ pub returns-else-fits : goal.returns-else-fits
 returns-else-fits c =
     let s = c.args in
     sym (c.loop-i.invariant.1
-    ∙ ends s.kind s.samples.now c.loop-i.i _ (omega arith) (sym c.fits2.ensures ∙ c.if-fits.false))
+    ∙ ends s.kind s.samples.now c.loop-i.i _ (omega arith) (sym c.fits.ensures ∙ c.if-fits.false))
 
 pub loop-i-preserved : goal.loop-i-preserved
 loop-i-preserved c =
     let s = c.args in
     let more =
-    goes_on s.kind s.samples.now c.loop-i.i _ (omega arith) (sym c.fits2.ensures ∙ c.if-fits.true) in
+    goes_on s.kind s.samples.now c.loop-i.i _ (omega arith) (sym c.fits.ensures ∙ c.if-fits.true) in
     (omega arith, rw add-one (c.loop-i.invariant.1 ∙ rw add-one at more))
 
 pub returns : goal.returns
