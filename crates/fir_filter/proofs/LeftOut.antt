@@ -2,12 +2,12 @@
 -- of 0.0 gave a zero; and a sum that starts at +0.0 is never -0.0, so a zero leaves it as it is. Assumes nothing.
 use mathlib.Core.Path.{◌≡◌, refl, ap, ◌∙◌}
 use mathlib.Core.Bool.{Bool, true, false, cond, ◌||◌, beq}
-use Prim.Native.Nat.{ℕ, zero, suc, ◌-◌, ◌*◌}
+use Prim.Native.Nat.{ℕ, zero, suc, ◌*◌}
 use native.Mathlib.Nat.{mul-pos, zero-mul, zero-lt-suc}
 use native.Mathlib.Omega.{arith}
 use lib.Dec.{T, eqb, eqb→eq}
 use lib.IntN.{ℤ, pos}
-use lib.Ieee.{Float, nan, inf, fin, binary64, up, down, round, sum, add, mul, eq, fits, level}
+use lib.Ieee.{Float, nan, inf, fin, binary64, up, down, round, add, mul, eq, fits, level}
 use lib.Ieee.{unlike}
 use lib.Ieee.Fits.{up_pos, down_pos, add-fits, mul-fits, and_l}
 use lib.Ieee.Scale.{finite}

@@ -118,7 +118,8 @@ pub beyond-taps : (cs history : List Float) (pushes factor phase : ℕ) → leng
     → zero-f ≡ output_of cs history pushes factor phase
 unfolding output_of fold
 beyond-taps cs history pushes factor phase h =
-    sym (ap (fold (λ (lag : ℕ) (sum : Float). add_to (coefficient_at cs factor phase lag) (lagged history pushes lag) sum)
+    sym (ap (fold (λ (lag : ℕ) (sum : Float). add_to (coefficient_at cs factor phase lag) (lagged history pushes lag)
+    sum)
     zero-f) (sym (zero-add (length history)))
     ∙ idle _ zero-f 0 (length history)
     (λ j l m v.

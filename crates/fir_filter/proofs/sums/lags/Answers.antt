@@ -1,11 +1,9 @@
 -- `fir_filter::sums::lags` meets its contract: the last lag with a coefficient is a quotient. Assumes nothing.
-use borrow.Author.Rules.{rules}
 use Prim.Native.Nat.{ℕ, ◌+◌, ◌-◌, ◌*◌, ◌/◌, ◌≤◌, ◌<◌}
 use native.Mathlib.Nat.{div-add-mod', mod-lt, mul-le-mul_right, add-mul, one-mul, mul-zero}
 use native.Mathlib.Omega.{arith}
 use Rattle.fir_filter.specs.Runs.{Lags}
-use Rattle.fir_filter.proofs.sums.lags.Statement.{statement}
-use Rattle.fir_filter.proofs.sums.lags.Tie as tie
+use Rattle.fir_filter.proofs.sums.lags.Goals as goal
 
 -- No lag has a coefficient; every lag has the same one.
 none : (taps len step phase : ℕ) → taps ≤ phase → Lags taps len step phase 0
@@ -41,26 +39,17 @@ module _ (taps len step phase : ℕ) (P : 0 < step) (h : phase < taps) where
   every : len ≤ q → Lags taps len step phase len
   every l = record { most = omega arith; inside = λ j k. within j (omega arith); beyond = λ j k m. omega arith }
 
-returns : tie.Need-returns
-returns c = none _ _ _ _ c.if1.true
+pub returns-then-phase-taps : goal.returns-then-phase-taps
+returns-then-phase-taps c = none _ _ _ _ c.if-phase-taps.true
 
-returns-2 : tie.Need-returns-2
-returns-2 c = rw c.if2.true (all _ _ _ c.before.if1.false)
+pub returns-then-step-eq0 : goal.returns-then-step-eq0
+returns-then-step-eq0 c = rw c.if-step-eq0.true (all _ _ _ c.if-phase-taps.false)
 
-returns-3 : tie.Need-returns-3
-returns-3 c =
-    let q = c.before in
-    let e = q.before.before in
-    rw q.quotient.ensures
-    (up-to _ _ _ _ (omega arith) e.if1.false (omega (arith, q.quotient.ensures, c.if3.true)))
+pub returns-then-last-len : goal.returns-then-last-len
+returns-then-last-len c =
+    rw c.quotient-last.ensures
+    (up-to _ _ _ _ (omega arith) c.if-phase-taps.false (omega (arith, c.quotient-last.ensures, c.if-last-len.true)))
 
-returns-4 : tie.Need-returns-4
-returns-4 c =
-    let q = c.before in
-    let e = q.before.before in
-    every _ _ _ _ (omega arith) e.if1.false (omega (arith, q.quotient.ensures, c.if3.false))
-
-pub lags-spec : {M : Type 1} → statement M
-lags-spec =
-    tie.close (tie.spec returns returns-2 (λ c. search rules) (λ c. search rules) (λ c κs. search rules)
-    (λ c. search rules) returns-3 returns-4)
+pub returns-else-last-len : goal.returns-else-last-len
+returns-else-last-len c =
+    every _ _ _ _ (omega arith) c.if-phase-taps.false (omega (arith, c.quotient-last.ensures, c.if-last-len.false))
