@@ -14,7 +14,7 @@ pub const OUTER_LIMIT: u64 = 17179869184;
 pub const OUTER_LIMIT_F64: f64 = 17179869184.0;
 
 // What a state holds beside its settings: both accepted numbers and the delay of the last accepted call.
-#[derive(Drop)]
+#[derive(Clone, Copy)]
 pub struct Outer {
     pub accepted: u64,
     pub inner: u64,
