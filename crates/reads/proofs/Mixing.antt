@@ -1,7 +1,7 @@
 -- W7d, W7g. What a call of the quality reader reads depends only on the taps of its qualities: of both if it is mixed,
 -- otherwise of the one that it reads. Assumes nothing.
-use mathlib.Core.Path.{◌≡◌, refl}
-use mathlib.Core.Bool.{Bool, true, false, cond}
+use mathlib.Core.Path.{◌≡◌}
+use mathlib.Core.Bool.{false}
 use mathlib.Core.List.{List}
 use Prim.Native.Nat.{ℕ}
 use lib.Ieee.{Float}
@@ -9,7 +9,7 @@ use Rattle.absent_taps.specs.Absent.{first_tap}
 use Rattle.variable_delay.specs.Reader.{Reading}
 use Rattle.quality_mode.specs.declared.QualityMode.{QualityMode}
 use Rattle.quality_fade.specs.declared.Turn.{Turn}
-use Rattle.quality_variable_delay.specs.Reader.{weight_of, mixed_of, output_of}
+use Rattle.quality_variable_delay.specs.Reader.{output_of}
 use Rattle.reads.specs.Local.{Alike, Local, read_by}
 
 module _ (read : QualityMode → Reading) (local : (q : QualityMode) → Local (read_by q) (read q)) (t : Turn)
