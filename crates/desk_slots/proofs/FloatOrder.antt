@@ -1,11 +1,11 @@
 -- The order of floats, as far as rates need it: a float is not equal to a greater one, and two floats that equal a
 -- third are equal. Assumes nothing.
 use mathlib.Core.Path.{◌≡◌, refl, sym}
-use mathlib.Core.Bool.{Bool, true, false, true≢false, not, ◌&&◌, ◌||◌, beq}
-use Prim.Native.Nat.{ℕ, ◌+◌, ◌*◌, ◌≤◌, ◌<◌}
+use mathlib.Core.Bool.{Bool, true, false, true≢false, ◌&&◌, ◌||◌, beq}
+use Prim.Native.Nat.{ℕ, ◌+◌, ◌*◌}
 use native.Mathlib.Omega.{arith}
 use borrow.Author.Tests.{ne_eqb, eq-eqb, eqb-true, ltb-true}
-use lib.Dec.{T, T_not, eqb, ltb}
+use lib.Dec.{T, T_not, eqb}
 use lib.Ieee.{Float, nan, inf, fin, up, down, lt, le, eq, below, level}
 use lib.Ieee.Bits.{is_true}
 use lib.Ieee.Scale.{finite}

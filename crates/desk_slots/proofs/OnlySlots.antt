@@ -1,12 +1,12 @@
 -- W4e, W4j. In a room in range the slot in which a desk holds a set is the only one. Assumes nothing.
-use mathlib.Core.Path.{◌≡◌, refl, sym, ◌∙◌, ap}
+use mathlib.Core.Path.{◌≡◌, refl, sym, ap}
 use mathlib.Core.Bool.{Bool, true, false, true≢false, not, cond, ◌&&◌, ◌||◌}
 use mathlib.Core.List.{List, [], ◌∷◌}
-use Prim.Native.Nat.{ℕ, zero, suc, ◌<◌, min}
+use Prim.Native.Nat.{ℕ, zero, suc, ◌<◌}
 use native.Mathlib.Omega.{arith}
 use borrow.Author.Tests.{le-ltb, leb-true, ne_eqb}
-use lib.Dec.{T, eqb, leb, ltb}
-use lib.ListN.{length, get_or}
+use lib.Dec.{T}
+use lib.ListN.{get_or}
 use lib.Ieee.{Float, le, eq}
 use lib.Ieee.Scale.{finite}
 use Rattle.bessel.specs.declared.Mode.{Mode}

@@ -1,13 +1,13 @@
 -- W4j. A room in which the rates of the held slots rise is in range: no two of them are equal, so that no two held
 -- slots have the same rate and mode. Assumes nothing.
 use mathlib.Core.Path.{◌≡◌, refl, sym}
-use mathlib.Core.Bool.{Bool, true, false, true≢false, not, ◌&&◌, ◌||◌}
+use mathlib.Core.Bool.{Bool, true, false, true≢false, ◌&&◌}
 use mathlib.Core.List.{List, [], ◌∷◌}
 use Prim.Native.Nat.{ℕ, zero, suc}
 use native.Mathlib.Omega.{arith}
 use borrow.Author.Tests.{ne_eqb}
 use lib.Dec.{T, eqb}
-use lib.Ieee.{Float, lt, le, eq}
+use lib.Ieee.{Float, lt, le}
 use lib.Ieee.Bits.{is_true}
 use lib.Ieee.Scale.{finite}
 use Rattle.interval.proofs.Signed.{le-le, le-lt}
