@@ -1,5 +1,4 @@
 -- `file_turns::as_wave` meets its contract, by what was found. Assumes nothing.
-use borrow.Author.Rules.{rules}
 use mathlib.Core.Path.{sym, ap}
 use Rattle.file_turns.specs.Turns.{as_wave}
 use Rattle.file_turns.proofs.as_wave.Goals as goal

@@ -1,5 +1,4 @@
 -- `file_turns::finish` meets its contract, by the layout. Assumes nothing.
-use borrow.Author.Rules.{rules}
 use mathlib.Core.Path.{◌∙◌, sym, ap}
 use Rattle.file_turns.specs.Turns.{as_wave}
 use Rattle.file_turns.proofs.finish.Goals as goal
