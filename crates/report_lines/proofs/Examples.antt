@@ -1,7 +1,6 @@
 -- Files and lengths in time, to the byte, computed from the definitions that the contracts cite. Assumes nothing.
 use mathlib.Core.Path.{◌≡◌, refl}
 use mathlib.Core.Bool.{true, false}
-use mathlib.Core.List.{[]}
 use Rattle.text.specs.Text.{ascii, decimal_to}
 use Rattle.sample_kind.specs.declared.SampleKind.TheVariants.{Pcm16, Pcm24, Float32}
 use Rattle.report_lines.specs.Files.{plural_text, count_text, file_text}
@@ -18,20 +17,20 @@ two-channels = refl
 
 looked : looked_text Pcm24 2 48000 1234567 false
     ≡ ascii "PCM of 24 bits, 2 channels, 48000 Hz, 1234567 frames, 0:00:25.720\n"
-unfolding ascii decimal_to plural_text count_text file_text two_text three_text clock_text length_text time_text wrapped_text
-    looked_text
+unfolding ascii decimal_to plural_text count_text file_text two_text three_text clock_text length_text time_text
+    wrapped_text looked_text
 looked = refl
 
 wrapped : looked_text Pcm16 1 44100 0 true
     ≡ ascii "PCM of 16 bits, 1 channel, 44100 Hz, 0 frames, 0:00:00.000, wrapped\n"
-unfolding ascii decimal_to plural_text count_text file_text two_text three_text clock_text length_text time_text wrapped_text
-    looked_text
+unfolding ascii decimal_to plural_text count_text file_text two_text three_text clock_text length_text time_text
+    wrapped_text looked_text
 wrapped = refl
 
 -- A rate of 0 gives no length.
 no-rate : looked_text Pcm16 1 0 7 false ≡ ascii "PCM of 16 bits, 1 channel, 0 Hz, 7 frames\n"
-unfolding ascii decimal_to plural_text count_text file_text two_text three_text clock_text length_text time_text wrapped_text
-    looked_text
+unfolding ascii decimal_to plural_text count_text file_text two_text three_text clock_text length_text time_text
+    wrapped_text looked_text
 no-rate = refl
 
 -- One frame short of an hour is rounded down.

@@ -1,12 +1,11 @@
 -- How many bytes the lines of a report can have: the line of a channel at most 320, the others at most 100. Assumes
 -- nothing.
-use mathlib.Core.Bool.{Bool, true, false}
-use mathlib.Core.List.{List, ◌++◌}
-use Prim.Native.Nat.{ℕ, ◌+◌, ◌*◌, ◌-◌, ◌/◌, ◌%◌, ◌≤◌}
+use mathlib.Core.List.{◌++◌}
+use Prim.Native.Nat.{ℕ, ◌-◌, ◌/◌, ◌%◌, ◌≤◌}
 use native.Mathlib.Omega.{arith}
 use lib.Dec.{eqb, ltb}
 use lib.ListN.{length, length-append}
-use Rattle.text.specs.Text.{ascii, decimal}
+use Rattle.text.specs.Text.{ascii}
 use Rattle.text.proofs.Digits.{few-digits}
 use Rattle.decimals.specs.Writing.{two_words}
 use Rattle.residual.specs.declared.Report.{Report}
@@ -15,7 +14,6 @@ use Rattle.residual.specs.declared.Place.TheVariants.{Nowhere, At}
 use Rattle.decibels.specs.declared.Level.{Level}
 use Rattle.decibels.specs.declared.Level.TheVariants.{None, Below}
 use Rattle.level_text.specs.LevelText.{size_text, tenths_text, level_text}
-use Rattle.report_lines.specs.Files.{count_text}
 use Rattle.report_lines.specs.Lines.{place_text, largest_text, sum_text, figures_text, channel_text}
 use Rattle.report_lines.specs.Lines.{compared_text, left_over_text}
 use Rattle.report_lines.proofs.Room.{either, short-count}

@@ -5,7 +5,7 @@ use mathlib.Core.List.{◌++◌}
 use Prim.Native.Nat.{ℕ}
 use Rattle.text.specs.Text.{ascii, decimal_to}
 use Rattle.residual.specs.declared.Report.{Report}
-use Rattle.residual.specs.declared.Place.TheVariants.{Nowhere, At}
+use Rattle.residual.specs.declared.Place.TheVariants.{At}
 use Rattle.residual.specs.Report.{empty_report}
 use Rattle.decibels.specs.declared.Level.TheVariants.{None, Below}
 use Rattle.level_text.specs.LevelText.{size_text, tenths_text}

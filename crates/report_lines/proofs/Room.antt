@@ -22,8 +22,8 @@ use Rattle.report_lines.specs.Looked.{time_text, wrapped_text, looked_text}
 pub whole : (text out : List ℕ) {r : ℕ} {ys : List ℕ} → length text ≤ length out → Puts out 0 text r ys
     → take r ys ≡ text
 whole text out h p =
-    let e = p.1 ∙ sets-eq text out 0 (omega arith) in
-    let n = p.0 ∙ min-eq_right {n = 0 + length text} {m = length out} (omega arith) ∙ zero-add (length text) in
+    let e = p.out_after ∙ sets-eq text out 0 (omega arith) in
+    let n = p.value ∙ min-eq_right {n = 0 + length text} {m = length out} (omega arith) ∙ zero-add (length text) in
     rw (e, n) (take_at text (drop (0 + length text) out) (length text) refl)
 
 pub either : (t : Bool) (a b : List ℕ) (m : ℕ) → length a ≤ m → length b ≤ m → length (cond t a b) ≤ m
@@ -63,7 +63,8 @@ short-two n =
 short-three : (n : ℕ) → length (three_text n) ≤ 22
 unfolding ascii three_text
 short-three n =
-    either (ltb n 100) (ascii "0" ++ two_text n) (two_text n) 22 (omega (arith, short-two n)) (omega (arith, short-two n))
+    either (ltb n 100) (ascii "0" ++ two_text n) (two_text n) 22 (omega (arith, short-two n))
+    (omega (arith, short-two n))
 
 short-clock : (seconds thousandths : ℕ) → length (clock_text seconds thousandths) ≤ 87
 unfolding ascii clock_text
