@@ -1,13 +1,11 @@
 -- How many sets a bank has, by two tests: if the quotient lies above n - 1 and is at most n, its ceiling is n. Assumes
 -- nothing.
-use mathlib.Core.Path.{◌≡◌, sym, ◌∙◌, ap, subst}
+use mathlib.Core.Path.{◌≡◌, sym, ◌∙◌, ap}
 use mathlib.Core.Bool.{true, false, true≢false, false≢true}
 use Prim.Native.Nat.{ℕ, suc, ◌+◌, ◌-◌, ◌*◌, ◌/◌, ◌^◌, ◌<◌, ◌≤◌, max}
-use native.Mathlib.Nat.{mul-one, mul_right_comm, add-mul, suc-mul, le_of_mul-le-mul_right, lt_of_mul-lt-mul_right}
-use native.Mathlib.Nat.{le_trans, max-eq_right, div-eq_of_lt-le}
+use native.Mathlib.Nat.{add-mul, suc-mul}
+use native.Mathlib.Nat.{max-eq_right, div-eq_of_lt-le}
 use native.Mathlib.Omega.{arith}
-use borrow.Author.Tests.{ltb-true, ltb-false}
-use lib.Dec.{lit≤}
 use lib.IntN.{ℤ, pos}
 use lib.Ieee.{Float, nan, inf, fin, binary64, up, down, lt}
 use lib.Ieee.Fits.{down_pos}

@@ -19,7 +19,7 @@ pub use through::call_through;
 
 // A quality reader's state in plain numbers. The names are the original's (000), and what is not a number there is
 // given by its number.
-#[derive(Drop)]
+#[derive(Clone, Copy)]
 pub struct Coded {
     pub maximum: usize,
     pub margin: usize,

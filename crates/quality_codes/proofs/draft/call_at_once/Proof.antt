@@ -16,54 +16,55 @@ use Rattle.quality_codes.proofs.DraftCalls.{ready, called, left}
 use Rattle.quality_codes.proofs.draft.call_at_once.Statement.{statement}
 use Rattle.quality_codes.proofs.draft.call_at_once.Tie as tie
 
-abbrev start : tie.Then1 → tie.Start
-start c = c.before.before.before.before.before.before.before.before.before
-
 abbrev state : tie.Start → Coded
 state s =
     let a = s.args in
     state_of a.maximum a.margin a.accepted.now a.current.now a.target.now
-    a.crossfade-position.now a.crossfade-samples a.rule a.direction.now
+    a.crossfade_position.now a.crossfade_samples a.rule a.direction.now
 
 -- The tests have passed.
-told : (c : tie.Then1) → let a = (start c).args in
+told : (c : tie.Then-plain) → let a = c.before.before.before.before.before.before.before.before.before.args in
     (a.current.now ≡ 0) × (a.target.now ≡ 0) × (a.quality ≡ 0) × (a.direction.now ≡ 0) × (a.rule ≤ 1)
-    × (due_of (length a.sets.now) a.max-rate (decoded (state (start c))) (length a.ring.now) a.input
-    a.delay a.playback-rate
+    × (due_of (length a.sets.now) a.max_rate
+    (decoded (state c.before.before.before.before.before.before.before.before.before)) (length a.ring.now) a.input
+    a.delay a.playback_rate
     ≡ 0)
-told c = c.before.plain.ensures c.if1.true
+told c = c.before.plain.ensures c.if-plain.true
 
-asked : (c : tie.Then1) → let a = (start c).args in
+asked : (c : tie.Then-plain) → let a = c.before.before.before.before.before.before.before.before.before.args in
     (a.accepted.now < 2 ^ 36) × (0 < length a.ring.now)
     × (bit_and a.accepted.now (length a.ring.now - 1) ≡ a.accepted.now % length a.ring.now)
     × (position_ok (position_of a.accepted.now a.delay) ≡ true)
 asked c =
-    let a = (start c).args in
-    ready (length a.sets.now) a.max-rate (state (start c)) (length a.ring.now) a.input a.delay
-    a.playback-rate (told c).5
+    let a = c.before.before.before.before.before.before.before.before.before.args in
+    ready (length a.sets.now) a.max_rate (state c.before.before.before.before.before.before.before.before.before)
+    (length a.ring.now) a.input a.delay
+    a.playback_rate (told c).5
 
-read-requires : tie.Need-read-requires
+read-requires : tie.Need-read-y-requires
 read-requires c κs = asked c.before
 
-add-put-f32 : tie.Need-overflow-add-put-f32
+add-put-f32 : tie.Need-overflow_add-i
 add-put-f32 c = omega (arith, (asked c.before.before.before.before).0)
 
-returns : tie.Need-returns
+returns : tie.Need-returns-then-plain
 returns c =
-    let w = c.put-f32.ensures in
+    let w = c.put_f32.ensures in
     let r = c.before.before.before.before.before in
     let t = r.before.before in
-    let a = (start t).args in
+    let a = t.before.before.before.before.before.before.before.before.before.args in
     let p = told t in
     let e =
-    called a.sets.now a.max-rate (state (start t)) a.ring.now a.input a.delay a.quality
-    a.playback-rate p.0 p.1 p.2 p.3 p.4 p.5 in
+    called a.sets.now a.max_rate (state t.before.before.before.before.before.before.before.before.before) a.ring.now
+    a.input a.delay a.quality
+    a.playback_rate p.0 p.1 p.2 p.3 p.4 p.5 in
     let l =
-    left a.sets.now a.max-rate (state (start t)) a.ring.now a.input a.delay a.quality
-    a.playback-rate p.0 p.1 p.2 p.3 p.4 p.5 in
-    rw (w.0, w.1, r.read.ensures.0, r.read.ensures.1, e, l)
+    left a.sets.now a.max_rate (state t.before.before.before.before.before.before.before.before.before) a.ring.now
+    a.input a.delay a.quality
+    a.playback_rate p.0 p.1 p.2 p.3 p.4 p.5 in
+    rw (w.0, w.1, r.read-y.ensures.0, r.read-y.ensures.1, e, l)
 
-pub call-at-once-spec : {M : Type 1} → statement M
-call-at-once-spec =
-    tie.close (tie.spec (λ c κs. search rules) read-requires add-put-f32 (λ c κs. search rules)
-    (λ c. search rules) returns (λ c κs. search rules) (λ c. search rules) (λ c. search rules))
+pub call_at_once_spec : {M : Type 1} → statement M
+call_at_once_spec =
+    tie.close (tie.spec (λ c κs. search rules) read-requires add-put-f32 (λ c κs. search rules) (λ c. search rules)
+    returns (λ c κs. search rules) (λ c. search rules) (λ c. search rules))

@@ -3,18 +3,14 @@ use mathlib.Core.Path.{◌≡◌, refl}
 use Prim.Native.Nat.{ℕ, zero, suc}
 use Rattle.returning_fade.specs.declared.Direction.TheVariants.{Back}
 use Rattle.quality_codes.specs.Codes.{direction_of}
-use Rattle.quality_codes.proofs.codes.direction.Statement.{statement}
-use Rattle.quality_codes.proofs.codes.direction.Tie as tie
+use Rattle.quality_codes.proofs.codes.direction.Goals as goal
 
-returns : tie.Need-returns
-returns c = rw c.if1.true
+pub returns-then-code-eq0 : goal.returns-then-code-eq0
+returns-then-code-eq0 c = rw c.if-code-eq0.true
 
 other : (k : ℕ) → (k ≡ 0 → ⊥) → Back ≡ direction_of k
 other zero h = absurd (h refl)
 other (suc k) h = refl
 
-returns-2 : tie.Need-returns-2
-returns-2 c = other c.before.args.code c.if1.false
-
-pub direction-spec : {M : Type 1} → statement M
-direction-spec = tie.close (tie.spec returns returns-2)
+pub returns-else-code-eq0 : goal.returns-else-code-eq0
+returns-else-code-eq0 c = other c.args.code c.if-code-eq0.false
