@@ -1,5 +1,4 @@
 -- `render_samples::step` meets its contract, by `stepped`. Assumes nothing.
-use borrow.Author.Rules.{rules}
 use lib.Ieee.{binary32, of_bits}
 use Rattle.render_samples.specs.Samples.{held_of}
 use Rattle.render_samples.proofs.Steps.{stepped}
@@ -17,4 +16,4 @@ returns c =
     c.process_sample-p.ensures.ring_after
     c.value_f32.ensures
     c.bits_of_f32.ensures in
-    record { state_value = both.0; bits_value = both.1; ring_after = both.2 }
+    record { state_value = both.0; bits_value = both.1.0; ring_after = both.1.1 }
