@@ -1,7 +1,8 @@
 -- Demand 2 and W4: where the slots of the two sets that a desk holds have these sets' floats, its call is the quality
 -- reader's over the bank of the desk's mode and maximum rate, which holds nothing else and which no other desk reads.
 -- Assumes nothing.
-use Rattle.std.proofs.Common.{◌≡◌, ℕ, ◌+◌, ◌*◌, ◌<◌, Bool, true, false, not, ◌&&◌, ◌||◌, eqb, List, length, sym, refl, ap, ◌∙◌, true≢false, lt-ltb, eq-eqb}
+use Rattle.std.proofs.Common.{◌≡◌, ℕ, ◌+◌, ◌*◌, ◌<◌, Bool, true, false, not, ◌&&◌, ◌||◌, List, length, sym, refl, ap}
+use Rattle.std.proofs.Common.{◌∙◌, true≢false, lt-ltb, eq-eqb}
 use lib.Ieee.{Float, is_nan}
 use Rattle.variable_delay.specs.Reader.{stored, position_of}
 use Rattle.bessel.specs.declared.Mode.{Mode}
@@ -11,7 +12,7 @@ use Rattle.bank_choice.specs.declared.Choice.{Choice}
 use Rattle.bank_choice.proofs.OwnRate.{safe-inside, tighter-inside}
 use Rattle.sinc_bank_f32.specs.Sets.{set_length, set_in, bank_in}
 use Rattle.sinc_bank_f32.proofs.Lengths.{set-at, bank-long}
-use Rattle.bank_read.specs.Bank.{set_at, table_at, tables_at, blended, chosen_at, bank_at}
+use Rattle.bank_read.specs.Bank.{set_at, tables_at, chosen_at, bank_at}
 use Rattle.quality_mode.specs.declared.QualityMode.{QualityMode}
 use Rattle.quality_mode.specs.declared.QualityMode.TheVariants.{Draft, Normal, Hq, Ultra}
 use Rattle.quality_variable_delay.specs.Reader.{verdict, ring_after, processed_by}
@@ -91,7 +92,8 @@ module _ (c : Caller) (room : Room) (top : Float) (d : QualityVariableDelayF32) 
   pub bank-read : (q : QualityMode) → desk_call c room top d xs x y q rate ≡ processed bank top d xs x y q rate
   bank-read q =
       ap (λ (v : ℕ). processed_by (held_at c room top rate) v d xs x y q) desk-due
-      ∙ same-readings (held_at c room top rate) (bank_at bank top rate) (due_of (length bank) top d (length xs) x y rate)
+      ∙ same-readings (held_at c room top rate) (bank_at bank top rate)
+      (due_of (length bank) top d (length xs) x y rate)
       d xs x y q
       (λ none r.
       let t = taken (bank_ok top) (sets_held c room top rate) d (length xs) x y rate (same-due ∙ none) in

@@ -1,6 +1,7 @@
 -- A desk's call in a room in range is the reader's call over the two slots; in a room out of range it is refused.
 -- Assumes nothing.
-use Rattle.std.proofs.Common.{◌≡◌, ℕ, ◌+◌, ◌^◌, Bool, true, false, not, ◌&&◌, eqb, ltb, leb, List, length, pos, sym, refl, ap, ◌∙◌}
+use Rattle.std.proofs.Common.{◌≡◌, ℕ, ◌+◌, ◌^◌, Bool, true, false, not, ◌&&◌, eqb, ltb, leb, List, length, pos, refl}
+use Rattle.std.proofs.Common.{ap, ◌∙◌}
 use lib.Ieee.{Float, fin, le, is_nan}
 use lib.Ieee.Bits.{is_true}
 use lib.Ieee.Scale.{finite}
@@ -57,7 +58,8 @@ module _ (c : Caller) (rates : List Float) (marks : List ℕ) (slots : List Floa
 
   pub as-refused : room_ok rates marks ≡ false → out_of_range reader ≡ desk_verdict c room top d len x y rate
   as-refused h =
-      rw h (out_of_range-number settings lengths fields (finite x) late near (not (is_nan rate)) (ltb d.accepted (2 ^ 36)))
+      rw h (out_of_range-number settings lengths fields (finite x) late near (not (is_nan rate))
+      (ltb d.accepted (2 ^ 36)))
 
   pub is_number : reader ≡ 0 → not (is_nan rate) ≡ true
   is_number h =
@@ -84,7 +86,8 @@ module _ (c : Caller) (rates : List Float) (marks : List ℕ) (slots : List Floa
         ≡ desk_call c (room_of rates marks slots) top d xs x y q rate
     chosen-call q =
         rw (lent-held c rates marks slots top rate)
-        (same-readings (read_by (slot_choice c rates marks top rate) slots) (held_at c (room_of rates marks slots) top rate)
+        (same-readings (read_by (slot_choice c rates marks top rate) slots)
+        (held_at c (room_of rates marks slots) top rate)
         (reader c rates marks slots top d (length xs) x y rate) d xs x y q
         (λ none r.
         let t = taken (bank_ok top) (sets_held c (room_of rates marks slots) top rate) d (length xs) x y rate none in

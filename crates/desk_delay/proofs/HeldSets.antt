@@ -1,11 +1,10 @@
 -- What the code finds in a room is what the definition asks: a set is held exactly if its slot is one of the room's,
 -- and by the slots of two sets that are held every quality reads what stands there. Assumes nothing.
-use Rattle.std.proofs.Common.{◌≡◌, ℕ, ◌+◌, ◌*◌, ◌<◌, ◌≤◌, min, Bool, true, false, cond, not, ◌&&◌, ◌||◌, eqb, ltb, List, length, sym, refl, ap, ◌∙◌, true≢false, arith, ltb-true, eqb-true, le-leb}
+use Rattle.std.proofs.Common.{◌≡◌, ℕ, ◌+◌, ◌*◌, ◌≤◌, min, Bool, true, false, not, ◌&&◌, ◌||◌, eqb, ltb, List, length}
+use Rattle.std.proofs.Common.{sym, refl, ap, ◌∙◌, true≢false, arith, ltb-true, eqb-true, le-leb}
 use lib.Ieee.{Float, is_nan}
 use Rattle.ring.specs.Places.{position_ok}
-use Rattle.bessel.specs.declared.Mode.{Mode}
-use Rattle.bank_choice.specs.Rates.{bank_ok, steps_of, set_rate_of}
-use Rattle.bank_choice.specs.Choosing.{chosen_of}
+use Rattle.bank_choice.specs.Rates.{bank_ok, set_rate_of}
 use Rattle.bank_choice.specs.Inner.{choice_of}
 use Rattle.bank_choice.specs.declared.Choice.{Choice}
 use Rattle.bank_read.specs.Bank.{chosen_at}
@@ -13,11 +12,11 @@ use Rattle.bank_read.specs.Inner.{sets_ok, held_ok, read_of}
 use Rattle.quality_mode.specs.declared.QualityMode.{QualityMode}
 use Rattle.quality_mode.specs.declared.QualityMode.TheVariants.{Draft, Normal, Hq, Ultra}
 use Rattle.room_marks.specs.Slots.{some, first_slot, own_set}
-use Rattle.room_marks.specs.Asking.{lengths_agree, own_slot}
+use Rattle.room_marks.specs.Asking.{lengths_agree}
 use Rattle.room_marks.proofs.Searching.{some_first}
 use Rattle.set_room.specs.Room.{Room, room_of}
 use Rattle.desk_delay.specs.Desk.{Caller, safe_rate, tighter_rate, desk_choice, held_at, sets_held}
-use Rattle.desk_delay.specs.Inner.{slot_for, slot_choice, lent_of}
+use Rattle.desk_delay.specs.Inner.{slot_choice, lent_of}
 
 both : (a b : Bool) → a && b ≡ true → (a ≡ true) × (b ≡ true)
 both true b h = (refl, h)
