@@ -527,6 +527,9 @@ def turn(crate, fn, path, mode=None):
         m = re.search(rf"^(?:abbrev |unfoldable )*(?:pub )?([^\s]+) :\s+\((\w+) : tie\.([A-Z][{IDC}]*)(?: [{IDC}]+)*\)", d, re.M)
         if m and norm(m[3]) in fn.place:
             over[m[1]] = (m[2], fn.place[norm(m[3])])
+        m = re.search(rf"^(?:abbrev |unfoldable )*(?:pub )?([^\s]+) :\s+tie\.([A-Z][{IDC}]*)(?: [{IDC}]+)* →", d, re.M)
+        if m and norm(m[2]) in fn.place:
+            over[m[1]] = (None, fn.place[norm(m[2])])
     if mode is None:
         named_place = sum(len(re.findall(r"\btie\.(?!Need-|spec|close|invariant|decreases)[A-Z]", d)) for d in ds)
         mode = "A" if named_place > len(over) else "B"
@@ -538,12 +541,15 @@ def turn(crate, fn, path, mode=None):
     # `use` has to import the record of a place from Goals; `goal.at` is made for those alone
     places_named = set()
 
-    def at_places(t, g):
-        """Calls of a helper over a place, from the answer of the goal g (or from a helper, g is None)."""
+    def at_places(t, g, own_place=None):
+        """Calls of a helper over a place, from the answer of the goal g (or from a helper over own_place, g is None)."""
         for h, (_, pl) in over.items():
             def one(m):
                 if not m[2]:
                     return m[0]
+                if g is None and own_place:
+                    places_named.add(pl)
+                    return f"{h} (goal.at.{own_place} {m[1]}).{pl}"
                 if g is None:
                     say(f"helper {h} is called at {m[1]}{m[2]} from a helper")
                     return m[0]
@@ -563,7 +569,12 @@ def turn(crate, fn, path, mode=None):
         rename = {n: g for n, g in goal_of.items() if g}
         body = []
         # what the invariants cite of the file's own goes with them
-        moved, queue = [], [i[2] for i in invs]
+        moved, queue = [], []
+        for i in invs:
+            # the names of the loop's variables are no helpers
+            mm = re.search(rf"^{re.escape(i[0])} ([^=]*)=", i[2], re.M)
+            bound = "|".join(re.escape(x) for x in mm[1].split()) if mm else ""
+            queue.append(re.sub(rf"(?<![{IDC}.])({bound})(?![{IDC}])", "", i[2]) if bound else i[2])
         while queue:
             q = queue.pop()
             for r in rest:
@@ -604,7 +615,7 @@ def turn(crate, fn, path, mode=None):
                         at = 0
                     lines[i] = l[:at] + re.sub(rf"(?<![{IDC}.])({alts})(?![{IDC}])", lambda m: rename[m[1]], l[at:])
                 t = "\n".join(lines)
-            t = at_places(unalias(t), goal_of[n] if n is not None else None)
+            t = at_places(unalias(t), goal_of[n] if n is not None else None, over.get(name_of(d), (None, None))[1])
             t = flatten(t)
             t = steps(fn, t, say)
             if n is not None:
