@@ -20,7 +20,7 @@ pub struct Two {
 }
 
 // The outputs of the first four phases.
-#[derive(Drop)]
+#[derive(Clone, Copy)]
 pub struct Four {
     pub first: f64,
     pub second: f64,
