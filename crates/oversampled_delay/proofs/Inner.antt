@@ -1,7 +1,8 @@
 -- W11d. Inside an accepted call nothing but 4 can be due: with its settings, its ring, its count and its delay in range
 -- the inner reader refuses exactly a sample that is not finite. And what the phases leave: at most one inner sample
 -- more for each, and a ring of the same length. Assumes nothing.
-use Rattle.std.proofs.Common.{◌≡◌, ℕ, zero, suc, ◌+◌, ◌*◌, ◌^◌, ◌<◌, ◌≤◌, true, cond, T, List, length, refl, ap, ◌∙◌, mul-le-mul_right, arith, length-set, lt-ltb, eq-eqb, le-leb}
+use Rattle.std.proofs.Common.{◌≡◌, ℕ, zero, suc, ◌+◌, ◌^◌, ◌<◌, ◌≤◌, true, cond, T, List, length, refl, ap, ◌∙◌}
+use Rattle.std.proofs.Common.{mul-le-mul_right, arith, length-set, lt-ltb, eq-eqb, le-leb}
 use lib.Ieee.{Float, binary64, le, fits}
 use lib.Ieee.Bits.{is_true}
 use lib.Ieee.Scale.{finite}

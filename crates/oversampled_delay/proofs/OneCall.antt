@@ -1,6 +1,7 @@
 -- A call, from the contracts of the calls within it: it is refused and everything stays as it was, or it leaves what
 -- its phases leave. Assumes nothing.
-use Rattle.std.proofs.Common.{◌≡◌, ℕ, zero, suc, ◌+◌, ◌*◌, ◌^◌, ◌≤◌, Bool, true, false, cond, ◌&&◌, T, eqb, List, length, sym, refl, ◌∙◌, ⊎_elim, arith, eqb→eq, leb-true}
+use Rattle.std.proofs.Common.{◌≡◌, ℕ, zero, suc, ◌+◌, ◌*◌, ◌^◌, ◌≤◌, Bool, true, false, cond, ◌&&◌, T, eqb, List}
+use Rattle.std.proofs.Common.{length, sym, refl, ◌∙◌, ⊎_elim, arith, eqb→eq, leb-true}
 use denote.Floats.{passes}
 use lib.Ieee.{Float, le}
 use Rattle.answer.specs.Answers.{zero-f, answer_of}
@@ -13,9 +14,9 @@ use Rattle.kernels.specs.Kernels.{read_by, own_ok, table_for}
 use Rattle.fir_filter.specs.Filters.{pushed, output_of}
 use Rattle.oversampled_refusals.specs.Outer.{outer_limit-f}
 use Rattle.oversampled_refusals.proofs.Accepted.{Taken, taken}
-use Rattle.oversampled_delay.specs.Phases.{Ready, High, turn_of, high_of, phases_of}
+use Rattle.oversampled_delay.specs.Phases.{Ready, turn_of, high_of, phases_of}
 use Rattle.oversampled_delay.specs.Inside.{Tested}
-use Rattle.oversampled_delay.specs.Reader.{Lent, lengths_of, settings_ok, lent_ok, outer_of, due_of, from_of, Left}
+use Rattle.oversampled_delay.specs.Reader.{Lent, lengths_of, settings_ok, lent_ok, outer_of, due_of, from_of}
 use Rattle.oversampled_delay.specs.Reader.{state_after, left_by, called, processed_of}
 use Rattle.oversampled_delay.specs.declared.OversampledVariableDelay.{OversampledVariableDelay}
 use Rattle.oversampled_delay.specs.declared.Processed.{Processed}

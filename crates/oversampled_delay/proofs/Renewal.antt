@@ -1,6 +1,7 @@
 -- A reset and an opening, from the contracts of the calls within them: refused, everything stays as it was; otherwise
 -- all begins anew, and the coefficients are those of 000's design. Assumes nothing.
-use Rattle.std.proofs.Common.{◌≡◌, ℕ, zero, suc, ◌*◌, true, false, ◌&&◌, eqb, List, length, sym, refl, ap, ◌∙◌, ⊎_elim, eqb→eq, eq-eqb}
+use Rattle.std.proofs.Common.{◌≡◌, ℕ, zero, suc, ◌*◌, true, false, ◌&&◌, eqb, List, length, refl, ⊎_elim, eqb→eq}
+use Rattle.std.proofs.Common.{eq-eqb}
 use lib.Count.{count_trailing_zeros}
 use lib.Ieee.{Float, binary64, size, span, climb, odd, units, round, div, lt, eq, le, of_int}
 use lib.Ieee.Bits.{is_true}
@@ -64,7 +65,8 @@ module _ (maximum margin factor taps : ℕ) (xs : List Float) (up down inner : �
       let c = eqb (length xs) taps in
       let h = held_ok d up down inner in
       let p =
-      passed (factor_ok factor && settings_ok d) (c && h) (state_ok factor (outer_of d)) true true true true true none in
+      passed (factor_ok factor && settings_ok d) (c && h) (state_ok factor (outer_of d)) true true true true true none
+      in
       let f = is_true (factor_ok factor) (and_l (factor_ok factor) (settings_ok d) p.p1) in
       let t = is_true s (and_l s r (and_r (factor_ok factor) (settings_ok d) p.p1)) in
       let l = eqb→eq (length xs) taps (and_l c h p.p2) in

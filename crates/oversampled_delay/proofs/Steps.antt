@@ -56,7 +56,8 @@ module _ (t : Turn) (k : ℕ) (h : High) {o rate y : Float} {s : Stepped} {down 
     ≡ stepped_of (processed t.read (inner_of t.state h.inner) h.ring (mul binary64 o rate) y))
     (stored : ring ≡ ring_stepped (inner_of t.state h.inner) h.ring (mul binary64 o rate) y)
     (put : down ≡ pushed h.down (t.state.factor * t.state.accepted + k) s.sample) where
-  pub one-phase : (s.accepted ≡ (phase_of t k h).inner) × ((down ≡ (phase_of t k h).down) × (ring ≡ (phase_of t k h).ring))
+  pub one-phase : (s.accepted ≡ (phase_of t k h).inner)
+      × ((down ≡ (phase_of t k h).down) × (ring ≡ (phase_of t k h).ring))
   unfolding phase_of
   one-phase = (
     rw (stepped, raised, rated, delayed),

@@ -1,6 +1,6 @@
 -- The refusal, from the lengths as the code has them: each is 0 where a setting is out of range, and then its test does
 -- not count. Assumes nothing.
-use Rattle.std.proofs.Common.{◌≡◌, ℕ, ◌*◌, Bool, true, false, cond, not, ◌&&◌, ◌||◌, eqb, ltb, sym, refl, ◌∙◌, arith, ne_eqb}
+use Rattle.std.proofs.Common.{◌≡◌, ℕ, ◌*◌, Bool, true, false, cond, not, ◌&&◌, ◌||◌, eqb, ltb, refl, arith, ne_eqb}
 use mathlib.Core.Bool.{false≢true}
 use lib.Ieee.{Float, le}
 use lib.Ieee.Scale.{finite}
@@ -10,9 +10,9 @@ use Rattle.ring.specs.Length.{length_for}
 use Rattle.ring.specs.Length as ring
 use Rattle.ring.proofs.Lengths.{some}
 use Rattle.filter_settings.specs.Ranges.{factor_ok, taps_ok}
-use Rattle.filter_settings.specs.Lengths.{history_length, history_for}
+use Rattle.filter_settings.specs.Lengths.{history_for}
 use Rattle.kernels.specs.declared.Kernel.{Kernel}
-use Rattle.kernels.specs.Kernels.{own_ok, table_for, kernel_verdict}
+use Rattle.kernels.specs.Kernels.{own_ok, kernel_verdict}
 use Rattle.kernels.proofs.Told.{own-told, lent-told}
 use Rattle.oversampled_refusals.specs.Outer.{outer_limit, outer_limit-f, state_ok, verdict, reset_verdict}
 use Rattle.oversampled_refusals.proofs.Tests.{settled}

@@ -16,7 +16,7 @@ pub use refusals::{inner_length, refusal};
 
 // The settings, both accepted numbers since opening or reset, and the delay of the last accepted call. 000's heads are
 // remainders of the number of pushes, and its `initialized` says that a call was accepted.
-#[derive(Drop)]
+#[derive(Clone, Copy)]
 pub struct OversampledVariableDelay {
     pub maximum: usize,
     pub margin: usize,

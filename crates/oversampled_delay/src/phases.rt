@@ -127,7 +127,7 @@ pub(crate) fn phases<'a>(
     while k < factor {
         inner = phase(
             state,
-            kernel,
+            inside::again(&kernel),
             table,
             coefficients,
             up,

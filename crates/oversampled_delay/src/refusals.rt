@@ -12,7 +12,8 @@ use refusal_order::both;
 // The length of the inner ring, or 0 if a setting is out of range. The maximum is tested before it is multiplied.
 pub fn inner_length(factor: usize, maximum: usize, margin: usize) -> usize
     ensures { result ≡
-        (if factor_ok factor && settings_ok (factor * maximum) margin then length_for (factor * maximum) margin else 0) }
+        (if factor_ok factor && settings_ok (factor * maximum) margin
+        then length_for (factor * maximum) margin else 0) }
 {
     if maximum > 0x100_0000 {
         return 0;

@@ -1,6 +1,6 @@
 -- `oversampled_delay::opening::open` meets its contract: it is refused, or the filters are designed and the rest is
 -- cleared. Assumes nothing.
-use Rattle.std.proofs.Common.{◌≡◌, ℕ, length, sym, ap, ◌∙◌, rules}
+use Rattle.std.proofs.Common.{◌≡◌, length, sym, ap, ◌∙◌, rules}
 use lib.Count.{count_trailing_zeros}
 use lib.Ieee.{of_bits, size, span, climb, odd, units, round}
 use Rattle.variable_delay.proofs.Refused.{not-cleared}
@@ -11,25 +11,22 @@ use Rattle.oversampled_delay.proofs.Renewal.{not_opened, not-designed, opened, c
 use Rattle.oversampled_delay.proofs.opening.open.Statement.{statement}
 use Rattle.oversampled_delay.proofs.opening.open.Tie as tie
 
-abbrev begun : tie.After-renewal-refusal → tie.Start
-begun r = r.before.before.before.before.before.before
+abbrev anew : tie.After-renewal_refusal-no → OversampledVariableDelay
+anew r = let a = r.before.before.before.before.before.before.args in fresh a.maximum a.margin a.factor a.taps
 
-abbrev anew : tie.After-renewal-refusal → OversampledVariableDelay
-anew r = let a = (begun r).args in fresh a.maximum a.margin a.factor a.taps
-
-due : (r : tie.After-renewal-refusal) → let a = (begun r).args in
-    r.renewal-refusal.result
+due : (r : tie.After-renewal_refusal-no) → let a = r.before.before.before.before.before.before.args in
+    r.renewal_refusal-no.result
     ≡ open_due (anew r) (length a.coefficients.now) (length a.up.now) (length a.down.now)
     (length a.ring.now)
-due r = rw r.before.renewed.ensures at r.renewal-refusal.ensures
+due r = rw r.before.renewed-state.ensures at r.renewal_refusal-no.ensures
 
-returns : tie.Need-returns
+returns : tie.Need-returns-then-no-ne0
 returns c =
     let r = c.before in
-    let a = (begun r).args in
+    let a = r.before.before.before.before.before.before.args in
     let e = due r in
-    let w = r.renewal-refusal.result in
-    let h = c.if1.true in (
+    let w = r.renewal_refusal-no.result in
+    let h = c.if-no-ne0.true in (
       not_opened w e h (anew r),
       (
         not-designed w e h (anew r) a.coefficients.now,
@@ -37,7 +34,7 @@ returns c =
       ),
     )
 
-returns-2 : tie.Need-returns-2
+returns-2 : tie.Need-returns
 unfolding of_bits count_trailing_zeros size span climb odd units round
 returns-2 c =
     let c3 = c.before.before in
@@ -48,16 +45,16 @@ returns-2 c =
     let n = g.before.before in
     let e = n.before in
     let r = e.before in
-    let a = (begun r).args in
-    let z = sym (due r) ∙ e.if1.false in (
-      ap Reader r.before.renewed.ensures ∙ opened z (anew r),
+    let a = r.before.before.before.before.before.before.args in
+    let z = sym (due r) ∙ e.if-no-ne0.false in (
+      ap Reader r.before.renewed-state.ensures ∙ opened z (anew r),
       (
         design-is a.maximum a.margin a.factor a.taps a.coefficients.now (length a.up.now)
-            (length a.down.now) (length a.ring.now) z n.nearest-u64-to-f64.ensures
-            g.design-lowpass.ensures.1 k.keep.ensures,
+            (length a.down.now) (length a.ring.now) z n.nearest_u64_to_f64-cutoff.ensures
+            g.design_lowpass.ensures.1 k.keep.ensures,
         (
           cleared z a.up.now c1.clear.ensures,
-          (cleared z a.down.now c2.clear2.ensures, cleared z a.ring.now c3.clear3.ensures),
+          (cleared z a.down.now c2.clear-2.ensures, cleared z a.ring.now c3.clear-3.ensures),
         ),
       ),
     )

@@ -4,8 +4,7 @@ use lib.Count.{count_trailing_zeros}
 use lib.Ieee.{fin, size, span, climb, odd, units, round, of_int, of_bits}
 use Rattle.constants.specs.Numbers.{two-f}
 use Rattle.high_delay.specs.Between.{num}
-use Rattle.oversampled_delay.proofs.inside.rate_of.Statement.{statement}
-use Rattle.oversampled_delay.proofs.inside.rate_of.Tie as tie
+use Rattle.oversampled_delay.proofs.inside.rate_of.Goals as goal
 
 two : two-f ≡ num 2
 unfolding count_trailing_zeros size span climb odd units round of_int
@@ -15,15 +14,12 @@ four : fin false 1 (pos 2) ≡ num 4
 unfolding count_trailing_zeros size span climb odd units round of_int
 four = refl
 
-returns : tie.Need-returns
+pub returns-then-factor-eq2 : goal.returns-then-factor-eq2
 unfolding of_bits
-returns c = rw c.if1.true two
+returns-then-factor-eq2 c = rw c.if-factor-eq2.true two
 
-returns-2 : tie.Need-returns-2
+pub returns-else-factor-eq2 : goal.returns-else-factor-eq2
 unfolding of_bits
-returns-2 c =
-    let n = c.before.args.factor in
-    ⊎_elim (λ (e : n ≡ 2). absurd (c.if1.false e)) (λ (e : n ≡ 4). rw e four) c.before.requires
-
-pub rate-of-spec : {M : Type 1} → statement M
-rate-of-spec = tie.close (tie.spec returns returns-2)
+returns-else-factor-eq2 c =
+    let n = c.args.factor in
+    ⊎_elim (λ (e : n ≡ 2). absurd (c.if-factor-eq2.false e)) (λ (e : n ≡ 4). rw e four) c.requires
