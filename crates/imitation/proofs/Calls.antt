@@ -18,7 +18,8 @@ use Rattle.imitation.specs.Reading.{call_of}
 
 -- The reader's refusal, with the tests of the settings 32 and 64 as it makes them.
 abbrev pub due : List Float → VariableDelay → List Float → Float → Float → ℕ
-due table d ring x y = verdict (taps_ok 32 && phases_ok 64) (eqb (length table) (table_length 32 64)) d (length ring) x y
+due table d ring x y =
+    verdict (taps_ok 32 && phases_ok 64) (eqb (length table) (table_length 32 64)) d (length ring) x y
 
 pub calls : (table : List Float) (d : VariableDelay) (ring : List Float) (x y : Float) {q : ProcessedF32}
     {left : List Float} {n : ℕ} {v : Float}

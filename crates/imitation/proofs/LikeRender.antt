@@ -10,7 +10,6 @@ use lib.ListN.{length}
 use lib.Ieee.{Float, fin}
 use Rattle.loop_laws.specs.Loops.{list_of}
 use Rattle.loop_laws.proofs.Lists.{same-list}
-use Rattle.answer.specs.Answers.{number_f32_of, value_f32_of, answer_f32_of}
 use Rattle.modulation.specs.Step.{next_of}
 use Rattle.modulation_params.specs.Settings.{default_params}
 use Rattle.modulation_params.specs.declared.ModulationParams.{ModulationParams}
@@ -94,7 +93,8 @@ module _ (table : List Float) where
       g : Held
       g = after_sample table h x
 
-      by : (v : ℕ) → due_for table h x ≡ v → ((imitated g xs).number ≡ 0 → (imitated g xs).samples ≡ answers_for table g xs)
+      by : (v : ℕ) → due_for table h x ≡ v → ((imitated g xs).number ≡ 0
+          → (imitated g xs).samples ≡ answers_for table g xs)
           → (imitated h (x ∷ xs)).samples ≡ answers_for table h (x ∷ xs)
       by zero e rest =
           let f = first-behind h x xs e in
