@@ -61,7 +61,8 @@ module _ (max-rate : Float) (s : Coded) (xs : List Float) (x y : Float) (q : ℕ
   module _ (read : QualityMode → Reading) (asked : Bool) (v : ℕ) (bank : v ≡ 0 → bank_ok max-rate ≡ true) where
     abbrev called : Bool → Called
     called b =
-        pick_called b (taken_apart (processed_by read v (decoded s) xs x y (mode_of q))) (refused_by (odd_number asked v) s)
+        pick_called b (taken_apart (processed_by read v (decoded s) xs x y (mode_of q)))
+        (refused_by (odd_number asked v) s)
 
     by_names : (b : Bool) → counted (called b) ≡ unless_refused (called b).number absent
     by_names true = by-bank max-rate (decoded s) xs x y (mode_of q) rate v bank ∙ by_number v _ absent
