@@ -149,10 +149,12 @@ module _ (sets : List Float) (max-rate : Float) (q : QualityMode) (rate : Float)
       ends h = rw (ring-stays n e.0 h i ring x e.1.1) (stops n refl h)
 
       module _ (none : n ≡ 0) where
-        tests : Taken (bank_ok max-rate) (eqb (length sets) (steps_of max-rate * set_length)) (at_count d₀ i) (length ring)
+        tests : Taken (bank_ok max-rate) (eqb (length sets) (steps_of max-rate * set_length)) (at_count d₀ i)
+            (length ring)
             x y
         tests =
-            taken (bank_ok max-rate) (eqb (length sets) (steps_of max-rate * set_length)) (at_count d₀ i) (length ring) x y
+            taken (bank_ok max-rate) (eqb (length sets) (steps_of max-rate * set_length)) (at_count d₀ i) (length ring)
+            x y
             rate (due-is ∙ none)
 
         left : ys ≡ stored i ring x

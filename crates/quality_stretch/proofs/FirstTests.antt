@@ -53,6 +53,7 @@ module _ (lent : ℕ) (top : Float) (d : QualityVariableDelayF32) (len inputs de
       (λ t u. rw (off (not (eqb needed 0)) fit)))
       ∙ ring-tests.settled d.maximum d.margin len needed
       (λ (t u : Bool).
-      lowest_of (t && (fit && bank_ok top)) ((u && eqb lent (steps_of top * set_length)) && same) fields true true true true
+      lowest_of (t && (fit && bank_ok top)) ((u && eqb lent (steps_of top * set_length)) && same) fields true true true
+      true
       true)
       (λ t u. refl) e

@@ -33,7 +33,8 @@ module _ (sets : List Float) (max-rate : Float) (q : QualityMode) (rate : Float)
   -- What the quality reads for the item at the place k, after i accepted samples.
   abbrev pub heard : List Float → ℕ → ℕ → Float
   heard ring i k =
-      read_of (choice_of max-rate rate) q sets (stored i ring (get_or xs k nan)) (i + 1) (position_of i (get_or ds k nan))
+      read_of (choice_of max-rate rate) q sets (stored i ring (get_or xs k nan)) (i + 1)
+      (position_of i (get_or ds k nan))
 
   -- The other stretch, which leaves `left`: what holds of it before each item, and that its items give what these give.
   pub record Beside (left : plain.Left) : Type 1 where

@@ -48,7 +48,8 @@ module _ (sets : List Float) (max-rate : Float) (q : QualityMode) (rate : Float)
   -- The loop's place and position are the item's.
   next : {ring out : List Float} {i k : ℕ} → On ring out i k → k < length xs
       → item_due i (get_or xs k nan) (get_or ds k nan) ≡ 0
-      → On (stored i ring (get_or xs k nan)) (set out k (heard sets max-rate q rate d ring₀ xs ds out₀ ring i k)) (i + 1)
+      → On (stored i ring (get_or xs k nan)) (set out k (heard sets max-rate q rate d ring₀ xs ds out₀ ring i k))
+      (i + 1)
       (k + 1)
   next {ring} {out} {i} {k} t h e =
       let x = get_or xs k nan in
