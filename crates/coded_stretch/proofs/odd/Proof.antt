@@ -1,9 +1,0 @@
--- `coded_stretch::odd` meets its contract, by its two choices. Assumes nothing.
-use Rattle.coded_stretch.proofs.odd.Statement.{statement}
-use Rattle.coded_stretch.proofs.odd.Tie as tie
-
-returns : tie.Need-returns
-returns c = rw (c.number2.ensures, c.before.number.ensures, c.before.before.both.ensures)
-
-pub odd-spec : {M : Type 1} → statement M
-odd-spec = tie.close (tie.spec (λ c κs. tt) (λ c κs. tt) (λ c κs. tt) returns)
