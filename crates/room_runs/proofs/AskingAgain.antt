@@ -1,19 +1,18 @@
 -- W4e. A desk that asks again for a set that it holds changes nothing: no other slot has that set, so it is the desk's
 -- own slot that is found. Assumes nothing.
 use mathlib.Core.Path.{◌≡◌, refl, sym, ◌∙◌, ap}
-use mathlib.Core.Bool.{Bool, true, false, true≢false, not, cond, ◌&&◌, ◌||◌}
+use mathlib.Core.Bool.{Bool, true, false, true≢false, not, ◌||◌}
 use mathlib.Core.List.{List}
 use Prim.Native.Nat.{ℕ, ◌<◌}
 use native.Mathlib.Omega.{arith}
 use borrow.Author.Tests.{not-true}
 use lib.ListN.{length, get_or, set}
 use lib.Seq.{set-get_or}
-use lib.Ieee.{Float, nan, binary64, fits, eq}
-use Rattle.sinc_settings.specs.Ranges.{rate_ok}
+use lib.Ieee.{Float, nan, binary64, fits}
 use Rattle.bessel.specs.declared.Mode.{Mode}
 use Rattle.room_marks.specs.declared.Desk.{Desk}
-use Rattle.room_marks.specs.Marks.{is_free, held_by, in_mode, mode_in, mark_ok, shared_by}
-use Rattle.room_marks.specs.Slots.{some, first_slot, has_set, own_set}
+use Rattle.room_marks.specs.Marks.{is_free, held_by, in_mode, mode_in, shared_by}
+use Rattle.room_marks.specs.Slots.{first_slot, has_set, own_set}
 use Rattle.room_marks.proofs.Searching.{mark-at}
 use Rattle.room_grants.specs.declared.Place.{Place}
 use Rattle.room_grants.specs.declared.Place.TheVariants.{Shared, Anew, Refused}

@@ -1,6 +1,6 @@
 -- Whether some slot passes a test, slot k and the others apart; and in a room in range no other slot has the set of a
 -- held slot. Assumes nothing.
-use mathlib.Core.Path.{◌≡◌, refl, sym, ◌∙◌, ap}
+use mathlib.Core.Path.{◌≡◌, refl, ◌∙◌, ap}
 use mathlib.Core.Bool.{Bool, true, false, true≢false, not, ◌&&◌, ◌||◌}
 use mathlib.Core.List.{List, [], ◌∷◌}
 use Prim.Native.Nat.{ℕ, zero, suc, ◌<◌}
@@ -11,7 +11,7 @@ use lib.Ieee.{Float, nan, eq}
 use Rattle.bessel.specs.declared.Mode.{Mode}
 use Rattle.bessel.specs.declared.Mode.TheVariants.{Ported, Full}
 use Rattle.room_marks.proofs.Searching.{mark-at}
-use Rattle.room_marks.specs.Marks.{mark_ok, is_free, in_mode, mode_in}
+use Rattle.room_marks.specs.Marks.{mark_ok, is_free, mode_in}
 use Rattle.room_marks.specs.Slots.{some, has_set, slot_ok, again, room_ok}
 use Rattle.room_runs.specs.Turns.{same_mode}
 use Rattle.room_runs.proofs.SameRate.{both, eq-sym}

@@ -2,34 +2,26 @@
 -- nothing. Assumes nothing.
 use mathlib.Core.Path.{◌≡◌, refl, sym, ◌∙◌, ap}
 use mathlib.Core.Bool.{Bool, true, false, true≢false, not, ◌&&◌, ◌||◌}
-use mathlib.Core.List.{List}
-use Prim.Native.Nat.{ℕ, zero, suc, ◌<◌}
+use Prim.Native.Nat.{ℕ, ◌<◌}
 use native.Mathlib.Omega.{arith}
-use borrow.Author.Tests.{not-true, eqb-true}
-use lib.ListN.{length, get_or, set, length-set}
-use lib.Seq.{get_or-set_same}
+use borrow.Author.Tests.{eqb-true}
+use lib.ListN.{length, get_or, set}
 use lib.Ieee.{Float, nan, binary64, fits, eq}
 use Rattle.sinc_settings.specs.Ranges.{rate_ok}
 use Rattle.bessel.specs.declared.Mode.{Mode}
 use Rattle.bessel.specs.declared.Mode.TheVariants.{Ported, Full}
 use Rattle.room_marks.specs.declared.Desk.{Desk}
-use Rattle.room_marks.specs.declared.Desk.TheVariants.{One, Two}
-use Rattle.room_marks.specs.Marks.{mark_ok, is_free, held_by, other_desk, in_mode, mode_in, built_by, shared_by, left_by}
-use Rattle.room_marks.specs.Slots.{some, first_slot, free, has_set, own_set, room_ok}
-use Rattle.room_marks.specs.Asking.{own_slot}
+use Rattle.room_marks.specs.Marks.{mark_ok, is_free, held_by, other_desk, in_mode, mode_in, left_by}
+use Rattle.room_marks.specs.Slots.{some, has_set, own_set}
 use Rattle.room_marks.proofs.Searching.{mark-at}
-use Rattle.room_grants.specs.declared.Place.{Place}
-use Rattle.room_grants.specs.declared.Place.TheVariants.{Shared, Anew, Refused}
-use Rattle.room_grants.specs.Grants.{rates_by, marks_by, marks_without}
-use Rattle.room_grants.proofs.Granting.{lengths, among, passes, AnewAt, SharedAt, GivenUp, anew-below}
+use Rattle.room_grants.proofs.Granting.{lengths}
 use Rattle.set_room.specs.Room.{Room}
 use Rattle.room_runs.specs.Turns.{Furnished, same_mode, same_set}
 use Rattle.room_runs.proofs.SameRate.{both, same-rate, eq-sym}
-use Rattle.room_runs.proofs.Marking.{shared-holds, shared-other, shared-mode, mode-alone, built-holds}
-use Rattle.room_runs.proofs.Marking.{built-other}
-use Rattle.room_runs.proofs.Marking.{built-mode, free-held, left-own, left_other, not_free, own-mode}
+use Rattle.room_runs.proofs.Marking.{mode-alone}
+use Rattle.room_runs.proofs.Marking.{free-held, left-own, left_other, not_free, own-mode}
 use Rattle.room_runs.proofs.Holding.{now-some, marked-some}
-use Rattle.room_runs.proofs.Except.{except, apart, marked, rewritten, fewer-except, no_other}
+use Rattle.room_runs.proofs.Except.{except, fewer-except, no_other}
 
 taken : (s e : Bool) → (s ≡ true → e ≡ false) → e ≡ not s && (s || e)
 taken true e h = h refl
@@ -44,7 +36,8 @@ own-has desk asked mode r m h = by (is_free m) refl h
     and-false true b e = e
     and-false false b e = refl
 
-    by : (b : Bool) → is_free m ≡ b → not b && (in_mode mode m && eq asked r) ≡ false → own_set desk asked mode r m ≡ false
+    by : (b : Bool) → is_free m ≡ b → not b && (in_mode mode m && eq asked r) ≡ false
+        → own_set desk asked mode r m ≡ false
     by true e h = rw (eqb-true m 0 e, free-held desk)
     by false e h = and-false (held_by desk m) (in_mode mode m && eq asked r) h
 

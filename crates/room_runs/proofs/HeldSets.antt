@@ -1,25 +1,20 @@
 -- W4b to W4f by one call. A slot that is held keeps its rate, its mode and its floats, whoever asks; asking again for a
 -- set that the desk holds changes nothing; giving up leaves every rate and every float. Assumes nothing.
 use mathlib.Core.Path.{◌≡◌, refl, sym, ◌∙◌, ap}
-use mathlib.Core.Bool.{Bool, true, false, true≢false, not, ◌&&◌, ◌||◌}
-use mathlib.Core.List.{List}
-use Prim.Native.Nat.{ℕ, zero, suc, ◌<◌}
-use native.Mathlib.Omega.{arith}
-use borrow.Author.Tests.{eqb-true, eqb-false}
-use lib.Dec.{eqb, ltb}
-use lib.ListN.{length, get_or, set}
-use lib.Seq.{get_or-set_other, set-get_or}
-use lib.Ieee.{Float, nan, binary64, fits, eq}
-use Rattle.sinc_settings.specs.Ranges.{rate_ok}
+use mathlib.Core.Bool.{true, false, true≢false}
+use Prim.Native.Nat.{ℕ}
+use lib.Dec.{ltb}
+use lib.ListN.{length, get_or}
+use lib.Seq.{get_or-set_other}
+use lib.Ieee.{Float, nan, binary64, fits}
 use Rattle.bessel.specs.declared.Mode.{Mode}
-use Rattle.sinc_bank_f32.specs.Sets.{set_in}
 use Rattle.room_marks.specs.declared.Desk.{Desk}
-use Rattle.room_marks.specs.Marks.{is_free, held_by, in_mode, mode_in, mark_ok, shared_by, built_by}
-use Rattle.room_marks.specs.Slots.{some, first_slot, free, has_set, own_set}
+use Rattle.room_marks.specs.Marks.{is_free}
+use Rattle.room_marks.specs.Slots.{free}
 use Rattle.room_grants.specs.declared.Place.{Place}
 use Rattle.room_grants.specs.declared.Place.TheVariants.{Shared, Anew, Refused}
 use Rattle.room_grants.specs.Grants.{rates_by, marks_by}
-use Rattle.room_grants.proofs.Granting.{passes, anew-given, shared-given}
+use Rattle.room_grants.proofs.Granting.{passes, anew-given}
 use Rattle.set_room.specs.Room.{Room, room_of, slot_of, slots_by, place_in, asked_of, gave_up}
 use Rattle.room_runs.specs.Turns.{Furnished}
 use Rattle.room_runs.proofs.StaysFurnished.{other-slot}

@@ -1,9 +1,9 @@
 -- W4g. What a desk holds after a desk has asked for a set: its own set is added, and the other desk's changes nothing.
 -- Assumes nothing.
-use mathlib.Core.Path.{◌≡◌, refl, sym, ◌∙◌, ap}
-use mathlib.Core.Bool.{Bool, true, false, true≢false, not, ◌&&◌, ◌||◌}
+use mathlib.Core.Path.{◌≡◌, refl, sym, ◌∙◌}
+use mathlib.Core.Bool.{Bool, true, false, not, ◌&&◌, ◌||◌}
 use mathlib.Core.List.{List}
-use Prim.Native.Nat.{ℕ, zero, suc, ◌<◌}
+use Prim.Native.Nat.{ℕ, ◌<◌}
 use native.Mathlib.Omega.{arith}
 use borrow.Author.Tests.{not-true, eqb-true}
 use lib.ListN.{length, get_or, set, length-set}
@@ -11,24 +11,18 @@ use lib.Seq.{get_or-set_same}
 use lib.Ieee.{Float, nan, binary64, fits, eq}
 use Rattle.sinc_settings.specs.Ranges.{rate_ok}
 use Rattle.bessel.specs.declared.Mode.{Mode}
-use Rattle.bessel.specs.declared.Mode.TheVariants.{Ported, Full}
 use Rattle.room_marks.specs.declared.Desk.{Desk}
-use Rattle.room_marks.specs.declared.Desk.TheVariants.{One, Two}
-use Rattle.room_marks.specs.Marks.{mark_ok, is_free, held_by, other_desk, in_mode, mode_in, built_by, shared_by, left_by}
-use Rattle.room_marks.specs.Slots.{some, first_slot, free, has_set, own_set, room_ok}
-use Rattle.room_marks.specs.Asking.{own_slot}
+use Rattle.room_marks.specs.Marks.{mark_ok, is_free, held_by, other_desk, in_mode, built_by, shared_by}
+use Rattle.room_marks.specs.Slots.{some, free, has_set, own_set}
 use Rattle.room_marks.proofs.Searching.{mark-at}
-use Rattle.room_grants.specs.declared.Place.{Place}
-use Rattle.room_grants.specs.declared.Place.TheVariants.{Shared, Anew, Refused}
-use Rattle.room_grants.specs.Grants.{rates_by, marks_by, marks_without}
-use Rattle.room_grants.proofs.Granting.{lengths, among, passes, AnewAt, SharedAt, GivenUp, anew-below}
+use Rattle.room_grants.proofs.Granting.{lengths, passes, AnewAt, anew-below}
 use Rattle.set_room.specs.Room.{Room}
-use Rattle.room_runs.specs.Turns.{Furnished, same_mode, same_set}
-use Rattle.room_runs.proofs.SameRate.{both, same-rate, eq-sym}
+use Rattle.room_runs.specs.Turns.{Furnished, same_set}
+use Rattle.room_runs.proofs.SameRate.{both, same-rate}
 use Rattle.room_runs.proofs.Marking.{shared-holds, shared-other, shared-mode, mode-alone, built-holds}
 use Rattle.room_runs.proofs.Marking.{built-other}
-use Rattle.room_runs.proofs.Marking.{built-mode, free-held, left-own, left_other, not_free, own-mode}
-use Rattle.room_runs.proofs.Except.{except, apart, marked, rewritten, fewer-except, no_other}
+use Rattle.room_runs.proofs.Marking.{built-mode, free-held}
+use Rattle.room_runs.proofs.Except.{except, apart, marked, rewritten}
 
 -- ---- Bools
 added : (h s e : Bool) → s || e ≡ s || ((h && s) || e)

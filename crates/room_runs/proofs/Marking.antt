@@ -10,7 +10,8 @@ use Rattle.room_marks.specs.declared.Desk.{Desk}
 use Rattle.room_marks.specs.declared.Desk.TheVariants.{One, Two}
 use Rattle.room_runs.specs.Turns.{same_mode}
 use Rattle.room_marks.proofs.MarkNumbers.{mark-most}
-use Rattle.room_marks.specs.Marks.{mark_ok, is_free, held_by, other_desk, in_mode, mode_in, built_by, shared_by, left_by}
+use Rattle.room_marks.specs.Marks.{mark_ok, is_free, held_by, other_desk, in_mode, mode_in, built_by, shared_by}
+use Rattle.room_marks.specs.Marks.{left_by}
 
 -- A mark that follows another: it is free, or it is held or free as the other is, in the same mode.
 pub data Follows (m : ℕ) : ℕ → Type 0 where

@@ -25,7 +25,8 @@ use Rattle.room_grants.specs.declared.Place.TheVariants.{Shared, Anew, Refused}
 use Rattle.room_grants.specs.Grants.{open_verdict, rates_by, marks_by, give_up_verdict, given_up, marks_without}
 use Rattle.room_grants.proofs.Granting.{lengths, among, passes, AnewAt, anew-given, shared-given, anew-below, anew-fits}
 use Rattle.room_grants.proofs.Granting.{give-up-given}
-use Rattle.set_room.specs.Room.{Room, room_of, slot_of, with_set, slots_by, place_in, asked_of, gave_up, opened, open_due}
+use Rattle.set_room.specs.Room.{Room, room_of, slot_of, with_set, slots_by, place_in, asked_of, gave_up, opened}
+use Rattle.set_room.specs.Room.{open_due}
 use Rattle.room_runs.specs.Turns.{Turn, asks, gives, after_turn, after_turns, rate_in, f64s, Furnished}
 use Rattle.room_runs.proofs.SameRate.{both}
 use Rattle.room_runs.proofs.Marking.{Follows, freed, stays, itself, shares, leaves, built-ok}
@@ -66,7 +67,8 @@ marked r k v w h f =
 
 -- ---- a set that is built
 set-f64 : (rates : List Float) (k : ℕ) (x : Float) → fits binary64 x ≡ true
-    → ((i : ℕ) → fits binary64 (get_or rates i nan) ≡ true) → (i : ℕ) → fits binary64 (get_or (set rates k x) i nan) ≡ true
+    → ((i : ℕ) → fits binary64 (get_or rates i nan) ≡ true) → (i : ℕ)
+    → fits binary64 (get_or (set rates k x) i nan) ≡ true
 set-f64 [] k x p f i = f i
 set-f64 (r ∷ rates) zero x p f zero = p
 set-f64 (r ∷ rates) zero x p f (suc i) = f (suc i)
