@@ -124,7 +124,8 @@ def as_fields(t, ls):
         flat += ch if depth == 0 else ""
     if "∙" in flat or "." in w[0] and w[0].startswith("c."):
         return t
-    fields = "; ".join(f"{l} = both.{i}" for i, l in enumerate(ls))
+    # the older clauses were nested pairs
+    fields = "; ".join(f"{l} = both" + ".1" * i + (".0" if i < len(ls) - 1 else "") for i, l in enumerate(ls))
     return f"{head}{body[:cut]}\n    let both = {last} in\n    record {{ {fields} }}\n"
 
 
@@ -361,7 +362,8 @@ def steps(fn, t, say, by_label=True):
         # all clauses as one argument
         if len(fields) > 1:
             t = re.sub(rf"(?<![{IDC}.])((?!let)[A-Za-z][{IDC}]*(?:\.[{IDC}]+)*\.{re.escape(st)}\.ensures)(?=[\s)])(?!\s+in\b)",
-                       lambda m: "(" + ", ".join(f"{m[1]}.{x}" for x in fields) + ")", t)
+                       lambda m: "(" + ", (".join(f"{m[1]}.{x}" for x in fields[:-1]) + f", {m[1]}.{fields[-1]}"
+                       + ")" * (len(fields) - 1), t)
         # the same where a `let` names the clauses
         for al in re.findall(rf"\blet ([^\s:=]+) = [^\s]*\.{re.escape(st)}\.ensures\s+in\b", t):
             if len(fields) > 1:
@@ -377,9 +379,9 @@ def steps(fn, t, say, by_label=True):
         t = re.sub(rf"(?<![{IDC}.])({re.escape(al)}\.[a-z_0-9]+)-[0-9]+(?=\.(?:now|new)\b)", r"\1", t)
     t = re.sub(r"\.well-formed\b", ".well_formed", t)
     # older names of what is known at the start
-    t = re.sub(r"\.pre(?=[.\s)]|$)", ".requires", t)
+    t = re.sub(r"\.pre(?=[.,\s)]|$)", ".requires", t)
     t = re.sub(r"\.fits(?=\.)", ".ranges", t)
-    t = re.sub(r"\.inv(?=[.\s)]|$)", ".invariant", t)
+    t = re.sub(r"\.inv(?=[.,\s)]|$)", ".invariant", t)
     t = re.sub(r"\.good(?=\.[01])", ".well_formed", t)
     t = re.sub(r"\.type-inv\b", ".type_inv", t)
     # what an arm knows of the value that is matched
@@ -398,25 +400,29 @@ def steps(fn, t, say, by_label=True):
 def without_ways(text):
     """Writes out `abbrev begun : tie.PLACE .. → tie.EARLIER ..` with `begun c = c.before..` where it is used."""
     ways = []
+
+    def written_out(text):
+        was = None
+        while ways and was != text:
+            was = text
+            lines = text.split("\n")
+            for i, l in enumerate(lines):
+                if l.lstrip().startswith("--"):
+                    continue
+                for name, chain in ways:
+                    l = re.sub(rf"\({re.escape(name)} ([a-z][{IDC}]*(?:\.before)*)\)", rf"\1{chain}", l)
+                    l = re.sub(rf"(?<![{IDC}.]){re.escape(name)} ([a-z][{IDC}]*(?:\.before)*)(?![{IDC}.])", rf"\1{chain}", l)
+                lines[i] = l
+            text = "\n".join(lines)
+        return text
+    # a way may be written by others
     while True:
         m = re.search(rf"^abbrev ([^\s]+) :\s+tie\.[A-Z][^→]*→\s+tie\.[A-Z][^→\n]*\n\1 (\w+) = \2((?:\.before)+)\n+",
                       text, re.M)
         if not m:
             break
         ways.append((m[1], m[3]))
-        text = text[:m.start()] + text[m.end():]
-    was = None
-    while ways and was != text:
-        was = text
-        lines = text.split("\n")
-        for i, l in enumerate(lines):
-            if l.lstrip().startswith("--"):
-                continue
-            for name, chain in ways:
-                l = re.sub(rf"\({re.escape(name)} ([a-z][{IDC}]*(?:\.before)*)\)", rf"\1{chain}", l)
-                l = re.sub(rf"(?<![{IDC}.]){re.escape(name)} ([a-z][{IDC}]*(?:\.before)*)(?![{IDC}.])", rf"\1{chain}", l)
-            lines[i] = l
-        text = "\n".join(lines)
+        text = written_out(text[:m.start()] + text[m.end():])
     return text
 
 
