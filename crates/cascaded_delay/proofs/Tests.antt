@@ -10,7 +10,6 @@ use lib.Ieee.{Float, le}
 use lib.Ieee.Scale.{finite}
 use Rattle.constants.specs.Numbers.{zero-f}
 use Rattle.answer.specs.Refusals.{lowest_of}
-use Rattle.ring.specs.Length.{length_for}
 use Rattle.ring.proofs.Lengths.{some}
 use Rattle.kernels.specs.declared.Kernel.{Kernel}
 use Rattle.kernels.specs.Kernels.{own_ok, kernel_verdict}
@@ -57,7 +56,8 @@ due-is k d n x y {needed} {no} long told =
 -- The refusal of a reset or an opening; c is the test of what else is lent.
 pub renew-is : (c : Bool) (d : CascadedOversampledVariableDelay4x) (up1 up2 down2 down1 ring : ℕ) {needed : ℕ}
     → needed ≡ inner_length 4 d.maximum d.margin
-    → lowest_of (not (eqb needed 0)) (c && held_ok needed up1 up2 down2 down1 ring) (state_ok 4 (outer_of d)) true true true
+    → lowest_of (not (eqb needed 0)) (c && held_ok needed up1 up2 down2 down1 ring) (state_ok 4 (outer_of d)) true true
+    true
     true true
     ≡ renew_due d (c && held_ok (needed_by d) up1 up2 down2 down1 ring)
 renew-is c d up1 up2 down2 down1 ring {needed} long =

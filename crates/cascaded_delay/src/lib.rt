@@ -17,7 +17,7 @@ pub use opening::{open, reset};
 pub use refusals::refusal;
 
 // The settings, both accepted numbers since opening or reset, and the delay of the last accepted call.
-#[derive(Drop)]
+#[derive(Clone, Copy)]
 pub struct CascadedOversampledVariableDelay4x {
     pub maximum: usize,
     pub margin: usize,
