@@ -10,8 +10,7 @@ use lib.IntN.{pos}
 use lib.Ieee.{Float, fin, binary64, add, le, neg, of_bits}
 use Rattle.modulation_params.specs.Settings.{default_params, params_ok}
 use Rattle.modulation_sample.specs.Sample.{offset_of}
-use Rattle.modulation.specs.Runs.{Call, step, run}
-use Rattle.modulation_engine.specs.declared.ModulationEngine.{ModulationEngine}
+use Rattle.modulation.specs.Runs.{step, run}
 use Rattle.modulation.proofs.RunInvariant.{Running, sound-verdict, fresh-running, after-running}
 use Rattle.render_samples.specs.Samples.{Held, held_of, delay_for, after_sample, after_samples}
 use Rattle.render_start.specs.Start.{fresh}
