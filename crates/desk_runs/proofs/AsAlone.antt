@@ -2,7 +2,7 @@
 -- given its own events and what it was granted; so two runs with the same own events and grants tell it the same.
 -- Assumes nothing.
 use mathlib.Core.Path.{◌≡◌, refl, sym, ◌∙◌, ap}
-use mathlib.Core.Bool.{Bool, true, false, ◌&&◌}
+use mathlib.Core.Bool.{true, false}
 use mathlib.Core.List.{List, [], ◌∷◌}
 use Prim.Native.Nat.{ℕ, zero, suc}
 use lib.ListN.{length, replicate}
@@ -22,7 +22,7 @@ use Rattle.room_marks.specs.Marks.{other_desk}
 use Rattle.room_runs.specs.Turns.{asks, gives, Furnished, holds_in}
 use Rattle.room_runs.proofs.SameRate.{both}
 use Rattle.room_runs.proofs.StaysFurnished.{after-turn, opened-room}
-use Rattle.desk_runs.specs.Events.{Call, Event, turn, calls, World, reader_of, with_reader, Said, number, sample}
+use Rattle.desk_runs.specs.Events.{Call, Event, turn, calls, World, reader_of, with_reader, number, sample}
 use Rattle.desk_runs.specs.Events.{answered, called}
 use Rattle.desk_runs.specs.Events.{said, after, run, same_desk, actor, keep_if, told, f64_in, f64s}
 use Rattle.desk_runs.specs.Alone.{Alone, Own, call, give_up, holding, without, said_to, behind, told_alone}

@@ -1,18 +1,14 @@
 -- W4g, W4h. What a desk can see of the other: an ask is granted, or refused by 1, 2, 3 or 16, and in a furnished room
 -- by 1 or 16 alone. Assumes nothing.
-use mathlib.Core.Path.{◌≡◌, refl, sym, ◌∙◌, ap}
+use mathlib.Core.Path.{◌≡◌, refl, ◌∙◌}
 use mathlib.Core.Bool.{Bool, true, false, cond, ◌||◌}
-use mathlib.Core.List.{List, [], ◌∷◌}
 use Prim.Native.Nat.{ℕ, zero, suc}
 use lib.ListN.{length}
 use lib.Ieee.{Float}
-use Rattle.refusal_order.specs.Order.{◌unless◌, first_of}
 use Rattle.sinc_settings.specs.Ranges.{rate_ok}
 use Rattle.bessel.specs.declared.Mode.{Mode}
-use Rattle.room_marks.specs.Slots.{some, free, has_set, room_ok}
-use Rattle.room_marks.specs.Asking.{lengths_agree, set_slot, free_slot}
-use Rattle.room_grants.specs.declared.Place.{Place}
-use Rattle.room_grants.specs.declared.Place.TheVariants.{Shared, Anew, Refused}
+use Rattle.room_marks.specs.Slots.{some, free, has_set}
+use Rattle.room_marks.specs.Asking.{set_slot, free_slot}
 use Rattle.room_grants.specs.Grants.{ask_verdict, place_by, asked_place}
 use Rattle.set_room.specs.Room.{Room, answer_by, grant_of, number_of}
 use Rattle.room_runs.specs.Turns.{Furnished}

@@ -1,14 +1,14 @@
 -- W4g. One call of a desk's reader in a furnished room is the quality reader's call over a bank of the desk's own, and
 -- depends on the room only by which sets the desk holds. Assumes nothing.
 use mathlib.Core.Path.{◌≡◌, refl, sym, ◌∙◌, ap}
-use mathlib.Core.Bool.{Bool, true, false, true≢false, cond, ◌&&◌, ◌||◌}
+use mathlib.Core.Bool.{Bool, true, false, true≢false, ◌&&◌}
 use mathlib.Core.List.{List}
-use Prim.Native.Nat.{ℕ, ◌+◌, ◌*◌, ◌<◌}
+use Prim.Native.Nat.{ℕ, ◌+◌, ◌*◌}
 use native.Mathlib.Omega.{arith}
 use borrow.Author.Tests.{eq-eqb}
 use lib.Dec.{T, ltb}
 use lib.ListN.{length, get_or}
-use lib.Ieee.{Float, nan, binary64, fits, eq, is_nan}
+use lib.Ieee.{Float, nan, binary64, fits}
 use lib.Ieee.Fits.{add-fits, cond-fits}
 use Rattle.constants.specs.Numbers.{set_length, zero-f}
 use Rattle.sinc_settings.specs.Ranges.{rate_ok}
@@ -17,15 +17,13 @@ use Rattle.bank_choice.specs.Rates.{bank_ok, steps_of, rate_of, set_rate_of}
 use Rattle.sinc_bank_f32.specs.Sets.{set_in, bank_in}
 use Rattle.sinc_bank_f32.proofs.Lengths.{bank-long}
 use Rattle.bank_read.specs.Bank.{set_at, bank_at}
-use Rattle.quality_mode.specs.declared.QualityMode.{QualityMode}
 use Rattle.quality_variable_delay.specs.Reader.{verdict, ring_after, processed_by}
 use Rattle.quality_variable_delay.specs.declared.QualityVariableDelayF32.{QualityVariableDelayF32}
 use Rattle.quality_variable_delay.proofs.AcceptedCall.{taken}
 use Rattle.quality_variable_delay.proofs.ChosenCall.{same-readings}
-use Rattle.quality_runs.specs.Runs.{Reader}
 use Rattle.room_marks.specs.declared.Desk.{Desk}
-use Rattle.room_marks.specs.Marks.{is_free, held_by, in_mode, mode_in, mark_ok}
-use Rattle.room_marks.specs.Slots.{some, first_slot, own_set}
+use Rattle.room_marks.specs.Marks.{held_by, in_mode, mode_in, mark_ok}
+use Rattle.room_marks.specs.Slots.{first_slot, own_set}
 use Rattle.room_marks.specs.Asking.{own_slot}
 use Rattle.room_marks.proofs.Searching.{ok_at}
 use Rattle.room_grants.proofs.Granting.{lengths, among, passes}
@@ -33,12 +31,12 @@ use Rattle.set_room.specs.Room.{Room, slot_of}
 use Rattle.room_runs.specs.Turns.{Furnished, holds_in}
 use Rattle.room_runs.proofs.SameRate.{both, same-rate, eq-sym}
 use Rattle.room_runs.proofs.Marking.{not_free, own-mode}
-use Rattle.desk_delay.specs.Desk.{Caller, caller_of, holds_set, held_slot, safe_rate, tighter_rate, held_at, sets_held}
+use Rattle.desk_delay.specs.Desk.{Caller, caller_of, safe_rate, tighter_rate, held_at, sets_held}
 use Rattle.desk_delay.specs.Desk.{desk_verdict}
 use Rattle.desk_delay.specs.Desk.{desk_call, desk_ring}
 use Rattle.desk_delay.proofs.DeskCalls.{as-reader}
 use Rattle.desk_delay.proofs.BankRead.{bank-read}
-use Rattle.desk_runs.specs.Events.{Call, answered, called}
+use Rattle.desk_runs.specs.Events.{Call}
 use Rattle.desk_runs.specs.Alone.{Alone, has, due, call}
 
 is_true : (b : Bool) → T b → b ≡ true

@@ -1,13 +1,11 @@
 -- W4g. One turn: a desk that asks or gives up holds afterwards what it would hold alone, and the other desk's turn
 -- changes nothing of what it holds. Assumes nothing.
-use mathlib.Core.Path.{◌≡◌, refl, sym, ◌∙◌, ap}
+use mathlib.Core.Path.{◌≡◌, refl, ◌∙◌, ap}
 use mathlib.Core.Bool.{Bool, true, not, ◌&&◌, ◌||◌}
-use mathlib.Core.List.{List, [], ◌∷◌}
 use Prim.Native.Nat.{ℕ, zero, suc, ◌<◌}
 use native.Mathlib.Omega.{arith}
 use lib.ListN.{length, get_or}
 use lib.Ieee.{Float, nan, binary64, fits}
-use Rattle.refusal_order.specs.Order.{◌unless◌, first_of}
 use Rattle.sinc_settings.specs.Ranges.{rate_ok}
 use Rattle.bessel.specs.declared.Mode.{Mode}
 use Rattle.room_marks.specs.declared.Desk.{Desk}

@@ -12,7 +12,7 @@ use Rattle.room_marks.specs.declared.Desk.TheVariants.{One, Two}
 use Rattle.set_room.specs.declared.Asked.{Asked}
 use Rattle.set_room.specs.Room.{Room, grant_of, give_up_due}
 use Rattle.room_runs.specs.Turns.{Turn, asks, gives, after_turn, rate_in}
-use Rattle.desk_delay.specs.Desk.{Caller, caller_of, desk_call, desk_ring}
+use Rattle.desk_delay.specs.Desk.{caller_of, desk_call, desk_ring}
 
 -- One call of a desk's reader.
 pub record Call : Type 0 where
