@@ -12,7 +12,7 @@ use Rattle.wave_file.specs.declared.Opened.{Opened}
 use Rattle.wave_file.specs.declared.Opened.TheVariants as opened
 use Rattle.wave_file.specs.declared.header.Walk.{Walk}
 use Rattle.wave_file.specs.declared.header.Walk.TheVariants as walks
-use Rattle.wave_file.specs.Opening.{Pieces, walked_by, answered_by, opened_as, opened_by, refused_by}
+use Rattle.wave_file.specs.Opening.{Pieces, walked_by, answered_by, opened_as, refused_by}
 use Rattle.wave_file.specs.Opening.{Opens}
 use Rattle.wave_file.specs.Inside.{Breaks, Walks, Finds}
 use Rattle.wave_file.specs.Opening.Opens.{unread, shorter, told}
@@ -48,7 +48,8 @@ module _ (opening : List ℕ) (size : ℕ) {layout : Layout} (is : layout ≡ la
         told fd (pieces heads format samples)
         (λ z. rw (sym is, ends) over)
         (e
-        ∙ ap (λ (v : Walked). opened_as fd layout (told_by layout format) (finished_in layout v end format samples)) seen
+        ∙ ap (λ (v : Walked). opened_as fd layout (told_by layout format) (finished_in layout v end format samples))
+        seen
         ∙ ap (λ (x : ℕ). answered_by 0 fd layout x (pieces heads format samples)) (sym ends)
         ∙ sym (rw (sym is)
         (ap (λ (m : ℕ). answered_by m fd layout (begun_in layout opening size).end (pieces heads format samples))

@@ -1,7 +1,6 @@
 -- What `open` answers: that a C call failed, that the file is empty or became shorter, or what follows from the pieces
 -- that were read, and nothing else. No contract can say which pieces a file has. Definitions only.
 use Rattle.std.specs.Prelude.{ℕ, zero, suc, ◌<◌, ◌/◌, ◌≡◌, cond, List, [], ◌∷◌, eqb, ℤ}
-use Rattle.riff_chunks.specs.declared.Walked.{Walked}
 use Rattle.riff_chunks.specs.declared.Walking.{Walking}
 use Rattle.riff_chunks.specs.Walk.{begun}
 use Rattle.sample_kind.specs.Kinds.{frame_of}
