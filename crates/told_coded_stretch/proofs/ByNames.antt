@@ -31,7 +31,8 @@ module _ (sets : List Float) (max-rate : Float) (q : ℕ) (rate : Float) (s : Co
     (ring inputs delays out : List Float) where
   abbrev beside : ℕ → Absent
   beside done =
-      sums_of (length ring) (decoded s).accepted (fade_part (decoded s)) (choice_of max-rate rate) (mode_of q) delays done
+      sums_of (length ring) (decoded s).accepted (fade_part (decoded s)) (choice_of max-rate rate) (mode_of q) delays
+      done
 
   no_item : (b : Bool)
       → cond b
@@ -53,7 +54,8 @@ module _ (sets : List Float) (max-rate : Float) (q : ℕ) (rate : Float) (s : Co
       pick b (taken_apart (stretch.left_of sets max-rate (mode_of q) rate (decoded s) ring inputs delays out))
       (leaves
       (odd_number (code_ok q)
-      (first_due (length sets) max-rate (decoded s) (length ring) (length inputs) (length delays) (length out))) 0 s ring
+      (first_due (length sets) max-rate (decoded s) (length ring) (length inputs) (length delays) (length out))) 0 s
+      ring
       out)
 
   by_names : (b : Bool)
