@@ -7,13 +7,13 @@ use replay_lines::{Line, refused};
 use variable_delay::{Opened, Processed, VariableDelay};
 
 // Kernel 0 is CubicFarrow, 1 is Farrow8, and any other number is Lagrange with that many taps.
-#[derive(Drop)]
+#[derive(Clone, Copy)]
 pub struct Reader {
     pub kernel: u64,
     pub state: VariableDelay,
 }
 
-#[derive(Drop)]
+#[derive(Clone, Copy)]
 pub struct Turn {
     pub reader: Reader,
     pub answer: u64,
