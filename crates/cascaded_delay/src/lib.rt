@@ -39,7 +39,7 @@ pub struct Lengths {
     pub ring: usize,
 }
 
-#[derive(Drop)]
+#[derive(Clone, Copy)]
 pub enum Opened {
     Reader(CascadedOversampledVariableDelay4x),
     Refused(u8),

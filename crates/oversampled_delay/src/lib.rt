@@ -37,7 +37,7 @@ pub struct Lengths {
     pub ring: usize,
 }
 
-#[derive(Drop)]
+#[derive(Clone, Copy)]
 pub enum Opened {
     Reader(OversampledVariableDelay),
     Refused(u8),
