@@ -16,7 +16,7 @@ use quality_mode::QualityMode;
 use returning_fade::RuledFade;
 
 // The absent taps of one accepted call, and the fade that it leaves.
-#[derive(Clone, Copy)]
+#[derive(Drop)]
 struct Step {
     fade: RuledFade,
     absent: Absent,
