@@ -5,7 +5,7 @@ use bit_patterns::{bits_of, bits_of_f32};
 use replay_lines::refused;
 use variable_delay::{Opened, VariableDelay};
 
-#[derive(Drop)]
+#[derive(Clone, Copy)]
 pub struct Turn {
     pub state: VariableDelay,
     pub answer: u64,
