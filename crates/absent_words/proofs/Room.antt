@@ -1,12 +1,11 @@
 -- How many bytes the lines can have: at most 440, so that a slice of 512 holds them whole. Assumes nothing.
-use mathlib.Core.List.{List, ◌++◌}
+use mathlib.Core.List.{List}
 use Prim.Native.Nat.{ℕ, ◌+◌, ◌≤◌}
 use native.Mathlib.Omega.{arith}
 use lib.Dec.{eqb}
 use lib.ListN.{length, length-append}
-use Rattle.text.specs.Text.{ascii, decimal}
+use Rattle.text.specs.Text.{ascii}
 use Rattle.text.proofs.Digits.{few-digits}
-use Rattle.report_lines.specs.Files.{count_text}
 use Rattle.report_lines.proofs.Room.{either, short-count}
 use Rattle.absent_report.specs.declared.AbsentReport.{AbsentReport}
 use Rattle.absent_words.specs.Words.{kinds_text, absent_text, line_text, same_of, pair_text, lines_text}
