@@ -49,7 +49,8 @@ frames = refl
 
 -- At the C boundary 0 is PCM of 16 bits, 1 PCM of 24 and 2 IEEE float: as the code of a file, and as an argument for
 -- its samples. A code above 2 is refused by 1.
-pub codes-out : coded (of_kind 1 1 2 16 2) ∷ coded (of_kind 1 1 3 24 3) ∷ coded (of_kind 3 1 4 32 4) ∷ [] ≡ 0 ∷ 1 ∷ 2 ∷ []
+pub codes-out : coded (of_kind 1 1 2 16 2) ∷ coded (of_kind 1 1 3 24 3) ∷ coded (of_kind 3 1 4 32 4) ∷ []
+    ≡ 0 ∷ 1 ∷ 2 ∷ []
 unfolding coded low_bytes
 codes-out = refl
 

@@ -117,7 +117,8 @@ unfolding asked f64
 counts = refl
 
 -- N4 to N7. Any rate that is no NaN is accepted, an infinite one too.
-pub inputs : map (λ x. asked (ported_state 0 0 0 0 0 0 0) 8 1081648 one x one one) finite_ends_f32 ≡ 0 ∷ 0 ∷ 4 ∷ 4 ∷ 4 ∷ []
+pub inputs : map (λ x. asked (ported_state 0 0 0 0 0 0 0) 8 1081648 one x one one) finite_ends_f32
+    ≡ 0 ∷ 0 ∷ 4 ∷ 4 ∷ 4 ∷ []
 unfolding asked f64 f32
 inputs = refl
 

@@ -29,7 +29,8 @@ unfolding compared
 other-values = refl
 
 -- 2: lengths that differ; 0 is a length too.
-pub lengths : compared empty_report silence [] ∷ compared empty_report [] silence ∷ compared empty_report silence silence
+pub lengths : compared empty_report silence [] ∷ compared empty_report [] silence
+    ∷ compared empty_report silence silence
     ∷ compared empty_report [] [] ∷ []
     ≡ 2 ∷ 2 ∷ 0 ∷ 0 ∷ []
 unfolding compared

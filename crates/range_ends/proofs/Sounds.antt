@@ -4,7 +4,7 @@ use mathlib.Core.List.{[], ◌∷◌, ◌++◌, map}
 use Prim.Native.Nat.{ℕ, ◌-◌, ◌^◌}
 use lib.ListN.{take}
 use Rattle.word_bytes.specs.Bytes.{low_bytes}
-use Rattle.range_ends.specs.Sounds.{form_letters, aiff_letters, aifc_letters, comm_letters, name_letters, high_bytes}
+use Rattle.range_ends.specs.Sounds.{form_letters, aifc_letters, comm_letters, name_letters, high_bytes}
 use Rattle.range_ends.specs.Sounds.{part}
 use Rattle.range_ends.specs.Sounds.{fields_at, fields, told, held, sized, sound, sound_refused, sound_rate}
 

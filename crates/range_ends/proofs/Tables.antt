@@ -72,7 +72,8 @@ passbands-above = refl
 
 -- G5. The quotient must be in the range of the cutoff: the passband is at least 1/1024 at the rate 1, and 2/1024 at the
 -- rate 2.
-pub quotients : map (built_for one) (f64 0x3f50_0000_0000_0000 ∷ f64 0x3f4f_ffff_ffff_ffff ∷ f64 1 ∷ []) ≡ 0 ∷ 1 ∷ 1 ∷ []
+pub quotients : map (built_for one) (f64 0x3f50_0000_0000_0000 ∷ f64 0x3f4f_ffff_ffff_ffff ∷ f64 1 ∷ [])
+    ≡ 0 ∷ 1 ∷ 1 ∷ []
 unfolding built_for_in f64
 quotients = refl
 

@@ -22,7 +22,8 @@ pub shapes : map (λ s. refusal_of (shape_primitive_of one s)) finite_ends ≡ 0
 unfolding answered_by le neg f64
 shapes = refl
 
-pub oscillator-phases : map (λ p. refusal_of (oscillator_delay_of p one one one rate-8000)) (about 0x4049_8000_0000_0000)
+pub oscillator-phases : map (λ p. refusal_of (oscillator_delay_of p one one one rate-8000))
+    (about 0x4049_8000_0000_0000)
     ≡ 0 ∷ 1 ∷ 0 ∷ 1 ∷ 1 ∷ 1 ∷ 1 ∷ []
 unfolding answered_by le neg f64
 oscillator-phases = refl
@@ -60,7 +61,8 @@ unfolding answered_by le neg f64
 minimum-rates = refl
 
 -- G6. The sample rate is from 8000 to 768000, for a function and for an engine that is opened.
-pub sample-rates : map (λ r. refusal_of (advance_phase_of zero one r)) (across 0x40bf_4000_0000_0000 0x4127_7000_0000_0000)
+pub sample-rates : map (λ r. refusal_of (advance_phase_of zero one r))
+    (across 0x40bf_4000_0000_0000 0x4127_7000_0000_0000)
     ≡ 1 ∷ 0 ∷ 0 ∷ 1 ∷ 1 ∷ 1 ∷ 1 ∷ []
 unfolding answered_by le lt neg f64
 sample-rates = refl

@@ -2,13 +2,13 @@
 -- itself. By computing. Assumes nothing.
 use mathlib.Core.Path.{◌≡◌, refl}
 use mathlib.Core.List.{[], ◌∷◌, ◌++◌, map}
-use Prim.Native.Nat.{ℕ, ◌*◌}
+use Prim.Native.Nat.{ℕ}
 use lib.ListN.{set, replicate}
 use Rattle.word_bytes.specs.Bytes.{low_bytes, bytes_value}
 use Rattle.riff_chunks.specs.Chunks.{chunks_from, first}
 use Rattle.riff_chunks.specs.Walk.{up_to}
 use Rattle.wav.specs.Wave.{told_in}
-use Rattle.range_ends.specs.Files.{plain, samples, whole, of_kind, formatted, format, wrapping, standard}
+use Rattle.range_ends.specs.Files.{plain, samples, whole, of_kind, wrapping, standard}
 use Rattle.range_ends.specs.Files.{refused, refused_wrapped, coded_wrapped}
 
 -- The three kinds, with the codes 0, 1 and 2. The plain reading refuses them by 13.
@@ -28,11 +28,13 @@ pub inner-tags : map (λ (t : ℕ). refused_wrapped (wrapping 40 2 22 16 t stand
 unfolding refused_wrapped low_bytes
 inner-tags = refl
 
-pub inner-tags-24 : map (λ (t : ℕ). refused_wrapped (wrapping 40 3 22 24 t standard)) (1 ∷ 2 ∷ 3 ∷ []) ≡ 0 ∷ 13 ∷ 13 ∷ []
+pub inner-tags-24 : map (λ (t : ℕ). refused_wrapped (wrapping 40 3 22 24 t standard)) (1 ∷ 2 ∷ 3 ∷ [])
+    ≡ 0 ∷ 13 ∷ 13 ∷ []
 unfolding refused_wrapped low_bytes
 inner-tags-24 = refl
 
-pub inner-tags-32 : map (λ (t : ℕ). refused_wrapped (wrapping 40 4 22 32 t standard)) (1 ∷ 2 ∷ 3 ∷ []) ≡ 13 ∷ 13 ∷ 0 ∷ []
+pub inner-tags-32 : map (λ (t : ℕ). refused_wrapped (wrapping 40 4 22 32 t standard)) (1 ∷ 2 ∷ 3 ∷ [])
+    ≡ 13 ∷ 13 ∷ 0 ∷ []
 unfolding refused_wrapped low_bytes
 inner-tags-32 = refl
 
