@@ -1,5 +1,6 @@
 -- A call of the cascaded reader and the sums beside it, as for the direct reader. Assumes nothing.
-use Rattle.std.proofs.Common.{◌≡◌, ℕ, zero, suc, ◌+◌, ◌^◌, ◌<◌, ◌≤◌, Bool, true, T, List, length, sym, refl, ap, ◌∙◌, arith, length-set, eqb-true}
+use Rattle.std.proofs.Common.{◌≡◌, ℕ, zero, suc, ◌+◌, ◌^◌, ◌<◌, ◌≤◌, T, List, length, sym, refl, ap, ◌∙◌, arith}
+use Rattle.std.proofs.Common.{length-set, eqb-true}
 use lib.Ieee.{Float, binary64, fits}
 use Rattle.absent_taps.specs.declared.Absent.{Absent}
 use Rattle.absent_taps.specs.Absent.{none}

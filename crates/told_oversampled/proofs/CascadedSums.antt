@@ -1,8 +1,9 @@
 -- The sums over the cascaded reader's four inner readings, from which of its inner samples were accepted. In an
 -- accepted call those are the finite ones (W11d); if the inner accepted number grew by four, all were. Assumes nothing.
-use Rattle.std.proofs.Common.{◌≡◌, ℕ, zero, suc, ◌+◌, ◌*◌, ◌^◌, ◌<◌, ◌≤◌, Bool, true, false, cond, ◌&&◌, T, eqb, List, length, get_or, sym, refl, ap, ◌∙◌, arith, eqb→eq}
+use Rattle.std.proofs.Common.{◌≡◌, ℕ, ◌+◌, ◌*◌, ◌<◌, ◌≤◌, Bool, true, false, cond, ◌&&◌, T, eqb, List, length, sym}
+use Rattle.std.proofs.Common.{refl, ap, ◌∙◌, arith, eqb→eq}
 use denote.Floats.{passes}
-use lib.Ieee.{Float, nan, binary64, fits, mul, of_int}
+use lib.Ieee.{Float, binary64, fits, mul, of_int}
 use lib.Ieee.Scale.{finite}
 use Rattle.constants.specs.Numbers.{two-f}
 use Rattle.absent_taps.specs.declared.Absent.{Absent}
@@ -16,14 +17,15 @@ use Rattle.variable_delay.specs.Reader.{verdict}
 use Rattle.oversampled_refusals.proofs.Accepted.{Taken, taken}
 use Rattle.oversampled_delay.proofs.Tests.{parted}
 use Rattle.cascaded_delay.specs.Halves.{Turn, Inner, High, inner_of, high_of, quarter_of, half_of, both_of}
-use Rattle.cascaded_delay.specs.Reader.{Lent, lengths_of, ring_ok, needed_by, held_ok, lent_ok, outer_of, due_of, from_of}
+use Rattle.cascaded_delay.specs.Reader.{Lent, lengths_of, ring_ok, needed_by, held_ok, lent_ok, outer_of, due_of}
+use Rattle.cascaded_delay.specs.Reader.{from_of}
 use Rattle.cascaded_delay.specs.Reader.{turn_after, high_before}
 use Rattle.cascaded_delay.specs.declared.CascadedOversampledVariableDelay4x.{CascadedOversampledVariableDelay4x}
 use Rattle.oversampled_runs.proofs.InsideCascade.{quarter-inner, quarter-ring, inside-cascade}
 use Rattle.told_oversampled.specs.Cascaded.{raised_of, up2_of, quarter_absent, absent_in}
 use Rattle.told_oversampled.specs.Reckoned.{which_of, sums_of, with_reading, reckoned, saved_of, quarters_accepted}
 use Rattle.told_oversampled.specs.declared.readings.Sums.{Sums}
-use Rattle.told_oversampled.proofs.OneReading.{one-reading, advanced, every_one}
+use Rattle.told_oversampled.proofs.OneReading.{one-reading, advanced}
 use Rattle.told_oversampled.proofs.PutBack.{put_back, saved-is}
 
 -- The sums one after the other are those of the two halves.

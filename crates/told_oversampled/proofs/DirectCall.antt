@@ -1,6 +1,7 @@
 -- A call of the direct reader and the sums beside it: whether it was accepted shows in the accepted number, and then
 -- the sums are those of its phases. Assumes nothing.
-use Rattle.std.proofs.Common.{◌≡◌, ℕ, zero, suc, ◌+◌, ◌*◌, ◌^◌, ◌<◌, ◌≤◌, Bool, true, ◌&&◌, T, List, length, sym, refl, ap, ◌∙◌, ⊎_elim, mul-le-mul_right, arith}
+use Rattle.std.proofs.Common.{◌≡◌, ℕ, zero, suc, ◌+◌, ◌^◌, ◌≤◌, Bool, true, ◌&&◌, T, List, length, sym, refl, ap, ◌∙◌}
+use Rattle.std.proofs.Common.{⊎_elim, mul-le-mul_right, arith}
 use lib.Ieee.{Float, binary64, fits}
 use Rattle.absent_taps.specs.declared.Absent.{Absent}
 use Rattle.absent_taps.specs.Absent.{none}
@@ -10,7 +11,8 @@ use Rattle.kernels.specs.declared.Kernel.{Kernel}
 use Rattle.kernels.specs.Kernels.{own_ok, taps_of}
 use Rattle.fir_filter.specs.Filters.{pushed}
 use Rattle.oversampled_refusals.proofs.Accepted.{Taken, taken}
-use Rattle.oversampled_delay.specs.Reader.{Lent, lengths_of, settings_ok, lent_ok, outer_of, due_of, from_of, left_by, called}
+use Rattle.oversampled_delay.specs.Reader.{Lent, lengths_of, settings_ok, lent_ok, outer_of, due_of, from_of, left_by}
+use Rattle.oversampled_delay.specs.Reader.{called}
 use Rattle.oversampled_delay.specs.Reader.{high_after, processed_of}
 use Rattle.oversampled_delay.specs.declared.OversampledVariableDelay.{OversampledVariableDelay}
 use Rattle.oversampled_delay.specs.declared.Processed.{Processed}

@@ -1,23 +1,20 @@
 -- The sums over the direct reader's inner readings, from which of its inner samples were accepted. In an accepted call
 -- those are the finite ones (W11d); if the inner accepted number grew by the factor, all were. Assumes nothing.
-use Rattle.std.proofs.Common.{◌≡◌, ℕ, zero, suc, ◌+◌, ◌<◌, ◌≤◌, Bool, true, false, cond, T, ◌⊎◌, length, sym, refl, ap, ◌∙◌, subst, ⊎_elim, eq-or-lt_of_le, arith}
-use mathlib.Core.Bool.{false≢true}
+use Rattle.std.proofs.Common.{◌≡◌, ℕ, zero, suc, ◌+◌, ◌<◌, ◌≤◌, Bool, true, false, T, length, sym, refl, ap, ◌∙◌, subst}
+use Rattle.std.proofs.Common.{⊎_elim, eq-or-lt_of_le, arith}
 use lib.Ieee.{Float, binary64, fits}
 use lib.Ieee.Scale.{finite}
-use Rattle.absent_taps.specs.declared.Absent.{Absent}
 use Rattle.high_delay.specs.Between.{high_delay}
 use Rattle.kernels.specs.declared.Kernel.{Kernel}
 use Rattle.fir_filter.specs.Filters.{pushed}
-use Rattle.variable_delay.specs.Reader.{verdict, state_after}
-use Rattle.variable_delay.specs.declared.VariableDelay.{VariableDelay}
+use Rattle.variable_delay.specs.Reader.{verdict}
 use Rattle.oversampled_delay.specs.Phases.{Turn, High, inner_of, raised_of, delay_of, phase_of, phases_of}
 use Rattle.oversampled_delay.specs.Reader.{Lent, lengths_of, due_of, from_of}
 use Rattle.oversampled_delay.specs.declared.OversampledVariableDelay.{OversampledVariableDelay}
 use Rattle.oversampled_delay.proofs.Inner.{phases-inner, phases-ring}
 use Rattle.oversampled_runs.proofs.Inside.{turn, start, inside}
 use Rattle.told_oversampled.specs.Direct.{phases_absent}
-use Rattle.told_oversampled.specs.Reckoned.{accepted_of, which_of, sums_of, with_reading, reckoned, phases_accepted}
-use Rattle.told_oversampled.specs.declared.readings.Sums.{Sums}
+use Rattle.told_oversampled.specs.Reckoned.{which_of, sums_of, with_reading, reckoned, phases_accepted}
 use Rattle.told_oversampled.proofs.OneReading.{one-reading, advanced, every_one}
 
 module _ (k : Kernel) (d : OversampledVariableDelay) (l : Lent) (x y : Float)

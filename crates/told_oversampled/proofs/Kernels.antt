@@ -1,5 +1,5 @@
 -- A kernel whose settings are in range reads at most 128 taps. Assumes nothing.
-use Rattle.std.proofs.Common.{◌≡◌, ℕ, ◌%◌, ◌≤◌, true, ◌&&◌, eqb, leb, arith, lit≤, leb-true}
+use Rattle.std.proofs.Common.{◌≡◌, ◌%◌, ◌≤◌, true, ◌&&◌, eqb, leb, arith, lit≤, leb-true}
 use Rattle.sinc_settings.specs.Ranges.{phases_ok}
 use Rattle.kernels.specs.declared.Kernel.{Kernel}
 use Rattle.kernels.specs.declared.Kernel.TheVariants.{Cubic, Lagrange, Farrow8, Sinc}

@@ -1,16 +1,16 @@
 -- One inner reading, from whether its sample was accepted; and how large the sums can be. Assumes nothing.
-use Rattle.std.proofs.Common.{◌≡◌, ℕ, zero, suc, ◌+◌, ◌*◌, ◌^◌, ◌<◌, ◌≤◌, Bool, true, false, cond, List, length, sym, refl, ap, ◌∙◌, add-one, arith, ne_eqb}
+use Rattle.std.proofs.Common.{◌≡◌, ℕ, zero, suc, ◌+◌, ◌*◌, ◌^◌, ◌<◌, ◌≤◌, Bool, true, false, cond, List, length, refl}
+use Rattle.std.proofs.Common.{ap, ◌∙◌, add-one, arith, ne_eqb}
 use lib.Ieee.{Float}
 use Rattle.ring.specs.Length.{zeros}
-use Rattle.variable_delay.specs.Reader.{verdict, position_of, state_after}
+use Rattle.variable_delay.specs.Reader.{position_of, state_after}
 use Rattle.variable_delay.specs.declared.VariableDelay.{VariableDelay}
 use Rattle.absent_taps.specs.declared.Absent.{Absent}
-use Rattle.absent_taps.specs.Absent.{none, plus, absent_at, first_tap}
+use Rattle.absent_taps.specs.Absent.{none, plus, first_tap}
 use Rattle.absent_taps.proofs.AtOnce.{same}
 use Rattle.absent_taps.proofs.Laws.{all_told}
 use Rattle.told_call.specs.Told.{unless_refused, absent_of_call, counted_of}
 use Rattle.told_call.proofs.ByCounts.{by-counts}
-use Rattle.told_oversampled.specs.Inside.{inside}
 use Rattle.told_oversampled.specs.Reckoned.{accepted_of, which_of, sums_of, with_reading, reckoned, Room}
 use Rattle.told_oversampled.specs.declared.readings.Sums.{Sums}
 

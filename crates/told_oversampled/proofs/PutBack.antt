@@ -1,7 +1,8 @@
 -- The second upsampler's history at a call's first half, from its history after the call: the sample of the second half
 -- stands where the sample of 33 pushes before stood, and with that one put back the first half's history is there.
 -- Assumes nothing.
-use Rattle.std.proofs.Common.{◌≡◌, ℕ, ◌+◌, ◌*◌, ◌/◌, ◌%◌, ◌^◌, ◌<◌, Bool, false, List, length, get_or, set, sym, refl, ap, ◌∙◌, div-add-mod', arith, length-set, get_or-set_other, set-set, lt-ltb, ne_eqb}
+use Rattle.std.proofs.Common.{◌≡◌, ℕ, ◌+◌, ◌*◌, ◌%◌, ◌^◌, ◌<◌, Bool, false, List, length, get_or, set, ap, div-add-mod'}
+use Rattle.std.proofs.Common.{arith, length-set, get_or-set_other, set-set, lt-ltb}
 use lib.Seq.{set-get_or}
 use lib.Ieee.{Float, nan}
 use Rattle.fir_filter.specs.Filters.{pushed}
