@@ -11,7 +11,7 @@ use Rattle.text.proofs.Texts.{Puts}
 use Rattle.picture.specs.Names.{escaped_byte, shown_byte, escaped_as}
 
 pub nothing : (xs : List ℕ) (at : ℕ) → at ≤ length xs → Puts xs at [] at xs
-nothing xs at h = (rw (add-zero at, min-eq_right h), refl)
+nothing xs at h = record { value = rw (add-zero at, min-eq_right h); out_after = refl }
 
 module _ (readable : Bool) where
   abbrev one : ℕ → List ℕ

@@ -5,7 +5,6 @@ use Prim.Native.Nat.{ℕ, ◌+◌, ◌-◌, ◌*◌, ◌/◌, ◌^◌, ◌<◌, 
 use native.Mathlib.Nat.{add-mul, one-mul, zero-div, div-mul-le_self, le-div_iff_mul-le, mul-div_cancel_left}
 use native.Mathlib.Omega.{arith}
 use borrow.Author.Tests.{ne_eqb}
-use lib.Ieee.{size}
 use lib.Ieee.Digits.{size-lt, size_reaches, size-le}
 use Rattle.float_digits.proofs.Lengths.{size-some}
 use Rattle.picture.specs.Bars.{bits_of, edge}

@@ -1,17 +1,15 @@
 -- How many bytes the parts of a picture can have, so that a program knows how large a slice never cuts one off: the
 -- head has at most 900 bytes and five for each byte of the names, a panel's beginning 1200, a stretch 210, and the ends
 -- 250. This holds because a word has at most 20 digits. Assumes nothing.
-use mathlib.Core.Path.{◌≡◌}
 use mathlib.Core.Bool.{Bool}
-use mathlib.Core.List.{List, [], ◌∷◌, ◌++◌}
+use mathlib.Core.List.{List, [], ◌∷◌}
 use Prim.Native.Nat.{ℕ, ◌+◌, ◌-◌, ◌*◌, ◌/◌, ◌≤◌}
 use native.Mathlib.Omega.{arith}
 use lib.Dec.{eqb, ltb}
 use lib.ListN.{length, length-append}
-use Rattle.text.specs.Text.{ascii, decimal}
+use Rattle.text.specs.Text.{ascii}
 use Rattle.text.proofs.Digits.{few-digits}
 use Rattle.utf8.specs.Utf8.{is_utf8}
-use Rattle.report_lines.specs.Times.{length_text}
 use Rattle.report_lines.proofs.Room.{either, short-length}
 use Rattle.picture.specs.Names.{escaped_byte, shown_byte, escaped_as, escaped}
 use Rattle.picture.specs.Bars.{bits_of, number_text, edge, bar_text, stretch_text}
