@@ -1,10 +1,9 @@
 -- `replay_aiff::samples::twos_complement` is safe: -1 - n has as many digits as n, and is not negative if n is. Assumes
 -- nothing.
-use borrow.Author.Rules.{rules}
 use borrow.Author.Tests.{ltb-true, le-ltb}
 use mathlib.Core.Path.{◌≡◌, ap}
 use mathlib.Core.Bool.{true, false}
-use Prim.Native.Nat.{ℕ, suc, ◌-◌, ◌^◌, ◌<◌}
+use Prim.Native.Nat.{ℕ, suc, ◌^◌, ◌<◌}
 use native.Mathlib.Omega.{arith}
 use lib.Dec.{T}
 use lib.IntN.{ℤ, pos, negsuc, ◌-ℤ◌, nat_abs}
@@ -12,8 +11,7 @@ use lib.Signed.{lt_z, non_neg}
 use mir.Syntax.{w32, w64}
 use mir.Val.{Fits, SFits, to_z, of_z}
 use mir.ValLaws.{to_z-of_z}
-use Rattle.replay_aiff.proofs.samples.twos_complement.Statement.{statement}
-use Rattle.replay_aiff.proofs.samples.twos_complement.Tie as tie
+use Rattle.replay_aiff.proofs.samples.twos_complement.Goals as goal
 
 -- For an n below zero -1 - n is not negative and fits; read back from its bits it is the same.
 below : (z : ℤ) → SFits w32 z → lt_z (to_z w32 (of_z w32 z)) (pos 0) ≡ true
@@ -30,24 +28,20 @@ above (negsuc k) f h =
     let z : ◌≡◌ {A = ℕ} 0 1 = cc in
     absurd (omega arith)
 
-sub-result : tie.Need-overflow-sub-result
-sub-result c =
-    let b = below c.before.args.n c.before.ranges.n c.if1.true in
+pub overflow_sub-result : goal.overflow_sub-result
+overflow_sub-result c =
+    let b = below c.args.n c.ranges.n c.if-n-lt0.true in
     rw b.1.0 (record { sfits = b.1.1 })
 
-cast-result : tie.Need-overflow-cast-result
-cast-result c =
-    let b = below c.before.args.n c.before.ranges.n c.if1.true in
+pub overflow_cast-result : goal.overflow_cast-result
+overflow_cast-result c =
+    let b = below c.args.n c.ranges.n c.if-n-lt0.true in
     rw (b.1.0, to_z-of_z w32 (pos b.0) (record { sfits = b.1.1 })) (tt, record { fits = omega (arith, b.1.1) })
 
-sub-result-2 : tie.Need-overflow-sub-result-2
-sub-result-2 c =
-    let b = below c.before.args.n c.before.ranges.n c.if1.true in
+pub overflow_sub-result-then-n-lt0 : goal.overflow_sub-result-then-n-lt0
+overflow_sub-result-then-n-lt0 c =
+    let b = below c.args.n c.ranges.n c.if-n-lt0.true in
     rw (b.1.0, to_z-of_z w32 (pos b.0) (record { sfits = b.1.1 })) (omega (arith, b.1.1))
 
-cast-result-2 : tie.Need-overflow-cast-result-2
-cast-result-2 c = above c.before.args.n c.before.ranges.n c.if1.false
-
-pub twos-complement-spec : {M : Type 1} → statement M
-twos-complement-spec =
-    tie.close (tie.spec sub-result cast-result sub-result-2 cast-result-2 (λ c. search rules) (λ c. search rules))
+pub overflow_cast-result-else-n-lt0 : goal.overflow_cast-result-else-n-lt0
+overflow_cast-result-else-n-lt0 c = above c.args.n c.ranges.n c.if-n-lt0.false
