@@ -1,6 +1,6 @@
 -- C1, W4. The contract of a desk's reader determines its answer, which has the state in it, and every element of the
 -- ring; those of a room determine the answer and all of the room that may be written. Assumes nothing.
-use mathlib.Core.Path.{◌≡◌, sym, ◌∙◌, ap}
+use mathlib.Core.Path.{sym, ◌∙◌, ap}
 use mathlib.Core.List.{List}
 use Prim.Native.Nat.{ℕ}
 use lib.Ieee.{Float}

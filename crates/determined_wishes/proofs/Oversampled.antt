@@ -1,6 +1,6 @@
 -- C1, W11. The contract of each oversampled reader's call determines its answer, which has the state in it, and every
 -- element of the filters' histories and of the inner ring. Assumes nothing.
-use mathlib.Core.Path.{◌≡◌, sym, ◌∙◌}
+use mathlib.Core.Path.{sym, ◌∙◌}
 use mathlib.Core.List.{List}
 use lib.Ieee.{Float}
 use contract.Lifetimes.{Lfts}
