@@ -1,0 +1,18 @@
+-- `residual_report::asking::to_compare` ends with the last argument. Assumes nothing.
+use borrow.Author.Rules.{rules}
+use Prim.Native.Nat.{◌-◌}
+use Rattle.residual_report.proofs.asking.to_compare.Statement.{statement}
+use Rattle.residual_report.proofs.asking.to_compare.Tie as tie
+
+abbrev invariant-loop : tie.invariant-loop
+invariant-loop count asked₀ i₀ asked i = Unit {0}
+
+abbrev decreases-loop : tie.decreases-loop
+decreases-loop count asked₀ i₀ asked i = count - i
+
+pub to-compare-spec : {M : Type 1} → statement M
+to-compare-spec =
+    tie.close
+    (tie.spec invariant-loop decreases-loop (λ c κs. search rules) (λ c κs. search rules) (λ c κs. search rules)
+    (λ c. search rules) (λ c κs. search rules) (λ c. search rules) (λ c. search rules) (λ c. search rules)
+    (λ c κs. search rules) (λ c. search rules))
