@@ -2,6 +2,7 @@
 #![tactic(auto)]
 
 mod absences; // which samples read absent taps
+mod again; // values once more
 mod asking; // what the arguments ask for
 mod hearing; // a block's samples
 mod running; // block after block
@@ -66,13 +67,27 @@ fn imitate(system: &System, settings: Imitation, from: &[u8], to: &[u8]) -> bool
 }
 
 // Everything that can be checked beforehand is checked before the file is made, so that such a refusal comes at once.
-fn imitate_of(system: &System, settings: Imitation, from: &[u8], to: &[u8], file: WaveFile) -> bool {
-    let asked = settings.kind;
+fn imitate_of(
+    system: &System,
+    settings: Imitation,
+    from: &[u8],
+    to: &[u8],
+    file: WaveFile,
+) -> bool {
+    let asked = again::of_kind(&settings.kind);
     let same = file.kind;
     let kind = kind_of(asked, same);
     let params = settings.params;
     let count = times(file.frames, file.channels as usize);
-    if !can_be_written(system, b"imitate", from, kind, file.channels, file.rate, count) {
+    if !can_be_written(
+        system,
+        b"imitate",
+        from,
+        kind,
+        file.channels,
+        file.rate,
+        count,
+    ) {
         return false;
     }
     if !suits(system, params, settings.delay, file.rate) {
@@ -82,7 +97,8 @@ fn imitate_of(system: &System, settings: Imitation, from: &[u8], to: &[u8], file
     match made {
         Made::Open(fd) => {
             say_wrapped(system, b"imitate", from, file);
-            let written = write_all(system, 
+            let written = write_all(
+                system,
                 from,
                 to,
                 Job {
@@ -120,7 +136,8 @@ fn write_all(system: &System, from: &[u8], to: &[u8], job: Job, count: usize) ->
     let file = job.file;
     let kind = job.kind;
     if !write_header(
-        system, b"imitate",
+        system,
+        b"imitate",
         to,
         job.fd,
         kind,
@@ -134,7 +151,7 @@ fn write_all(system: &System, from: &[u8], to: &[u8], job: Job, count: usize) ->
             absent: absent,
         };
     }
-    let ran = running::imitate(system, job);
+    let ran = running::imitate(system, again::of_job(&job));
     let outcome = ran.outcome;
     let absent = ran.absent;
     Written {
@@ -143,12 +160,20 @@ fn write_all(system: &System, from: &[u8], to: &[u8], job: Job, count: usize) ->
     }
 }
 
-fn ended_well(system: &System, from: &[u8], to: &[u8], job: Job, count: usize, outcome: Outcome) -> bool {
+fn ended_well(
+    system: &System,
+    from: &[u8],
+    to: &[u8],
+    job: Job,
+    count: usize,
+    outcome: Outcome,
+) -> bool {
     let kind = job.kind;
     if is_well(outcome) {
         progress::clear(system, system.is_terminal());
         return write_pad(
-            system, b"imitate",
+            system,
+            b"imitate",
             to,
             job.fd,
             times(count, sample_kind::width(kind)),

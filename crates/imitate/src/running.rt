@@ -2,6 +2,7 @@
 // What a channel of a block becomes is proved in heard_channel, its delays in imitation, and what is stored in
 // wav_store.
 use crate::absences::{Absences, none_absent, with_block};
+use crate::again;
 use crate::hearing::hear;
 use crate::storing::store;
 use asked::Imitation;
@@ -60,7 +61,7 @@ pub(crate) fn imitate(system: &System, job: Job) -> Ran {
     let mut second = [0.0f32; 65536];
     let mut table = [0.0f32; 2080];
     let file = job.file;
-    let settings = job.settings;
+    let settings = &job.settings;
     let variable_delay::Opened::Reader(one) = variable_delay_f32::open(65528, 0, &mut ring) else {
         return unread(1);
     };
@@ -84,7 +85,8 @@ pub(crate) fn imitate(system: &System, job: Job) -> Ran {
     ) else {
         return unread(1);
     };
-    run(system, 
+    run(
+        system,
         job,
         Sides {
             engine: engine,
@@ -106,7 +108,8 @@ fn unread(channel: u8) -> Ran {
 }
 
 // Block after block. The rings are arrays, so that their lengths are those that the readers were opened with.
-fn run<'a>(system: &System, 
+fn run<'a>(
+    system: &System,
     job: Job,
     start: Sides,
     ring: &mut [f32; 65536],
@@ -122,7 +125,17 @@ fn run<'a>(system: &System,
     let mut turns = u64::MAX;
     while turns > 0 && done < frames {
         let n = fewer(less(frames, done), FRAMES);
-        let turn = block(system, job, sides, absent, ring, second, table, done, n);
+        let turn = block(
+            system,
+            again::of_job(&job),
+            sides,
+            again::of_absences(&absent),
+            ring,
+            second,
+            table,
+            done,
+            n,
+        );
         let outcome = turn.outcome;
         if !is_well(outcome) {
             return Ran {
@@ -150,7 +163,8 @@ fn tell(system: &System, done: usize, frames: usize, said: i64) -> i64 {
 }
 
 // Computes the delays of one block's frames, then which of its samples read absent taps and what its bytes become.
-fn block<'a>(system: &System, 
+fn block<'a>(
+    system: &System,
     job: Job,
     sides: Sides,
     before: Absences,
@@ -162,7 +176,7 @@ fn block<'a>(system: &System,
 ) -> Turn {
     let mut left = [0.0f64; FRAMES];
     let mut right = [0.0f64; FRAMES];
-    let settings = job.settings;
+    let settings = &job.settings;
     let params = settings.params;
     let engine = sides.engine;
     let wandered = imitation::wander(engine, params, settings.delay, &mut left, &mut right);
@@ -180,7 +194,8 @@ fn block<'a>(system: &System,
         &right,
         n,
     );
-    let read = read_block(system, 
+    let read = read_block(
+        system,
         job,
         Sides {
             engine: turned,
@@ -206,7 +221,8 @@ fn block<'a>(system: &System,
 
 // Computes what the bytes of n frames become, after `done` frames. What is written replaces what was read in the same
 // bytes.
-fn read_block<'a>(system: &System, 
+fn read_block<'a>(
+    system: &System,
     job: Job,
     sides: Sides,
     ring: &mut [f32],
@@ -240,6 +256,15 @@ fn read_block<'a>(system: &System,
     }
     Read {
         sides: after,
-        outcome: store(system, job.fd, kind, file.channels, &both, &mut bytes, done, n),
+        outcome: store(
+            system,
+            job.fd,
+            kind,
+            file.channels,
+            &both,
+            &mut bytes,
+            done,
+            n,
+        ),
     }
 }

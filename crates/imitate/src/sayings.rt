@@ -29,18 +29,34 @@ fn say_settings(system: &System, params: ModulationParams) {
         return;
     }
     if !oscillator_ranges::depth_ok(params.wow_depth_cents) {
-        say_plain(system, b"imitate", b"wow_depth_cents is from -1200 to 1200\n");
+        say_plain(
+            system,
+            b"imitate",
+            b"wow_depth_cents is from -1200 to 1200\n",
+        );
         return;
     }
     if !oscillator_ranges::rate_ok(params.flutter_rate_hz) {
-        say_plain(system, b"imitate", b"flutter_rate_hz is from -1000 to 1000\n");
+        say_plain(
+            system,
+            b"imitate",
+            b"flutter_rate_hz is from -1000 to 1000\n",
+        );
         return;
     }
     if !oscillator_ranges::depth_ok(params.flutter_depth_cents) {
-        say_plain(system, b"imitate", b"flutter_depth_cents is from -1200 to 1200\n");
+        say_plain(
+            system,
+            b"imitate",
+            b"flutter_depth_cents is from -1200 to 1200\n",
+        );
         return;
     }
-    say_plain(system, b"imitate", b"shapes and amounts are finite numbers\n");
+    say_plain(
+        system,
+        b"imitate",
+        b"shapes and amounts are finite numbers\n",
+    );
 }
 
 // Says which whole delays would be accepted. The reach counts as the next whole number above it.
@@ -69,14 +85,16 @@ pub(crate) fn say_outcome(system: &System, from: &[u8], to: &[u8], outcome: Outc
         return;
     }
     if outcome.number == 15 {
-        say_sample(system, 
+        say_sample(
+            system,
             from,
             outcome,
             b" becomes too large for the kind: try kind=float32\n",
         );
         return;
     }
-    say_sample(system, 
+    say_sample(
+        system,
         from,
         outcome,
         b" is not a number, infinite, or too large to be worked with: mend it in an audio editor first\n",
@@ -85,7 +103,8 @@ pub(crate) fn say_outcome(system: &System, from: &[u8], to: &[u8], outcome: Outc
 
 fn say_sample(system: &System, from: &[u8], outcome: Outcome, words: &[u8]) {
     say_place(
-        system, b"imitate",
+        system,
+        b"imitate",
         from,
         outcome.number,
         outcome.frame,

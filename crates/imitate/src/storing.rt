@@ -4,7 +4,8 @@ use sample_kind::{SampleKind, frame_width};
 use sizes::{begun_f32, times};
 use system::System;
 
-pub(crate) fn store(system: &System, 
+pub(crate) fn store(
+    system: &System,
     fd: i32,
     kind: SampleKind,
     channels: u8,
@@ -16,12 +17,21 @@ pub(crate) fn store(system: &System,
     let samples = begun_f32(both, times(n, channels as usize));
     let size = times(n, frame_width(kind, channels));
     if size <= bytes.len() {
-        return store_into(system, fd, kind, channels, samples, &mut bytes[..size], done);
+        return store_into(
+            system,
+            fd,
+            kind,
+            channels,
+            samples,
+            &mut bytes[..size],
+            done,
+        );
     }
     broken(3)
 }
 
-fn store_into(system: &System, 
+fn store_into(
+    system: &System,
     fd: i32,
     kind: SampleKind,
     channels: u8,

@@ -1,6 +1,7 @@
 // `residual` over open files: it compares two files in whole numbers of 24 bits, block after block, and notes the peaks
 // of each stretch for a picture. What a report says is proved in residual, what a peak is in peaks, which frames are
 // compared in compared_frames.
+use crate::again;
 use crate::channels::compare_channels;
 use compared_frames::{Extent, block_of, stretch_end, stretch_of};
 use outcomes::{Outcome, broken, is_well, well};
@@ -22,7 +23,7 @@ pub(crate) struct Job {
 }
 
 // A report for each channel, how the run ended, and whether it was the second file that ended it.
-#[derive(Drop)]
+#[derive(Clone, Copy)]
 pub(crate) struct Reports {
     pub one: Report,
     pub two: Report,
@@ -33,7 +34,7 @@ pub(crate) struct Reports {
 // The peaks are those of the samples and then of the differences of channel 1, followed by those of channel 2, with
 // 1000 places for each.
 pub(crate) fn compare(system: &System, job: Job, peaks: &mut [u32]) -> Reports {
-    let extent = job.extent;
+    let extent = &job.extent;
     let frames = extent.frames;
     let mut reports = none();
     let mut done: usize = 0;
@@ -44,7 +45,7 @@ pub(crate) fn compare(system: &System, job: Job, peaks: &mut [u32]) -> Reports {
         k = stretch_of(frames, job.stretches, k, done);
         let end = stretch_end(frames, job.stretches, plus(k, 1));
         let n = block_of(less(end, done));
-        reports = block(system, job, reports, peaks, k, done, n);
+        reports = block(system, again::of_job(&job), reports, peaks, k, done, n);
         let outcome = reports.outcome;
         if !is_well(outcome) {
             return reports;
@@ -86,7 +87,8 @@ fn ended(reports: Reports, outcome: Outcome, second: bool) -> Reports {
 }
 
 // Compares n frames of both files, after `done` frames.
-fn block(system: &System, 
+fn block(
+    system: &System,
     job: Job,
     reports: Reports,
     peaks: &mut [u32],
@@ -96,7 +98,7 @@ fn block(system: &System,
 ) -> Reports {
     let mut left = [0u8; 32768];
     let mut right = [0u8; 32768];
-    let extent = job.extent;
+    let extent = &job.extent;
     let first = job.first;
     let second = job.second;
     let io = read_frames(system, first, plus(extent.first, done), &mut left, n);

@@ -6,7 +6,7 @@ use system::System;
 
 // The number of channels of the files and the one that is shown, 0 for all; the number of frames compared, their rate,
 // and the number of stretches in which they are shown.
-#[derive(Drop)]
+#[derive(Clone, Copy)]
 pub(crate) struct Drawing {
     pub channels: u8,
     pub channel: u8,
@@ -17,7 +17,8 @@ pub(crate) struct Drawing {
 
 // The peaks are those of the samples and then of the differences of channel 1, followed by those of channel 2, with
 // 1000 places for each.
-pub(crate) fn draw(system: &System, 
+pub(crate) fn draw(
+    system: &System,
     name: &[u8],
     fd: i32,
     drawing: Drawing,
@@ -44,7 +45,14 @@ pub(crate) fn draw(system: &System,
 }
 
 // The page has room for two names of 4096 bytes, of which each byte may become five.
-fn write_head(system: &System, name: &[u8], fd: i32, channels: u8, first: &[u8], second: &[u8]) -> bool {
+fn write_head(
+    system: &System,
+    name: &[u8],
+    fd: i32,
+    channels: u8,
+    first: &[u8],
+    second: &[u8],
+) -> bool {
     let mut page = [0u8; 65536];
     let at = picture::put_head(&mut page, 0, channels, first, second);
     write(system, b"residual", name, fd, begun(&page, at))
@@ -56,7 +64,8 @@ fn write_tail(system: &System, name: &[u8], fd: i32) -> bool {
     write(system, b"residual", name, fd, begun(&page, at))
 }
 
-fn write_panel(system: &System, 
+fn write_panel(
+    system: &System,
     name: &[u8],
     fd: i32,
     drawing: Drawing,
@@ -81,11 +90,26 @@ fn write_panel_end(system: &System, name: &[u8], fd: i32) -> bool {
     write(system, b"residual", name, fd, begun(&page, at))
 }
 
-fn write_stretches(system: &System, name: &[u8], fd: i32, n: u32, peaks: &[u32], from: usize) -> bool {
+fn write_stretches(
+    system: &System,
+    name: &[u8],
+    fd: i32,
+    n: u32,
+    peaks: &[u32],
+    from: usize,
+) -> bool {
     let mut k: u32 = 0;
     let mut at = from;
     while k < n {
-        if !write_stretch(system, name, fd, k, n, peak(peaks, at), peak(peaks, plus(at, 1000))) {
+        if !write_stretch(
+            system,
+            name,
+            fd,
+            k,
+            n,
+            peak(peaks, at),
+            peak(peaks, plus(at, 1000)),
+        ) {
             return false;
         }
         at = plus(at, 1);
@@ -94,7 +118,15 @@ fn write_stretches(system: &System, name: &[u8], fd: i32, n: u32, peaks: &[u32],
     true
 }
 
-fn write_stretch(system: &System, name: &[u8], fd: i32, k: u32, n: u32, sample: u32, difference: u32) -> bool {
+fn write_stretch(
+    system: &System,
+    name: &[u8],
+    fd: i32,
+    k: u32,
+    n: u32,
+    sample: u32,
+    difference: u32,
+) -> bool {
     let mut line = [0u8; 256];
     let at = picture::put_stretch(&mut line, 0, k, n, sample, difference);
     write(system, b"residual", name, fd, begun(&line, at))

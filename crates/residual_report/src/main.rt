@@ -2,6 +2,7 @@
 // other, and draws a picture of it if one is wanted.
 #![tactic(auto)]
 
+mod again; // values once more
 mod asking; // what the arguments ask for
 mod channels; // a block, channel by channel
 mod comparing; // block after block
@@ -48,15 +49,28 @@ fn main(rt: HostRuntime) -> ExitCode {
 }
 
 // The name of the picture stands after `picture=`.
-fn run(system: &System, settings: Comparison, argument: &[u8], first: &[u8], second: &[u8]) -> ExitCode {
+fn run(
+    system: &System,
+    settings: Comparison,
+    argument: &[u8],
+    first: &[u8],
+    second: &[u8],
+) -> ExitCode {
     let at = arguments::value_at(argument);
     run_named(system, settings, &argument[at..], first, second)
 }
 
-fn run_named(system: &System, settings: Comparison, picture: &[u8], first: &[u8], second: &[u8]) -> ExitCode {
+fn run_named(
+    system: &System,
+    settings: Comparison,
+    picture: &[u8],
+    first: &[u8],
+    second: &[u8],
+) -> ExitCode {
     if spelling::same(picture, b"-") {
         say_of(
-            system, b"residual",
+            system,
+            b"residual",
             b"picture=-",
             b" will not do: a picture is a file's name\n",
         );
@@ -68,7 +82,13 @@ fn run_named(system: &System, settings: Comparison, picture: &[u8], first: &[u8]
     ExitCode::FAILURE
 }
 
-fn compare(system: &System, settings: Comparison, picture: &[u8], first: &[u8], second: &[u8]) -> bool {
+fn compare(
+    system: &System,
+    settings: Comparison,
+    picture: &[u8],
+    first: &[u8],
+    second: &[u8],
+) -> bool {
     let opened = wave_file::open(system, first);
     match opened {
         Opened::File(a) => compare_with(system, settings, picture, first, second, a),
@@ -79,7 +99,8 @@ fn compare(system: &System, settings: Comparison, picture: &[u8], first: &[u8], 
     }
 }
 
-fn compare_with(system: &System, 
+fn compare_with(
+    system: &System,
     settings: Comparison,
     picture: &[u8],
     first: &[u8],
@@ -96,7 +117,8 @@ fn compare_with(system: &System,
     }
 }
 
-fn compare_both(system: &System, 
+fn compare_both(
+    system: &System,
     settings: Comparison,
     picture: &[u8],
     first: &[u8],
@@ -104,14 +126,14 @@ fn compare_both(system: &System,
     a: WaveFile,
     b: WaveFile,
 ) -> bool {
-    let asked = settings.channel;
+    let asked = again::of_channel(&settings.channel);
     let channel = channel_of(asked);
     if !comparable(system, first, second, a, b, channel) {
         return false;
     }
     say_wrapped(system, b"residual", first, a);
     say_wrapped(system, b"residual", second, b);
-    let job = job_of(settings, a, b, channel);
+    let job = job_of(again::of_settings(&settings), a, b, channel);
     if settings.picture {
         return draw(system, job, picture, first, second);
     }
@@ -138,7 +160,7 @@ fn job_of(settings: Comparison, a: WaveFile, b: WaveFile, channel: u8) -> Job {
     Job {
         first: a,
         second: b,
-        extent: extent,
+        extent: again::of_extent(&extent),
         channel: channel,
         stretches: stretches_of(settings.picture, extent.frames),
         drawn: settings.picture,
@@ -151,7 +173,7 @@ fn stretches_of(drawn: bool, frames: usize) -> usize {
 
 fn tell(system: &System, job: Job, first: &[u8], second: &[u8]) -> bool {
     let mut peaks = [0u32; 1];
-    let reports = comparing::compare(system, job, &mut peaks);
+    let reports = comparing::compare(system, again::of_job(&job), &mut peaks);
     if ended_well(system, reports, first, second) {
         return reporting::tell(system, job, reports, first, second);
     }
@@ -181,17 +203,34 @@ fn draw(system: &System, job: Job, picture: &[u8], first: &[u8], second: &[u8]) 
     }
 }
 
-fn draw_into(system: &System, job: Job, picture: &[u8], fd: i32, first: &[u8], second: &[u8]) -> bool {
+fn draw_into(
+    system: &System,
+    job: Job,
+    picture: &[u8],
+    fd: i32,
+    first: &[u8],
+    second: &[u8],
+) -> bool {
     let mut peaks = [0u32; 4000];
-    let reports = comparing::compare(system, job, &mut peaks);
-    let well = drawn(system, job, reports, picture, fd, first, second, &peaks);
+    let reports = comparing::compare(system, again::of_job(&job), &mut peaks);
+    let well = drawn(
+        system,
+        again::of_job(&job),
+        reports,
+        picture,
+        fd,
+        first,
+        second,
+        &peaks,
+    );
     if part_file::finish(system, b"residual", picture, fd, well) {
         return reporting::tell(system, job, reports, first, second);
     }
     false
 }
 
-fn drawn(system: &System, 
+fn drawn(
+    system: &System,
     job: Job,
     reports: Reports,
     picture: &[u8],

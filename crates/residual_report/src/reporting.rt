@@ -1,4 +1,5 @@
 // The lines of a residual's report, on standard output.
+use crate::again;
 use crate::comparing::{Job, Reports};
 use residual::Report;
 use sizes::begun;
@@ -10,8 +11,14 @@ fn write(system: &System, line: &[u8]) -> bool {
     part_file::write(system, b"residual", b"-", STANDARD_OUTPUT, line)
 }
 
-pub(crate) fn tell(system: &System, job: Job, reports: Reports, first: &[u8], second: &[u8]) -> bool {
-    let extent = job.extent;
+pub(crate) fn tell(
+    system: &System,
+    job: Job,
+    reports: Reports,
+    first: &[u8],
+    second: &[u8],
+) -> bool {
+    let extent = again::of_extent(&job.extent);
     if !tell_file(system, b"first: ", first, job.first) {
         return false;
     }

@@ -7,7 +7,8 @@ use wave_file::WaveFile;
 
 // Files of different rates or numbers of channels cannot be compared frame by frame, nor can a channel that a file does
 // not have.
-pub(crate) fn comparable(system: &System, 
+pub(crate) fn comparable(
+    system: &System,
     first: &[u8],
     second: &[u8],
     a: WaveFile,
@@ -16,7 +17,8 @@ pub(crate) fn comparable(system: &System,
 ) -> bool {
     if a.rate != b.rate {
         say_differ(
-            system, b"residual",
+            system,
+            b"residual",
             first,
             second,
             a.rate,
@@ -27,7 +29,8 @@ pub(crate) fn comparable(system: &System,
     }
     if a.channels != b.channels {
         say_differ(
-            system, b"residual",
+            system,
+            b"residual",
             first,
             second,
             a.channels as u32,
@@ -50,7 +53,8 @@ pub(crate) fn say_outcome(system: &System, name: &[u8], outcome: Outcome) {
     }
     if outcome.number == 15 {
         say_place(
-            system, b"residual",
+            system,
+            b"residual",
             name,
             15,
             outcome.frame,
@@ -60,7 +64,8 @@ pub(crate) fn say_outcome(system: &System, name: &[u8], outcome: Outcome) {
         return;
     }
     say_of(
-        system, b"residual",
+        system,
+        b"residual",
         name,
         b" is refused by 8: more than 68719476736 frames: compare a part of them by frames=\n",
     );
