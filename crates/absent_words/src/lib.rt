@@ -60,24 +60,11 @@ fn same(one: AbsentReport, two: AbsentReport) -> bool
     )
 }
 
-// The same numbers once more.
-fn again(report: &AbsentReport) -> AbsentReport
-    ensures { result ≡ report.now }
-{
-    AbsentReport {
-        samples: report.samples,
-        unwritten: report.unwritten,
-        ahead: report.ahead,
-        overwritten: report.overwritten,
-        last: report.last,
-    }
-}
-
 fn put_pair(out: &mut [u8], at: usize, one: AbsentReport, two: AbsentReport) -> usize
     ensures value { result ≡ place_after (length out.old) at (pair_text one two) }
     ensures out_after { out.new ≡ put_at out.old at (pair_text one two) }
 {
-    if same(again(&one), again(&two)) {
+    if same(one, two) {
         return put_line(out, at, b"each channel: ", one);
     }
     let next = put_line(out, at, b"channel 1: ", one);

@@ -61,7 +61,7 @@ pub fn process_sample<'a>(
         down1: down1.len(),
         ring: ring.len(),
     };
-    let no = refusals::refusal(state, halves::again(&kernel), lengths, input, delay);
+    let no = refusals::refusal(state, kernel, lengths, input, delay);
     if no != 0 {
         return Processed {
             state: state,

@@ -8,18 +8,6 @@ use super::CascadedOversampledVariableDelay4x;
 use kernels::Kernel;
 use variable_delay::VariableDelay;
 
-// The same kernel once more.
-pub(crate) fn again(kernel: &Kernel) -> Kernel
-    ensures { result ≡ kernel.now }
-{
-    match *kernel {
-        Kernel::Cubic => Kernel::Cubic,
-        Kernel::Lagrange(taps) => Kernel::Lagrange(taps),
-        Kernel::Farrow8 => Kernel::Farrow8,
-        Kernel::Sinc(taps, phases) => Kernel::Sinc(taps, phases),
-    }
-}
-
 // One sample at four times the rate, at the phase q of the half p, from what the second upsampler gave there.
 fn quarter<'a>(
     state: CascadedOversampledVariableDelay4x,
@@ -138,7 +126,7 @@ fn half<'a>(
     let two = fir_filter::outputs(halfband, &up2[..], twice + 1, 2, 0);
     let first = quarter(
         state,
-        again(&kernel),
+        kernel,
         table,
         halfband,
         &up2[..],
@@ -235,7 +223,7 @@ pub(crate) fn both_halves<'a>(
     let two = fir_filter::outputs(halfband, up1, state.accepted + 1, 2, 0);
     let first = half(
         state,
-        again(&kernel),
+        kernel,
         table,
         halfband,
         up1,

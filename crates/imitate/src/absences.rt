@@ -2,7 +2,7 @@
 use absent_report::AbsentReport;
 use variable_delay::VariableDelay;
 
-#[derive(Drop)]
+#[derive(Clone, Copy)]
 pub(crate) struct Absences {
     pub one: AbsentReport,
     pub two: AbsentReport,

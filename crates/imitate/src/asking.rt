@@ -1,5 +1,4 @@
 // What the arguments of `imitate FROM TO [NAME=VALUE …]` ask for.
-use crate::again;
 use arguments::Argument;
 use asked::{Imitated, Imitation};
 use system::{STANDARD_ERROR, System};
@@ -96,7 +95,7 @@ fn with_text(system: &System, asked: ToImitate, i: usize, words: &[u8]) -> ToImi
 
 fn with_setting(system: &System, asked: ToImitate, words: &[u8], argument: Argument) -> ToImitate {
     let names = asked.names;
-    let settings = again::of_settings(&asked.settings);
+    let settings = asked.settings;
     let changed = asked::imitated_with(settings, argument);
     match changed {
         Imitated::Asked(s) => ToImitate {

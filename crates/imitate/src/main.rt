@@ -2,7 +2,6 @@
 #![tactic(auto)]
 
 mod absences; // which samples read absent taps
-mod again; // values once more
 mod asking; // what the arguments ask for
 mod hearing; // a block's samples
 mod running; // block after block
@@ -74,7 +73,7 @@ fn imitate_of(
     to: &[u8],
     file: WaveFile,
 ) -> bool {
-    let asked = again::of_kind(&settings.kind);
+    let asked = settings.kind;
     let same = file.kind;
     let kind = kind_of(asked, same);
     let params = settings.params;
@@ -151,7 +150,7 @@ fn write_all(system: &System, from: &[u8], to: &[u8], job: Job, count: usize) ->
             absent: absent,
         };
     }
-    let ran = running::imitate(system, again::of_job(&job));
+    let ran = running::imitate(system, job);
     let outcome = ran.outcome;
     let absent = ran.absent;
     Written {

@@ -2,7 +2,6 @@
 // What a channel of a block becomes is proved in heard_channel, its delays in imitation, and what is stored in
 // wav_store.
 use crate::absences::{Absences, none_absent, with_block};
-use crate::again;
 use crate::hearing::hear;
 use crate::storing::store;
 use asked::Imitation;
@@ -19,7 +18,7 @@ use wave_file::WaveFile;
 const FRAMES: usize = 4096;
 
 // The file that is read, the kind of sample that is written, and the descriptor that it is written to.
-#[derive(Drop)]
+#[derive(Clone, Copy)]
 pub(crate) struct Job {
     pub file: WaveFile,
     pub kind: SampleKind,
@@ -61,7 +60,7 @@ pub(crate) fn imitate(system: &System, job: Job) -> Ran {
     let mut second = [0.0f32; 65536];
     let mut table = [0.0f32; 2080];
     let file = job.file;
-    let settings = &job.settings;
+    let settings = job.settings;
     let variable_delay::Opened::Reader(one) = variable_delay_f32::open(65528, 0, &mut ring) else {
         return unread(1);
     };
@@ -125,17 +124,7 @@ fn run<'a>(
     let mut turns = u64::MAX;
     while turns > 0 && done < frames {
         let n = fewer(less(frames, done), FRAMES);
-        let turn = block(
-            system,
-            again::of_job(&job),
-            sides,
-            again::of_absences(&absent),
-            ring,
-            second,
-            table,
-            done,
-            n,
-        );
+        let turn = block(system, job, sides, absent, ring, second, table, done, n);
         let outcome = turn.outcome;
         if !is_well(outcome) {
             return Ran {
@@ -176,7 +165,7 @@ fn block<'a>(
 ) -> Turn {
     let mut left = [0.0f64; FRAMES];
     let mut right = [0.0f64; FRAMES];
-    let settings = &job.settings;
+    let settings = job.settings;
     let params = settings.params;
     let engine = sides.engine;
     let wandered = imitation::wander(engine, params, settings.delay, &mut left, &mut right);

@@ -2,7 +2,7 @@
 ghost use Rattle.std.specs.Prelude.{◌≡◌};
 ghost use Rattle.oversampled_delay.specs.Reader.{from_of, lent_of, called, processed_of};
 
-use super::{Lengths, OversampledVariableDelay, Processed, inside, phases, refusals};
+use super::{Lengths, OversampledVariableDelay, Processed, phases, refusals};
 use kernels::Kernel;
 
 // 000's `previous_delay` at the first phase: the first call starts at its own delay.
@@ -49,7 +49,7 @@ pub fn process_sample<'a>(
         down: down.len(),
         ring: ring.len(),
     };
-    let no = refusals::refusal(state, inside::again(&kernel), lengths, input, delay);
+    let no = refusals::refusal(state, kernel, lengths, input, delay);
     if no != 0 {
         return Processed {
             state: state,

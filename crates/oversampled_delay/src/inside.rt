@@ -12,18 +12,6 @@ use inner_reader::Stepped;
 use kernels::Kernel;
 use variable_delay::VariableDelay;
 
-// The same kernel once more.
-pub(crate) fn again(kernel: &Kernel) -> Kernel
-    ensures { result ≡ kernel.now }
-{
-    match *kernel {
-        Kernel::Cubic => Kernel::Cubic,
-        Kernel::Lagrange(taps) => Kernel::Lagrange(taps),
-        Kernel::Farrow8 => Kernel::Farrow8,
-        Kernel::Sinc(taps, phases) => Kernel::Sinc(taps, phases),
-    }
-}
-
 // The factor as a number. It is 2 or 4, and a constant is quicker than a cast.
 pub(crate) fn rate_of(factor: usize) -> f64
     requires { (factor ≡ 2) ⊎ (factor ≡ 4) }

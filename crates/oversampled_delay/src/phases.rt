@@ -127,7 +127,7 @@ pub(crate) fn phases<'a>(
     while k < factor {
         inner = phase(
             state,
-            inside::again(&kernel),
+            kernel,
             table,
             coefficients,
             up,

@@ -29,10 +29,15 @@ fn say(rt: &HostRuntime, answer: u64, accepted: u64) {
 
 fn replay(before: Reader, ring: &mut [f64], line: Line) -> Turn {
     let s = before.state;
-    let letter = line.letter;
-    let (a, b, c) = (line.a, line.b, line.c);
     let end = part(s, line, ring.len());
-    call(before, &mut ring[..end], letter, a, b, c)
+    call(
+        before,
+        &mut ring[..end],
+        line.letter,
+        line.a,
+        line.b,
+        line.c,
+    )
 }
 
 // Goes line after line. The loop counts down from the largest u64, because the language demands that it ends; no input

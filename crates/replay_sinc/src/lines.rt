@@ -1,6 +1,6 @@
 // A line of standard input, a line of standard output, which is two words of sixteen hex digits, and what is kept
 // between two lines.
-use replay_lines::{Heard, Line};
+use replay_lines::Heard;
 use streams::{read_full, write_all};
 use variable_delay::VariableDelay;
 use word_bytes::hex16;
@@ -24,17 +24,6 @@ pub fn hear(rt: &HostRuntime) -> Heard {
     let mut text = [0u8; 53];
     let n = read_full(rt, &mut text);
     replay_lines::line_heard(n, &text)
-}
-
-// The same line once more, because a line is moved into what takes it.
-pub fn copied(line: &Line) -> Line {
-    Line {
-        letter: line.letter,
-        mark: line.mark,
-        a: line.a,
-        b: line.b,
-        c: line.c,
-    }
 }
 
 pub fn say(rt: &HostRuntime, answer: u64, beside: u64) {

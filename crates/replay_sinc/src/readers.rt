@@ -1,7 +1,7 @@
 // The reader over f64, with the parts of its ring and its table that the settings take.
 ghost use Rattle.std.specs.Prelude.{◌≤◌};
 
-use crate::lines::{Player, Shape, copied};
+use crate::lines::{Player, Shape};
 use crate::turns::{Turn, answered, pattern, started};
 use bit_patterns::float_of;
 use replay_lines::{Line, table_part};
@@ -67,7 +67,7 @@ pub fn call<'a>(
 ) -> Player {
     let shape = before.shape;
     let s = before.state;
-    let end = ring_part(s, line.letter == b'o', copied(&line), ring.len());
+    let end = ring_part(s, line.letter == b'o', line, ring.len());
     let to = table_part(shape.taps, shape.phases, table.len());
     let turn = called(rt, s, shape, &mut ring[..end], &table[..to], line);
     answered(rt, shape, turn)

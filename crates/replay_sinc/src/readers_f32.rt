@@ -1,6 +1,6 @@
 // The reader over f32: what `readers` has, over its own ring and table.
 use crate::elements::single;
-use crate::lines::{Player, Shape, copied};
+use crate::lines::{Player, Shape};
 use crate::readers::ring_part;
 use crate::turns::{Turn, answered, pattern_f32, started};
 use bit_patterns::float_of;
@@ -53,7 +53,7 @@ pub fn call_f32<'a>(
 ) -> Player {
     let shape = before.shape;
     let s = before.state;
-    let end = ring_part(s, line.letter == b'O', copied(&line), ring.len());
+    let end = ring_part(s, line.letter == b'O', line, ring.len());
     let to = table_part(shape.taps, shape.phases, table.len());
     let turn = called_f32(s, shape, &mut ring[..end], &table[..to], line);
     answered(rt, shape, turn)

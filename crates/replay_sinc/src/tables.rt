@@ -1,6 +1,6 @@
 // The tables of both widths, built from the same settings.
 use crate::elements::{set, write};
-use crate::lines::{Player, Shape, copied, say};
+use crate::lines::{Player, Shape, say};
 use bit_patterns::{bits_of, float_of};
 use replay_lines::{Line, refused, table_part};
 use sinc_settings::Settings;
@@ -74,7 +74,7 @@ fn called(rt: &HostRuntime, shape: Shape, table: &mut [f64], table_f32: &mut [f3
         set(rt, table, table_f32, line);
         return;
     }
-    let a = build(shape, table, copied(&line));
+    let a = build(shape, table, line);
     let b = build_f32(shape, table_f32, line);
     say(rt, a, b);
     write(rt, &table[..], &table_f32[..]);

@@ -1,6 +1,5 @@
 // What the arguments of `residual FIRST SECOND [NAME=VALUE …]` ask for, and which of them names the picture, 0 for
 // none.
-use crate::again;
 use arguments::Argument;
 use asked::{Compared, Comparison};
 use system::{STANDARD_ERROR, System};
@@ -107,7 +106,7 @@ fn at_picture(asked: ToCompare, i: usize) -> ToCompare {
 
 fn with_setting(system: &System, asked: ToCompare, words: &[u8], argument: Argument) -> ToCompare {
     let names = asked.names;
-    let settings = again::of_settings(&asked.settings);
+    let settings = asked.settings;
     let changed = asked::compared_with(settings, argument);
     match changed {
         Compared::Asked(s) => ToCompare {

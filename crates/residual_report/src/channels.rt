@@ -1,5 +1,4 @@
 // A block of both files, channel by channel: the report is carried on, and the peaks of the block's stretch are raised.
-use crate::again;
 use crate::comparing::{Job, Reports};
 use crate::filling::fill;
 use outcomes::{Outcome, is_well, refused_at, well};
@@ -41,7 +40,7 @@ fn compare_parts(
     one: &[u8],
     two: &[u8],
 ) -> Reports {
-    let half = compare_first(again::of_job(&job), reports, peaks, k, done, n, one, two);
+    let half = compare_first(job, reports, peaks, k, done, n, one, two);
     compare_rest(job, half, peaks, plus(k, 2000), done, n, one, two)
 }
 

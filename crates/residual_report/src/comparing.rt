@@ -1,7 +1,6 @@
 // `residual` over open files: it compares two files in whole numbers of 24 bits, block after block, and notes the peaks
 // of each stretch for a picture. What a report says is proved in residual, what a peak is in peaks, which frames are
 // compared in compared_frames.
-use crate::again;
 use crate::channels::compare_channels;
 use compared_frames::{Extent, block_of, stretch_end, stretch_of};
 use outcomes::{Outcome, broken, is_well, well};
@@ -12,7 +11,7 @@ use wave_file::{WaveFile, read_frames};
 
 // Two files, the frames of them that are compared, and the channel, 0 for all. If a picture is wanted, `stretches` is
 // the number of its stretches, at most 1000; otherwise it is 1.
-#[derive(Drop)]
+#[derive(Clone, Copy)]
 pub(crate) struct Job {
     pub first: WaveFile,
     pub second: WaveFile,
@@ -34,7 +33,7 @@ pub(crate) struct Reports {
 // The peaks are those of the samples and then of the differences of channel 1, followed by those of channel 2, with
 // 1000 places for each.
 pub(crate) fn compare(system: &System, job: Job, peaks: &mut [u32]) -> Reports {
-    let extent = &job.extent;
+    let extent = job.extent;
     let frames = extent.frames;
     let mut reports = none();
     let mut done: usize = 0;
@@ -45,7 +44,7 @@ pub(crate) fn compare(system: &System, job: Job, peaks: &mut [u32]) -> Reports {
         k = stretch_of(frames, job.stretches, k, done);
         let end = stretch_end(frames, job.stretches, plus(k, 1));
         let n = block_of(less(end, done));
-        reports = block(system, again::of_job(&job), reports, peaks, k, done, n);
+        reports = block(system, job, reports, peaks, k, done, n);
         let outcome = reports.outcome;
         if !is_well(outcome) {
             return reports;
@@ -98,7 +97,7 @@ fn block(
 ) -> Reports {
     let mut left = [0u8; 32768];
     let mut right = [0u8; 32768];
-    let extent = &job.extent;
+    let extent = job.extent;
     let first = job.first;
     let second = job.second;
     let io = read_frames(system, first, plus(extent.first, done), &mut left, n);

@@ -2,7 +2,6 @@
 // other, and draws a picture of it if one is wanted.
 #![tactic(auto)]
 
-mod again; // values once more
 mod asking; // what the arguments ask for
 mod channels; // a block, channel by channel
 mod comparing; // block after block
@@ -126,14 +125,14 @@ fn compare_both(
     a: WaveFile,
     b: WaveFile,
 ) -> bool {
-    let asked = again::of_channel(&settings.channel);
+    let asked = settings.channel;
     let channel = channel_of(asked);
     if !comparable(system, first, second, a, b, channel) {
         return false;
     }
     say_wrapped(system, b"residual", first, a);
     say_wrapped(system, b"residual", second, b);
-    let job = job_of(again::of_settings(&settings), a, b, channel);
+    let job = job_of(settings, a, b, channel);
     if settings.picture {
         return draw(system, job, picture, first, second);
     }
@@ -160,7 +159,7 @@ fn job_of(settings: Comparison, a: WaveFile, b: WaveFile, channel: u8) -> Job {
     Job {
         first: a,
         second: b,
-        extent: again::of_extent(&extent),
+        extent: extent,
         channel: channel,
         stretches: stretches_of(settings.picture, extent.frames),
         drawn: settings.picture,
@@ -173,7 +172,7 @@ fn stretches_of(drawn: bool, frames: usize) -> usize {
 
 fn tell(system: &System, job: Job, first: &[u8], second: &[u8]) -> bool {
     let mut peaks = [0u32; 1];
-    let reports = comparing::compare(system, again::of_job(&job), &mut peaks);
+    let reports = comparing::compare(system, job, &mut peaks);
     if ended_well(system, reports, first, second) {
         return reporting::tell(system, job, reports, first, second);
     }
@@ -212,17 +211,8 @@ fn draw_into(
     second: &[u8],
 ) -> bool {
     let mut peaks = [0u32; 4000];
-    let reports = comparing::compare(system, again::of_job(&job), &mut peaks);
-    let well = drawn(
-        system,
-        again::of_job(&job),
-        reports,
-        picture,
-        fd,
-        first,
-        second,
-        &peaks,
-    );
+    let reports = comparing::compare(system, job, &mut peaks);
+    let well = drawn(system, job, reports, picture, fd, first, second, &peaks);
     if part_file::finish(system, b"residual", picture, fd, well) {
         return reporting::tell(system, job, reports, first, second);
     }

@@ -1,5 +1,4 @@
 // The lines of a residual's report, on standard output.
-use crate::again;
 use crate::comparing::{Job, Reports};
 use residual::Report;
 use sizes::begun;
@@ -18,7 +17,7 @@ pub(crate) fn tell(
     first: &[u8],
     second: &[u8],
 ) -> bool {
-    let extent = again::of_extent(&job.extent);
+    let extent = job.extent;
     if !tell_file(system, b"first: ", first, job.first) {
         return false;
     }

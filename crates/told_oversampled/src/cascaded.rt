@@ -8,7 +8,7 @@ ghost use Rattle.told_oversampled.specs.Cascaded.{leaves_told, leaves_twice, tol
 ghost use Rattle.told_oversampled.specs.Reckoned.{saved_of, quarters_accepted, reckoned_inside};
 
 use crate::ToldTwice;
-use crate::readings::{Accepted, accepts, again, start, summed};
+use crate::readings::{Accepted, accepts, start, summed};
 use absent_taps::Absent;
 use cascaded_delay::CascadedOversampledVariableDelay4x;
 use kernels::Kernel;
@@ -121,7 +121,7 @@ pub fn cascaded_told<'a>(
     let before = saved(&up2[..], state.accepted);
     let p = cascaded_delay::process_sample(
         state,
-        again(&kernel),
+        kernel,
         table,
         halfband,
         last,

@@ -5,7 +5,7 @@ ghost use Rattle.told_oversampled.specs.Direct.{leaves_told, leaves_once, told_o
 ghost use Rattle.told_oversampled.specs.Reckoned.{phases_accepted};
 
 use crate::Told;
-use crate::readings::{Accepted, accepts, again, start, summed};
+use crate::readings::{Accepted, accepts, start, summed};
 use kernels::Kernel;
 use oversampled_delay::OversampledVariableDelay;
 
@@ -56,7 +56,7 @@ pub fn oversampled_told<'a>(
     let len = ring.len();
     let p = oversampled_delay::process_sample(
         state,
-        again(&kernel),
+        kernel,
         table,
         coefficients,
         &mut up[..],

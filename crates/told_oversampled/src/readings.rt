@@ -7,7 +7,6 @@ ghost use Rattle.fir_filter.specs.Filters.{output_of};
 ghost use Rattle.told_oversampled.specs.Reckoned.{Room, which_of, with_reading, reckoned};
 
 use absent_taps::Absent;
-use kernels::Kernel;
 
 // Whether each inner sample of a call was accepted. At the factor 2 the first two count.
 #[derive(Clone, Copy)]
@@ -23,18 +22,6 @@ pub struct Accepted {
 pub struct Sums {
     pub inner: u64,
     pub absent: Absent,
-}
-
-// The same kernel once more.
-pub(crate) fn again(kernel: &Kernel) -> Kernel
-    ensures { result ≡ kernel.now }
-{
-    match *kernel {
-        Kernel::Cubic => Kernel::Cubic,
-        Kernel::Lagrange(taps) => Kernel::Lagrange(taps),
-        Kernel::Farrow8 => Kernel::Farrow8,
-        Kernel::Sinc(taps, phases) => Kernel::Sinc(taps, phases),
-    }
 }
 
 // The previous delay of a call: the first call starts at its own delay. It is an f64, as the law that bounds the inner

@@ -1,9 +1,8 @@
 -- `cascaded_delay::calls::process_sample` meets its contract, by the laws of `OneCall`. Assumes nothing.
-use mathlib.Core.Path.{◌≡◌}
 use native.Mathlib.Omega.{arith}
 use lib.Ieee.{of_bits}
 use Rattle.cascaded_delay.specs.Halves.{Ready}
-use Rattle.cascaded_delay.specs.Reader.{Lent, lent_of, lengths_of, due_of}
+use Rattle.cascaded_delay.specs.Reader.{Lent, lent_of}
 use Rattle.cascaded_delay.proofs.OneCall.{refused-call, taken-call, ready}
 use Rattle.cascaded_delay.proofs.calls.process_sample.Goals as goal
 use Rattle.cascaded_delay.proofs.calls.process_sample.Goals.{After-refusal-no, Else-no-ne0}
@@ -14,23 +13,18 @@ lent r =
     lent_of a.table.now a.halfband.now a.last.now a.up1.now a.up2.now a.down2.now
     a.down1.now a.ring.now
 
--- The number, of the kernel itself.
-due : (c : After-refusal-no) → let a = c.args in
-    c.refusal-no.result ≡ due_of a.kernel a.state (lengths_of (lent c)) a.input a.delay
-due c = rw c.again.ensures at c.refusal-no.ensures
-
 readied : (c : Else-no-ne0) → Ready c.args.state
 readied c =
     let a = c.args in
     let r = (goal.at.Else-no-ne0 c).After-refusal-no in
-    ready a.kernel a.state (lent r) a.input a.delay (due r) c.if-no-ne0.false
+    ready a.kernel a.state (lent r) a.input a.delay c.refusal-no.ensures c.if-no-ne0.false
 
 pub returns-then-no-ne0 : goal.returns-then-no-ne0
 unfolding of_bits
 returns-then-no-ne0 c =
     let a = c.args in
     let r = (goal.at.returns-then-no-ne0 c).After-refusal-no in
-    let both = refused-call a.kernel a.state (lent r) a.input a.delay (due r) c.if-no-ne0.true
+    let both = refused-call a.kernel a.state (lent r) a.input a.delay c.refusal-no.ensures c.if-no-ne0.true
     c.answered.ensures in
     record {
       value = both.0;
@@ -59,7 +53,7 @@ pub returns : goal.returns
 returns c =
     let a = c.args in
     let r = (goal.at.returns c).After-refusal-no in
-    let both = taken-call a.kernel a.state (lent r) a.input a.delay (due r) c.if-no-ne0.false _ _ _ _ _ _ _
+    let both = taken-call a.kernel a.state (lent r) a.input a.delay c.refusal-no.ensures c.if-no-ne0.false _ _ _ _ _ _ _
     c.push_number.ensures c.start-from.ensures (
       c.both_halves-inner.ensures.value,
       (

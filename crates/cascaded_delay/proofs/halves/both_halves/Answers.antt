@@ -25,14 +25,8 @@ returns c =
     let both = both_halves
     (turn_of (read_by a.kernel a.table.now) a.state a.halfband.now a.up1.now a.from a.delay)
     (joined a.state.inner a.up2.now a.down2.now a.down1.now a.ring.now) _ _ _ _ _ _ _ _ _ _ (
-      rw c.again.ensures at h.value,
-      (
-        rw c.again.ensures at h.up2_after,
-        (
-          rw c.again.ensures at h.down2_after,
-          (rw c.again.ensures at h.down1_after, rw c.again.ensures at h.ring_after),
-        ),
-      ),
+      h.value,
+      (h.up2_after, (h.down2_after, (h.down1_after, h.ring_after))),
     ) (
       c.half.ensures.value,
       (

@@ -54,11 +54,8 @@ returns c =
       down1 = a.down1.now;
       ring = a.ring.now;
     }) c.requires.2 c.push.ensures (
-      rw c.again.ensures at c.quarter-first.ensures.value,
-      (
-        rw c.again.ensures at c.quarter-first.ensures.down2_after,
-        rw c.again.ensures at c.quarter-first.ensures.ring_after,
-      ),
+      c.quarter-first.ensures.value,
+      (c.quarter-first.ensures.down2_after, c.quarter-first.ensures.ring_after),
     )
     (c.quarter-second.ensures.value, (c.quarter-second.ensures.down2_after, c.quarter-second.ensures.ring_after))
     c.output-lowered.ensures c.push-2.ensures in

@@ -1,8 +1,8 @@
 -- `oversampled_delay::calls::process_sample` meets its contract, by the laws of `OneCall`. Assumes nothing.
-use Rattle.std.proofs.Common.{◌≡◌, ◌+◌, mul-le-mul_right, arith}
+use Rattle.std.proofs.Common.{◌+◌, mul-le-mul_right, arith}
 use lib.Ieee.{of_bits}
 use Rattle.oversampled_delay.specs.Phases.{Ready}
-use Rattle.oversampled_delay.specs.Reader.{lent_of, Lent, lengths_of, due_of}
+use Rattle.oversampled_delay.specs.Reader.{lent_of, Lent}
 use Rattle.oversampled_delay.proofs.OneCall.{refused-call, taken-call, ready, tested}
 use Rattle.oversampled_delay.proofs.calls.process_sample.Goals as goal
 use Rattle.oversampled_delay.proofs.calls.process_sample.Goals.{After-refusal-no, Else-no-ne0}
@@ -12,23 +12,18 @@ lent c =
     let a = c.args in
     lent_of a.table.now a.coefficients.now a.up.now a.down.now a.ring.now
 
--- The number, of the kernel itself.
-due : (c : After-refusal-no) → let a = c.args in
-    c.refusal-no.result ≡ due_of a.kernel a.state (lengths_of (lent c)) a.input a.delay
-due c = rw c.again.ensures at c.refusal-no.ensures
-
 readied : (c : Else-no-ne0) → Ready c.args.state
 readied c =
     let a = c.args in
     let r = (goal.at.Else-no-ne0 c).After-refusal-no in
-    ready a.kernel a.state (lent r) a.input a.delay (due r) c.if-no-ne0.false
+    ready a.kernel a.state (lent r) a.input a.delay c.refusal-no.ensures c.if-no-ne0.false
 
 pub returns-then-no-ne0 : goal.returns-then-no-ne0
 unfolding of_bits
 returns-then-no-ne0 c =
     let a = c.args in
     let r = (goal.at.returns-then-no-ne0 c).After-refusal-no in
-    let both = refused-call a.kernel a.state (lent r) a.input a.delay (due r) c.if-no-ne0.true
+    let both = refused-call a.kernel a.state (lent r) a.input a.delay c.refusal-no.ensures c.if-no-ne0.true
     c.answered.ensures in
     record { value = both.0; up_after = both.1.0; down_after = both.1.1.0; ring_after = both.1.1.1 }
 
@@ -37,7 +32,7 @@ phases-inner-requires c =
     let a = c.args in
     let r = (goal.at.phases-inner-requires c).After-refusal-no in (
       readied (goal.at.phases-inner-requires c).Else-no-ne0,
-      tested a.kernel a.state (lent r) a.input a.delay (due r) c.if-no-ne0.false
+      tested a.kernel a.state (lent r) a.input a.delay c.refusal-no.ensures c.if-no-ne0.false
           c.start.ensures,
     )
 
@@ -55,7 +50,7 @@ pub returns : goal.returns
 returns c =
     let a = c.args in
     let r = (goal.at.returns c).After-refusal-no in
-    let both = taken-call a.kernel a.state (lent r) a.input a.delay (due r) c.if-no-ne0.false
+    let both = taken-call a.kernel a.state (lent r) a.input a.delay c.refusal-no.ensures c.if-no-ne0.false
     c.push_number.ensures c.start.ensures (
       c.phases-inner.ensures.value,
       (c.phases-inner.ensures.down_after, c.phases-inner.ensures.ring_after),

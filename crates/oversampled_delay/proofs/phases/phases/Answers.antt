@@ -41,11 +41,8 @@ loop-k-preserved c =
       search rules,
       search rules,
       one_more _ _ c.loop-k.k i.3 (
-        rw c.again.ensures at c.phase-inner.ensures.value,
-        (
-          rw c.again.ensures at c.phase-inner.ensures.down_after,
-          rw c.again.ensures at c.phase-inner.ensures.ring_after,
-        ),
+        c.phase-inner.ensures.value,
+        (c.phase-inner.ensures.down_after, c.phase-inner.ensures.ring_after),
       ),
     )
 

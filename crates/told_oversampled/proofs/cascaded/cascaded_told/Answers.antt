@@ -12,7 +12,7 @@ lent c =
     lent_of a.table.now a.halfband.now a.last.now a.up1.now a.up2.now a.down2.now
     a.down1.now a.ring.now
 
--- What the call gave, of the kernel itself.
+-- What the call gave.
 gave : (c : After-process_sample-p) → let a = c.args in
     let l = called a.kernel a.state (lent c) a.input a.delay in
     let p = c.process_sample-p in
@@ -20,17 +20,8 @@ gave : (c : After-process_sample-p) → let a = c.args in
     × ((p.new.up1 ≡ l.up1) × ((p.new.up2 ≡ l.up2) × ((p.new.down2 ≡ l.down2)
     × ((p.new.down1 ≡ l.down1) × (p.new.ring ≡ l.ring)))))
 gave c =
-    let k = c.again.ensures in
-    let e = c.process_sample-p.ensures in (
-      rw k at e.value,
-      (
-        rw k at e.up1_after,
-        (
-          rw k at e.up2_after,
-          (rw k at e.down2_after, (rw k at e.down1_after, rw k at e.ring_after)),
-        ),
-      ),
-    )
+    let e = c.process_sample-p.ensures in
+    (e.value, (e.up1_after, (e.up2_after, (e.down2_after, (e.down1_after, e.ring_after)))))
 
 pub returns-then-after-state : goal.returns-then-after-state
 returns-then-after-state c =

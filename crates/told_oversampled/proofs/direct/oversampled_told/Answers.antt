@@ -12,15 +12,14 @@ lent c =
     let a = c.args in
     lent_of a.table.now a.coefficients.now a.up.now a.down.now a.ring.now
 
--- What the call gave, of the kernel itself.
+-- What the call gave.
 gave : (c : After-process_sample-p) → let a = c.args in
     let l = called a.kernel a.state (lent c) a.input a.delay in
     let p = c.process_sample-p in
     (p.result ≡ processed_of l) × ((p.new.up ≡ l.up) × ((p.new.down ≡ l.down) × (p.new.ring ≡ l.ring)))
 gave c =
-    let k = c.again.ensures in
     let e = c.process_sample-p.ensures in
-    (rw k at e.value, (rw k at e.up_after, (rw k at e.down_after, rw k at e.ring_after)))
+    (e.value, (e.up_after, (e.down_after, e.ring_after)))
 
 pub returns-then-after-state : goal.returns-then-after-state
 returns-then-after-state c =
