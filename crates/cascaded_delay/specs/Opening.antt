@@ -1,5 +1,5 @@
 -- W11j. Opening a cascaded reader over what is lent to it, and resetting one; and its latency. Definitions only.
-use Rattle.std.specs.Prelude.{ℕ, zero, suc, Bool, false, ◌&&◌, List, pos, negsuc, Float}
+use Rattle.std.specs.Prelude.{ℕ, zero, suc, Bool, false, List, pos, negsuc, Float}
 use Rattle.std.specs.Float.{fin, binary64}
 use Rattle.std.specs.Float.Ieee.{round}
 use Rattle.constants.specs.Numbers.{zero-f}

@@ -1,6 +1,6 @@
 -- The sums of absent taps item by item over a fade, how large they can be, and what ends without any. Assumes nothing.
-use Rattle.std.proofs.Common.{◌≡◌, ℕ, zero, suc, ◌+◌, ◌*◌, ◌^◌, ◌<◌, ◌≤◌, min, Bool, true, false, cond, leb, List}
-use Rattle.std.proofs.Common.{length, get_or, sym, refl, ap, ◌∙◌, add-one, arith, le-leb}
+use Rattle.std.proofs.Common.{◌≡◌, ℕ, ◌+◌, ◌*◌, ◌^◌, ◌<◌, ◌≤◌, min, Bool, true, false, cond, List}
+use Rattle.std.proofs.Common.{length, get_or, refl, ap, ◌∙◌, add-one, arith, le-leb}
 use borrow.Author.Tests.{lt-leb}
 use lib.Ieee.{Float, nan}
 use Rattle.ring.specs.Length.{zeros}

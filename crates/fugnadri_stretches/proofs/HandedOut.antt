@@ -2,8 +2,6 @@
 use mathlib.Core.Path.{◌≡◌, ap}
 use mathlib.Core.List.{List}
 use lib.Ieee.{Float}
-use Rattle.absent_taps.specs.declared.Absent.{Absent}
-use Rattle.absent_taps.specs.Absent.{absent_of}
 use Rattle.stretch_call.specs.declared.StretchAnswer.{StretchAnswer}
 use Rattle.stretch_call.specs.Items as stretch
 use Rattle.told_stretches.specs.declared.ToldStretch.{ToldStretch}

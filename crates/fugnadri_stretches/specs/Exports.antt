@@ -1,8 +1,7 @@
 -- The definitions in the exports' contracts: what a whole stretch leaves, with all that an export returns and writes in
 -- one record (W3). Definitions only.
-use Rattle.std.specs.Prelude.{ℕ, Bool, ◌&&◌, List, eqb, length, Float}
+use Rattle.std.specs.Prelude.{ℕ, ◌&&◌, List, eqb, length, Float}
 use Rattle.absent_taps.specs.declared.Absent.{Absent}
-use Rattle.variable_delay.specs.Reader.{Reading}
 use Rattle.variable_delay.specs.declared.VariableDelay.{VariableDelay}
 use Rattle.sinc_settings.specs.Ranges.{taps_ok, phases_ok}
 use Rattle.sinc_settings.specs.Refusals.{table_length}

@@ -2,7 +2,7 @@
 -- nothing else of the state has changed. From what an item gave: a refused one ends the stretch, an accepted one leaves
 -- it going. Assumes nothing.
 use mathlib.Core.Path.{◌≡◌, refl, sym, ap, ◌∙◌, subst}
-use mathlib.Core.Bool.{Bool, true, false, not, ◌&&◌}
+use mathlib.Core.Bool.{true, not, ◌&&◌}
 use mathlib.Core.List.{List}
 use Prim.Native.Nat.{ℕ, zero, suc, ◌+◌, ◌*◌, ◌^◌, ◌≤◌, ◌<◌}
 use native.Mathlib.Omega.{arith}
@@ -14,16 +14,15 @@ use Rattle.bank_choice.specs.Rates.{bank_ok, steps_of}
 use Rattle.bank_choice.specs.Inner.{choice_of}
 use Rattle.bank_choice.specs.declared.Choice.{Choice}
 use Rattle.sinc_bank_f32.specs.Sets.{set_length}
-use Rattle.bank_read.specs.Bank.{bank_at}
 use Rattle.bank_read.specs.Inner.{read_of}
 use Rattle.bank_read.proofs.BankReading.{bank-read}
 use Rattle.quality_mode.specs.declared.QualityMode.{QualityMode}
 use Rattle.quality_mode.specs.Quality.{same_q}
 use Rattle.quality_mode.proofs.Equal.{same-eq}
-use Rattle.quality_fade.specs.Fade.{fade_of, length_ok}
+use Rattle.quality_fade.specs.Fade.{fade_of}
 use Rattle.quality_fade.proofs.StaysInRange.{both}
 use Rattle.returning_fade.specs.declared.RuledFade.{RuledFade}
-use Rattle.returning_fade.specs.Rules.{ruled, place_ok, valid_of}
+use Rattle.returning_fade.specs.Rules.{ruled, valid_of}
 use Rattle.returning_fade.specs.Step.{step_of}
 use Rattle.variable_delay.specs.Reader.{stored, position_of}
 use Rattle.variable_delay.specs.declared.VariableDelay.{VariableDelay}

@@ -2,7 +2,6 @@
 -- 3 still pass. From what a call gave: a refused one ends the stretch, an accepted one leaves it going; and from the
 -- place where the quality is at rest the other items are read on. Assumes nothing.
 use mathlib.Core.Path.{◌≡◌, refl, sym, ap, ◌∙◌}
-use mathlib.Core.Bool.{Bool, true, ◌&&◌}
 use mathlib.Core.List.{List, ◌++◌, append_assoc, append-nil}
 use Prim.Native.Nat.{ℕ, zero, suc, ◌+◌, ◌-◌, ◌≤◌, ◌<◌}
 use native.Mathlib.Omega.{arith}
@@ -12,7 +11,7 @@ use borrow.Rule.Slice.PartMut.{put_mid, Post-is}
 use lib.Ieee.{Float}
 use Rattle.quality_mode.specs.declared.QualityMode.{QualityMode}
 use Rattle.quality_variable_delay.specs.declared.QualityVariableDelayF32.{QualityVariableDelayF32}
-use Rattle.stretch.specs.Stretch.{Call, Called, Ran, stretch_of}
+use Rattle.stretch.specs.Stretch.{Call, Ran, stretch_of}
 use Rattle.stretch.specs.Whole.{whole_of}
 use Rattle.stretch.proofs.Going as going
 use Rattle.stretch.proofs.Laws.{done-fits}

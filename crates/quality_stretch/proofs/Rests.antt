@@ -1,12 +1,10 @@
 -- W3f. If the current quality and the target are the one that is asked for, an accepted call reads that quality alone
 -- and leaves the fade as it was, by either rule. Assumes nothing.
-use mathlib.Core.Path.{◌≡◌, refl, sym, ap, ◌∙◌, subst}
+use mathlib.Core.Path.{◌≡◌, refl, sym, ap, ◌∙◌}
 use mathlib.Core.Bool.{Bool, true, false, ◌&&◌, false≢true}
 use Prim.Native.Nat.{ℕ}
 use Rattle.quality_mode.specs.declared.QualityMode.{QualityMode}
-use Rattle.quality_mode.specs.Quality.{same_q}
-use Rattle.quality_mode.proofs.Equal.{same-eq, same_refl}
-use Rattle.quality_fade.specs.declared.Fade.{Fade}
+use Rattle.quality_mode.proofs.Equal.{same_refl}
 use Rattle.quality_fade.specs.declared.Turn.{Turn}
 use Rattle.quality_fade.specs.Fade.{fade_of, length_ok}
 use Rattle.quality_fade.proofs.OneCall as ported

@@ -1,6 +1,6 @@
 -- W3, W3f. QualityVariableDelayF32 as a reader of stretches: its tests 1 to 3, and its single call with the one quality
 -- and the one rate of the stretch, so that a fade goes on from item to item. Definitions only.
-use Rattle.std.specs.Prelude.{ℕ, ◌*◌, ◌&&◌, List, eqb, leb, length, Float}
+use Rattle.std.specs.Prelude.{◌*◌, ◌&&◌, List, eqb, leb, length, Float}
 use Rattle.constants.specs.Numbers.{limit}
 use Rattle.answer.specs.Answers.{number_f32_of, value_f32_of}
 use Rattle.ring.specs.Length.{settings_ok, length_for}

@@ -11,7 +11,6 @@ use lib.Dec.{leb}
 use lib.ListN.{length, get_or, length-set}
 use lib.Ieee.{Float, nan}
 use Rattle.answer.proofs.Cases.{number-f32-is}
-use Rattle.variable_delay.specs.declared.VariableDelay.{VariableDelay}
 use Rattle.absent_taps.specs.declared.Absent.{Absent}
 use Rattle.absent_taps.specs.Absent.{none}
 use Rattle.bank_choice.specs.Inner.{choice_of}
@@ -36,7 +35,7 @@ use Rattle.quality_stretch.specs.Reader as stretch
 use Rattle.quality_stretch.specs.declared.StretchedQ.{StretchedQ}
 use Rattle.quality_stretch.proofs.Orderly.{orderly}
 use Rattle.fade_absent.specs.Sums.{next_of, fade_after, item_absent, sums_of}
-use Rattle.told_quality_stretch.specs.Told.{absence, stretch_absent, leaves, told_by, told_of, Left}
+use Rattle.told_quality_stretch.specs.Told.{absence, stretch_absent, leaves, told_by, told_of}
 use Rattle.told_quality_stretch.specs.declared.ToldStretchedQ.{ToldStretchedQ}
 
 -- The state with another count and another fade.

@@ -1,5 +1,4 @@
 -- `coded_stretch::apart` meets its contract: it takes the parts one after the other. Assumes nothing.
-use borrow.Author.Rules.{rules}
 use Rattle.coded_stretch.proofs.apart.Goals as goal
 
 pub returns : goal.returns

@@ -1,5 +1,4 @@
 -- `coded_stretch::process_stretch` meets its contract, by the test of the numbers. Assumes nothing.
-use borrow.Author.Rules.{rules}
 use mathlib.Core.Path.{◌≡◌, sym, ◌∙◌, ap}
 use mathlib.Core.Bool.{Bool, true, false, ◌&&◌}
 use Rattle.quality_codes.specs.Codes.{code_ok, fields_ok}

@@ -1,6 +1,6 @@
 -- `fade_absent::absent_in` meets its contract: the loop adds item by item, and no sum can overflow. Assumes nothing.
-use Rattle.std.proofs.Common.{◌-◌, ◌∙◌, arith, rules}
-use Rattle.fade_absent.proofs.Added.{Adding, begun, least, one_more, ended, too_many}
+use Rattle.std.proofs.Common.{◌∙◌, arith}
+use Rattle.fade_absent.proofs.Added.{begun, least, one_more, ended, too_many}
 use Rattle.fade_absent.proofs.absent_in.Goals as goal
 
 pub returns-then-before-gt-LIMIT : goal.returns-then-before-gt-LIMIT

@@ -1,5 +1,5 @@
-use Rattle.std.proofs.Common.{◌-◌, ◌∙◌, arith, rules}
-use Rattle.fade_absent.proofs.Added.{Adding, begun, least, one_more, ended, too_many}
+use Rattle.std.proofs.Common.{◌-◌}
+use Rattle.fade_absent.proofs.Added.{Adding}
 use Rattle.fade_absent.proofs.absent_in.Given as goal
 
 abbrev pub invariant-loop-k : goal.invariant-loop-k

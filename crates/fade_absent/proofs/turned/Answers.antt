@@ -1,5 +1,5 @@
 -- `fade_absent::turned` meets its contract: it counts what the turn of its step reads. Assumes nothing.
-use Rattle.std.proofs.Common.{◌∙◌, rules}
+use Rattle.std.proofs.Common.{◌∙◌}
 use Rattle.fade_absent.proofs.turned.Goals as goal
 
 pub returns : goal.returns

@@ -1,7 +1,7 @@
 -- `quality_stretch::process_stretch` meets its contract: the loop keeps `Going`, by `Fading`, and from the place where
 -- the quality is at rest `read_on` does the rest. Assumes nothing.
-use borrow.Author.Rules.{rules, scaled_Fits}
-use mathlib.Core.Path.{◌≡◌, refl, sym, ap, ◌∙◌}
+use borrow.Author.Rules.{scaled_Fits}
+use mathlib.Core.Path.{refl, sym, ◌∙◌}
 use Prim.Native.Nat.{◌-◌, ◌<◌}
 use native.Mathlib.Omega.{arith}
 use borrow.Rule.Slice.PartMut.{same_len_mid}

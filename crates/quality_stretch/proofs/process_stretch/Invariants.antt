@@ -1,11 +1,7 @@
-use borrow.Author.Rules.{rules, scaled_Fits}
-use mathlib.Core.Path.{◌≡◌, refl, sym, ap, ◌∙◌}
-use Prim.Native.Nat.{◌-◌, ◌<◌}
-use native.Mathlib.Omega.{arith}
-use borrow.Rule.Slice.PartMut.{same_len_mid}
+use mathlib.Core.Path.{◌≡◌}
+use Prim.Native.Nat.{◌-◌}
 use lib.ListN.{length}
-use Rattle.quality_stretch.proofs.Fading.{Going, tail-length, refused-first, starts}
-use Rattle.quality_stretch.proofs.Fading.{at-end, ends, goes_on, done-few, reads_on, whole-at-rest}
+use Rattle.quality_stretch.proofs.Fading.{Going}
 use Rattle.quality_stretch.proofs.process_stretch.Given as goal
 
 abbrev pub invariant-loop-k : goal.invariant-loop-k

@@ -1,5 +1,4 @@
 -- `quality_stretch::refused_first` meets its contract, by `first-due`. Assumes nothing.
-use borrow.Author.Rules.{rules}
 use Rattle.quality_stretch.proofs.FirstTests.{first-due}
 use Rattle.quality_stretch.proofs.refused_first.Goals as goal
 

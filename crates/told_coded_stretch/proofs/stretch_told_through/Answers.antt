@@ -1,6 +1,5 @@
 -- `told_coded_stretch::stretch_told_through` meets its contract: it writes what the stretch gives, and the taps that
 -- are counted beside it. Assumes nothing.
-use borrow.Author.Rules.{rules}
 use Rattle.quality_codes.specs.Codes.{state_of}
 use Rattle.told_coded_stretch.proofs.ByNames.{told}
 use Rattle.told_coded_stretch.proofs.stretch_told_through.Goals as goal

@@ -1,6 +1,5 @@
 -- `told_quality_stretch::absent_of` meets its contract: it counts from the state's fade and the rate's sets. Assumes
 -- nothing.
-use borrow.Author.Rules.{rules}
 use mathlib.Core.Path.{◌∙◌}
 use Rattle.told_quality_stretch.proofs.absent_of.Goals as goal
 

@@ -1,6 +1,5 @@
 -- `told_quality_stretch::process_stretch_told` meets its contract: the stretch answers, and its taps are counted beside
 -- it. Assumes nothing.
-use borrow.Author.Rules.{rules}
 use Rattle.told_quality_stretch.proofs.Wholes.{told}
 use Rattle.told_quality_stretch.proofs.process_stretch_told.Goals as goal
 

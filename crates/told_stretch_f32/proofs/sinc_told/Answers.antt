@@ -1,6 +1,5 @@
 -- `told_stretch_f32::sinc_told` meets its contract: the stretch answers, and its taps are counted beside it. Assumes
 -- nothing.
-use borrow.Author.Rules.{rules}
 use mathlib.Core.Bool.{◌&&◌}
 use lib.Dec.{eqb}
 use lib.ListN.{length}

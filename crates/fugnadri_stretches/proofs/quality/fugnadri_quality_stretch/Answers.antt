@@ -1,6 +1,5 @@
 -- `fugnadri_stretches::quality::fugnadri_quality_stretch` meets its contract, by that of `stretch_through`. Assumes
 -- nothing.
-use borrow.Author.Rules.{rules}
 use Rattle.fugnadri_stretches.proofs.quality.fugnadri_quality_stretch.Goals as goal
 
 pub returns : goal.returns

@@ -1,6 +1,5 @@
 -- `fugnadri_stretches::tables::fugnadri_windowed_sinc_stretch` meets its contract: it writes what the stretch gives.
 -- Assumes nothing.
-use borrow.Author.Rules.{rules}
 use Rattle.fugnadri_stretches.proofs.HandedOut.{left}
 use Rattle.fugnadri_stretches.proofs.tables.fugnadri_windowed_sinc_stretch.Goals as goal
 

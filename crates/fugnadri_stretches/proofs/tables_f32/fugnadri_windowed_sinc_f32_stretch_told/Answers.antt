@@ -1,6 +1,5 @@
 -- `fugnadri_stretches::tables_f32::fugnadri_windowed_sinc_f32_stretch_told` meets its contract: it writes what
 -- `sinc_told` gives. Assumes nothing.
-use borrow.Author.Rules.{rules}
 use Rattle.fugnadri_stretches.proofs.HandedOut.{left-told}
 use Rattle.fugnadri_stretches.proofs.tables_f32.fugnadri_windowed_sinc_f32_stretch_told.Goals as goal
 

@@ -1,6 +1,5 @@
 -- `fugnadri_stretches::told::fugnadri_cubic_stretch_told` meets its contract: it writes what `cubic_told` gives.
 -- Assumes nothing.
-use borrow.Author.Rules.{rules}
 use Rattle.fugnadri_stretches.proofs.HandedOut.{left-told}
 use Rattle.fugnadri_stretches.proofs.told.fugnadri_cubic_stretch_told.Goals as goal
 

@@ -1,5 +1,4 @@
 -- `quality_stretch::items::at_rest` meets its contract: each test is the definition's. Assumes nothing.
-use borrow.Author.Rules.{rules}
 use Rattle.quality_stretch.proofs.items.at_rest.Goals as goal
 
 pub returns : goal.returns

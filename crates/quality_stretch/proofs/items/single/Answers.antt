@@ -1,6 +1,5 @@
 -- `quality_stretch::items::single` meets its contract: it is the reader's call, taken apart. Assumes nothing.
-use borrow.Author.Rules.{rules}
-use mathlib.Core.Path.{◌≡◌, refl}
+use mathlib.Core.Path.{refl}
 use Rattle.quality_stretch.specs.Reader.{call_of}
 use Rattle.quality_stretch.proofs.items.single.Goals as goal
 

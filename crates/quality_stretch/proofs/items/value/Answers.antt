@@ -1,5 +1,4 @@
 -- `quality_stretch::items::value` meets its contract, by the two cases; the literal 0.0 is +0.0. Assumes nothing.
-use borrow.Author.Rules.{rules}
 use mathlib.Core.Path.{sym, ap}
 use lib.Ieee.{of_bits}
 use Rattle.answer.specs.Answers.{value_f32_of}

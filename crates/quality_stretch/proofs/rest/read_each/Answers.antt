@@ -1,11 +1,7 @@
 -- `quality_stretch::rest::read_each` meets its contract: the loop keeps `On`, by `AtRest`. Assumes nothing.
-use borrow.Author.Rules.{rules}
-use mathlib.Core.Path.{◌≡◌, refl, sym, ap, ◌∙◌}
-use Prim.Native.Nat.{◌-◌}
+use mathlib.Core.Path.{refl, ◌∙◌}
 use native.Mathlib.Omega.{arith}
-use lib.ListN.{length}
-use Rattle.bank_choice.specs.Inner.{choice_of}
-use Rattle.quality_stretch.proofs.AtRest.{On, starts, at-end, ends, goes_on}
+use Rattle.quality_stretch.proofs.AtRest.{starts, at-end, ends, goes_on}
 use Rattle.quality_stretch.proofs.rest.read_each.Goals as goal
 
 pub loop-k-init : goal.loop-k-init

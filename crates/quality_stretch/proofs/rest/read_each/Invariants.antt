@@ -1,10 +1,8 @@
-use borrow.Author.Rules.{rules}
-use mathlib.Core.Path.{◌≡◌, refl, sym, ap, ◌∙◌}
+use mathlib.Core.Path.{◌≡◌}
 use Prim.Native.Nat.{◌-◌}
-use native.Mathlib.Omega.{arith}
 use lib.ListN.{length}
 use Rattle.bank_choice.specs.Inner.{choice_of}
-use Rattle.quality_stretch.proofs.AtRest.{On, starts, at-end, ends, goes_on}
+use Rattle.quality_stretch.proofs.AtRest.{On}
 use Rattle.quality_stretch.proofs.rest.read_each.Given as goal
 
 abbrev pub invariant-loop-k : goal.invariant-loop-k

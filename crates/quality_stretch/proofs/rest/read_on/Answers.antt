@@ -1,7 +1,6 @@
 -- `quality_stretch::rest::read_on` meets its contract: by `Handed` in Draft and if the quality reads one table,
 -- otherwise item by item. Assumes nothing.
-use borrow.Author.Rules.{rules}
-use mathlib.Core.Path.{◌≡◌, sym, ap, ◌∙◌}
+use mathlib.Core.Path.{sym, ap, ◌∙◌}
 use native.Mathlib.Omega.{arith}
 use lib.ListN.{length}
 use Rattle.bank_read.proofs.OneTable.{one_table-held}

@@ -1,6 +1,5 @@
 -- `quality_stretch::rest::served` meets its contract: the item is refused, or its sample is stored and the ring read.
 -- Assumes nothing.
-use borrow.Author.Rules.{rules}
 use mathlib.Core.Path.{◌∙◌}
 use native.Mathlib.Omega.{arith}
 use Rattle.bank_read.specs.Inner.{read_of}
