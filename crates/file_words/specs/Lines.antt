@@ -11,7 +11,7 @@ empty_text = ascii " is empty: copy it again from where it came\n"
 abbrev pub shorter_text : List ℕ
 shorter_text = ascii " became shorter while it was read\n"
 
--- Why reading a file stopped: for 1 a call failed, and errno's text follows; otherwise the file ended too early.
+-- Why reading a file stopped: for 1 a call failed, and the system's reason follows; otherwise the file ended too early.
 abbrev pub unread_said : List ℕ → List ℕ → ℕ → ℕ
 unread_said command name number =
     cond (eqb number 1) (place_after 4608 0 (start_text command name))

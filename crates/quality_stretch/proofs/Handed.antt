@@ -106,11 +106,11 @@ module _ (sets : List Float) (max-rate : Float) (q : QualityMode) (rate : Float)
             }
 
     -- What the other stretch answers and leaves is what this one has to.
-    pub handed : Ready sets max-rate q rate d (length ring₀) → at_rest d q rate ≡ true → length ds ≡ length xs
+    pub handed_over : Ready sets max-rate q rate d (length ring₀) → at_rest d q rate ≡ true → length ds ≡ length xs
         → length out₀ ≡ length xs → {r : StretchAnswer} {ys o : List Float} → plain.leaves r ys o ≡ left
         → leaves (turns.answer (at_count d r.state.accepted) r.done r.refusal) ys o
         ≡ left_by out₀ (stretch_of (call_of sets max-rate q rate) d ring₀ xs ds)
-    handed ready rests alike room e =
+    handed_over ready rests alike room e =
         let a =
         go (length xs) ring₀ out₀ d.accepted 0 (omega arith)
         (turns.starts sets max-rate q rate d ring₀ xs ds out₀ ready rests alike room) other.begun in

@@ -20,8 +20,7 @@ pub const STANDARD_OUTPUT: i32 = 1;
 pub const STANDARD_ERROR: i32 = 2;
 
 // The reasons that are told apart or made here, by Linux' numbers: a failure that has no number, a number of no open
-// file, no memory, a file that exists, an argument or a name that is too long, and a name that is not UTF-8, which std
-// cannot open.
+// file, no memory, a file that exists, and a name that is not UTF-8, which std cannot open.
 const FAILED: i32 = 5;
 
 const NOT_OPEN: i32 = 9;
@@ -29,8 +28,6 @@ const NOT_OPEN: i32 = 9;
 const NO_MEMORY: i32 = 12;
 
 const EXISTS: i32 = 17;
-
-const TOO_LONG: i32 = 36;
 
 const NOT_UTF8: i32 = 84;
 

@@ -25,13 +25,13 @@ use Rattle.quality_variable_delay.specs.Reader.{processed_by}
 use Rattle.quality_codes.specs.declared.Coded.{Coded}
 use Rattle.quality_codes.specs.declared.Called.{Called}
 use Rattle.quality_codes.specs.Codes.{mode_of, code_ok, decoded, fields_ok, odd_number}
-use Rattle.quality_codes.specs.Calls.{pick_called, taken_apart, refused_by, called_of}
+use Rattle.quality_codes.specs.Calls.{pick_called, taken_apart, refused_by, called_of, ring_called}
 use Rattle.quality_codes.specs.Left.{changed_of}
 use Rattle.told_call.specs.Told.{unless_refused}
 use Rattle.told_quality.specs.Told.{absent_of_call}
 use Rattle.told_quality.specs.Inner.{counted_of}
 use Rattle.told_quality.proofs.ByCounts.{by-bank, in-range}
-use Rattle.told_codes.specs.Left.{leaves_told, absent_called}
+use Rattle.told_codes.specs.Left.{leaves_told, absent_called, left_by}
 
 -- The number in an answer is the verdict that made it.
 by_number : (v : ℕ) (z : Float) (s : Absent) → unless_refused v s ≡ unless_refused (number_f32_of (answer_f32_of v z)) s
@@ -70,14 +70,14 @@ module _ (max-rate : Float) (s : Coded) (xs : List Float) (x y : Float) (q : ℕ
 
     -- What the code writes: c from the call, zs the ring that it leaves, a from the count beside it. b says that every
     -- number names something.
-    pub left-told : (b : Bool) (c : Called) {d : QualityVariableDelayF32} {m : QualityMode} {a : Absent}
+    pub left-told-by : (b : Bool) (c : Called) {d : QualityVariableDelayF32} {m : QualityMode} {a : Absent}
         {zs ring : List Float} → (c ≡ called b) × (zs ≡ ring) → d ≡ decoded s → m ≡ mode_of q
         → a ≡ counted_of (length xs) d.accepted c.state.accepted y (choice_of max-rate rate)
         (step_of (fade_part d) m).turn
         → leaves_told (leaves c.number c.sample (changed_of c.state) zs) a
         ≡ leaves_told (leaves (called b).number (called b).sample (changed_of (called b).state) ring)
         (unless_refused (called b).number absent)
-    left-told b c e d m h = rw (h, d, m, e.0, e.1) (ap (leaves_told _) (by_names b))
+    left-told-by b c e d m h = rw (h, d, m, e.0, e.1) (ap (leaves_told _) (by_names b))
 
 -- The same of the reader's own call, over the sets that are lent as a bank.
 module _ (sets : List Float) (max-rate : Float) (s : Coded) (xs : List Float) (x y : Float) (q : ℕ) (rate : Float) where
@@ -88,3 +88,15 @@ module _ (sets : List Float) (max-rate : Float) (s : Coded) (xs : List Float) (x
       by_names max-rate s xs x y q rate (bank_at sets max-rate rate) (code_ok q)
       (due_of (length sets) max-rate (decoded s) (length xs) x y rate)
       (in-range (length sets) max-rate (decoded s) (length xs) x y rate) (code_ok q && fields_ok s)
+
+  -- What the code writes: c from the call, zs the ring that it leaves, a from the count beside it.
+  pub left-told : (c : Called) {d : QualityVariableDelayF32} {m : QualityMode} {a : Absent} {zs : List Float}
+      → (c ≡ called_of sets max-rate s xs x y q rate) × (zs ≡ ring_called sets max-rate s xs x y q rate)
+      → d ≡ decoded s → m ≡ mode_of q
+      → a ≡ counted_of (length xs) d.accepted c.state.accepted y (choice_of max-rate rate)
+      (step_of (fade_part d) m).turn
+      → leaves_told (leaves c.number c.sample (changed_of c.state) zs) a ≡ left_by sets max-rate s xs x y q rate
+  left-told c e =
+      left-told-by max-rate s xs x y q rate (bank_at sets max-rate rate) (code_ok q)
+      (due_of (length sets) max-rate (decoded s) (length xs) x y rate)
+      (in-range (length sets) max-rate (decoded s) (length xs) x y rate) (code_ok q && fields_ok s) c e

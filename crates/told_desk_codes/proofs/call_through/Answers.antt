@@ -6,7 +6,7 @@ use Rattle.quality_codes.specs.Codes.{state_of, decoded, fields_ok}
 use Rattle.set_room.specs.Room.{room_of}
 use Rattle.desk_delay.specs.Desk.{held_at, desk_verdict}
 use Rattle.desk_codes.specs.Calls.{named_ok, caller}
-use Rattle.told_codes.proofs.ByCounts.{left-told}
+use Rattle.told_codes.proofs.ByCounts.{left-told-by}
 use Rattle.told_desk.proofs.ByCounts.{in-range}
 use Rattle.told_desk_codes.proofs.call_through.Goals as goal
 
@@ -20,7 +20,7 @@ returns c =
     let room = room_of a.rates.now a.marks.now a.slots.now in
     let named = named_ok a.desk a.mode a.quality in
     let len = length a.ring.now in
-    left-told a.max_rate s a.ring.now a.input a.delay a.quality a.playback_rate
+    left-told-by a.max_rate s a.ring.now a.input a.delay a.quality a.playback_rate
     (held_at by room a.max_rate a.playback_rate) named
     (desk_verdict by room a.max_rate (decoded s) len a.input a.delay a.playback_rate)
     (in-range by room a.max_rate (decoded s) len a.input a.delay a.playback_rate) (named && fields_ok s)
