@@ -1,11 +1,11 @@
 /* fugnadri.h: every function that Fugnadri's static libraries export, for C. Version 0.2.0.
  *
- * The libraries are x86-64 code for Linux (System V calls), and host/libraries makes them: libfugnadri.a,
- * libfugnadri_wander.a, libfugnadri_numbers.a, libfugnadri_tables.a, libfugnadri_bank.a, libfugnadri_told.a,
- * libfugnadri_stretches.a, libfugnadri_room.a, libfugnadri_oversampled.a, libfugnadri_oversampled_told.a,
- * libfugnadri_wav.a, libfugnadri_wav_write.a, libfugnadri_aiff.a, libfugnadri_residual.a. They want `memset` and
- * nothing else of a C library, allocate nothing, keep nothing between calls, and may be called by any thread that owns
- * what it lends.
+ * The libraries are x86-64 code for Linux (System V calls), for processors with SSE4.2 (x86-64-v2), and host/libraries
+ * makes them: libfugnadri.a, libfugnadri_wander.a, libfugnadri_numbers.a, libfugnadri_tables.a, libfugnadri_bank.a,
+ * libfugnadri_told.a, libfugnadri_stretches.a, libfugnadri_room.a, libfugnadri_oversampled.a,
+ * libfugnadri_oversampled_told.a, libfugnadri_wav.a, libfugnadri_wav_write.a, libfugnadri_aiff.a,
+ * libfugnadri_residual.a. They want `memset` and nothing else of a C library, allocate nothing, keep nothing between
+ * calls, and may be called by any thread that owns what it lends.
  *
  * Lent memory: a slice is a pointer to its first element and a length in elements. A pointer is never null; that of an
  * empty slice may be any other aligned address. What is written through must not overlap anything else that is lent in

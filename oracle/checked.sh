@@ -42,7 +42,7 @@ try_module() {
         for source in "$root/crates/$door"/src/*.rt; do
             module=$(basename "$source" .rt)
             case $module in lib) path=$door ;; *) path=$door::$module ;; esac
-            sed -e 's|//.*||' "$source" | tr '\n' ' ' | grep -o 'fn fugnadri_[a-z0-9_]*([^)]*)' | sed "s/^fn /$path::/"
+            sed -e 's|//.*||' -e "s/<'a>//" "$source" | tr '\n' ' ' | grep -o 'fn fugnadri_[a-z0-9_]*([^)]*)' | sed "s/^fn /$path::/"
         done
     done | calls >"$repository/crates/tried/src/main.rt"
     tried=yes

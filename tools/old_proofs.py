@@ -124,7 +124,8 @@ def as_fields(t, ls):
         flat += ch if depth == 0 else ""
     if "∙" in flat or "." in w[0] and w[0].startswith("c."):
         return t
-    fields = "; ".join(f"{l} = both.{i}" for i, l in enumerate(ls))
+    # the older clauses were nested pairs
+    fields = "; ".join(f"{l} = both" + ".1" * i + (".0" if i < len(ls) - 1 else "") for i, l in enumerate(ls))
     return f"{head}{body[:cut]}\n    let both = {last} in\n    record {{ {fields} }}\n"
 
 
@@ -361,7 +362,8 @@ def steps(fn, t, say, by_label=True):
         # all clauses as one argument
         if len(fields) > 1:
             t = re.sub(rf"(?<![{IDC}.])((?!let)[A-Za-z][{IDC}]*(?:\.[{IDC}]+)*\.{re.escape(st)}\.ensures)(?=[\s)])(?!\s+in\b)",
-                       lambda m: "(" + ", ".join(f"{m[1]}.{x}" for x in fields) + ")", t)
+                       lambda m: "(" + ", (".join(f"{m[1]}.{x}" for x in fields[:-1]) + f", {m[1]}.{fields[-1]}"
+                       + ")" * (len(fields) - 1), t)
         # the same where a `let` names the clauses
         for al in re.findall(rf"\blet ([^\s:=]+) = [^\s]*\.{re.escape(st)}\.ensures\s+in\b", t):
             if len(fields) > 1:
@@ -377,9 +379,9 @@ def steps(fn, t, say, by_label=True):
         t = re.sub(rf"(?<![{IDC}.])({re.escape(al)}\.[a-z_0-9]+)-[0-9]+(?=\.(?:now|new)\b)", r"\1", t)
     t = re.sub(r"\.well-formed\b", ".well_formed", t)
     # older names of what is known at the start
-    t = re.sub(r"\.pre(?=[.\s)]|$)", ".requires", t)
+    t = re.sub(r"\.pre(?=[.,\s)]|$)", ".requires", t)
     t = re.sub(r"\.fits(?=\.)", ".ranges", t)
-    t = re.sub(r"\.inv(?=[.\s)]|$)", ".invariant", t)
+    t = re.sub(r"\.inv(?=[.,\s)]|$)", ".invariant", t)
     t = re.sub(r"\.good(?=\.[01])", ".well_formed", t)
     t = re.sub(r"\.type-inv\b", ".type_inv", t)
     # what an arm knows of the value that is matched
@@ -398,25 +400,29 @@ def steps(fn, t, say, by_label=True):
 def without_ways(text):
     """Writes out `abbrev begun : tie.PLACE .. → tie.EARLIER ..` with `begun c = c.before..` where it is used."""
     ways = []
+
+    def written_out(text):
+        was = None
+        while ways and was != text:
+            was = text
+            lines = text.split("\n")
+            for i, l in enumerate(lines):
+                if l.lstrip().startswith("--"):
+                    continue
+                for name, chain in ways:
+                    l = re.sub(rf"\({re.escape(name)} ([a-z][{IDC}]*(?:\.before)*)\)", rf"\1{chain}", l)
+                    l = re.sub(rf"(?<![{IDC}.]){re.escape(name)} ([a-z][{IDC}]*(?:\.before)*)(?![{IDC}.])", rf"\1{chain}", l)
+                lines[i] = l
+            text = "\n".join(lines)
+        return text
+    # a way may be written by others
     while True:
         m = re.search(rf"^abbrev ([^\s]+) :\s+tie\.[A-Z][^→]*→\s+tie\.[A-Z][^→\n]*\n\1 (\w+) = \2((?:\.before)+)\n+",
                       text, re.M)
         if not m:
             break
         ways.append((m[1], m[3]))
-        text = text[:m.start()] + text[m.end():]
-    was = None
-    while ways and was != text:
-        was = text
-        lines = text.split("\n")
-        for i, l in enumerate(lines):
-            if l.lstrip().startswith("--"):
-                continue
-            for name, chain in ways:
-                l = re.sub(rf"\({re.escape(name)} ([a-z][{IDC}]*(?:\.before)*)\)", rf"\1{chain}", l)
-                l = re.sub(rf"(?<![{IDC}.]){re.escape(name)} ([a-z][{IDC}]*(?:\.before)*)(?![{IDC}.])", rf"\1{chain}", l)
-            lines[i] = l
-        text = "\n".join(lines)
+        text = written_out(text[:m.start()] + text[m.end():])
     return text
 
 
@@ -527,6 +533,9 @@ def turn(crate, fn, path, mode=None):
         m = re.search(rf"^(?:abbrev |unfoldable )*(?:pub )?([^\s]+) :\s+\((\w+) : tie\.([A-Z][{IDC}]*)(?: [{IDC}]+)*\)", d, re.M)
         if m and norm(m[3]) in fn.place:
             over[m[1]] = (m[2], fn.place[norm(m[3])])
+        m = re.search(rf"^(?:abbrev |unfoldable )*(?:pub )?([^\s]+) :\s+tie\.([A-Z][{IDC}]*)(?: [{IDC}]+)* →", d, re.M)
+        if m and norm(m[2]) in fn.place:
+            over[m[1]] = (None, fn.place[norm(m[2])])
     if mode is None:
         named_place = sum(len(re.findall(r"\btie\.(?!Need-|spec|close|invariant|decreases)[A-Z]", d)) for d in ds)
         mode = "A" if named_place > len(over) else "B"
@@ -538,12 +547,15 @@ def turn(crate, fn, path, mode=None):
     # `use` has to import the record of a place from Goals; `goal.at` is made for those alone
     places_named = set()
 
-    def at_places(t, g):
-        """Calls of a helper over a place, from the answer of the goal g (or from a helper, g is None)."""
+    def at_places(t, g, own_place=None):
+        """Calls of a helper over a place, from the answer of the goal g (or from a helper over own_place, g is None)."""
         for h, (_, pl) in over.items():
             def one(m):
                 if not m[2]:
                     return m[0]
+                if g is None and own_place:
+                    places_named.add(pl)
+                    return f"{h} (goal.at.{own_place} {m[1]}).{pl}"
                 if g is None:
                     say(f"helper {h} is called at {m[1]}{m[2]} from a helper")
                     return m[0]
@@ -563,7 +575,12 @@ def turn(crate, fn, path, mode=None):
         rename = {n: g for n, g in goal_of.items() if g}
         body = []
         # what the invariants cite of the file's own goes with them
-        moved, queue = [], [i[2] for i in invs]
+        moved, queue = [], []
+        for i in invs:
+            # the names of the loop's variables are no helpers
+            mm = re.search(rf"^{re.escape(i[0])} ([^=]*)=", i[2], re.M)
+            bound = "|".join(re.escape(x) for x in mm[1].split()) if mm else ""
+            queue.append(re.sub(rf"(?<![{IDC}.])({bound})(?![{IDC}])", "", i[2]) if bound else i[2])
         while queue:
             q = queue.pop()
             for r in rest:
@@ -604,7 +621,7 @@ def turn(crate, fn, path, mode=None):
                         at = 0
                     lines[i] = l[:at] + re.sub(rf"(?<![{IDC}.])({alts})(?![{IDC}])", lambda m: rename[m[1]], l[at:])
                 t = "\n".join(lines)
-            t = at_places(unalias(t), goal_of[n] if n is not None else None)
+            t = at_places(unalias(t), goal_of[n] if n is not None else None, over.get(name_of(d), (None, None))[1])
             t = flatten(t)
             t = steps(fn, t, say)
             if n is not None:

@@ -1,4 +1,5 @@
 """Files that are in order: what look, plain, imitate and residual make of them."""
+import errno
 import os
 import struct
 
@@ -121,7 +122,7 @@ def pictures(sides):
 
 
 def odd_names():
-    """A picture is well-formed XML whatever bytes the files' names have."""
+    """A picture is well-formed XML whatever the files' names are. A name that is not UTF-8 cannot be opened."""
     content = wav("pcm16", 1, 48000, b"\0\1" * 100)
     for name, seen in (
         (b"caf\xc3\xa9.wav", "caf\u00e9.wav"),
@@ -134,7 +135,11 @@ def odd_names():
     ):
         save(name, content)
         got, _, said = run("residual", os.fsdecode(name), os.fsdecode(name), "picture=picture.svg")
-        title, _ = pictured.shown(load("picture.svg"))
-        check("picture, an odd name", (got, said, title), (0, "", f"How far {seen} and {seen} differ"))
-        os.remove("picture.svg")
+        if name.decode("utf-8", "ignore").encode() != name:
+            why = f"residual: {name.decode('latin-1')}: {os.strerror(errno.EILSEQ)}\n"
+            check("picture, no name", (got, said, os.path.exists("picture.svg")), (1, why, False))
+        else:
+            title, _ = pictured.shown(load("picture.svg"))
+            check("picture, an odd name", (got, said, title), (0, "", f"How far {seen} and {seen} differ"))
+            os.remove("picture.svg")
         os.remove(name)

@@ -11,7 +11,7 @@ ghost use Rattle.absent_report.specs.Samples.{no_sample, read_in, counted_in};
 use samples::{number_read, with_sample};
 
 // A sample that read taps of two kinds is counted under both, and once under `samples`.
-#[derive(Drop)]
+#[derive(Clone, Copy)]
 pub struct AbsentReport {
     // How many samples read an absent tap, of whatever kind.
     pub samples: u64,

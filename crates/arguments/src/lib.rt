@@ -44,19 +44,19 @@ pub enum Name {
 }
 
 // `kind=same` keeps the kind of the file that is read.
-#[derive(Drop)]
+#[derive(Clone, Copy)]
 pub enum Kind {
     Same,
     As(SampleKind),
 }
 
-#[derive(Drop)]
+#[derive(Clone, Copy)]
 pub enum Frames {
     All,
     Number(u64),
 }
 
-#[derive(Drop)]
+#[derive(Clone, Copy)]
 pub enum Channel {
     All,
     Only(u8),

@@ -9,7 +9,7 @@ use arguments::{Argument, Channel, Frames, Kind};
 use modulation_params::ModulationParams;
 
 // The settings of `imitate`.
-#[derive(Drop)]
+#[derive(Clone, Copy)]
 pub struct Imitation {
     pub seed: u64,
     pub delay: f64,
@@ -84,7 +84,7 @@ pub fn imitated_with(old: Imitation, argument: Argument) -> Imitated
 }
 
 // The settings of `residual`. The program itself keeps where the name of the picture stands.
-#[derive(Drop)]
+#[derive(Clone, Copy)]
 pub struct Comparison {
     pub first_skip: u64,
     pub second_skip: u64,

@@ -9,7 +9,7 @@ use sizes::{fewer, less, plus};
 
 // `frames` frames are compared, from frame `first` of the one file and frame `second` of the other on. The rest says
 // what each file has after them.
-#[derive(Drop)]
+#[derive(Clone, Copy)]
 pub struct Extent {
     pub first: usize,
     pub second: usize,

@@ -1,5 +1,5 @@
 // What a program says on standard error, one whole line at a time, and the status that it ends with. What a line says
-// is given by equations; that C's `write` takes it is assumed (docs/TRUST.md), so each call gives the number of bytes
+// is given by equations; that the system takes it is assumed (docs/TRUST.md), so each call gives the number of bytes
 // that it has handed over.
 #![tactic(auto)]
 

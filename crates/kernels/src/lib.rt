@@ -5,7 +5,7 @@ ghost use Rattle.std.specs.Prelude.{◌≡◌};
 ghost use Rattle.kernels.specs.Kernels.{read_by, taps_of, kernel_verdict};
 
 // Lagrange has its taps; the windowed sinc has its taps and phases, and its table is lent beside it.
-#[derive(Drop)]
+#[derive(Clone, Copy)]
 pub enum Kernel {
     Cubic,
     Lagrange(u64),

@@ -7,9 +7,9 @@ ghost use Rattle.outcomes.specs.Outcomes.{outcome_of, side_of, misfit_at, is_wel
 use refusal_order::both;
 use sizes::plus;
 
-// `io` is 0; or 1 if the file could not be read, for the reason in errno; 2 if it became shorter; 3 if nothing more
-// could be written, for the reason in errno. `number` is 0, or the refusal of a sample, of which `frame` is counted
-// from 0 and `channel` from 1.
+// `io` is 0; or 1 if the file could not be read, for the reason that the system has; 2 if it became shorter; 3 if
+// nothing more could be written, for the reason that the system has. `number` is 0, or the refusal of a sample, whose
+// `frame` is counted from 0 and `channel` from 1.
 #[derive(Clone, Copy)]
 pub struct Outcome {
     pub io: u8,

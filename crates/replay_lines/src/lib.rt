@@ -8,7 +8,7 @@ ghost use Rattle.replay_lines.specs.Lines.{line_of, heard_of, table_part};
 
 use word_bytes::word_at;
 
-#[derive(Drop)]
+#[derive(Clone, Copy)]
 pub struct Line {
     pub letter: u8,
     pub mark: u8,

@@ -20,8 +20,7 @@ pub const STANDARD_OUTPUT: i32 = 1;
 pub const STANDARD_ERROR: i32 = 2;
 
 // The reasons that are told apart or made here, by Linux' numbers: a failure that has no number, a number of no open
-// file, no memory, a file that exists, an argument or a name that is too long, and a name that is not UTF-8, which std
-// cannot open.
+// file, no memory, a file that exists, and a name that is not UTF-8, which std cannot open.
 const FAILED: i32 = 5;
 
 const NOT_OPEN: i32 = 9;
@@ -29,8 +28,6 @@ const NOT_OPEN: i32 = 9;
 const NO_MEMORY: i32 = 12;
 
 const EXISTS: i32 = 17;
-
-const TOO_LONG: i32 = 36;
 
 const NOT_UTF8: i32 = 84;
 
@@ -74,6 +71,12 @@ impl System {
         }
     }
 
+    // Keeps the reason of a call about a number of no open file, which does not work.
+    fn not_open(&self) -> bool {
+        self.reason.set(NOT_OPEN);
+        false
+    }
+
     // The number of a file that was opened, or -1.
     fn opened(&self, file: io::Result<File>) -> i32 {
         match file {
@@ -86,24 +89,20 @@ impl System {
     }
 
     fn numbered(&self, file: File) -> i32 {
-        self.reason.set(NO_MEMORY);
-        match self.files.try_borrow_mut() {
-            Ok(mut files) => {
-                let number = files.len().saturating_add(FIRST);
-                match files.push(Some(file)) {
-                    Ok(()) => i32::try_from(number).unwrap_or(-1),
-                    Err(_) => -1,
-                }
+        if let Ok(mut files) = self.files.try_borrow_mut() {
+            let number = files.len().saturating_add(FIRST);
+            if let Ok(()) = files.push(Some(file)) {
+                return i32::try_from(number).unwrap_or(-1);
             }
-            Err(_) => -1,
         }
+        self.reason.set(NO_MEMORY);
+        -1
     }
 
     // The number of bytes that were read from a place on into the beginning of a slice, or none where that fails.
     pub fn read_at(&self, number: i32, bytes: &mut [u8], at: u64) -> Option<usize>
         ensures { IfSome result (λ n. n ≤ length bytes.new) }
     {
-        self.reason.set(NOT_OPEN);
         match self.files.try_borrow() {
             Ok(files) => match files.get(place_of(number)) {
                 Some(Some(file)) => match file.read_at(bytes, at) {
@@ -113,15 +112,20 @@ impl System {
                         None
                     }
                 },
-                _ => None,
+                _ => {
+                    self.not_open();
+                    None
+                }
             },
-            Err(_) => None,
+            Err(_) => {
+                self.not_open();
+                None
+            }
         }
     }
 
     // The length of an open file, or none where it has none.
     pub fn length(&self, number: i32) -> Option<u64> {
-        self.reason.set(NOT_OPEN);
         match self.files.try_borrow() {
             Ok(files) => match files.get(place_of(number)) {
                 Some(Some(file)) => {
@@ -134,9 +138,15 @@ impl System {
                         }
                     }
                 }
-                _ => None,
+                _ => {
+                    self.not_open();
+                    None
+                }
             },
-            Err(_) => None,
+            Err(_) => {
+                self.not_open();
+                None
+            }
         }
     }
 
@@ -152,40 +162,40 @@ impl System {
     }
 
     fn write_file(&self, number: i32, bytes: &[u8]) -> bool {
-        self.reason.set(NOT_OPEN);
         match self.files.try_borrow() {
             Ok(files) => match files.get(place_of(number)) {
                 Some(Some(file)) => {
                     let mut written = file;
                     self.works(written.write_all(bytes))
                 }
-                _ => false,
+                _ => self.not_open(),
             },
-            Err(_) => false,
+            Err(_) => self.not_open(),
         }
     }
 
     // Waits until what was written has reached its device.
     pub fn sync(&self, number: i32) -> bool {
-        self.reason.set(NOT_OPEN);
         match self.files.try_borrow() {
             Ok(files) => match files.get(place_of(number)) {
                 Some(Some(file)) => self.works(file.sync_all()),
-                _ => false,
+                _ => self.not_open(),
             },
-            Err(_) => false,
+            Err(_) => self.not_open(),
         }
     }
 
     // Closes a file. Std does not tell whether closing failed.
     pub fn close(&self, number: i32) -> bool {
-        self.reason.set(NOT_OPEN);
         match self.files.try_borrow_mut() {
             Ok(mut files) => match files.get_mut(place_of(number)) {
-                Some(slot) => slot.take().is_some(),
-                None => false,
+                Some(slot) => match slot.take() {
+                    Some(_) => true,
+                    None => self.not_open(),
+                },
+                None => self.not_open(),
             },
-            Err(_) => false,
+            Err(_) => self.not_open(),
         }
     }
 

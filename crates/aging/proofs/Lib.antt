@@ -1,0 +1,12 @@
+pub mod Rings
+pub mod Taps
+pub mod AtCall
+pub mod InStep
+pub mod Delays
+pub mod Answers
+pub mod Readers
+pub mod Endings
+pub mod Sharp
+pub mod Qualities
+pub mod QualityAnswers
+pub mod QualityEndings

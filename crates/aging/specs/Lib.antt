@@ -1,0 +1,4 @@
+pub mod Damage
+pub mod Calls
+pub mod Sharp
+pub mod Qualities

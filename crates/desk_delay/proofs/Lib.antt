@@ -1,0 +1,4 @@
+pub mod RoomRefusal
+pub mod HeldSets
+pub mod DeskCalls
+pub mod BankRead

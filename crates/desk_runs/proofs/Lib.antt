@@ -1,0 +1,4 @@
+pub mod OneCall
+pub mod OneTurn
+pub mod AsAlone
+pub mod Grants

@@ -1,0 +1,4 @@
+pub mod FloatOrder
+pub mod RisingRooms
+pub mod RisingSlots
+pub mod OnlySlots

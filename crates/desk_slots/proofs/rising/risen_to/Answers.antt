@@ -1,0 +1,9 @@
+-- `desk_slots::rising::risen_to` meets its contract, by its test. Assumes nothing.
+use borrow.Author.Tests.{eq-eqb, ne_eqb}
+use Rattle.desk_slots.proofs.rising.risen_to.Goals as goal
+
+pub returns-then-mark-eq0 : goal.returns-then-mark-eq0
+returns-then-mark-eq0 c = rw (eq-eqb _ _ c.if-mark-eq0.true)
+
+pub returns-else-mark-eq0 : goal.returns-else-mark-eq0
+returns-else-mark-eq0 c = rw (ne_eqb _ _ c.if-mark-eq0.false)

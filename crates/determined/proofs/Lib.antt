@@ -1,0 +1,4 @@
+pub mod ByEquations
+pub mod Readers
+pub mod Openings
+pub mod Builders

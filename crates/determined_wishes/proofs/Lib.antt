@@ -1,0 +1,3 @@
+pub mod Stretches
+pub mod Desks
+pub mod Oversampled

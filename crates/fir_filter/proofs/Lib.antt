@@ -1,0 +1,10 @@
+pub mod Places
+pub mod Magnitudes
+pub mod RunTurns
+pub mod Joined
+pub mod ZeroAdded
+pub mod LeftOut
+pub mod OverLags
+pub mod FourTurns
+pub mod PairSums
+pub mod PairOutputs

@@ -1,0 +1,5 @@
+-- `fugnadri_room::desks::fugnadri_desk_process` meets its contract, by that of `call_through`. Assumes nothing.
+use Rattle.fugnadri_room.proofs.desks.fugnadri_desk_process.Goals as goal
+
+pub returns : goal.returns
+returns c = c.call_through.ensures

@@ -1,0 +1,9 @@
+-- `fugnadri_told::readers::fugnadri_cubic_process_told` meets its contract: it writes what `cubic_told` gives. Assumes
+-- nothing.
+use Rattle.fugnadri_told.proofs.HandedOut.{left}
+use Rattle.fugnadri_told.proofs.readers.fugnadri_cubic_process_told.Goals as goal
+
+pub returns : goal.returns
+returns c =
+    left c.cubic_told-t.result _ (c.cubic_told-t.ensures.value, c.cubic_told-t.ensures.ring_after)
+    (c.handed.ensures.value, (c.handed.ensures.sample_after, c.handed.ensures.accepted_after))

@@ -1,0 +1,4 @@
+pub mod Fronts
+pub mod Calls
+pub mod EngineTurns
+pub mod LikeRender

@@ -1,0 +1,5 @@
+pub mod Phases
+pub mod Reader
+pub mod Opening
+pub mod Upsampled
+pub mod Inside

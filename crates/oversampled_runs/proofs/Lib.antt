@@ -1,0 +1,5 @@
+pub mod Inner
+pub mod Inside
+pub mod Counted
+pub mod InsideCascade
+pub mod CountedCascade

@@ -1,0 +1,51 @@
+-- W11i. A run of the cascaded reader's calls, as in Runs.antt. Definitions only.
+use Rattle.std.specs.Prelude.{ℕ, List, Float}
+use Rattle.kernels.specs.declared.Kernel.{Kernel}
+use Rattle.runs.specs.Calls.{run_of, accepted_of}
+use Rattle.cascaded_delay.specs.Reader.{Lent, lent_of, lengths_of, due_of, Left, left_by}
+use Rattle.cascaded_delay.specs.declared.CascadedOversampledVariableDelay4x.{CascadedOversampledVariableDelay4x}
+
+pub record Call : Type 0 where
+  pub kernel : Kernel
+  pub table : List Float
+  pub halfband : List Float
+  pub last : List Float
+  pub input : Float
+  pub delay : Float
+
+-- A reader between two calls.
+pub record Reader : Type 0 where
+  pub state : CascadedOversampledVariableDelay4x
+  pub up1 : List Float
+  pub up2 : List Float
+  pub down2 : List Float
+  pub down1 : List Float
+  pub ring : List Float
+
+abbrev pub lent_to : Reader → Call → Lent
+lent_to r c =
+    lent_of c.table c.halfband c.last r.up1 r.up2 r.down2 r.down1 r.ring
+
+abbrev pub due : Reader → Call → ℕ
+due r c = due_of c.kernel r.state (lengths_of (lent_to r c)) c.input c.delay
+
+abbrev pub reader_of : Left → Reader
+reader_of l = record {
+  state = l.state;
+  up1 = l.up1;
+  up2 = l.up2;
+  down2 = l.down2;
+  down1 = l.down1;
+  ring = l.ring;
+}
+
+-- What a call leaves, for each number by which it may be refused, 0 for none.
+abbrev pub after_by : ℕ → Reader → Call → Reader
+after_by v r c = reader_of (left_by v c.kernel r.state (lent_to r c) c.input c.delay)
+
+-- What a run of calls leaves, and which of its calls are accepted.
+abbrev pub run : Reader → List Call → Reader
+run = run_of due after_by
+
+abbrev pub accepted : Reader → List Call → List Call
+accepted = accepted_of due after_by

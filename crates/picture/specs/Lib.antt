@@ -1,0 +1,4 @@
+pub mod Names
+pub mod Bars
+pub mod Page
+pub mod Panel

@@ -1,0 +1,3 @@
+pub mod NamedQualities
+pub mod DraftCalls
+pub mod SetsByTwoTests

@@ -1,0 +1,5 @@
+-- `quality_codes::codes::odd` meets its contract, by its two choices. Assumes nothing.
+use Rattle.quality_codes.proofs.codes.odd.Goals as goal
+
+pub returns : goal.returns
+returns c = rw (c.number.ensures, c.number-early.ensures, c.both.ensures)

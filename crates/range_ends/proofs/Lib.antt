@@ -1,0 +1,14 @@
+pub mod Readers
+pub mod Oversampled
+pub mod Tables
+pub mod Banks
+pub mod Qualities
+pub mod QualityNumbers
+pub mod Wander
+pub mod Engine
+pub mod Elementary
+pub mod Files
+pub mod Formats
+pub mod WrappedFormats
+pub mod Sounds
+pub mod Residual

@@ -1,0 +1,2 @@
+pub mod LengthsFit
+pub mod EngineNeverRefuses

@@ -1,0 +1,4 @@
+pub mod Examples
+pub mod Reports
+pub mod Room
+pub mod ReportRoom

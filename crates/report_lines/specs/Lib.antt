@@ -1,0 +1,4 @@
+pub mod Files
+pub mod Times
+pub mod Looked
+pub mod Lines

@@ -1,0 +1,10 @@
+pub mod SameRate
+pub mod Marking
+pub mod StaysInRange
+pub mod SlotFloats
+pub mod StaysFurnished
+pub mod Except
+pub mod Holding
+pub mod GivingUp
+pub mod HeldSets
+pub mod AskingAgain

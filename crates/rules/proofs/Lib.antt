@@ -1,0 +1,4 @@
+pub mod Lowest
+pub mod Unchanged
+pub mod Edges
+pub mod Slices

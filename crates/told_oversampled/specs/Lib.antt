@@ -1,0 +1,4 @@
+pub mod Inside
+pub mod Direct
+pub mod Cascaded
+pub mod Reckoned

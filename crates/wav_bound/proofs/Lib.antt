@@ -1,0 +1,3 @@
+pub mod PcmIsWhole
+pub mod Filled
+pub mod Files
