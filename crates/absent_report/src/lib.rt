@@ -46,11 +46,10 @@ pub fn counted(
     ensures { result ≡ counted_in report len accepted (read_in accepted frames delays.now) }
 {
     let n = number_read(accepted, frames, delays.len());
+    let read = &delays[..n];
     let mut after = report;
-    let mut k: usize = 0;
-    while k < n {
-        after = with_sample(after, len, accepted + k as u64, delays[k]);
-        k += 1;
+    for (k, delay) in read.iter().enumerate() {
+        after = with_sample(after, len, accepted + k as u64, *delay);
     }
     after
 }

@@ -6,20 +6,14 @@ ghost use Rattle.absent_report.specs.Inner.{with_absent};
 
 use crate::AbsentReport;
 use absent_taps::Absent;
+use constants::LIMIT;
 
-// A reader refuses every sample past the 2^36th.
-const LIMIT: u64 = 0x10_0000_0000;
-
-const MOST: u64 = 0xffff_ffff_ffff_ffff;
-
-// How many of a block's samples are read.
+// How many of a block's samples are read. A reader refuses every sample past the 2^36th.
 pub(crate) fn number_read(accepted: u64, frames: usize, delays: usize) -> usize
     ensures { result ≡ min (min frames delays) (limit - accepted) }
 {
-    sizes::fewer(
-        sizes::fewer(frames, delays),
-        sizes::less(LIMIT as usize, accepted as usize),
-    )
+    let room = LIMIT.saturating_sub(accepted) as usize;
+    frames.min(delays).min(room)
 }
 
 pub(crate) fn with_sample(report: AbsentReport, len: usize, frame: u64, delay: f64) -> AbsentReport
@@ -51,7 +45,7 @@ fn with_absent(report: AbsentReport, frame: u64, s: Absent) -> AbsentReport
 fn some(taps: u64) -> u64
     ensures { result ≡ some_of taps }
 {
-    if taps == 0 { 0 } else { 1 }
+    taps.min(1)
 }
 
 fn later(taps: u64, frame: u64, before: u64) -> u64
@@ -64,9 +58,5 @@ fn later(taps: u64, frame: u64, before: u64) -> u64
 fn more(samples: u64, taps: u64) -> u64
     ensures { result ≡ plus_of samples (some_of taps) }
 {
-    if samples < MOST {
-        samples + some(taps)
-    } else {
-        MOST
-    }
+    samples.saturating_add(some(taps))
 }

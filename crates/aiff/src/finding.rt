@@ -1,6 +1,6 @@
 // W12. The answer, once the first tests have been made, the chunks walked and the first bytes of `COMM` and `SSND`
 // read.
-ghost use Rattle.std.specs.Prelude.{◌≡◌, ◌||◌, ◌≤◌};
+ghost use Rattle.std.specs.Prelude.{◌≡◌, ◌≤◌};
 ghost use Rattle.aiff.specs.Aiff.{kind_of, length_of, has_parts, listed, found_of};
 
 use crate::first_tests::{first, is_inside};
@@ -35,11 +35,11 @@ pub fn finish(aiff: bool, held: bool, end: usize, c: &[u8], s: &[u8], walked: Wa
     let channels = two(c, 0);
     let kind = kind_of(two(c, 6));
     Found::Sound(Sound {
-        kind: kind,
+        kind,
         channels: channels as u8,
-        rate: rate,
+        rate,
         start: ssnd.body + 8 + offset,
-        length: length,
+        length,
     })
 }
 
@@ -63,10 +63,7 @@ fn has_parts(walked: Walked, offset: usize) -> bool
 fn is_listed(channels: u32, bits: u32) -> bool
     ensures { result ≡ listed channels bits }
 {
-    both(
-        either(channels == 1, channels == 2),
-        either(bits == 16, bits == 24),
-    )
+    (channels == 1 || channels == 2) && (bits == 16 || bits == 24)
 }
 
 fn kind_of(bits: u32) -> SampleKind
@@ -86,10 +83,4 @@ fn length_of(c: &[u8]) -> usize
     let frames = four(c, 2);
     let frame = two(c, 0) as usize * width(kind_of(two(c, 6)));
     frames as usize * frame
-}
-
-fn either(a: bool, b: bool) -> bool
-    ensures { result ≡ a || b }
-{
-    if a { true } else { b }
 }

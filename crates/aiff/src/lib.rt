@@ -1,7 +1,7 @@
 // W12. AIFF, Apple's published layout: the part of a file that holds samples and what they are, or a refusal by number.
 #![tactic(auto)]
 
-ghost use Rattle.std.specs.Prelude.{◌≡◌, min, take, drop};
+ghost use Rattle.std.specs.Prelude.{◌≡◌, take, drop};
 ghost use Rattle.aiff.specs.Aiff.{head_of, found_in, told_in};
 
 mod finding;
@@ -89,11 +89,5 @@ pub fn part(file: &[u8], sound: Sound) -> &[u8]
 fn head_of(file: &[u8], body: usize, size: usize, most: usize) -> &[u8]
     ensures { result.now ≡ head_of most file.now body size }
 {
-    word_bytes::part(file, body, less_of(size, most))
-}
-
-fn less_of(a: usize, b: usize) -> usize
-    ensures { result ≡ min a b }
-{
-    if a < b { a } else { b }
+    word_bytes::part(file, body, size.min(most))
 }

@@ -2,8 +2,6 @@
 // stored number means the same as in Wish 1.
 #![tactic(auto)]
 
+mod by_frame; // the loops over the frames, into any type
 pub mod filling;
-mod frames; // the loops into f64, one for each kind
-mod frames_f32; // into f32
-mod frames_whole; // into i32
 mod places; // the bytes of a sample whose place is known to lie in the part

@@ -2,6 +2,7 @@
 -- nothing.
 use mathlib.Core.Path.{◌≡◌, refl}
 use lib.Ieee.{binary64, of_bits, round}
+use Rattle.std.specs.Prelude.{Some, None}
 use Rattle.byte_marks.specs.Marks.{index_of}
 use Rattle.text.specs.Text.{ascii}
 use Rattle.sample_kind.specs.declared.SampleKind.TheVariants.{Pcm24}
@@ -9,9 +10,6 @@ use Rattle.decimals.specs.Reading.{all_digits, digits_after}
 use Rattle.spelling.specs.Words.{same_bytes, all_in_name}
 use Rattle.arguments.specs.Meaning.{meaning_of}
 use Rattle.arguments.specs.declared.Setting.TheVariants.{WowRateHz, StereoAmount}
-use Rattle.arguments.specs.declared.Kind.TheVariants.{Same, As}
-use Rattle.arguments.specs.declared.Frames.TheVariants.{All as All·frames, Number}
-use Rattle.arguments.specs.declared.Channel.TheVariants.{Only}
 use Rattle.arguments.specs.declared.Name.TheVariants as name
 use Rattle.arguments.specs.declared.Argument.TheVariants.{File, Unknown, Bad, Seed, Delay, Kind, Setting}
 use Rattle.arguments.specs.declared.Argument.TheVariants.{FirstSkip, SecondSkip, Frames, Channel, Picture}
@@ -64,11 +62,11 @@ stereo : meaning_of (ascii "stereo_amount=x") ≡ Bad (name.Setting StereoAmount
 unfolding ascii index_of same_bytes all_in_name all_digits digits_after round of_bits
 stereo = refl
 
-kind : meaning_of (ascii "kind=pcm24") ≡ Kind (As Pcm24)
+kind : meaning_of (ascii "kind=pcm24") ≡ Kind (Some Pcm24)
 unfolding ascii index_of same_bytes all_in_name all_digits digits_after round of_bits
 kind = refl
 
-same_kind : meaning_of (ascii "kind=same") ≡ Kind Same
+same_kind : meaning_of (ascii "kind=same") ≡ Kind None
 unfolding ascii index_of same_bytes all_in_name all_digits digits_after round of_bits
 same_kind = refl
 
@@ -84,15 +82,15 @@ other-skip : meaning_of (ascii "second-skip=0") ≡ SecondSkip 0
 unfolding ascii index_of same_bytes all_in_name all_digits digits_after round of_bits
 other-skip = refl
 
-frames : meaning_of (ascii "frames=all") ≡ Frames All·frames
+frames : meaning_of (ascii "frames=all") ≡ Frames None
 unfolding ascii index_of same_bytes all_in_name all_digits digits_after round of_bits
 frames = refl
 
-so-many : meaning_of (ascii "frames=48000") ≡ Frames (Number 48000)
+so-many : meaning_of (ascii "frames=48000") ≡ Frames (Some 48000)
 unfolding ascii index_of same_bytes all_in_name all_digits digits_after round of_bits
 so-many = refl
 
-channel : meaning_of (ascii "channel=2") ≡ Channel (Only 2)
+channel : meaning_of (ascii "channel=2") ≡ Channel (Some 2)
 unfolding ascii index_of same_bytes all_in_name all_digits digits_after round of_bits
 channel = refl
 

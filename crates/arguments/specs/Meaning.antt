@@ -1,19 +1,13 @@
 -- What an argument means. Definitions only.
-use Rattle.std.specs.Prelude.{ℕ, ◌+◌, Bool, true, false, cond, List, eqb, length, take, drop}
+use Rattle.std.specs.Prelude.{ℕ, ◌+◌, Bool, true, false, cond, List, eqb, length, take, drop, Option, Some, None}
+use Rattle.std.specs.Float.Ieee.{Float}
 use Prim.Native.String.{String}
 use Rattle.text.specs.Text.{ascii}
 use Rattle.sample_kind.specs.declared.SampleKind.TheVariants.{Pcm16, Pcm24, Float32}
-use Rattle.decimals.specs.declared.Number.{Number}
-use Rattle.decimals.specs.declared.Number.TheVariants.{Is as Is·number, Not as Not·number}
-use Rattle.decimals.specs.declared.Value.{Value}
-use Rattle.decimals.specs.declared.Value.TheVariants.{Is as Is·value, Not as Not·value}
 use Rattle.decimals.specs.Reading.{whole_in, value_in}
 use Rattle.spelling.specs.Words.{same_bytes, split_in, is_named}
 use Rattle.arguments.specs.Names.{name_in}
 use Rattle.arguments.specs.declared.Setting.{Setting as Setting·}
-use Rattle.arguments.specs.declared.Kind.TheVariants.{Same, As}
-use Rattle.arguments.specs.declared.Frames.TheVariants.{All as All·frames, Number as Number·frames}
-use Rattle.arguments.specs.declared.Channel.TheVariants.{All as All·channels, Only}
 use Rattle.arguments.specs.declared.Name.{Name}
 use Rattle.arguments.specs.declared.Name.TheVariants as name
 use Rattle.arguments.specs.declared.Argument.{Argument}
@@ -25,47 +19,47 @@ abbrev pub either : List ℕ → String → Argument → Argument → Argument
 either word this a b = cond (same_bytes word (ascii this)) a b
 
 -- ---- whole numbers of 64 bits
-abbrev pub as_seed : Number → Argument
-as_seed (Is·number n) = Seed n
-as_seed Not·number = Bad name.Seed
+abbrev pub as_seed : Option ℕ → Argument
+as_seed (Some n) = Seed n
+as_seed None = Bad name.Seed
 
-abbrev pub as_first_skip : Number → Argument
-as_first_skip (Is·number n) = FirstSkip n
-as_first_skip Not·number = Bad name.FirstSkip
+abbrev pub as_first_skip : Option ℕ → Argument
+as_first_skip (Some n) = FirstSkip n
+as_first_skip None = Bad name.FirstSkip
 
-abbrev pub as_second_skip : Number → Argument
-as_second_skip (Is·number n) = SecondSkip n
-as_second_skip Not·number = Bad name.SecondSkip
+abbrev pub as_second_skip : Option ℕ → Argument
+as_second_skip (Some n) = SecondSkip n
+as_second_skip None = Bad name.SecondSkip
 
 -- The value is `all` or a number.
-abbrev pub as_frames : Bool → Number → Argument
-as_frames true n = Frames All·frames
-as_frames false (Is·number n) = Frames (Number·frames n)
-as_frames false Not·number = Bad name.Frames
+abbrev pub as_frames : Bool → Option ℕ → Argument
+as_frames true n = Frames None
+as_frames false (Some n) = Frames (Some n)
+as_frames false None = Bad name.Frames
 
 -- ---- fractions
-abbrev pub as_delay : Value → Argument
-as_delay (Is·value x) = Delay x
-as_delay Not·value = Bad name.Delay
+abbrev pub as_delay : Option Float → Argument
+as_delay (Some x) = Delay x
+as_delay None = Bad name.Delay
 
-abbrev pub as_setting : Setting· → Value → Argument
-as_setting s (Is·value x) = Setting s x
-as_setting s Not·value = Bad (name.Setting s)
+abbrev pub as_setting : Setting· → Option Float → Argument
+as_setting s (Some x) = Setting s x
+as_setting s None = Bad (name.Setting s)
 
 -- ---- words
 abbrev pub as_kind : List ℕ → Argument
 as_kind word =
-    either word "same" (Kind Same)
-    (either word "pcm16" (Kind (As Pcm16))
-    (either word "pcm24" (Kind (As Pcm24))
-    (either word "float32" (Kind (As Float32)) (Bad name.Kind))))
+    either word "same" (Kind None)
+    (either word "pcm16" (Kind (Some Pcm16))
+    (either word "pcm24" (Kind (Some Pcm24))
+    (either word "float32" (Kind (Some Float32)) (Bad name.Kind))))
 
 -- Channels are counted from 1.
 abbrev pub as_channel : List ℕ → Argument
 as_channel word =
-    either word "1" (Channel (Only 1))
-    (either word "2" (Channel (Only 2))
-    (either word "all" (Channel All·channels) (Bad name.Channel)))
+    either word "1" (Channel (Some 1))
+    (either word "2" (Channel (Some 2))
+    (either word "all" (Channel None) (Bad name.Channel)))
 
 -- The name of a file has at least one byte.
 abbrev pub as_picture : ℕ → Argument

@@ -9,15 +9,15 @@ ghost use Rattle.arguments.specs.Meaning.{valued_as, meaning_of};
 ghost use Rattle.arguments.specs.Settings.{changed_to};
 
 mod names; // which name an argument has
-mod values; // what its value says
+mod values; // what its value says, where that is a word
 
 use decimals::{read_f64, read_u64};
 use modulation_params::ModulationParams;
 use sample_kind::SampleKind;
-use spelling::{is_named, same, split};
+use spelling::{is_named, split};
 
 // One of 001's eight settings, by the name that it has there.
-#[derive(Drop)]
+#[derive(Clone, Copy)]
 pub enum Setting {
     WowRateHz,
     WowDepthCents,
@@ -29,7 +29,7 @@ pub enum Setting {
     StereoAmount,
 }
 
-#[derive(Drop)]
+#[derive(Clone, Copy)]
 pub enum Name {
     Seed,
     Delay,
@@ -43,39 +43,20 @@ pub enum Name {
     Unknown,
 }
 
-// `kind=same` keeps the kind of the file that is read.
-#[derive(Clone, Copy)]
-pub enum Kind {
-    Same,
-    As(SampleKind),
-}
-
-#[derive(Clone, Copy)]
-pub enum Frames {
-    All,
-    Number(u64),
-}
-
-#[derive(Clone, Copy)]
-pub enum Channel {
-    All,
-    Only(u8),
-}
-
 // `Bad` is a known name with a value that it cannot have. What stands behind the `=` begins at `value_at`.
-#[derive(Drop)]
+#[derive(Clone, Copy)]
 pub enum Argument {
     File,
     Unknown,
     Bad(Name),
     Seed(u64),
     Delay(f64),
-    Kind(Kind),
+    Kind(Option<SampleKind>), // none for `kind=same`, which keeps the kind of the file that is read
     Setting(Setting, f64),
     FirstSkip(u64),
     SecondSkip(u64),
-    Frames(Frames),
-    Channel(Channel),
+    Frames(Option<u64>), // none for `frames=all`
+    Channel(Option<u8>), // counted from 1, and none for `channel=all`
     Picture,
 }
 
@@ -94,14 +75,15 @@ pub fn meaning(text: &[u8]) -> Argument
 fn valued(name: Name, value: &[u8]) -> Argument
     ensures { result ≡ valued_as name value.now }
 {
+    let bad = Argument::Bad(name);
     match name {
-        Name::Seed => values::as_seed(read_u64(value)),
-        Name::Delay => values::as_delay(read_f64(value)),
+        Name::Seed => read_u64(value).map_or(bad, Argument::Seed),
+        Name::Delay => read_f64(value).map_or(bad, Argument::Delay),
         Name::Kind => values::as_kind(value),
-        Name::Setting(s) => values::as_setting(s, read_f64(value)),
-        Name::FirstSkip => values::as_first_skip(read_u64(value)),
-        Name::SecondSkip => values::as_second_skip(read_u64(value)),
-        Name::Frames => values::as_frames(same(value, b"all"), read_u64(value)),
+        Name::Setting(s) => read_f64(value).map_or(bad, |x| Argument::Setting(s, x)),
+        Name::FirstSkip => read_u64(value).map_or(bad, Argument::FirstSkip),
+        Name::SecondSkip => read_u64(value).map_or(bad, Argument::SecondSkip),
+        Name::Frames => values::as_frames(value),
         Name::Channel => values::as_channel(value),
         Name::Picture => values::as_picture(value.len()),
         Name::Unknown => Argument::Unknown,

@@ -1,71 +1,86 @@
 // The names that a setting can have.
-ghost use Rattle.std.specs.Prelude.{◌≡◌, cond};
-ghost use Rattle.spelling.specs.Words.{same_bytes};
-ghost use Rattle.arguments.specs.Names.{wander_or, name_in};
+ghost use Rattle.std.specs.Prelude.{◌≡◌, MatchOption};
+ghost use Rattle.arguments.specs.Names.{either, wander_or, name_in};
+ghost use Rattle.arguments.specs.declared.Name.{Name as Name·};
+ghost use Rattle.arguments.specs.declared.Name.TheVariants.{Setting as Setting·, FirstSkip, SecondSkip, Frames};
+ghost use Rattle.arguments.specs.declared.Name.TheVariants.{Channel, Picture, Unknown};
 
 use crate::{Name, Setting};
 use spelling::same;
 
+#[tactic(auto, unfolding(text::specs::Text::ascii))]
 pub(crate) fn name_of(word: &[u8]) -> Name
     ensures { result ≡ name_in word.now }
 {
-    let n = pick(word, b"picture", Name::Picture, Name::Unknown);
-    let n = pick(word, b"channel", Name::Channel, n);
-    let n = pick(word, b"frames", Name::Frames, n);
-    let n = pick(word, b"second-skip", Name::SecondSkip, n);
-    let n = pick(word, b"first-skip", Name::FirstSkip, n);
-    let n = wander(word, n);
-    let n = pick(word, b"kind", Name::Kind, n);
-    let n = pick(word, b"delay", Name::Delay, n);
-    pick(word, b"seed", Name::Seed, n)
+    if same(word, b"seed") {
+        return Name::Seed;
+    }
+    if same(word, b"delay") {
+        return Name::Delay;
+    }
+    if same(word, b"kind") {
+        return Name::Kind;
+    }
+    match setting_of(word) {
+        Some(setting) => Name::Setting(setting),
+        None => residual_name(word),
+    }
 }
 
-// The eight settings of 001, or another name.
-fn wander(word: &[u8], other: Name) -> Name
-    ensures { result ≡ wander_or word.now other }
+// One of the eight settings of 001, if the word is its name.
+#[tactic(auto, unfolding(text::specs::Text::ascii))]
+fn setting_of(word: &[u8]) -> Option<Setting>
+    ensures { (other : Name·) → MatchOption result (wander_or word.now other ≡ other)
+        (λ s. wander_or word.now other ≡ Setting· s) }
 {
-    let n = pick(
-        word,
-        b"stereo_amount",
-        Name::Setting(Setting::StereoAmount),
-        other,
-    );
-    let n = pick(
-        word,
-        b"drift_amount",
-        Name::Setting(Setting::DriftAmount),
-        n,
-    );
-    let n = pick(
-        word,
-        b"flutter_shape",
-        Name::Setting(Setting::FlutterShape),
-        n,
-    );
-    let n = pick(
-        word,
-        b"flutter_depth_cents",
-        Name::Setting(Setting::FlutterDepthCents),
-        n,
-    );
-    let n = pick(
-        word,
-        b"flutter_rate_hz",
-        Name::Setting(Setting::FlutterRateHz),
-        n,
-    );
-    let n = pick(word, b"wow_shape", Name::Setting(Setting::WowShape), n);
-    let n = pick(
-        word,
-        b"wow_depth_cents",
-        Name::Setting(Setting::WowDepthCents),
-        n,
-    );
-    pick(word, b"wow_rate_hz", Name::Setting(Setting::WowRateHz), n)
+    if same(word, b"wow_rate_hz") {
+        return Some(Setting::WowRateHz);
+    }
+    if same(word, b"wow_depth_cents") {
+        return Some(Setting::WowDepthCents);
+    }
+    if same(word, b"wow_shape") {
+        return Some(Setting::WowShape);
+    }
+    if same(word, b"flutter_rate_hz") {
+        return Some(Setting::FlutterRateHz);
+    }
+    if same(word, b"flutter_depth_cents") {
+        return Some(Setting::FlutterDepthCents);
+    }
+    if same(word, b"flutter_shape") {
+        return Some(Setting::FlutterShape);
+    }
+    if same(word, b"drift_amount") {
+        return Some(Setting::DriftAmount);
+    }
+    if same(word, b"stereo_amount") {
+        return Some(Setting::StereoAmount);
+    }
+    None
 }
 
-fn pick(word: &[u8], name: &[u8], yes: Name, no: Name) -> Name
-    ensures { result ≡ cond (same_bytes word.now name.now) yes no }
+// One of the settings of `residual`.
+#[tactic(auto, unfolding(text::specs::Text::ascii))]
+fn residual_name(word: &[u8]) -> Name
+    ensures { result ≡ either word.now "first-skip" FirstSkip (either word.now "second-skip" SecondSkip
+        (either word.now "frames" Frames (either word.now "channel" Channel
+        (either word.now "picture" Picture Unknown)))) }
 {
-    if same(word, name) { yes } else { no }
+    if same(word, b"first-skip") {
+        return Name::FirstSkip;
+    }
+    if same(word, b"second-skip") {
+        return Name::SecondSkip;
+    }
+    if same(word, b"frames") {
+        return Name::Frames;
+    }
+    if same(word, b"channel") {
+        return Name::Channel;
+    }
+    if same(word, b"picture") {
+        return Name::Picture;
+    }
+    Name::Unknown
 }

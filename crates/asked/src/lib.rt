@@ -5,23 +5,17 @@
 ghost use Rattle.std.specs.Prelude.{◌≡◌};
 ghost use Rattle.asked.specs.Asked.{plain_imitation, imitated_with, plain_comparison, compared_with};
 
-use arguments::{Argument, Channel, Frames, Kind};
+use arguments::Argument;
 use modulation_params::ModulationParams;
+use sample_kind::SampleKind;
 
 // The settings of `imitate`.
 #[derive(Clone, Copy)]
 pub struct Imitation {
     pub seed: u64,
     pub delay: f64,
-    pub kind: Kind,
+    pub kind: Option<SampleKind>, // none for the kind of the file that is read
     pub params: ModulationParams,
-}
-
-// The settings with one more argument, unless it is not one of the program's.
-#[derive(Drop)]
-pub enum Imitated {
-    Asked(Imitation),
-    Other,
 }
 
 // Without arguments `imitate` does what `render` does, and keeps the kind of the file that is read.
@@ -32,54 +26,31 @@ pub fn plain_imitation() -> Imitation
     Imitation {
         seed: 1,
         delay: 512.0,
-        kind: Kind::Same,
-        params: params,
+        kind: None,
+        params,
     }
 }
 
-pub fn imitated_with(old: Imitation, argument: Argument) -> Imitated
+// The settings with one more argument, unless it is not one of the program's.
+pub fn imitated_with(old: Imitation, argument: Argument) -> Option<Imitation>
     ensures { result ≡ imitated_with old argument }
 {
-    let kind = old.kind;
-    let params = old.params;
-    let seed = old.seed;
-    let delay = old.delay;
     match argument {
-        Argument::Seed(n) => Imitated::Asked(Imitation {
-            seed: n,
-            delay,
-            kind,
-            params,
-        }),
-        Argument::Delay(x) => Imitated::Asked(Imitation {
-            seed,
-            delay: x,
-            kind,
-            params,
-        }),
-        Argument::Kind(k) => Imitated::Asked(Imitation {
-            seed,
-            delay,
-            kind: k,
-            params,
-        }),
+        Argument::Seed(seed) => Some(Imitation { seed, ..old }),
+        Argument::Delay(delay) => Some(Imitation { delay, ..old }),
+        Argument::Kind(kind) => Some(Imitation { kind, ..old }),
         Argument::Setting(s, x) => {
-            let changed = arguments::with_setting(params, s, x);
-            Imitated::Asked(Imitation {
-                seed,
-                delay,
-                kind,
-                params: changed,
-            })
+            let params = arguments::with_setting(old.params, s, x);
+            Some(Imitation { params, ..old })
         }
-        Argument::File => Imitated::Other,
-        Argument::Unknown => Imitated::Other,
-        Argument::Bad(_) => Imitated::Other,
-        Argument::FirstSkip(_) => Imitated::Other,
-        Argument::SecondSkip(_) => Imitated::Other,
-        Argument::Frames(_) => Imitated::Other,
-        Argument::Channel(_) => Imitated::Other,
-        Argument::Picture => Imitated::Other,
+        Argument::File
+        | Argument::Unknown
+        | Argument::Bad(_)
+        | Argument::FirstSkip(_)
+        | Argument::SecondSkip(_)
+        | Argument::Frames(_)
+        | Argument::Channel(_)
+        | Argument::Picture => None,
     }
 }
 
@@ -88,15 +59,9 @@ pub fn imitated_with(old: Imitation, argument: Argument) -> Imitated
 pub struct Comparison {
     pub first_skip: u64,
     pub second_skip: u64,
-    pub frames: Frames,
-    pub channel: Channel,
+    pub frames: Option<u64>, // none for all
+    pub channel: Option<u8>, // none for all
     pub picture: bool,
-}
-
-#[derive(Drop)]
-pub enum Compared {
-    Asked(Comparison),
-    Other,
 }
 
 // Without arguments `residual` compares all frames of all channels and draws no picture.
@@ -106,62 +71,30 @@ pub fn plain_comparison() -> Comparison
     Comparison {
         first_skip: 0,
         second_skip: 0,
-        frames: Frames::All,
-        channel: Channel::All,
+        frames: None,
+        channel: None,
         picture: false,
     }
 }
 
-pub fn compared_with(old: Comparison, argument: Argument) -> Compared
+pub fn compared_with(old: Comparison, argument: Argument) -> Option<Comparison>
     ensures { result ≡ compared_with old argument }
 {
-    let first_skip = old.first_skip;
-    let second_skip = old.second_skip;
-    let frames = old.frames;
-    let channel = old.channel;
-    let picture = old.picture;
     match argument {
-        Argument::FirstSkip(n) => Compared::Asked(Comparison {
-            first_skip: n,
-            second_skip,
-            frames,
-            channel,
-            picture,
-        }),
-        Argument::SecondSkip(n) => Compared::Asked(Comparison {
-            first_skip,
-            second_skip: n,
-            frames,
-            channel,
-            picture,
-        }),
-        Argument::Frames(f) => Compared::Asked(Comparison {
-            first_skip,
-            second_skip,
-            frames: f,
-            channel,
-            picture,
-        }),
-        Argument::Channel(c) => Compared::Asked(Comparison {
-            first_skip,
-            second_skip,
-            frames,
-            channel: c,
-            picture,
-        }),
-        Argument::Picture => Compared::Asked(Comparison {
-            first_skip,
-            second_skip,
-            frames,
-            channel,
+        Argument::FirstSkip(first_skip) => Some(Comparison { first_skip, ..old }),
+        Argument::SecondSkip(second_skip) => Some(Comparison { second_skip, ..old }),
+        Argument::Frames(frames) => Some(Comparison { frames, ..old }),
+        Argument::Channel(channel) => Some(Comparison { channel, ..old }),
+        Argument::Picture => Some(Comparison {
             picture: true,
+            ..old
         }),
-        Argument::File => Compared::Other,
-        Argument::Unknown => Compared::Other,
-        Argument::Bad(_) => Compared::Other,
-        Argument::Seed(_) => Compared::Other,
-        Argument::Delay(_) => Compared::Other,
-        Argument::Kind(_) => Compared::Other,
-        Argument::Setting(_, _) => Compared::Other,
+        Argument::File
+        | Argument::Unknown
+        | Argument::Bad(_)
+        | Argument::Seed(_)
+        | Argument::Delay(_)
+        | Argument::Kind(_)
+        | Argument::Setting(_, _) => None,
     }
 }

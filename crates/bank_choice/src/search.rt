@@ -35,16 +35,12 @@ fn down(max_rate: f64, steps: usize, r: f64, k: usize) -> usize
     requires { (bank_ok max_rate ≡ true) × (steps ≡ steps_of max_rate) × (k < steps) }
     ensures { (result ≤ k) × ((j : ℕ) → j < result → slower_of max_rate steps r j ≡ true) }
 {
-    let mut e: usize = k;
-    loop {
-        if e == 0 {
-            return 0;
+    for e in (0..k).rev() {
+        if slower(max_rate, steps, r, e) {
+            return e + 1;
         }
-        if slower(max_rate, steps, r, e - 1) {
-            return e;
-        }
-        e -= 1;
     }
+    0
 }
 
 // Goes up from k past the sets that are slower.
@@ -52,17 +48,12 @@ fn up(max_rate: f64, steps: usize, r: f64, k: usize) -> usize
     requires { (k ≤ steps) × ((j : ℕ) → j < k → slower_of max_rate steps r j ≡ true) }
     ensures { result ≡ partition_of max_rate steps r }
 {
-    let mut e: usize = k;
-    loop {
-        if e >= steps {
-            return e;
-        }
-        if slower(max_rate, steps, r, e) {
-            e += 1;
-        } else {
+    for e in k..steps {
+        if !slower(max_rate, steps, r, e) {
             return e;
         }
     }
+    steps
 }
 
 // How many sets, counted from the first, are slower than r. Fast path: for a rate near 1 the first set alone decides.

@@ -1,25 +1,43 @@
--- The place of a byte, searched byte after byte. Assumes nothing.
-use mathlib.Core.Path.{◌≡◌}
+-- The place of a byte, as the library's search answers it. Assumes nothing.
+use Rattle.std.proofs.Common.{Option, Some, None, unwrap_or}
+use Rattle.std.specs.List.{position_or_len}
+use Rattle.std.proofs.lemmas.List.Recursion.{is_position_or_len}
+use Rattle.std.proofs.lemmas.List.Sums.{prefix_len-le-length}
+use mathlib.Core.Path.{◌≡◌, refl}
+use mathlib.Core.Bool.{Bool, true, false, cond, not}
 use mathlib.Core.List.{List}
-use Prim.Native.Nat.{ℕ, suc, ◌+◌, ◌<◌}
-use native.Mathlib.Numerals.{add-one}
-use borrow.Author.Tests.{eq-eqb, ne_eqb}
-use lib.ListN.{length, drop, get_or}
-use lib.Seq.{drop-cons, drop-length}
+use Prim.Native.Nat.{ℕ, suc, ◌+◌, ◌≤◌}
+use native.Mathlib.Omega.{arith}
+use borrow.Author.Tests.{ltb-false}
+use lib.Dec.{eqb, ltb}
+use lib.ListN.{length}
 use Rattle.byte_marks.specs.Marks.{index_of}
 
--- It stands at k.
-pub here : (b : ℕ) (xs : List ℕ) (k : ℕ) → k < length xs → get_or xs k 0 ≡ b → index_of b (drop k xs) ≡ 0
-unfolding index_of
-here b xs k h e = rw (drop-cons xs k 0 h, eq-eqb (get_or xs k 0) b e)
+abbrev is : ℕ → ℕ → Bool
+is b c = eqb c b
 
--- It does not stand at k.
-pub further : (b : ℕ) (xs : List ℕ) (k : ℕ) → k < length xs → (get_or xs k 0 ≡ b → ⊥)
-    → index_of b (drop k xs) ≡ suc (index_of b (drop (k + 1) xs))
+same : (b : ℕ) (xs : List ℕ) → index_of b xs ≡ position_or_len (is b) xs
 unfolding index_of
-further b xs k h e = rw (add-one, drop-cons xs k 0 h, ne_eqb (get_or xs k 0) b e)
+same b xs = is_position_or_len (index_of b) (is b) refl (λ c cs. by (is b c) (index_of b cs)) xs
+  where
+    by : (t : Bool) (n : ℕ) → cond t 0 (suc n) ≡ cond t 0 (1 + n)
+    by true n = refl
+    by false n = omega arith
 
--- Nothing is left.
-pub nowhere : (b : ℕ) (xs : List ℕ) (k : ℕ) → k ≡ length xs → index_of b (drop k xs) ≡ 0
-unfolding index_of
-nowhere b xs k e = rw (e, drop-length)
+pub within : (b : ℕ) (xs : List ℕ) → index_of b xs ≤ length xs
+within b xs = rw same (prefix_len-le-length (λ c. not (is b c)) xs)
+
+-- The answer of the search, or the end where there is none.
+pub place : (b : ℕ) (xs : List ℕ) {r : Option ℕ}
+    → r ≡ cond (ltb (position_or_len (is b) xs) (length xs)) (Some (position_or_len (is b) xs)) None
+    → unwrap_or r (length xs) ≡ index_of b xs
+place b xs {r} e = rw (e, same b xs) (by (ltb (position_or_len (is b) xs) (length xs)) refl)
+  where
+    p : ℕ
+    p = position_or_len (is b) xs
+
+    by : (t : Bool) → ltb p (length xs) ≡ t → unwrap_or (cond t (Some p) None) (length xs) ≡ p
+    by true l = refl
+    by false l =
+        let most = prefix_len-le-length (λ c. not (is b c)) xs in
+        omega (arith, ltb-false p (length xs) l, most)

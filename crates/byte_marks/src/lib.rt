@@ -9,12 +9,5 @@ pub fn find(text: &[u8], byte: u8) -> usize
     ensures value { result ≡ index_of byte text.now }
     ensures upper_bound { result ≤ length text.now }
 {
-    let mut i: usize = 0;
-    while i < text.len() {
-        if text[i] == byte {
-            return i;
-        }
-        i += 1;
-    }
-    i
+    text.iter().position(|c| *c == byte).unwrap_or(text.len())
 }

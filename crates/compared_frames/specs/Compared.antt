@@ -1,16 +1,14 @@
 -- Which frames of two files are compared. Definitions only.
-use Rattle.std.specs.Prelude.{ℕ, ◌+◌, ◌-◌, ◌*◌, ◌/◌, min, cond, ◌&&◌, eqb, ltb, leb}
+use Rattle.std.specs.Prelude.{ℕ, ◌+◌, ◌-◌, ◌*◌, ◌/◌, min, cond, ◌&&◌, eqb, ltb, leb, Option, Some, None}
 use Rattle.sizes.specs.Sizes.{most}
-use Rattle.arguments.specs.declared.Frames.{Frames}
-use Rattle.arguments.specs.declared.Frames.TheVariants.{All, Number}
 use Rattle.compared_frames.specs.declared.Extent.{Extent}
 
 -- The number of frames that the settings ask for, but no more than both files have.
-abbrev pub asked_of : Frames → ℕ → ℕ
-asked_of All both = both
-asked_of (Number n) both = min n both
+abbrev pub asked_of : Option ℕ → ℕ → ℕ
+asked_of None both = both
+asked_of (Some n) both = min n both
 
-abbrev pub count_of : ℕ → ℕ → Frames → ℕ
+abbrev pub count_of : ℕ → ℕ → Option ℕ → ℕ
 count_of one two frames = asked_of frames (min one two)
 
 abbrev pub span_by : ℕ → ℕ → ℕ → ℕ → ℕ → Extent
@@ -23,7 +21,7 @@ span_by first second one two n = record {
 }
 
 -- The extent for files of a and b frames, after the frames that are skipped in each.
-abbrev pub span_of : ℕ → ℕ → ℕ → ℕ → Frames → Extent
+abbrev pub span_of : ℕ → ℕ → ℕ → ℕ → Option ℕ → Extent
 span_of a b first second frames =
     span_by first second (a - first) (b - second) (count_of (a - first) (b - second) frames)
 

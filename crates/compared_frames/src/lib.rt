@@ -4,7 +4,6 @@
 ghost use Rattle.std.specs.Prelude.{◌≡◌, ◌*◌, ◌/◌, min};
 ghost use Rattle.compared_frames.specs.Compared.{span_of, asked_of, end_of, stretch_of, block_of};
 
-use arguments::Frames;
 use sizes::{fewer, less, plus};
 
 // `frames` frames are compared, from frame `first` of the one file and frame `second` of the other on. The rest says
@@ -18,8 +17,8 @@ pub struct Extent {
     pub second_left: usize,
 }
 
-// The extent for files of a and b frames, after the frames that are skipped in each.
-pub fn span(a: usize, b: usize, first: usize, second: usize, frames: Frames) -> Extent
+// The extent for files of a and b frames, after the frames that are skipped in each. No number of frames means all.
+pub fn span(a: usize, b: usize, first: usize, second: usize, frames: Option<u64>) -> Extent
     ensures { result ≡ span_of a b first second frames }
 {
     let one = less(a, first);
@@ -34,13 +33,10 @@ pub fn span(a: usize, b: usize, first: usize, second: usize, frames: Frames) -> 
     }
 }
 
-fn asked(frames: Frames, both: usize) -> usize
+fn asked(frames: Option<u64>, both: usize) -> usize
     ensures { result ≡ asked_of frames both }
 {
-    match frames {
-        Frames::All => both,
-        Frames::Number(n) => fewer(n as usize, both),
-    }
+    frames.map_or(both, |n| fewer(n as usize, both))
 }
 
 // The place where stretch k of n ends, k counted from 1 and n at most 1000: that many frames lie before it.

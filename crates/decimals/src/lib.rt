@@ -9,17 +9,3 @@ mod writing; // writing numbers of two words
 pub use fractions::read_f64;
 pub use reading::read_u64;
 pub use writing::put_u128;
-
-// The whole number that a text says, if it says one.
-#[derive(Drop)]
-pub enum Number {
-    Is(u64),
-    Not,
-}
-
-// The decimal fraction that a text says, if it says one.
-#[derive(Drop)]
-pub enum Value {
-    Is(f64),
-    Not,
-}

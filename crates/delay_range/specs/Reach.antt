@@ -1,9 +1,8 @@
 -- Which delays suit the settings of the wandering. Definitions only.
-use Rattle.std.specs.Prelude.{Bool, ◌&&◌, Float}
+use Rattle.std.specs.Prelude.{Bool, ◌&&◌, Float, Result, Ok, Err}
+use Rattle.refusal.specs.declared.Refusal.{Refusal}
 use Rattle.std.specs.Float.{binary64}
 use Rattle.std.specs.Float.Ieee.{add, sub, le, of_bits}
-use Rattle.elementary.specs.declared.Answer.{Answer}
-use Rattle.elementary.specs.declared.Answer.TheVariants.{Value, Refused}
 use Rattle.min_max.specs.Choice.{larger}
 use Rattle.modulation_params.specs.declared.ModulationParams.{ModulationParams}
 use Rattle.oscillators.specs.Answers.{excursion_of}
@@ -21,9 +20,9 @@ longest = of_bits binary64 0x40ef_fd00_0000_0000
 abbrev pub ring : Float
 ring = of_bits binary64 0x40f0_0000_0000_0000
 
-abbrev pub value_or : Float → Answer → Float
-value_or d (Value x) = x
-value_or d (Refused k) = d
+abbrev pub value_or : Float → Result Float Refusal → Float
+value_or d (Ok x) = x
+value_or d (Err r) = d
 
 -- 001's bound for the distance of one oscillator's delay from its middle.
 unfoldable pub excursion_in : Float → Float → Float → Float

@@ -6,7 +6,6 @@ ghost use Rattle.std.specs.Prelude.{◌≡◌};
 ghost use Rattle.std.specs.Float.Ieee as Ieee;
 ghost use Rattle.delay_range.specs.Reach.{excursion_in, reach_of, suits_of};
 
-use elementary::Answer;
 use modulation_params::ModulationParams;
 use oscillators::maximum_delay_excursion_samples;
 
@@ -21,18 +20,16 @@ pub fn reach(params: ModulationParams, rate: f64) -> f64
 
 // As in the engine, a depth below 0 counts as 0, and a rate below 0.001 as 0.001. Out of range the excursion is the
 // length of the ring, which no delay suits.
+#[tactic(auto, unfolding(crate::specs::Reach::excursion_in))]
 fn excursion(depth: f64, frequency: f64, rate: f64) -> f64
     ensures { result ≡ excursion_in depth frequency rate }
 {
-    let most = maximum_delay_excursion_samples(
+    maximum_delay_excursion_samples(
         min_max::max(depth, 0.0),
         min_max::max(frequency, 0.001),
         rate,
-    );
-    match most {
-        Answer::Value(x) => x,
-        Answer::Refused(_) => 65536.0,
-    }
+    )
+    .unwrap_or(65536.0)
 }
 
 // From both ends of the ring the delay is as far away as the wandering reaches, and 16 taps more.

@@ -11,14 +11,12 @@ use text::{put, put_decimal};
 pub fn whole_above(x: f64) -> u64
     ensures { result ≡ whole_above x }
 {
-    let mut n: u64 = 0;
-    while n < 65536 {
+    for n in 0..65536u64 {
         if x <= n as f64 {
             return n;
         }
-        n += 1;
     }
-    n
+    65536
 }
 
 fn put_range(out: &mut [u8], at: usize, above: u64) -> usize

@@ -5,7 +5,7 @@ use crate::whole::{Wide, below_zero, minus, plus, size, times};
 pub const UNIT: u64 = 786432;
 
 // An answer by its bits: its magnitude in units of 2^-71, and 1 if digits below that were cut off.
-#[derive(Drop)]
+#[derive(Clone, Copy)]
 struct Given {
     magnitude: Wide,
     cut: u64,
@@ -31,7 +31,7 @@ fn taken_apart(d: u64, e: u64) -> Given {
             a: w / 0x1_0000_0000,
             b: w % 0x1_0000_0000,
         },
-        cut: if wrapping_u64::shl(w, k) == d { 0 } else { 1 },
+        cut: u64::from(wrapping_u64::shl(w, k) != d),
     }
 }
 

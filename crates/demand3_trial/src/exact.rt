@@ -19,14 +19,10 @@ fn weight(k: u64, m: u64) -> u64 {
 // Sample z of the first `count` samples, 0 if the ring does not hold it. A z below zero has wrapped around and so lies
 // above every count.
 fn neighbour(told: &[u64], count: u64, z: u64) -> u64 {
-    if z >= count {
+    if z >= count || count - z > RING as u64 {
         return 0;
     }
-    if count - z > RING as u64 {
-        return 0;
-    }
-    let at = z as usize;
-    if at < told.len() { told[at] } else { 0 }
+    told.get(z as usize).copied().unwrap_or(0)
 }
 
 // Adds one more term s * w, by the halves of w.
@@ -47,12 +43,9 @@ pub fn exact(told: &[u64], count: u64, d: u64) -> Wide {
     } else {
         q
     };
-    let e0 = with(
+    let first = minus(i, 1);
+    (0..4).fold(
         Wide { a: 0, b: 0 },
-        neighbour(told, count, minus(i, 1)),
-        weight(0, m),
-    );
-    let e1 = with(e0, neighbour(told, count, i), weight(1, m));
-    let e2 = with(e1, neighbour(told, count, plus(i, 1)), weight(2, m));
-    with(e2, neighbour(told, count, plus(i, 2)), weight(3, m))
+        |e, k| with(e, neighbour(told, count, plus(first, k)), weight(k, m)),
+    )
 }

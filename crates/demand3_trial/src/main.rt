@@ -22,7 +22,7 @@ const RUNS: u64 = 256;
 const CALLS: usize = 4096;
 
 // The state between two calls of a run: the generator, the reader, and what was seen.
-#[derive(Drop)]
+#[derive(Clone, Copy)]
 struct Turn {
     g: u64,
     state: VariableDelay,
@@ -30,8 +30,8 @@ struct Turn {
 }
 
 fn tell(told: &mut [u64], i: usize, s: u64) {
-    if i < told.len() {
-        told[i] = s;
+    if let Some(place) = told.get_mut(i) {
+        *place = s;
     }
 }
 
@@ -49,16 +49,12 @@ fn call(
     let s = sample(samples, i, g);
     let d = delay(delays, h);
     tell(&mut told[..], i, s);
-    let state = turn.state;
-    let seen = turn.seen;
     let y = std::num::nearest_u64_to_f64(d) / 65536.0;
-    let r = cubic_delay::process_sample(state, &mut ring[..], sample_float(s), y);
-    let after = r.state;
-    let answer = r.answer;
+    let r = cubic_delay::process_sample(turn.state, &mut ring[..], sample_float(s), y);
     Turn {
         g: h,
-        state: after,
-        seen: seen_too(seen, answer, exact(&told[..], plus(i as u64, 1), d)),
+        state: r.state,
+        seen: seen_too(turn.seen, r.answer, exact(&told[..], plus(i as u64, 1), d)),
     }
 }
 
@@ -81,27 +77,15 @@ fn run(samples: u64, delays: u64, seed: u64, seen: Seen) -> Seen {
     let mut turn = Turn {
         g: seed,
         state: opened(&mut ring),
-        seen: seen,
+        seen,
     };
-    let mut i: usize = 0;
-    while i < CALLS {
+    for i in 0..CALLS {
         turn = call(samples, delays, i, &mut ring, &mut told, turn);
-        i += 1;
     }
     turn.seen
 }
 
 fn main(rt: HostRuntime) {
-    let mut seen = Seen {
-        calls: 0,
-        refused: 0,
-        beyond: 0,
-        largest: 0,
-    };
-    let mut k: u64 = 0;
-    while k < RUNS {
-        seen = run(k / 4 % 4, k % 4, k, seen);
-        k += 1;
-    }
+    let seen = (0..RUNS).fold(Seen::default(), |seen, k| run(k / 4 % 4, k % 4, k, seen));
     report(&rt, seen);
 }

@@ -4,7 +4,7 @@ use crate::whole::{Wide, plus, times};
 use answer::Answer;
 use streams::{print_decimal, write_all};
 
-#[derive(Drop)]
+#[derive(Clone, Copy, Default)]
 pub struct Seen {
     pub calls: u64,
     pub refused: u64,
@@ -12,28 +12,23 @@ pub struct Seen {
     pub largest: u64,
 }
 
-fn larger(a: u64, b: u64) -> u64 {
-    if a < b { b } else { a }
-}
-
 // One more call with its answer, where e is the exact value.
 pub fn seen_too(seen: Seen, answer: Answer, e: Wide) -> Seen {
     let calls = plus(seen.calls, 1);
     match answer {
         Answer::Refused(_) => Seen {
-            calls: calls,
+            calls,
             refused: plus(seen.refused, 1),
-            beyond: seen.beyond,
-            largest: seen.largest,
+            ..seen
         },
         Answer::Sample(v) => {
             let far = distance(v, e);
-            let more = if far > times(16, UNIT) { 1 } else { 0 };
+            let more = u64::from(far > 16 * UNIT);
             Seen {
-                calls: calls,
-                refused: seen.refused,
+                calls,
                 beyond: plus(seen.beyond, more),
-                largest: larger(seen.largest, far),
+                largest: seen.largest.max(far),
+                ..seen
             }
         }
     }

@@ -2,11 +2,11 @@
 // halves.
 
 pub fn plus(a: u64, b: u64) -> u64 {
-    std::num::wrapping_add_u64(a, b)
+    a.wrapping_add(b)
 }
 
 pub fn minus(a: u64, b: u64) -> u64 {
-    std::num::wrapping_sub_u64(a, b)
+    a.wrapping_sub(b)
 }
 
 pub fn times(a: u64, b: u64) -> u64 {
@@ -22,7 +22,7 @@ pub fn size(a: u64) -> u64 {
 }
 
 // The number is a * 2^32 + b.
-#[derive(Drop)]
+#[derive(Clone, Copy)]
 pub struct Wide {
     pub a: u64,
     pub b: u64,

@@ -10,7 +10,7 @@ use refusal_order::both;
 use room_marks::Desk;
 
 // Whether slot k is one of the room's and holds the set of a rate and a mode for a desk.
-fn there<'a>(desk: Desk, mode: Mode, rate: f64, k: usize, rates: &'a [f64], marks: &'a [u8]) -> bool
+fn there(desk: Desk, mode: Mode, rate: f64, k: usize, rates: &[f64], marks: &[u8]) -> bool
     ensures { result ≡ true
         → (k < shorter rates.now marks.now)
         × (own_set desk rate mode (get_or rates.now k nan) (get_or marks.now k 0) ≡ true) }
@@ -27,13 +27,13 @@ fn there<'a>(desk: Desk, mode: Mode, rate: f64, k: usize, rates: &'a [f64], mark
     false
 }
 
-pub(crate) fn near<'a>(
+pub(crate) fn near(
     desk: Desk,
     mode: Mode,
     rate: f64,
     k: usize,
-    rates: &'a [f64],
-    marks: &'a [u8],
+    rates: &[f64],
+    marks: &[u8],
 ) -> usize
     requires { room_ok rates.now marks.now ≡ true }
     ensures { result ≡ own_slot desk rate mode rates.now marks.now }

@@ -12,7 +12,7 @@ use bessel::Mode;
 use room_marks::Desk;
 
 // A slot's number is the number of slots if the desk does not hold the set.
-#[derive(Drop)]
+#[derive(Clone, Copy)]
 pub struct Found {
     pub safe: usize,
     pub tighter: usize,

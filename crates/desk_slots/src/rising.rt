@@ -40,18 +40,14 @@ pub(crate) fn rising(rates: &[f64], marks: &[u8]) -> bool
     ensures { result ≡ rising_from one-f rates.now marks.now }
 {
     let n = slots(rates, marks);
-    let mut i: usize = 0;
     let mut low: f64 = 1.0;
-    loop {
-        if i >= n {
-            return low <= 2.0;
-        }
+    for i in 0..n {
         let r = rates[i];
         let mark = marks[i];
         if !rises_here(low, r, mark) {
             return false;
         }
         low = risen_to(low, r, mark);
-        i += 1;
     }
+    low <= 2.0
 }

@@ -1,5 +1,7 @@
 -- E3. Two comparisons show whether a magnitude is at most 2 ^ k; a NaN and the infinities fail them. And an answer is
 -- made of its value, or a refusal. Assumes nothing.
+use Rattle.std.specs.Prelude.{Ok, Err}
+use Rattle.refusal.specs.declared.Refusal.TheVariants.{Setting}
 use mathlib.Core.Path.{◌≡◌, refl, subst}
 use mathlib.Core.Bool.{Bool, true, false, ◌&&◌, cond}
 use Prim.Native.Nat.{ℕ, ◌*◌, ◌^◌, ◌≤◌}
@@ -12,7 +14,6 @@ use Rattle.rounding.proofs.NumberOrders.{same_test}
 use Rattle.rounding_error.specs.Fraction.{Frac, frac}
 use Rattle.rounding_error.specs.Value.{signed}
 use Rattle.rounding_error.proofs.Compare.{side, le_is}
-use Rattle.elementary.specs.declared.Answer.TheVariants.{Value, Refused}
 use Rattle.polynomials.specs.Range.{at_most}
 use Rattle.elementary.specs.Answers.{refusal_of, or_zero, sine_at, cosine_at, power_at, sine_of, cosine_of, exp2_of}
 use Rattle.elementary.specs.Close.{Each}
@@ -63,22 +64,22 @@ inside_is k (fin s m e) = inside-finite k s m e
 
 -- ---- answers
 pub given : {v w : Float} {P : Float → Type 0} (b : Bool) → b ≡ true → v ≡ w → P v
-    → (Value v ≡ cond b (Value w) (Refused 1)) × Each (Value v) P
+    → (Ok v ≡ cond b (Ok w) (Err Setting)) × Each (Ok v) P
 given {v} {P = P} b t e p = (rw (t, e), record { each = λ u q. let s : v ≡ u = cc in subst P s p })
 
 pub refused : {P : Float → Type 0} (b : Bool) (w : Float) → b ≡ false
-    → (Refused 1 ≡ cond b (Value w) (Refused 1)) × Each (Refused 1) P
+    → (Err Setting ≡ cond b (Ok w) (Err Setting)) × Each (Err Setting) P
 refused b w t = (rw t, record { each = λ u q. let e : ◌≡◌ {A = ℕ} 0 1 = cc in absurd (omega arith) })
 
 -- ---- values
-pub value-given : {v w : Float} (b : Bool) → b ≡ true → v ≡ w → v ≡ or_zero (cond b (Value w) (Refused 1))
+pub value-given : {v w : Float} (b : Bool) → b ≡ true → v ≡ w → v ≡ or_zero (cond b (Ok w) (Err Setting))
 value-given b t e = rw (t, e)
 
-pub value-refused : (b : Bool) (w : Float) → b ≡ false → of_bits binary64 0 ≡ or_zero (cond b (Value w) (Refused 1))
+pub value-refused : (b : Bool) (w : Float) → b ≡ false → of_bits binary64 0 ≡ or_zero (cond b (Ok w) (Err Setting))
 value-refused b w t = rw t
 
 -- ---- exactly when the refusal is 1
-refusal : (b : Bool) (v : Float) → refusal_of (cond b (Value v) (Refused 1)) ≡ cond b 0 1
+refusal : (b : Bool) (v : Float) → refusal_of (cond b (Ok v) (Err Setting)) ≡ cond b 0 1
 refusal true v = refl
 refusal false v = refl
 

@@ -1,12 +1,12 @@
 -- E3, E4, E5. The constants by their bit patterns, 2 ^ 0, 2 ^ 1 and 2 ^ -1, zeros, and the ends of the ranges, all by
 -- computing. Assumes nothing.
+use Rattle.std.specs.Prelude.{Ok}
 use mathlib.Core.Path.{◌≡◌, refl}
 use mathlib.Core.List.{[], ◌∷◌, map}
 use mathlib.Core.Bool.{true, false}
 use lib.IntN.{pos, negsuc}
 use lib.Ieee.{fin, nan, inf, binary64, round, of_bits, lt, neg, add, sub, mul}
 use Rattle.rounding_error.specs.Value.{val}
-use Rattle.elementary.specs.declared.Answer.TheVariants.{Value}
 use Rattle.polynomials.specs.Horner.{reciprocal, ln2}
 use Rattle.elementary.specs.Reduction.{H}
 use Rattle.elementary.specs.Answers.{refusal_of, one, two, half, sine_of, cosine_of, exp2_of}
@@ -39,32 +39,32 @@ unfolding of_bits
 reduction = refl
 
 -- ---- values
-two-to-0 : exp2_of (fin false 0 (pos 0)) ≡ Value one
+two-to-0 : exp2_of (fin false 0 (pos 0)) ≡ Ok one
 unfolding exp2_of round lt neg add sub mul
 two-to-0 = refl
 
-two-to-minus-0 : exp2_of (fin true 0 (pos 0)) ≡ Value one
+two-to-minus-0 : exp2_of (fin true 0 (pos 0)) ≡ Ok one
 unfolding exp2_of round lt neg add sub mul
 two-to-minus-0 = refl
 
-two-to-1 : exp2_of one ≡ Value two
+two-to-1 : exp2_of one ≡ Ok two
 unfolding exp2_of round lt neg add sub mul
 two-to-1 = refl
 
-two-to-minus-1 : exp2_of (neg one) ≡ Value half
+two-to-minus-1 : exp2_of (neg one) ≡ Ok half
 unfolding exp2_of round lt neg add sub mul
 two-to-minus-1 = refl
 
-cosine-0 : cosine_of (fin false 0 (pos 0)) ≡ Value one
+cosine-0 : cosine_of (fin false 0 (pos 0)) ≡ Ok one
 unfolding cosine_of round neg add mul
 cosine-0 = refl
 
 -- The sine of a zero keeps its sign.
-sine-0 : sine_of (fin false 0 (pos 0)) ≡ Value (fin false 0 (pos 0))
+sine-0 : sine_of (fin false 0 (pos 0)) ≡ Ok (fin false 0 (pos 0))
 unfolding sine_of round neg add mul
 sine-0 = refl
 
-sine-minus-0 : sine_of (fin true 0 (pos 0)) ≡ Value (fin true 0 (pos 0))
+sine-minus-0 : sine_of (fin true 0 (pos 0)) ≡ Ok (fin true 0 (pos 0))
 unfolding sine_of round neg add mul
 sine-minus-0 = refl
 

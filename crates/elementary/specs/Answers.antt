@@ -1,23 +1,19 @@
 -- E2 to E4. The three functions for every argument: a value, or a refusal by number. Definitions only.
-use Rattle.std.specs.Prelude.{false, cond, ℕ, ◌+◌, ◌%◌, negsuc, Float}
+use Rattle.std.specs.Prelude.{false, cond, ℕ, ◌+◌, ◌%◌, negsuc, Float, Result, Ok, Err}
+use Rattle.refusal.specs.declared.Refusal.{Refusal}
+use Rattle.refusal.specs.declared.Refusal.TheVariants.{Setting}
 use Rattle.std.specs.Float.{fin, binary64}
 use Rattle.std.specs.Float.Ieee.{neg, add, sub, mul, lt, of_bits}
 pub use Rattle.constants.specs.Numbers.{one-f as one, two-f as two}
-use Rattle.elementary.specs.declared.Answer.{Answer}
-use Rattle.elementary.specs.declared.Answer.TheVariants.{Value, Refused}
+pub use Rattle.refusal.specs.Numbers.{refusal_of}
 use Rattle.polynomials.specs.Horner.{sine_near, cosine_near, power_near}
 use Rattle.polynomials.specs.Range.{at_most}
 use Rattle.elementary.specs.Reduction.{turns, reduced, fourth, pick}
 
--- C4. The number of the refusal, 0 for none.
-abbrev pub refusal_of : Answer → ℕ
-refusal_of (Value v) = 0
-refusal_of (Refused n) = n
-
 -- C4. The value of an answer; a refusal has none, and 0.0 stands for it.
-abbrev pub or_zero : Answer → Float
-or_zero (Value v) = v
-or_zero (Refused n) = of_bits binary64 0
+abbrev pub or_zero : Result Float Refusal → Float
+or_zero (Ok v) = v
+or_zero (Err r) = of_bits binary64 0
 
 unfoldable pub sine_at : Float → Float
 unfolding sine_near pick fourth turns reduced
@@ -38,14 +34,14 @@ power_at x =
     cond (lt half x) (mul binary64 two (power_near (sub binary64 x one)))
     (cond (lt x (neg half)) (mul binary64 half (power_near (add binary64 x one))) (power_near x))
 
-unfoldable pub sine_of : Float → Answer
+unfoldable pub sine_of : Float → Result Float Refusal
 unfolding sine_at
-sine_of x = cond (at_most 256 x) (Value (sine_at x)) (Refused 1)
+sine_of x = cond (at_most 256 x) (Ok (sine_at x)) (Err Setting)
 
-unfoldable pub cosine_of : Float → Answer
+unfoldable pub cosine_of : Float → Result Float Refusal
 unfolding cosine_at
-cosine_of x = cond (at_most 256 x) (Value (cosine_at x)) (Refused 1)
+cosine_of x = cond (at_most 256 x) (Ok (cosine_at x)) (Err Setting)
 
-unfoldable pub exp2_of : Float → Answer
+unfoldable pub exp2_of : Float → Result Float Refusal
 unfolding power_at
-exp2_of x = cond (at_most 1 x) (Value (power_at x)) (Refused 1)
+exp2_of x = cond (at_most 1 x) (Ok (power_at x)) (Err Setting)

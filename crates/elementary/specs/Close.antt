@@ -1,12 +1,11 @@
 -- E1, E2, E4. How near the answers are to Taylor's fractions. `Rounds g e v f` says that v is finite and |v - f| ≤ e /
 -- g. Definitions only.
-use Rattle.std.specs.Prelude.{◌≡◌, not, ℕ, zero, suc, ◌+◌, ◌-◌, ◌*◌, ◌%◌, ◌^◌, T, Float}
+use Rattle.std.specs.Prelude.{◌≡◌, not, ℕ, zero, suc, ◌+◌, ◌-◌, ◌*◌, ◌%◌, ◌^◌, T, Float, Result, Ok}
+use Rattle.refusal.specs.declared.Refusal.{Refusal}
 use Rattle.std.specs.Float.Ieee.{neg, lt}
 use Rattle.std.specs.Float.Ieee.Scale.{finite}
 use Rattle.rounding_error.specs.Fraction.{Frac, frac, plus, times, opp, Within}
 use Rattle.rounding_error.specs.Value.{val, Is, Rounds}
-use Rattle.elementary.specs.declared.Answer.{Answer}
-use Rattle.elementary.specs.declared.Answer.TheVariants.{Value}
 use Rattle.polynomials.specs.Taylor.{sine_fraction, cosine_fraction, exp_fraction}
 use Rattle.polynomials.specs.Horner.{ln2}
 use Rattle.elementary.specs.Reduction.{turns, fourth, remainder, reduced}
@@ -52,5 +51,5 @@ pub record PowerClose (x v : Float) : Type 0 where
   pub below : T (lt x (neg half)) → Part v (times (frac 1 0 2) (power_fraction (plus (val x) (frac 1 0 1))))
 
 -- If the answer r has a value, P holds for it.
-pub record Each (r : Answer) (P : Float → Type 0) : Type 0 where
-  pub each : (v : Float) → r ≡ Value v → P v
+pub record Each (r : Result Float Refusal) (P : Float → Type 0) : Type 0 where
+  pub each : (v : Float) → r ≡ Ok v → P v

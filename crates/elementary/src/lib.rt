@@ -11,13 +11,8 @@ ghost use Rattle.std.specs.Float.Ieee as Ieee;
 ghost use Rattle.elementary.specs.Answers.{or_zero, sine_of, cosine_of, exp2_of};
 ghost use Rattle.elementary.specs.Close.{SineClose, CosineClose, PowerClose, Each};
 
+use refusal::Refusal;
 use values::{cosine_at, power_at, sine_at};
-
-#[derive(Drop)]
-pub enum Answer {
-    Value(f64),
-    Refused(u8),
-}
 
 // Whether x is a number from -b to b.
 pub(crate) fn inside(x: f64, b: f64) -> bool
@@ -27,38 +22,38 @@ pub(crate) fn inside(x: f64, b: f64) -> bool
 }
 
 // The original's f64::sin (000); an argument beyond 256 is refused by 1.
-pub fn sine(x: f64) -> Answer
+pub fn sine(x: f64) -> Result<f64, Refusal>
     ensures value { result ≡ sine_of x }
     ensures each { Each result (SineClose x) }
 {
     if inside(x, 256.0) {
-        Answer::Value(sine_at(x))
+        Ok(sine_at(x))
     } else {
-        Answer::Refused(1)
+        Err(Refusal::Setting)
     }
 }
 
 // The original's f64::cos (001); an argument beyond 256 is refused by 1.
-pub fn cosine(x: f64) -> Answer
+pub fn cosine(x: f64) -> Result<f64, Refusal>
     ensures value { result ≡ cosine_of x }
     ensures each { Each result (CosineClose x) }
 {
     if inside(x, 256.0) {
-        Answer::Value(cosine_at(x))
+        Ok(cosine_at(x))
     } else {
-        Answer::Refused(1)
+        Err(Refusal::Setting)
     }
 }
 
 // The original's f64::powf (001), whose base is always 2; an exponent beyond 1 is refused by 1.
-pub fn exp2(x: f64) -> Answer
+pub fn exp2(x: f64) -> Result<f64, Refusal>
     ensures value { result ≡ exp2_of x }
     ensures each { Each result (PowerClose x) }
 {
     if inside(x, 1.0) {
-        Answer::Value(power_at(x))
+        Ok(power_at(x))
     } else {
-        Answer::Refused(1)
+        Err(Refusal::Setting)
     }
 }
 

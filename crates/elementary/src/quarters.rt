@@ -3,7 +3,7 @@ ghost use Rattle.std.specs.Prelude.{T, not};
 ghost use Rattle.polynomials.specs.Range.{at_most};
 ghost use Rattle.elementary.specs.Steps.{Guess, Rest, Settled};
 
-#[derive(Drop)]
+#[derive(Clone, Copy)]
 pub(crate) struct Turned {
     pub(crate) quarter: u64,
     pub(crate) rest: f64,

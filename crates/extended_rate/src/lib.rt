@@ -25,13 +25,11 @@ fn halved(field: u32, digits: u64) -> u32
     ensures { result ≡ rate_of field digits }
 {
     let mut d = digits;
-    let mut f = field;
-    while f < 16446 {
+    for _f in field..16446 {
         if d % 2 != 0 {
             return 0;
         }
         d /= 2;
-        f += 1;
     }
     if_in_range(d)
 }
@@ -43,13 +41,11 @@ fn doubled(field: u32, digits: u64) -> u32
     ensures { result ≡ rate_of field digits }
 {
     let mut d = digits;
-    let mut f = field;
-    while f > 16446 {
+    for _f in (16446..field).rev() {
         if d > 384000 {
             return 0;
         }
         d *= 2;
-        f -= 1;
     }
     if_in_range(d)
 }

@@ -2,7 +2,7 @@
 // computed beside the stretch, from its delays, while the fade goes on item by item as by single calls (W3f).
 #![tactic(auto)]
 
-ghost use Rattle.std.specs.Prelude.{◌≡◌, min};
+ghost use Rattle.std.specs.Prelude.{◌≡◌};
 ghost use Rattle.ring.specs.Length.{zeros};
 ghost use Rattle.variable_delay.specs.Reader.{position_of};
 ghost use Rattle.returning_fade.specs.Step.{step_of};
@@ -44,11 +44,11 @@ fn turned(
     let absent = absent_qualities::of_turn(choice, turn, len, after, position);
     Step {
         fade: RuledFade {
-            rule: rule,
-            direction: direction,
+            rule,
+            direction,
             fade: left,
         },
-        absent: absent,
+        absent,
     }
 }
 
@@ -65,7 +65,7 @@ pub fn absent_in(
 ) -> Absent
     ensures { result ≡ sums_of len before fade choice quality delays.now done }
 {
-    let n = fewer(done, delays.len());
+    let n = done.min(delays.len());
     if before > LIMIT {
         return absent_taps::nothing();
     }
@@ -76,8 +76,7 @@ pub fn absent_in(
     let mut unwritten: u64 = 0;
     let mut ahead: u64 = 0;
     let mut overwritten: u64 = 0;
-    let mut k: usize = 0;
-    while k < n {
+    for k in 0..n {
         let i = before + k as u64;
         let t = turned(running, quality, choice, len, i, i + 1, delays[k]);
         let a = t.absent;
@@ -85,17 +84,10 @@ pub fn absent_in(
         unwritten += a.unwritten;
         ahead += a.ahead;
         overwritten += a.overwritten;
-        k += 1;
     }
     Absent {
-        unwritten: unwritten,
-        ahead: ahead,
-        overwritten: overwritten,
+        unwritten,
+        ahead,
+        overwritten,
     }
-}
-
-fn fewer(a: usize, b: usize) -> usize
-    ensures { result ≡ min a b }
-{
-    if a < b { a } else { b }
 }

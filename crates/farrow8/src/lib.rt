@@ -29,11 +29,11 @@ pub fn read(source: &[f64], count: u64, position: f64) -> f64
         if run.held {
             if p + 8 <= source.len() {
                 let s = sums(side_by_side(source, p));
-                let r = quick(&s, mu);
+                let r = quick(s, mu);
                 if magnitude::is_finite(r) {
                     return r;
                 }
-                return slow(&s, mu);
+                return slow(s, mu);
             }
         }
         return over(sums(one_by_one(source, count, i)), mu);

@@ -7,8 +7,8 @@ use farrow8_powers::Powers;
 
 // Horner's rule by ordinary float operations. If one step cannot be decided it gives a NaN, and then so do all that
 // follow.
-pub(crate) fn quick(s: &Powers, mu: f64) -> f64
-    ensures { T (finite result) → result ≡ horner s.now mu }
+pub(crate) fn quick(s: Powers, mu: f64) -> f64
+    ensures { T (finite result) → result ≡ horner s mu }
 {
     let p6 = near_fused::near_fused(s.s7, mu, s.s6);
     let p5 = near_fused::near_fused(p6, mu, s.s5);
@@ -20,8 +20,8 @@ pub(crate) fn quick(s: &Powers, mu: f64) -> f64
 }
 
 // Horner's rule on whole numbers, which serves every input.
-pub(crate) fn slow(s: &Powers, mu: f64) -> f64
-    ensures { result ≡ horner s.now mu }
+pub(crate) fn slow(s: Powers, mu: f64) -> f64
+    ensures { result ≡ horner s mu }
 {
     let p6 = fused64::fused64(s.s7, mu, s.s6);
     let p5 = fused64::fused64(p6, mu, s.s5);
@@ -36,9 +36,9 @@ pub(crate) fn slow(s: &Powers, mu: f64) -> f64
 pub(crate) fn over(s: Powers, mu: f64) -> f64
     ensures { result ≡ horner s mu }
 {
-    let r = quick(&s, mu);
+    let r = quick(s, mu);
     if magnitude::is_finite(r) {
         return r;
     }
-    slow(&s, mu)
+    slow(s, mu)
 }

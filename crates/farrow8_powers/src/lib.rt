@@ -35,7 +35,7 @@ fn column(c: [[f64; 8]; 8], n: usize) -> [f64; 8]
 
 // The sums of the powers; s0 is the sample itself. Fields that are neighbours in memory have quotients of the same
 // signs, so that the compiler computes two sums at once.
-#[derive(Drop)]
+#[derive(Clone, Copy)]
 pub struct Powers {
     pub s2: f64,
     pub s6: f64,

@@ -23,15 +23,12 @@ fn quad_run<'a>(
         (run_of plain_to coefficients.now history.now (index + 2) 4 above start.third count)
         (run_of plain_to coefficients.now history.now (index + 3) 4 above start.fourth count) }
 {
-    let end = above - count;
     let mut a = start.first;
     let mut b = start.second;
     let mut c = start.third;
     let mut d = start.fourth;
     let mut i = index;
-    let mut p = above;
-    while end < p {
-        p -= 1;
+    for p in (above - count..above).rev() {
         let x = history[p];
         a = a + coefficients[i] * x;
         b = b + coefficients[i + 1] * x;

@@ -44,10 +44,8 @@ fn kept(coefficient: f64) -> f64
 pub fn keep(coefficients: &mut [f64])
     ensures { coefficients.new ≡ kept_in coefficients.old }
 {
-    let mut k: usize = 0;
-    while k < coefficients.len() {
-        coefficients[k] = kept(coefficients[k]);
-        k += 1;
+    for c in coefficients.iter_mut() {
+        *c = kept(*c);
     }
 }
 

@@ -75,12 +75,9 @@ fn plain_run<'a>(
     requires { Visits (length coefficients.now) (length history.now) index step above count }
     ensures { result ≡ run_of plain_to coefficients.now history.now index step above start count }
 {
-    let end = above - count;
     let mut sum = start;
     let mut i = index;
-    let mut p = above;
-    while end < p {
-        p -= 1;
+    for p in (above - count..above).rev() {
         sum = sum + coefficients[i] * history[p];
         i += step;
     }
@@ -104,12 +101,14 @@ fn straight_run<'a>(
     let mut sum = start;
     let mut i = index;
     let mut p = above;
+    // By hand: a `for` over the blocks of eight takes about ten instructions more a call, by callgrind.
     while end + 8 <= p {
         let half = four(coefficients, history, i, 1, p, sum);
         sum = four(coefficients, history, i + 4, 1, p - 4, half);
         p -= 8;
         i += 8;
     }
+    // By hand: it goes on from where the blocks stopped, and was measured with them.
     while end < p {
         p -= 1;
         sum = sum + coefficients[i] * history[p];

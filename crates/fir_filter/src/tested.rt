@@ -28,12 +28,9 @@ fn tested_run<'a>(
     requires { Visits (length coefficients.now) (length history.now) index step above count }
     ensures { result ≡ run_of add_to coefficients.now history.now index step above start count }
 {
-    let end = above - count;
     let mut sum = start;
     let mut i = index;
-    let mut p = above;
-    while end < p {
-        p -= 1;
+    for p in (above - count..above).rev() {
         sum = add_to(coefficients[i], history[p], sum);
         i += step;
     }

@@ -1,22 +1,15 @@
 // The digits of an f64 taken out of its bit pattern, and digits put back into a pattern with one rounding.
 #![tactic(auto)]
 
-ghost use Rattle.std.specs.Prelude.{◌≡◌, ◌-◌};
+ghost use Rattle.std.specs.Prelude.{◌≡◌};
 ghost use Rattle.float_digits.specs.Pattern.{plain, unpacked, with_sticky, magnitude_of, packed};
 
 // The number (-1)^s * m * 2^(e - 1137), where m has 63 digits.
-#[derive(Drop)]
+#[derive(Clone, Copy)]
 pub struct Scaled {
     pub s: u64,
     pub m: u64,
     pub e: u64,
-}
-
-// How many places above the smallest value the digits stand. A field of 0 (a subnormal number) counts as 1.
-fn place(field: u64) -> u64
-    ensures { result ≡ field - 1 }
-{
-    if field == 0 { 0 } else { field - 1 }
 }
 
 // Whether x is finite and not zero, so that its digits can be taken out.
@@ -36,7 +29,8 @@ pub fn unpack(bits: u64) -> Scaled
     ensures { result ≡ unpacked bits }
 {
     let b: u64 = bits & 0x7fff_ffff_ffff_ffff;
-    let k = place(b >> 52);
+    // How many places above the smallest value the digits stand. A field of 0 (a subnormal number) counts as 1.
+    let k = (b >> 52).saturating_sub(1);
     let d: u64 = b - (k << 52);
     let z: u64 = u64::leading_zeros(d) as u64;
     Scaled {

@@ -3,7 +3,7 @@
 // are accepted.
 #![tactic(auto)]
 
-ghost use Rattle.std.specs.Prelude.{◌≡◌, ◌+◌, ◌<◌, min};
+ghost use Rattle.std.specs.Prelude.{◌≡◌, ◌+◌, ◌<◌};
 ghost use Rattle.riff_chunks.specs.Walk.{walk_to};
 ghost use Rattle.form_chunks.specs.Form.{form_chunk, form_sought, form_walk};
 
@@ -15,13 +15,7 @@ use word_bytes::low_first_u32;
 pub fn walk(file: &[u8], end: usize) -> Walked
     ensures { result ≡ form_walk file.now end }
 {
-    walk_to(file, earlier(end, file.len()))
-}
-
-fn earlier(end: usize, len: usize) -> usize
-    ensures { result ≡ min end len }
-{
-    if end < len { end } else { len }
+    walk_to(file, end.min(file.len()))
 }
 
 fn walk_to(file: &[u8], end: usize) -> Walked
@@ -29,6 +23,7 @@ fn walk_to(file: &[u8], end: usize) -> Walked
 {
     let sought = form_sought();
     let mut walking = begin(end);
+    // By hand: a chunk's size says how far the walk goes on, and what it has found may end it; no count does.
     while walking.left >= 8 {
         let left = walking.left;
         let c = chunk_at(file, end - left);

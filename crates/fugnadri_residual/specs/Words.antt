@@ -1,9 +1,7 @@
 -- W13 at the C boundary: a report as six numbers. `placed` is 0 or 1; if it is 0 the place is not read and keeps its
 -- value. Definitions only.
-use Rattle.std.specs.Prelude.{ℕ, ◌-◌, ◌^◌, cond, List, eqb, ℤ}
+use Rattle.std.specs.Prelude.{ℕ, ◌-◌, ◌^◌, cond, List, eqb, ℤ, Option, Some, None}
 use Rattle.residual.specs.declared.Report.{Report}
-use Rattle.residual.specs.declared.Place.{Place}
-use Rattle.residual.specs.declared.Place.TheVariants.{Nowhere, At}
 use Rattle.residual.specs.declared.Compared.{Compared}
 use Rattle.residual.specs.declared.Compared.TheVariants as compared
 use Rattle.residual.specs.Refusals.{compared_of}
@@ -27,8 +25,8 @@ numbers number largest placed place high low = record {
 }
 
 -- A `placed` above 1 stands for the place 2^64 - 1, which is not below any number, so that it is refused by 3.
-abbrev pub place_from : ℕ → ℕ → Place
-place_from placed k = cond (eqb placed 0) Nowhere (At (cond (eqb placed 1) k (2 ^ 64 - 1)))
+abbrev pub place_from : ℕ → ℕ → Option ℕ
+place_from placed k = cond (eqb placed 0) None (Some (cond (eqb placed 1) k (2 ^ 64 - 1)))
 
 abbrev pub report_from : Numbers → Report
 report_from n = record {
@@ -39,13 +37,13 @@ report_from n = record {
   low = n.low;
 }
 
-abbrev pub placed_of : Place → ℕ
-placed_of Nowhere = 0
-placed_of (At k) = 1
+abbrev pub placed_of : Option ℕ → ℕ
+placed_of None = 0
+placed_of (Some k) = 1
 
-abbrev pub index_or : Place → ℕ → ℕ
-index_or Nowhere n = n
-index_or (At k) n = k
+abbrev pub index_or : Option ℕ → ℕ → ℕ
+index_or None n = n
+index_or (Some k) n = k
 
 -- The refusal number, 0 for none.
 abbrev pub refusal_of : Compared → ℕ

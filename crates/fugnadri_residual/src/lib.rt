@@ -5,35 +5,35 @@
 ghost use Rattle.std.specs.Prelude.{◌≡◌};
 ghost use Rattle.fugnadri_residual.specs.Words.{place_from, placed_of, index_or, numbers, leaves, left_from};
 
-use residual::{Compared, Place, Report};
+use residual::{Compared, Report};
 
-fn place_from(placed: u8, index: u64) -> Place
+fn place_from(placed: u8, index: u64) -> Option<u64>
     ensures { result ≡ place_from placed index }
 {
     if placed == 0 {
-        return Place::Nowhere;
+        return None;
     }
     if placed == 1 {
-        return Place::At(index);
+        return Some(index);
     }
-    Place::At(0xFFFF_FFFF_FFFF_FFFF)
+    Some(0xFFFF_FFFF_FFFF_FFFF)
 }
 
-fn placed_of(p: Place) -> u8
+fn placed_of(p: Option<u64>) -> u8
     ensures { result ≡ placed_of p }
 {
     match p {
-        Place::Nowhere => 0,
-        Place::At(_) => 1,
+        None => 0,
+        Some(_) => 1,
     }
 }
 
-fn index_or(p: Place, index: u64) -> u64
+fn index_or(p: Option<u64>, index: u64) -> u64
     ensures { result ≡ index_or p index }
 {
     match p {
-        Place::Nowhere => index,
-        Place::At(k) => k,
+        None => index,
+        Some(k) => k,
     }
 }
 

@@ -42,6 +42,7 @@ pub(crate) fn plain_runs<'a>(
     let mut s = a;
     let mut t = b;
     let mut k: usize = from;
+    // By hand: each exit hands on the turn k, so that a `for` over the blocks of four would work it out at each.
     while to - k >= 4 {
         let p = multiplied(xs, a0, a1, blend, k);
         let q = multiplied(xs, b0, b1, blend, k);
@@ -89,6 +90,7 @@ pub(crate) fn biased_runs<'a>(
     let mut s = f.sum;
     let mut t = g.sum;
     let mut k: usize = from;
+    // By hand: each exit hands on the turn k, so that a `for` over the blocks of four would work it out at each.
     while to - k >= 4 {
         let p = multiplied(xs, a0, a1, blend, k);
         let q = multiplied(xs, b0, b1, blend, k);

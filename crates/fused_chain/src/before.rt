@@ -68,6 +68,7 @@ pub(crate) fn plain_run<'a>(
     }
     let mut held = sum;
     let mut k: usize = from;
+    // By hand: each exit hands on the turn k, so that a `for` over the blocks of four would work it out at each.
     while to - k >= 4 {
         let p = multiplied(xs, row0, row1, blend, k);
         if !p.fine {

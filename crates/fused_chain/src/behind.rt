@@ -30,6 +30,7 @@ pub(crate) fn biased_run<'a>(
     let high = t.high;
     let mut held = t.sum;
     let mut k: usize = from;
+    // By hand: each exit hands on the turn k, so that a `for` over the blocks of four would work it out at each.
     while to - k >= 4 {
         let p = multiplied(xs, row0, row1, blend, k);
         let r = advance(p.a, p.b, p.c, p.d, low, high, held);

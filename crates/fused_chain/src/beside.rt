@@ -37,6 +37,7 @@ pub(crate) fn plain_runs<'a>(
     let mut s = a;
     let mut t = b;
     let mut k: usize = from;
+    // By hand: each exit hands on the turn k, so that a `for` over the blocks of four would work it out at each.
     while to - k >= 4 {
         let p = multiplied(xs, a0, a1, blend, k);
         let q = multiplied(ys, b0, b1, other, k);
@@ -86,6 +87,7 @@ pub(crate) fn biased_runs<'a>(
     let mut s = f.sum;
     let mut t = g.sum;
     let mut k: usize = from;
+    // By hand: each exit hands on the turn k, so that a `for` over the blocks of four would work it out at each.
     while to - k >= 4 {
         let p = multiplied(xs, a0, a1, blend, k);
         let q = multiplied(ys, b0, b1, other, k);

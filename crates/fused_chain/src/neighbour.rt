@@ -68,6 +68,7 @@ fn together<'a>(
     let mut s = std::num::f32_to_f64_with_nan(a);
     let mut t = std::num::f32_to_f64_with_nan(b);
     let mut k: usize = 0;
+    // By hand: how far a turn goes is what its run and its sums tell, and not a count.
     while k < n {
         let end = until(k, middle, n);
         let r = runs(xs, a0, a1, blend, ys, b0, b1, other, k, end, middle, s, t);

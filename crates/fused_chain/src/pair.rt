@@ -34,6 +34,7 @@ fn plainly<'a>(
     let mut s = a;
     let mut t = b;
     let mut k: usize = 0;
+    // By hand: how far a turn goes is what its run and its sums tell, and not a count.
     while k < to {
         let r = plain_runs(xs, a0, a1, b0, b1, blend, k, to, s, t);
         let end = stretch(r.k, to, r.a);
@@ -68,6 +69,7 @@ fn together<'a>(
     let mut s = before.a;
     let mut t = before.b;
     let mut k = middle;
+    // By hand: how far a turn goes is what its run and its sums tell, and not a count.
     while k < n {
         let r = biased_runs(xs, a0, a1, b0, b1, blend, k, n, s, t);
         let to = stretch(r.k, n, r.a);

@@ -18,6 +18,7 @@ pub fn chain<'a>(xs: &'a [f32], row0: &'a [f32], row1: &'a [f32], blend: f32, su
     let wide = std::num::f32_to_f64_with_nan(sum);
     let mut held = plainly(xs, row0, row1, blend, 0, middle, wide);
     let mut k = middle;
+    // By hand: how far a turn goes is what its run and its sums tell, and not a count.
     while k < n {
         let r = biased_run(xs, row0, row1, blend, k, n, held);
         let to = stretch(r.k, n, r.sum);

@@ -19,11 +19,9 @@ pub(crate) fn one_by_one<'a>(
     ensures { Carries xs.now row0.now row1.now blend from to sum result }
 {
     let mut held = sum;
-    let mut k: usize = from;
-    while k < to {
+    for k in from..to {
         let a = row0[k];
         held = step(xs[k], a + blend * (row1[k] - a), held);
-        k += 1;
     }
     held
 }
@@ -43,6 +41,7 @@ pub(crate) fn plainly<'a>(
 {
     let mut held = sum;
     let mut k: usize = from;
+    // By hand: how far a turn goes is what its run and its sums tell, and not a count.
     while k < to {
         let r = plain_run(xs, row0, row1, blend, k, to, held);
         let end = stretch(r.k, to, r.sum);

@@ -32,17 +32,8 @@ fn read(s: &[u8]) -> u64
     ensures upper_bound { result < 256 ^ length s.now }
 {
     let mut v: u64 = 0;
-    let mut i: usize = 0;
-    while i < s.len() {
-        v = v * 256 + wide(s[i]);
-        i += 1;
+    for x in s {
+        v = v * 256 + u64::from(*x);
     }
     v
-}
-
-fn wide(x: u8) -> u64
-    ensures value { result ≡ x }
-    ensures upper_bound { result < 256 }
-{
-    x as u64
 }

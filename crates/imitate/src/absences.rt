@@ -27,14 +27,9 @@ pub(crate) fn with_block(
     right: &[f64],
     n: usize,
 ) -> Absences {
-    let first = before.one;
-    let second = before.two;
+    let second_frames = if channels == 2 { n } else { 0 };
     Absences {
-        one: absent_report::counted(first, len, one.accepted, left, n),
-        two: absent_report::counted(second, len, two.accepted, right, second_frames(channels, n)),
+        one: absent_report::counted(before.one, len, one.accepted, left, n),
+        two: absent_report::counted(before.two, len, two.accepted, right, second_frames),
     }
-}
-
-fn second_frames(channels: u8, n: usize) -> usize {
-    if channels == 2 { n } else { 0 }
 }

@@ -1,29 +1,24 @@
 // What the arguments of `imitate FROM TO [NAME=VALUE …]` ask for.
 use arguments::Argument;
-use asked::{Imitated, Imitation};
+use asked::Imitation;
 use system::{STANDARD_ERROR, System};
 use words_asked::{
     Names, none, of_two, refused, say_bad, say_elsewhere, say_too_long, say_unknown, with_file,
 };
 
-#[derive(Drop)]
+#[derive(Clone, Copy)]
 pub(crate) struct ToImitate {
     pub names: Names,
     pub settings: Imitation,
 }
 
 pub(crate) fn to_imitate(system: &System) -> ToImitate {
-    let count = system.arg_count();
-    let settings = asked::plain_imitation();
-    let names = none();
     let mut asked = ToImitate {
-        names: names,
-        settings: settings,
+        names: none(),
+        settings: asked::plain_imitation(),
     };
-    let mut i: usize = 1;
-    while i < count {
+    for i in 1..system.arg_count() {
         asked = with_argument(system, asked, i);
-        i += 1;
     }
     both_named(system, asked)
 }
@@ -43,23 +38,14 @@ pub(crate) fn tell_usage(system: &System, fd: i32) {
 
 // Unless exactly two files were named, the usage is shown and the names are not good.
 fn both_named(system: &System, asked: ToImitate) -> ToImitate {
-    let names = asked.names;
-    if !names.good {
+    if !asked.names.good {
         return asked;
     }
-    let two = of_two(names);
-    if !two.good {
+    let names = of_two(asked.names);
+    if !names.good {
         tell_usage(system, STANDARD_ERROR);
     }
-    with_names(asked, two)
-}
-
-fn with_names(asked: ToImitate, names: Names) -> ToImitate {
-    let settings = asked.settings;
-    ToImitate {
-        names: names,
-        settings: settings,
-    }
+    ToImitate { names, ..asked }
 }
 
 fn with_argument(system: &System, asked: ToImitate, i: usize) -> ToImitate {
@@ -72,15 +58,18 @@ fn with_argument(system: &System, asked: ToImitate, i: usize) -> ToImitate {
 }
 
 fn without(asked: ToImitate) -> ToImitate {
-    let names = asked.names;
-    with_names(asked, refused(names))
+    ToImitate {
+        names: refused(asked.names),
+        ..asked
+    }
 }
 
 fn with_text(system: &System, asked: ToImitate, i: usize, words: &[u8]) -> ToImitate {
-    let names = asked.names;
-    let argument = arguments::meaning(words);
-    match argument {
-        Argument::File => with_names(asked, with_file(names, i)),
+    match arguments::meaning(words) {
+        Argument::File => ToImitate {
+            names: with_file(asked.names, i),
+            ..asked
+        },
         Argument::Unknown => {
             say_unknown(system, b"imitate", words);
             without(asked)
@@ -89,20 +78,14 @@ fn with_text(system: &System, asked: ToImitate, i: usize, words: &[u8]) -> ToImi
             say_bad(system, b"imitate", words, name);
             without(asked)
         }
-        _ => with_setting(system, asked, words, argument),
+        argument => with_setting(system, asked, words, argument),
     }
 }
 
 fn with_setting(system: &System, asked: ToImitate, words: &[u8], argument: Argument) -> ToImitate {
-    let names = asked.names;
-    let settings = asked.settings;
-    let changed = asked::imitated_with(settings, argument);
-    match changed {
-        Imitated::Asked(s) => ToImitate {
-            names: names,
-            settings: s,
-        },
-        Imitated::Other => {
+    match asked::imitated_with(asked.settings, argument) {
+        Some(settings) => ToImitate { settings, ..asked },
+        None => {
             say_elsewhere(system, b"imitate", words);
             without(asked)
         }

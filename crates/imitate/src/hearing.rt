@@ -7,7 +7,7 @@ use wave_file::WaveFile;
 
 // The state after a block. If a refusal ended the block, `number` is its number, `done` the number of frames before it,
 // and `channel` its channel, counted from 1.
-#[derive(Drop)]
+#[derive(Clone, Copy)]
 pub(crate) struct Heard {
     pub sides: Sides,
     pub number: u8,
@@ -31,28 +31,17 @@ pub(crate) fn hear<'a>(
     if file.channels == 2 {
         return hear_two(file, sides, ring, second, table, part, n, left, right, both);
     }
-    let engine = sides.engine;
-    let reader = sides.one;
-    let two = sides.two;
-    let ended = hear_into(file, 0, part, reader, ring, table, both, n, left);
+    let ended = hear_into(file, 0, part, sides.one, ring, table, both, n, left);
     let one = ended.reader;
-    ended_with(
-        Sides {
-            engine: engine,
-            one: one,
-            two: two,
-        },
-        ended,
-        1,
-    )
+    ended_with(Sides { one, ..sides }, ended, 1)
 }
 
 fn ended_with(sides: Sides, ended: Ended, channel: u8) -> Heard {
     Heard {
-        sides: sides,
+        sides,
         number: ended.refusal,
         done: ended.done,
-        channel: channel,
+        channel,
     }
 }
 
@@ -69,30 +58,14 @@ fn hear_two<'a>(
     right: &[f64],
     both: &mut [f32],
 ) -> Heard {
-    let mut one = [0.0f32; 4096];
-    let engine = sides.engine;
-    let before = sides.one;
-    let two = sides.two;
-    let ended = hear_into(file, 0, part, before, ring, table, &mut one, n, left);
+    let mut first = [0.0f32; 4096];
+    let ended = hear_into(file, 0, part, sides.one, ring, table, &mut first, n, left);
     if ended.refusal != 0 {
         return ended_with(sides, ended, 1);
     }
-    let after = ended.reader;
-    hear_other(
-        file,
-        Sides {
-            engine: engine,
-            one: after,
-            two: two,
-        },
-        second,
-        table,
-        part,
-        n,
-        right,
-        &one,
-        both,
-    )
+    let one = ended.reader;
+    let sides = Sides { one, ..sides };
+    hear_other(file, sides, second, table, part, n, right, &first, both)
 }
 
 // Reads the second channel and puts its samples between those of the first.
@@ -108,25 +81,12 @@ fn hear_other<'a>(
     both: &mut [f32],
 ) -> Heard {
     let mut other = [0.0f32; 4096];
-    let engine = sides.engine;
-    let one = sides.one;
-    let before = sides.two;
-    let ended = hear_into(file, 1, part, before, second, table, &mut other, n, right);
-    weave(first, &other, both);
+    let ended = hear_into(
+        file, 1, part, sides.two, second, table, &mut other, n, right,
+    );
+    woven::weave(first, &other, both);
     let two = ended.reader;
-    ended_with(
-        Sides {
-            engine: engine,
-            one: one,
-            two: two,
-        },
-        ended,
-        2,
-    )
-}
-
-fn weave(one: &[f32; 4096], two: &[f32; 4096], both: &mut [f32]) {
-    woven::weave(one, two, both);
+    ended_with(Sides { two, ..sides }, ended, 2)
 }
 
 // Reads one channel of a part into the first n places of `samples`.
@@ -141,10 +101,9 @@ fn hear_into<'a>(
     n: usize,
     delays: &[f64],
 ) -> Ended {
-    let kind = file.kind;
     if n <= samples.len() {
         return heard_channel::hear(
-            kind,
+            file.kind,
             file.channels,
             channel,
             part,
@@ -156,7 +115,7 @@ fn hear_into<'a>(
         );
     }
     Ended {
-        reader: reader,
+        reader,
         done: 0,
         refusal: 2,
     }

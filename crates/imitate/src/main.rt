@@ -9,15 +9,12 @@ mod sayings; // what is said of settings and samples
 mod storing; // a block's bytes
 
 use absences::Absences;
-use arguments::Kind;
 use asked::Imitation;
 use asking::{help_asked, tell_usage, to_imitate};
 use error_lines::{misused, succeed};
 use file_words::{say_unopened, say_wrapped};
 use outcomes::{Outcome, is_well};
-use part_file::Made;
 use running::Job;
-use sample_kind::SampleKind;
 use sayings::{say_absent, say_outcome, suits};
 use sizes::times;
 use std::process::ExitCode;
@@ -26,7 +23,7 @@ use wave_file::{Opened, WaveFile};
 use wave_output::{can_be_written, write_header, write_pad};
 
 // Whether everything was written, and which samples read absent taps.
-#[derive(Drop)]
+#[derive(Clone, Copy)]
 struct Written {
     well: bool,
     absent: Absences,
@@ -40,7 +37,6 @@ fn main(rt: HostRuntime) -> ExitCode {
     }
     let asked = to_imitate(&system);
     let names = asked.names;
-    let settings = asked.settings;
     if !names.good {
         return misused();
     }
@@ -48,7 +44,7 @@ fn main(rt: HostRuntime) -> ExitCode {
     let n = system.arg(names.first, &mut from).unwrap_or(0);
     let mut to = [0u8; 4096];
     let m = system.arg(names.second, &mut to).unwrap_or(0);
-    if imitate(&system, settings, &from[..n], &to[..m]) {
+    if imitate(&system, asked.settings, &from[..n], &to[..m]) {
         return succeed();
     }
     ExitCode::FAILURE
@@ -73,10 +69,7 @@ fn imitate_of(
     to: &[u8],
     file: WaveFile,
 ) -> bool {
-    let asked = settings.kind;
-    let same = file.kind;
-    let kind = kind_of(asked, same);
-    let params = settings.params;
+    let kind = settings.kind.unwrap_or(file.kind);
     let count = times(file.frames, file.channels as usize);
     if !can_be_written(
         system,
@@ -89,73 +82,56 @@ fn imitate_of(
     ) {
         return false;
     }
-    if !suits(system, params, settings.delay, file.rate) {
+    if !suits(system, settings.params, settings.delay, file.rate) {
         return false;
     }
     let made = part_file::make(system, b"imitate", to);
     match made {
-        Made::Open(fd) => {
+        Some(fd) => {
             say_wrapped(system, b"imitate", from, file);
-            let written = write_all(
-                system,
-                from,
-                to,
-                Job {
-                    file: file,
-                    kind: kind,
-                    fd: fd,
-                    settings: settings,
-                },
-                count,
-            );
+            let job = Job {
+                file,
+                kind,
+                fd,
+                settings,
+            };
+            let written = write_all(system, from, to, job, count);
             finish(system, to, fd, file.channels, written)
         }
-        Made::Failed => false,
+        None => false,
     }
 }
 
 // What the samples lacked is said once the file is whole.
 fn finish(system: &System, to: &[u8], fd: i32, channels: u8, written: Written) -> bool {
-    let absent = written.absent;
     let whole = part_file::finish(system, b"imitate", to, fd, written.well);
     if whole {
-        say_absent(system, channels, absent);
+        say_absent(system, channels, written.absent);
     }
     whole
 }
 
-fn kind_of(asked: Kind, same: SampleKind) -> SampleKind {
-    match asked {
-        Kind::Same => same,
-        Kind::As(kind) => kind,
-    }
-}
-
 fn write_all(system: &System, from: &[u8], to: &[u8], job: Job, count: usize) -> Written {
     let file = job.file;
-    let kind = job.kind;
     if !write_header(
         system,
         b"imitate",
         to,
         job.fd,
-        kind,
+        job.kind,
         file.channels,
         file.rate,
         count,
     ) {
-        let absent = absences::none_absent();
         return Written {
             well: false,
-            absent: absent,
+            absent: absences::none_absent(),
         };
     }
     let ran = running::imitate(system, job);
-    let outcome = ran.outcome;
-    let absent = ran.absent;
     Written {
-        well: ended_well(system, from, to, job, count, outcome),
-        absent: absent,
+        well: ended_well(system, from, to, job, count, ran.outcome),
+        absent: ran.absent,
     }
 }
 
@@ -167,7 +143,6 @@ fn ended_well(
     count: usize,
     outcome: Outcome,
 ) -> bool {
-    let kind = job.kind;
     if is_well(outcome) {
         progress::clear(system, system.is_terminal());
         return write_pad(
@@ -175,7 +150,7 @@ fn ended_well(
             b"imitate",
             to,
             job.fd,
-            times(count, sample_kind::width(kind)),
+            times(count, sample_kind::width(job.kind)),
         );
     }
     say_outcome(system, from, to, outcome);

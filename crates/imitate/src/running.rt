@@ -9,7 +9,7 @@ use modulation_engine::ModulationEngine;
 use outcomes::{Outcome, broken, is_well, refused_at, well};
 use sample_kind::SampleKind;
 use sinc_settings::Settings;
-use sizes::{fewer, less, plus};
+use sizes::plus;
 use system::System;
 use variable_delay::VariableDelay;
 use wave_file::WaveFile;
@@ -27,7 +27,7 @@ pub(crate) struct Job {
 }
 
 // The engine, and a reader for each channel.
-#[derive(Drop)]
+#[derive(Clone, Copy)]
 pub(crate) struct Sides {
     pub engine: ModulationEngine,
     pub one: VariableDelay,
@@ -35,20 +35,20 @@ pub(crate) struct Sides {
 }
 
 // How a run ended, and which samples read absent taps.
-#[derive(Drop)]
+#[derive(Clone, Copy)]
 pub(crate) struct Ran {
     pub outcome: Outcome,
     pub absent: Absences,
 }
 
-#[derive(Drop)]
+#[derive(Clone, Copy)]
 struct Turn {
     sides: Sides,
     outcome: Outcome,
     absent: Absences,
 }
 
-#[derive(Drop)]
+#[derive(Clone, Copy)]
 struct Read {
     sides: Sides,
     outcome: Outcome,
@@ -59,8 +59,6 @@ pub(crate) fn imitate(system: &System, job: Job) -> Ran {
     let mut ring = [0.0f32; 65536];
     let mut second = [0.0f32; 65536];
     let mut table = [0.0f32; 2080];
-    let file = job.file;
-    let settings = job.settings;
     let variable_delay::Opened::Reader(one) = variable_delay_f32::open(65528, 0, &mut ring) else {
         return unread(1);
     };
@@ -79,23 +77,13 @@ pub(crate) fn imitate(system: &System, job: Job) -> Ran {
         return unread(1);
     };
     let modulation_engine::Opened::Engine(engine) = ModulationEngine::new(
-        file.rate as f64,
-        settings.seed,
+        job.file.rate as f64,
+        job.settings.seed,
     ) else {
         return unread(1);
     };
-    run(
-        system,
-        job,
-        Sides {
-            engine: engine,
-            one: one,
-            two: two,
-        },
-        &mut ring,
-        &mut second,
-        &table,
-    )
+    let start = Sides { engine, one, two };
+    run(system, job, start, &mut ring, &mut second, &table)
 }
 
 // A channel whose reader, table or delays could not be opened is refused at its first frame.
@@ -115,32 +103,24 @@ fn run<'a>(
     second: &mut [f32; 65536],
     table: &'a [f32; 2080],
 ) -> Ran {
-    let file = job.file;
-    let frames = file.frames;
+    let frames = job.file.frames;
     let mut sides = start;
     let mut absent = none_absent();
-    let mut done: usize = 0;
     let mut said: i64 = 0;
-    let mut turns = u64::MAX;
-    while turns > 0 && done < frames {
-        let n = fewer(less(frames, done), FRAMES);
+    for done in (0..frames).step_by(FRAMES) {
+        let n = (frames - done).min(FRAMES);
         let turn = block(system, job, sides, absent, ring, second, table, done, n);
         let outcome = turn.outcome;
         if !is_well(outcome) {
-            return Ran {
-                outcome: outcome,
-                absent: absent,
-            };
+            return Ran { outcome, absent };
         }
         sides = turn.sides;
         absent = turn.absent;
-        done = plus(done, n);
-        said = tell(system, done, frames, said);
-        turns -= 1;
+        said = tell(system, done + n, frames, said);
     }
     Ran {
         outcome: well(),
-        absent: absent,
+        absent,
     }
 }
 
@@ -166,45 +146,32 @@ fn block<'a>(
     let mut left = [0.0f64; FRAMES];
     let mut right = [0.0f64; FRAMES];
     let settings = job.settings;
-    let params = settings.params;
-    let engine = sides.engine;
-    let wandered = imitation::wander(engine, params, settings.delay, &mut left, &mut right);
-    let turned = wandered.engine;
-    let one = sides.one;
-    let two = sides.two;
-    let file = job.file;
+    let wandered = imitation::wander(
+        sides.engine,
+        settings.params,
+        settings.delay,
+        &mut left,
+        &mut right,
+    );
     let absent = with_block(
         before,
-        file.channels,
-        one,
-        two,
+        job.file.channels,
+        sides.one,
+        sides.two,
         ring.len(),
         &left,
         &right,
         n,
     );
+    let engine = wandered.engine;
+    let turned = Sides { engine, ..sides };
     let read = read_block(
-        system,
-        job,
-        Sides {
-            engine: turned,
-            one: one,
-            two: two,
-        },
-        ring,
-        second,
-        table,
-        &left,
-        &right,
-        done,
-        n,
+        system, job, turned, ring, second, table, &left, &right, done, n,
     );
-    let after = read.sides;
-    let outcome = read.outcome;
     Turn {
-        sides: after,
-        outcome: outcome,
-        absent: absent,
+        sides: read.sides,
+        outcome: read.outcome,
+        absent,
     }
 }
 
@@ -225,35 +192,32 @@ fn read_block<'a>(
     let mut bytes = [0u8; 32768];
     let mut both = [0.0f32; 8192];
     let file = job.file;
-    let kind = job.kind;
     let io = wave_file::read_frames(system, file, done, &mut bytes, n);
     if io != 0 {
         return Read {
-            sides: sides,
+            sides,
             outcome: broken(io),
         };
     }
     let heard = hear(
         file, sides, ring, second, table, &bytes, n, left, right, &mut both,
     );
-    let after = heard.sides;
-    if heard.number != 0 {
-        return Read {
-            sides: after,
-            outcome: refused_at(heard.number, plus(done, heard.done), heard.channel),
-        };
-    }
-    Read {
-        sides: after,
-        outcome: store(
+    let outcome = if heard.number != 0 {
+        refused_at(heard.number, plus(done, heard.done), heard.channel)
+    } else {
+        store(
             system,
             job.fd,
-            kind,
+            job.kind,
             file.channels,
             &both,
             &mut bytes,
             done,
             n,
-        ),
+        )
+    };
+    Read {
+        sides: heard.sides,
+        outcome,
     }
 }

@@ -4,12 +4,11 @@ ghost use Rattle.std.specs.Prelude.{◌≡◌, ◌++◌, min, length, drop};
 ghost use Rattle.imitation.specs.Delays.{turned_by, left_delays, right_delays};
 ghost use Rattle.imitation.specs.Delays.{left_of as Delays·left_of, right_of as Delays·right_of};
 
-use crate::reading::fewer;
 use modulation_engine::ModulationEngine;
 use modulation_params::ModulationParams;
 use modulation_sample::Offset;
 
-#[derive(Drop)]
+#[derive(Clone, Copy)]
 pub struct Wandered {
     pub engine: ModulationEngine,
     pub frames: usize,
@@ -33,16 +32,14 @@ pub fn wander(
         ≡ right_delays params middle engine (min (length left.old) (length right.old))
         ++ drop (min (length left.old) (length right.old)) right.old }
 {
-    let n = fewer(left.len(), right.len());
+    let n = left.len().min(right.len());
     let mut e = engine;
-    let mut k: usize = 0;
-    while k < n {
+    for k in 0..n {
         let next = modulation::next(e, params);
         let offset = next.offset;
         left[k] = left_of(middle, offset);
         right[k] = right_of(middle, offset);
         e = next.engine;
-        k += 1;
     }
     Wandered {
         engine: e,

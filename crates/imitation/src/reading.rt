@@ -1,11 +1,11 @@
 // The samples of one channel, each read at its delay, in place.
-ghost use Rattle.std.specs.Prelude.{◌≡◌, min, length};
+ghost use Rattle.std.specs.Prelude.{◌≡◌};
 ghost use Rattle.imitation.specs.Reading.{call_of, heard, ended_of, left_in};
 
 use variable_delay::VariableDelay;
 
 // The reader after a stretch, how many samples were read, and the number of the refusal that ended it, 0 for none.
-#[derive(Drop)]
+#[derive(Clone, Copy)]
 pub struct Ended {
     pub reader: VariableDelay,
     pub done: usize,
@@ -13,7 +13,7 @@ pub struct Ended {
 }
 
 // The answer of a call as plain numbers.
-#[derive(Drop)]
+#[derive(Clone, Copy)]
 struct Heard {
     state: VariableDelay,
     number: u8,
@@ -36,10 +36,9 @@ pub fn read_stretch<'a>(
     ensures samples_after { samples.new ≡ left_in samples.old (heard table.now reader
         ring.old samples.old delays.now) }
 {
-    let n = fewer(samples.len(), delays.len());
+    let n = samples.len().min(delays.len());
     let mut s = reader;
-    let mut k: usize = 0;
-    while k < n {
+    for k in 0..n {
         let c = hear(s, ring, table, samples[k], delays[k]);
         s = c.state;
         if c.number != 0 {
@@ -50,19 +49,12 @@ pub fn read_stretch<'a>(
             };
         }
         samples[k] = c.sample;
-        k += 1;
     }
     Ended {
         reader: s,
-        done: k,
+        done: n,
         refusal: 0,
     }
-}
-
-pub(crate) fn fewer(a: usize, b: usize) -> usize
-    ensures { result ≡ min a b }
-{
-    if a < b { a } else { b }
 }
 
 fn hear<'a>(
@@ -78,11 +70,9 @@ fn hear<'a>(
     ensures ring_after { ring.new ≡ (call_of table.now state ring.old input delay).ring }
 {
     let p = sinc_delay_f32::process_sample(state, ring, input, delay, table, 32, 64);
-    let answer = p.answer;
-    let after = p.state;
     Heard {
-        state: after,
-        number: answer_parts::number_f32(answer),
-        sample: answer_parts::value_f32(answer),
+        state: p.state,
+        number: answer_parts::number_f32(p.answer),
+        sample: answer_parts::value_f32(p.answer),
     }
 }

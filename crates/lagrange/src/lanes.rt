@@ -55,11 +55,9 @@ fn nodes_before(own: [f64; 8], f: u64, local: f64) -> [f64; 8]
     ensures { Weights local (2 * f) (2 * f) result }
 {
     let mut w = [1.0; 8];
-    let mut h: u64 = 0;
-    while h < f {
+    for h in 0..f {
         let v = lagrange_factors::pass(w, own, local, number(2 * h), number(2 * h + 1));
         w = v;
-        h += 1;
     }
     w
 }
@@ -71,11 +69,9 @@ fn nodes_behind(w: [f64; 8], own: [f64; 8], f: u64, local: f64, pairs: u64) -> [
     ensures { Weights local (2 * f) (2 * pairs) result }
 {
     let mut w = w;
-    let mut h: u64 = f + 4;
-    while h < pairs {
+    for h in f + 4..pairs {
         let v = lagrange_factors::pass(w, own, local, number(2 * h), number(2 * h + 1));
         w = v;
-        h += 1;
     }
     w
 }

@@ -15,22 +15,14 @@ use answer::Answer;
 pub fn taps_ok(taps: u64) -> bool
     ensures { result ≡ taps_ok taps }
 {
-    if taps <= 16 {
-        if 2 <= taps { taps % 2 == 0 } else { false }
-    } else {
-        false
-    }
+    taps <= 16 && 2 <= taps && taps % 2 == 0
 }
 
 // G3, G5. Both the taps and the position are in range.
 pub fn in_range(position: f64, taps: u64) -> bool
     ensures { result ≡ (taps_ok taps && position_ok position) }
 {
-    if taps_ok(taps) {
-        ring::position_ok(position)
-    } else {
-        false
-    }
+    taps_ok(taps) && ring::position_ok(position)
 }
 
 // If the taps or the position are out of range the reading is zero.

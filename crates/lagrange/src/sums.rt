@@ -31,10 +31,8 @@ fn one_by_one(
     ensures { result ≡ fold (tap_turn (λ k. tap_of source.now count (base +ℤ pos (first + k))) w) sum n }
 {
     let mut sum = sum;
-    let mut k: usize = 0;
-    while k < n {
-        sum = sum + tap_after(source, count, base, first + (k as u64)) * w[k];
-        k += 1;
+    for k in 0..n {
+        sum += tap_after(source, count, base, first + k as u64) * w[k];
     }
     sum
 }
@@ -45,18 +43,10 @@ fn run(source: &[f64], place: usize, w: [f64; 8], n: usize, sum: f64) -> f64
     ensures { result ≡ fold (tap_turn (λ k. get_or source.now (place + k) nan) w) sum n }
 {
     let mut sum = sum;
-    let mut k: usize = 0;
-    while k < n {
-        sum = sum + source[place + k] * w[k];
-        k += 1;
+    for k in 0..n {
+        sum += source[place + k] * w[k];
     }
     sum
-}
-
-fn at_most(n: u64, top: u64) -> u64
-    ensures { result ≡ min n top }
-{
-    if n < top { n } else { top }
 }
 
 // Whether all taps are held side by side, and where the first stands.
@@ -95,7 +85,7 @@ fn block(
         fold (turn_of source.now count base local (2 * pairs)) zero-f (2 * min (f + 4) pairs) }
 {
     let w = weights(f, local, pairs);
-    let n = 2 * at_most(pairs - f, 4);
+    let n = 2 * (pairs - f).min(4);
     let p = s.place;
     if s.held {
         return run(source, p + 2 * f as usize, w, n as usize, sum);
@@ -103,17 +93,15 @@ fn block(
     one_by_one(source, count, base, 2 * f, w, n as usize, sum)
 }
 
-// The outer loop of 000, with eight turns at a time.
+// The outer loop of 000, with eight turns at a time, so that it is at most two blocks.
 pub(crate) fn sum(source: &[f64], count: u64, base: i64, local: f64, pairs: u64) -> f64
     requires { (mag base ≤ 2 ^ 37) × (1 ≤ pairs) × (pairs ≤ 8) }
     ensures { result ≡ fold (turn_of source.now count base local (2 * pairs)) zero-f (2 * pairs) }
 {
     let s = start(source, count, base, 2 * pairs);
-    let mut sum = 0.0;
-    let mut f: u64 = 0;
-    while f < pairs {
-        sum = block(source, count, base, local, pairs, s, f, sum);
-        f += 4;
+    let front = block(source, count, base, local, pairs, s, 0, 0.0);
+    if pairs <= 4 {
+        return front;
     }
-    sum
+    block(source, count, base, local, pairs, s, 4, front)
 }

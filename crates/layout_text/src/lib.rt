@@ -8,6 +8,7 @@ ghost use Rattle.layout_text.specs.LayoutText.{layout_text};
 use file_layout::Layout;
 
 // Writes `AIFF, `, `RF64, ` or `BW64, `, and nothing for RIFF.
+#[tactic(auto, unfolding(text::specs::Text::ascii))]
 pub fn put_layout(out: &mut [u8], at: usize, layout: Layout) -> usize
     ensures value { result ≡ place_after (length out.old) at (layout_text layout) }
     ensures out_after { out.new ≡ put_at out.old at (layout_text layout) }

@@ -1,8 +1,6 @@
 -- A level as text: its sign, whole decibels, a point, the tenth and the unit. Definitions only.
-use Rattle.std.specs.Prelude.{ℕ, ◌-◌, ◌/◌, ◌%◌, cond, List, ◌++◌, ltb}
+use Rattle.std.specs.Prelude.{ℕ, ◌-◌, ◌/◌, ◌%◌, cond, List, ◌++◌, ltb, Option, Some, None}
 use Rattle.text.specs.Text.{ascii, decimal}
-use Rattle.decibels.specs.declared.Level.{Level}
-use Rattle.decibels.specs.declared.Level.TheVariants.{None, Below}
 
 -- A number of tenths, without a sign.
 unfoldable pub size_text : ℕ → List ℕ
@@ -14,6 +12,6 @@ tenths_text j =
     cond (ltb j 61) (ascii "+" ++ size_text (61 - j)) (cond (ltb 61 j) (ascii "-" ++ size_text (j - 61)) (size_text 0))
 
 -- Two stretches without a level are the same, sample for sample.
-abbrev pub level_text : Level → List ℕ
+abbrev pub level_text : Option ℕ → List ℕ
 level_text None = ascii "no difference"
-level_text (Below j) = tenths_text j
+level_text (Some j) = tenths_text j

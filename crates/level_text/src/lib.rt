@@ -5,15 +5,13 @@ ghost use Rattle.std.specs.Prelude.{◌≡◌, length};
 ghost use Rattle.text.specs.Text.{put_at, place_after};
 ghost use Rattle.level_text.specs.LevelText.{size_text, tenths_text, level_text};
 
-use decibels::Level;
-
-pub fn put_level(out: &mut [u8], at: usize, level: Level) -> usize
+pub fn put_level(out: &mut [u8], at: usize, level: Option<u32>) -> usize
     ensures value { result ≡ place_after (length out.old) at (level_text level) }
     ensures out_after { out.new ≡ put_at out.old at (level_text level) }
 {
     match level {
-        Level::None => text::put(out, at, b"no difference"),
-        Level::Below(j) => put_tenths(out, at, j),
+        None => text::put(out, at, b"no difference"),
+        Some(j) => put_tenths(out, at, j),
     }
 }
 

@@ -1,11 +1,10 @@
--- One more blank, and one more digit in front of those that are written. Assumes nothing.
-use mathlib.Core.Path.{◌≡◌, refl}
-use mathlib.Core.List.{List, ◌++◌, append_assoc}
-use Prim.Native.Nat.{ℕ, zero, suc, ◌+◌, ◌/◌, ◌%◌, ◌<◌}
+-- Blanks, and one more digit in front of those that are written. Assumes nothing.
+use mathlib.Core.Path.{◌≡◌, refl, ap}
+use mathlib.Core.List.{List, ◌∷◌, ◌++◌, append_assoc}
+use Prim.Native.Nat.{ℕ, zero, suc, ◌+◌, ◌/◌, ◌%◌, ◌<◌, ◌≤◌}
 use native.Mathlib.Omega.{arith}
-use lib.ListN.{length, drop, set, length-set}
+use lib.ListN.{length, take, drop, set, replicate, length-set}
 use lib.Seq.{drop-cons, drop-set-lt, get_or-set_same}
-use Rattle.text.specs.Text.{put_at}
 use Rattle.line_text.specs.Columns.{blanks, last_digits}
 
 pub blanks-long : (k : ℕ) → length (blanks k) ≡ k
@@ -13,10 +12,12 @@ unfolding blanks
 blanks-long zero = refl
 blanks-long (suc k) = omega (arith, blanks-long k)
 
-pub blank-next : (xs : List ℕ) (at : ℕ) {j k : ℕ} → suc j ≡ k
-    → put_at xs at (blanks k) ≡ put_at (set xs at 32) (suc at) (blanks j)
+-- The first n of k blanks.
+pub first-blanks : (n k : ℕ) → n ≤ k → replicate n 32 ≡ take n (blanks k)
 unfolding blanks
-blank-next xs at e = rw (← e)
+first-blanks zero k h = refl
+first-blanks (suc n) zero h = absurd (omega arith)
+first-blanks (suc n) (suc k) h = ap (λ (bs : List ℕ). 32 ∷ bs) (first-blanks n k (omega arith))
 
 -- All but the last j digits of v are written from suc k on; the next is written at k.
 pub digit-next : (xs : List ℕ) (k v : ℕ) {j l : ℕ} → suc j ≡ l → k < length xs

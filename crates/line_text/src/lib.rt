@@ -2,7 +2,7 @@
 // Words and numbers are put by `text` and `decimals`. A text that does not fit is cut off where the slice ends.
 #![tactic(auto)]
 
-ghost use Rattle.std.specs.Prelude.{◌≡◌, ◌-◌, length};
+ghost use Rattle.std.specs.Prelude.{◌≡◌, length};
 ghost use Rattle.text.specs.Text.{put_at, place_after};
 ghost use Rattle.line_text.specs.Columns.{blanks, right_of, places_in, tenths_of};
 
@@ -18,17 +18,9 @@ pub fn put_blanks(out: &mut [u8], at: usize, count: usize) -> usize
     if out.len() <= at {
         return out.len();
     }
-    let mut to = at;
-    let mut k = count;
-    while k > 0 {
-        if out.len() <= to {
-            return to;
-        }
-        out[to] = b' ';
-        to += 1;
-        k -= 1;
-    }
-    to
+    let n = count.min(out.len() - at);
+    out[at..at + n].fill(b' ');
+    at + n
 }
 
 // Puts a number at the right of a column of that width: blanks, then its digits.
@@ -38,15 +30,8 @@ pub fn put_right(out: &mut [u8], at: usize, n: u64, width: usize) -> usize
 {
     let mut digits = [0u8; 20];
     let places = put_decimal(&mut digits, 0, n);
-    let to = put_blanks(out, at, less(width, places));
+    let to = put_blanks(out, at, width.saturating_sub(places));
     put_decimal(out, to, n)
-}
-
-// The difference a - b, or 0 if b is larger.
-fn less(a: usize, b: usize) -> usize
-    ensures { result ≡ a - b }
-{
-    if a < b { 0 } else { a - b }
 }
 
 // Puts the last digits of a number, at most 20, with zeros in front.
@@ -55,11 +40,9 @@ pub fn put_places(out: &mut [u8], at: usize, n: u64, places: usize) -> usize
     ensures out_after { out.new ≡ put_at out.old at (places_in places n) }
 {
     let mut digits = [48u8; 20];
-    let from = less(20, places);
+    let from = 20usize.saturating_sub(places);
     let mut v = n;
-    let mut k: usize = 20;
-    while k > from {
-        k -= 1;
+    for k in (from..20).rev() {
         digits[k] = 48 + (v % 10) as u8;
         v /= 10;
     }

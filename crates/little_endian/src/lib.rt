@@ -22,22 +22,25 @@ pub fn three(s: &[u8], at: usize) -> u32
     low_first_u32(s, at) % 0x100_0000
 }
 
+#[tactic(auto, unfolding(word_bytes::specs::Bytes::bytes_value))]
 pub fn of_two(a: u8, b: u8) -> u32
     ensures value { result ≡ bytes_value (a ∷ b ∷ []) }
     ensures upper_bound { result < 0x1_0000 }
 {
-    a as u32 + b as u32 * 0x100
+    u32::from(a) + u32::from(b) * 0x100
 }
 
+#[tactic(auto, unfolding(word_bytes::specs::Bytes::bytes_value))]
 pub fn of_three(a: u8, b: u8, c: u8) -> u32
     ensures value { result ≡ bytes_value (a ∷ b ∷ c ∷ []) }
     ensures upper_bound { result < 0x100_0000 }
 {
-    of_two(a, b) + c as u32 * 0x1_0000
+    of_two(a, b) + u32::from(c) * 0x1_0000
 }
 
+#[tactic(auto, unfolding(word_bytes::specs::Bytes::bytes_value))]
 pub fn of_four(a: u8, b: u8, c: u8, d: u8) -> u32
     ensures { result ≡ bytes_value (a ∷ b ∷ c ∷ d ∷ []) }
 {
-    of_three(a, b, c) + d as u32 * 0x100_0000
+    of_three(a, b, c) + u32::from(d) * 0x100_0000
 }

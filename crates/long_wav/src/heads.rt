@@ -21,22 +21,21 @@ pub(crate) fn heads_of(prefix: &[u8], end: usize) -> Reached
 {
     let sought = riff_sought();
     let mut walking = riff_chunks::begin(end);
+    // By hand: the size in a head says where the next one stands, so what is left ends the loop, and no count does.
     while walking.left >= 8 {
         let at = end - walking.left;
         if prefix.len() < at + 8 {
-            let seen = walking.seen;
             return Reached {
                 asked: at + 8,
-                seen: seen,
+                seen: walking.seen,
             };
         }
         let c = chunk_at(prefix, at);
         walking = riff_chunks::turn(walking, sought, c);
     }
-    let seen = walking.seen;
     Reached {
         asked: 0,
-        seen: seen,
+        seen: walking.seen,
     }
 }
 
@@ -47,7 +46,7 @@ fn chunk_at(prefix: &[u8], at: usize) -> Chunk
     let id = low_first_u32(prefix, at);
     let field = low_first_u32(prefix, at + 4);
     Chunk {
-        id: id,
+        id,
         body: at + 8,
         size: true_size(prefix, id, field),
     }

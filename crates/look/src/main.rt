@@ -43,12 +43,10 @@ fn tell_usage(system: &System, fd: i32) {
 // Writes a line for each file, in order, and answers whether all of them were read.
 fn look(system: &System, count: usize) -> bool {
     let mut well = true;
-    let mut i: usize = 1;
-    while i < count {
+    for i in 1..count {
         if !look_at(system, i) {
             well = false;
         }
-        i += 1;
     }
     well
 }
@@ -78,15 +76,13 @@ fn look_into(system: &System, name: &[u8]) -> bool {
 
 fn tell(system: &System, name: &[u8], file: WaveFile) -> bool {
     let mut line = [0u8; 4400];
-    let kind = file.kind;
-    let layout = file.layout;
     let at = put(&mut line, 0, name);
     let at = put(&mut line, at, b": ");
-    let at = layout_text::put_layout(&mut line, at, layout);
+    let at = layout_text::put_layout(&mut line, at, file.layout);
     let at = report_lines::put_looked(
         &mut line,
         at,
-        kind,
+        file.kind,
         file.channels,
         file.rate,
         file.frames as u64,

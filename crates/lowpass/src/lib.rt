@@ -24,13 +24,11 @@ fn fill(out: &mut [f64], taps: usize, cutoff: f64, beta: f64) -> f64
     let center = ((taps - 1) as f64) / 2.0;
     let denom = bessel::bessel_i0(beta);
     let mut gain = -0.0;
-    let mut k: usize = 0;
-    while k < out.len() {
+    for (k, at) in out.iter_mut().enumerate() {
         let distance = (k as f64) - center;
         let c = sinc_row::coefficient_at(cutoff, distance, kaiser(distance, center, beta, denom));
-        out[k] = c;
+        *at = c;
         gain = gain + c;
-        k += 1;
     }
     gain
 }

@@ -1,6 +1,8 @@
 -- A power of two is not large, whatever its argument. Horner's rule in a y of at most 2 gives at most 1 + 2 * (1 + 2 *
 -- ..), and a refusal counts as 0. This crude bound is enough to show that no phase grows without limit. Assumes
 -- nothing.
+use Rattle.std.specs.Prelude.{Ok, Err}
+use Rattle.refusal.specs.declared.Refusal.TheVariants.{Setting}
 use mathlib.Core.Path.{sym}
 use mathlib.Core.Bool.{Bool, true, false, cond}
 use Prim.Native.Nat.{ℕ, zero, suc, ◌+◌, ◌*◌, ◌^◌, ◌≤◌, ◌<◌}
@@ -18,7 +20,6 @@ use Rattle.polynomials.specs.Horner.{reciprocal, horner, ln2, power_near}
 use Rattle.elementary.specs.Answers as answers
 use Rattle.polynomials.specs.Range.{at_most}
 use Rattle.elementary.specs.Answers.{power_at, exp2_of}
-use Rattle.elementary.specs.declared.Answer.TheVariants.{Value, Refused}
 use Rattle.oscillator_arithmetic.specs.Arithmetic.{value_of, pow2}
 
 factorial-some : (n : ℕ) → 0 < factorial n
@@ -79,6 +80,6 @@ pub pow2-at-most : (x : Float) → AtMost (2 ^ 15) (pow2 x)
 unfolding pow2 exp2_of count_trailing_zeros odd of_fields of_bits
 pow2-at-most x = go (at_most 1 x) (small x)
   where
-    go : (b : Bool) → (T b → AtMost 1 x) → AtMost (2 ^ 15) (value_of (cond b (Value (power_at x)) (Refused 1)))
+    go : (b : Bool) → (T b → AtMost 1 x) → AtMost (2 ^ 15) (value_of (cond b (Ok (power_at x)) (Err Setting)))
     go true f = power-at-most x (f tt)
     go false f = lit≤ tt

@@ -1,21 +1,20 @@
 -- M4, M5. 001's functions on floats, operation by operation in its order, each rounded once. Definitions only.
-use Rattle.std.specs.Prelude.{cond, List, [], ◌∷◌, Float}
+use Rattle.std.specs.Prelude.{cond, List, [], ◌∷◌, Float, Result, Ok, Err}
+use Rattle.refusal.specs.declared.Refusal.{Refusal}
 use Rattle.std.specs.Float.{binary64}
 use Rattle.std.specs.Float.Ieee.{neg, add, sub, mul, div, lt}
 use Rattle.rounding.specs.Operations.{root}
 use Rattle.min_max.specs.Choice.{larger, clamped}
 use Rattle.elementary.specs.Answers.{cosine_of, exp2_of}
-use Rattle.elementary.specs.declared.Answer.{Answer}
-use Rattle.elementary.specs.declared.Answer.TheVariants.{Value, Refused}
 use Rattle.remainder.specs.Euclid.{rem_euclid}
 use Rattle.oscillator_ranges.specs.Constants.{tau, sqrt2, zero, one, three, five, slowest, octave, max_shape_primitive}
 use Rattle.oscillator_ranges.specs.Constants.{square_first, square_third, triangle_third, triangle_fifth}
 use Rattle.oscillator_ranges.specs.Constants.{triangle_normalization}
 
 -- C4. The value of an answer; a refusal has none, and 0.0 stands for it.
-abbrev pub value_of : Answer → Float
-value_of (Value v) = v
-value_of (Refused n) = zero
+abbrev pub value_of : Result Float Refusal → Float
+value_of (Ok v) = v
+value_of (Err r) = zero
 
 -- The port's own functions stand for 001's cos and 2.0_f64.powf. In the ranges of document 01 neither refuses (the laws
 -- of proofs/NothingRefused).

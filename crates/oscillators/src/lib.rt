@@ -7,27 +7,23 @@ ghost use Rattle.std.specs.Prelude.{◌≡◌, ◌&&◌};
 ghost use Rattle.oscillators.specs.Answers.{answered_by, speed_delta_of, advance_phase_of, shape_primitive_of};
 ghost use Rattle.oscillators.specs.Answers.{oscillator_delay_of, excursion_of, rate_delta_of};
 
-use elementary::Answer;
 use oscillator_ranges as ranges;
 use oscillator_ranges::TAU;
+use refusal::Refusal;
 use refusal_order::both;
 
 // The greatest magnitude of a shape: the rounded square reaches it at phase zero.
 pub const MAX_SHAPE_PRIMITIVE: f64 = 7.0 / 6.0;
 
 // The value, or refusal 1 if an argument is out of range.
-fn answered(ok: bool, value: f64) -> Answer
+fn answered(ok: bool, value: f64) -> Result<f64, Refusal>
     ensures { result ≡ answered_by ok value }
 {
-    if ok {
-        Answer::Value(value)
-    } else {
-        Answer::Refused(1)
-    }
+    if ok { Ok(value) } else { Err(Refusal::Setting) }
 }
 
 // How much faster (or, below zero, slower) a depth in cents makes the playback.
-pub fn speed_delta(depth_cents: f64) -> Answer
+pub fn speed_delta(depth_cents: f64) -> Result<f64, Refusal>
     ensures { result ≡ speed_delta_of depth_cents }
 {
     answered(
@@ -36,7 +32,7 @@ pub fn speed_delta(depth_cents: f64) -> Answer
     )
 }
 
-pub fn advance_phase(phase: f64, rate_hz: f64, sample_rate: f64) -> Answer
+pub fn advance_phase(phase: f64, rate_hz: f64, sample_rate: f64) -> Result<f64, Refusal>
     ensures { result ≡ advance_phase_of phase rate_hz sample_rate }
 {
     let rates = both(
@@ -51,7 +47,7 @@ pub fn advance_phase(phase: f64, rate_hz: f64, sample_rate: f64) -> Answer
 
 // The original's antiderivatives of the speed waves: a rounded square at -1, a sine at 0, a triangle at 1, and blends
 // between them.
-pub fn shape_primitive(phase: f64, shape: f64) -> Answer
+pub fn shape_primitive(phase: f64, shape: f64) -> Result<f64, Refusal>
     ensures { result ≡ shape_primitive_of phase shape }
 {
     answered(
@@ -66,7 +62,7 @@ pub fn oscillator_delay(
     depth_cents: f64,
     shape: f64,
     sample_rate: f64,
-) -> Answer
+) -> Result<f64, Refusal>
     ensures { result ≡ oscillator_delay_of phase rate_hz depth_cents shape sample_rate }
 {
     let wave = both(ranges::phase_ok(phase), magnitude::is_finite(shape));
@@ -83,7 +79,7 @@ pub fn maximum_delay_excursion_samples(
     max_depth_cents: f64,
     min_rate_hz: f64,
     sample_rate: f64,
-) -> Answer
+) -> Result<f64, Refusal>
     ensures { result ≡ excursion_of max_depth_cents min_rate_hz sample_rate }
 {
     let rates = both(
@@ -99,20 +95,16 @@ pub fn maximum_delay_excursion_samples(
 
 // M4. An upper bound for the speed-up that oscillators of these depths cause together at full drift, when they are
 // blended at constant power.
-pub fn maximum_rate_delta(depths_cents: &[f64]) -> Answer
+pub fn maximum_rate_delta(depths_cents: &[f64]) -> Result<f64, Refusal>
     ensures { result ≡ rate_delta_of depths_cents.now }
 {
     let mut sum: f64 = -0.0;
-    let mut i: usize = 0;
-    while i < depths_cents.len() {
-        let depth = depths_cents[i];
-        if ranges::depth_ok(depth) {
-            let delta = oscillator_arithmetic::speed_delta(depth);
-            sum = sum + delta * delta;
-            i += 1;
-        } else {
-            return Answer::Refused(1);
+    for depth in depths_cents {
+        if !ranges::depth_ok(*depth) {
+            return Err(Refusal::Setting);
         }
+        let delta = oscillator_arithmetic::speed_delta(*depth);
+        sum = sum + delta * delta;
     }
-    Answer::Value(square_root::square_root(sum) * 1.4142135623730951)
+    Ok(square_root::square_root(sum) * 1.4142135623730951)
 }

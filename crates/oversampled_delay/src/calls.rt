@@ -52,7 +52,7 @@ pub fn process_sample<'a>(
     let no = refusals::refusal(state, kernel, lengths, input, delay);
     if no != 0 {
         return Processed {
-            state: state,
+            state,
             answer: answer::answered(no, 0.0),
         };
     }
@@ -78,13 +78,10 @@ pub fn process_sample<'a>(
     );
     Processed {
         state: OversampledVariableDelay {
-            maximum: state.maximum,
-            margin: state.margin,
-            factor: state.factor,
-            taps: state.taps,
-            accepted: accepted,
-            inner: inner,
+            accepted,
+            inner,
             previous: delay,
+            ..state
         },
         answer: answer::answered(0, y),
     }

@@ -33,10 +33,10 @@ fn renewed(maximum: usize, margin: usize, factor: usize, taps: usize) -> Oversam
     ensures { result ≡ fresh maximum margin factor taps }
 {
     OversampledVariableDelay {
-        maximum: maximum,
-        margin: margin,
-        factor: factor,
-        taps: taps,
+        maximum,
+        margin,
+        factor,
+        taps,
         accepted: 0,
         inner: 0,
         previous: 0.0,

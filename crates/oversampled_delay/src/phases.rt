@@ -16,16 +16,12 @@ use variable_delay::VariableDelay;
 fn of_phase(four: Four, k: usize) -> f64
     ensures { result ≡ of_phase four k }
 {
-    if k == 0 {
-        return four.first;
+    match k {
+        0 => four.first,
+        1 => four.second,
+        2 => four.third,
+        _ => four.fourth,
     }
-    if k == 1 {
-        return four.second;
-    }
-    if k == 2 {
-        return four.third;
-    }
-    four.fourth
 }
 
 // What the upsampler gives at all phases of a factor of up to 4, in one pass where the factor is 2 or 4.
@@ -123,8 +119,7 @@ pub(crate) fn phases<'a>(
     let four = upsampled(coefficients, up, state.accepted + 1, factor);
     let rate = inside::rate_of(factor);
     let mut inner = state.inner;
-    let mut k: usize = 0;
-    while k < factor {
+    for k in 0..factor {
         inner = phase(
             state,
             kernel,
@@ -140,7 +135,6 @@ pub(crate) fn phases<'a>(
             inner,
             k,
         );
-        k += 1;
     }
     inner
 }

@@ -1,10 +1,8 @@
 -- A file that is written whole or not at all: its names, and what is known of the answers that C gives. Definitions
 -- only.
-use Rattle.std.specs.Prelude.{ℕ, ◌≡◌, Bool, true, false, cond, List, ◌++◌, pos, length}
+use Rattle.std.specs.Prelude.{ℕ, ◌≡◌, Bool, true, false, cond, List, ◌++◌, ℤ, pos, length, Option, Some}
 use Rattle.text.specs.Text.{ascii}
 use Rattle.spelling.specs.Words.{same_bytes}
-use Rattle.part_file.specs.declared.Made.{Made}
-use Rattle.part_file.specs.declared.Made.TheVariants.{Open}
 
 -- The name `-` stands for standard output.
 abbrev pub is_standard : List ℕ → Bool
@@ -19,8 +17,8 @@ unfoldable pub part_text : List ℕ → List ℕ
 part_text name = name ++ ascii ".part"
 
 -- Standard output is already open, as descriptor 1.
-abbrev pub MadeFor : List ℕ → Made → Type 0
-MadeFor name r = is_standard name ≡ true → r ≡ Open (pos 1)
+abbrev pub MadeFor : List ℕ → Option ℤ → Type 0
+MadeFor name r = is_standard name ≡ true → r ≡ Some (pos 1)
 
 -- Writing no bytes always succeeds, because it needs no call.
 abbrev pub WrittenOf : List ℕ → Bool → Type 0

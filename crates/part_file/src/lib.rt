@@ -13,13 +13,6 @@ use error_lines::{say_failed, say_of};
 use sizes::begun;
 use system::{STANDARD_OUTPUT, System};
 
-// The number of a file that is open for writing.
-#[derive(Drop)]
-pub enum Made {
-    Open(i32),
-    Failed,
-}
-
 fn is_standard(name: &[u8]) -> bool
     ensures { result ≡ is_standard name.now }
 {
@@ -34,21 +27,21 @@ fn put_part(part: &mut [u8], name: &[u8]) -> usize
     text::put(part, at, b".part")
 }
 
-// Opens NAME.part, or says why it cannot.
-pub fn make(system: &System, command: &[u8], name: &[u8]) -> Made
+// Opens NAME.part for writing and gives its number, or says why it cannot.
+pub fn make(system: &System, command: &[u8], name: &[u8]) -> Option<i32>
     ensures { MadeFor name.now result }
 {
     if is_standard(name) {
-        return Made::Open(STANDARD_OUTPUT);
+        return Some(STANDARD_OUTPUT);
     }
     make_named(system, command, name)
 }
 
 // The name itself is made and removed again, so that a name that is taken or cannot be made is reported before the work
 // begins.
-fn make_named(system: &System, command: &[u8], name: &[u8]) -> Made {
+fn make_named(system: &System, command: &[u8], name: &[u8]) -> Option<i32> {
     if !claim(system, command, name) {
-        return Made::Failed;
+        return None;
     }
     system.unlink(name);
     let mut part = [0u8; 4110];
@@ -72,7 +65,7 @@ fn claim(system: &System, command: &[u8], name: &[u8]) -> bool {
     true
 }
 
-fn make_part(system: &System, command: &[u8], part: &[u8]) -> Made {
+fn make_part(system: &System, command: &[u8], part: &[u8]) -> Option<i32> {
     let fd = system.create(part);
     if fd < 0 {
         say_taken(
@@ -81,9 +74,9 @@ fn make_part(system: &System, command: &[u8], part: &[u8]) -> Made {
             part,
             b" exists already: another run is writing it, or one broke off: remove it then\n",
         );
-        return Made::Failed;
+        return None;
     }
-    Made::Open(fd)
+    Some(fd)
 }
 
 fn say_taken(system: &System, command: &[u8], name: &[u8], words: &[u8]) {

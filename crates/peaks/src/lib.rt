@@ -23,8 +23,6 @@ pub fn raise(peaks: &mut [u32], at: usize, n: u32)
     ensures { peaks.new ≡ raised peaks.old at n }
 {
     if at < peaks.len() {
-        if peaks[at] < n {
-            peaks[at] = n;
-        }
+        peaks[at] = peaks[at].max(n);
     }
 }

@@ -45,10 +45,8 @@ fn put_all(out: &mut [u8], at: usize, readable: bool, name: &[u8]) -> usize
     ensures out_after { out.new ≡ put_at out.old at (escaped_as readable name.now) }
 {
     let mut to = text::put(out, at, b"");
-    let mut k: usize = 0;
-    while k < name.len() {
-        to = put_shown(out, to, readable, name[k]);
-        k += 1;
+    for b in name {
+        to = put_shown(out, to, readable, *b);
     }
     to
 }

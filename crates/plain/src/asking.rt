@@ -6,12 +6,9 @@ use words_asked::{
 };
 
 pub(crate) fn to_copy(system: &System) -> Names {
-    let count = system.arg_count();
     let mut names = none();
-    let mut i: usize = 1;
-    while i < count {
+    for i in 1..system.arg_count() {
         names = with_argument(system, names, i);
-        i += 1;
     }
     both_named(system, names)
 }
@@ -51,8 +48,7 @@ fn with_argument(system: &System, names: Names, i: usize) -> Names {
 }
 
 fn with_text(system: &System, names: Names, i: usize, words: &[u8]) -> Names {
-    let argument = arguments::meaning(words);
-    match argument {
+    match arguments::meaning(words) {
         Argument::File => with_file(names, i),
         Argument::Unknown => {
             say_unknown(system, b"plain", words);

@@ -2,7 +2,7 @@
 // because one that is not finite is refused.
 use outcomes::{Outcome, broken, is_well, misfit_at, well};
 use sample_kind::SampleKind;
-use sizes::{begun, begun_f32, fewer, less, plus, times};
+use sizes::{begun, begun_f32, times};
 use system::System;
 use wave_file::WaveFile;
 
@@ -11,18 +11,14 @@ const FRAMES: usize = 4096;
 
 pub(crate) fn copy(system: &System, file: WaveFile, fd: i32) -> Outcome {
     let frames = file.frames;
-    let mut done: usize = 0;
     let mut said: i64 = 0;
-    let mut turns = u64::MAX;
-    while turns > 0 && done < frames {
-        let n = fewer(less(frames, done), FRAMES);
+    for done in (0..frames).step_by(FRAMES) {
+        let n = (frames - done).min(FRAMES);
         let outcome = copy_block(system, file, fd, done, n);
         if !is_well(outcome) {
             return outcome;
         }
-        done = plus(done, n);
-        said = tell(system, done, frames, said);
-        turns -= 1;
+        said = tell(system, done + n, frames, said);
     }
     well()
 }
@@ -63,10 +59,8 @@ fn copy_part(
 }
 
 fn look_at(file: WaveFile, done: usize, part: &[u8]) -> Outcome {
-    let kind = file.kind;
-    match kind {
-        SampleKind::Pcm16 => well(),
-        SampleKind::Pcm24 => well(),
+    match file.kind {
+        SampleKind::Pcm16 | SampleKind::Pcm24 => well(),
         SampleKind::Float32 => look_at_floats(file.channels, done, part),
     }
 }

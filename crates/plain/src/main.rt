@@ -9,7 +9,6 @@ use asking::{help_asked, tell_usage, to_copy};
 use error_lines::{misused, succeed};
 use file_words::{say_place, say_unopened, say_unread, say_wrapped};
 use outcomes::{Outcome, is_well};
-use part_file::Made;
 use sizes::times;
 use std::process::ExitCode;
 use system::{STANDARD_OUTPUT, System};
@@ -49,13 +48,12 @@ fn plain(system: &System, from: &[u8], to: &[u8]) -> bool {
 
 // Everything that can be checked beforehand is checked before the file is made, so that such a refusal comes at once.
 fn plain_of(system: &System, from: &[u8], to: &[u8], file: WaveFile) -> bool {
-    let kind = file.kind;
     let count = times(file.frames, file.channels as usize);
     if !can_be_written(
         system,
         b"plain",
         from,
-        kind,
+        file.kind,
         file.channels,
         file.rate,
         count,
@@ -64,12 +62,12 @@ fn plain_of(system: &System, from: &[u8], to: &[u8], file: WaveFile) -> bool {
     }
     let made = part_file::make(system, b"plain", to);
     match made {
-        Made::Open(fd) => {
+        Some(fd) => {
             say_wrapped(system, b"plain", from, file);
             let well = write_plain(system, from, to, file, fd, count);
             part_file::finish(system, b"plain", to, fd, well)
         }
-        Made::Failed => false,
+        None => false,
     }
 }
 
@@ -81,13 +79,12 @@ fn write_plain(
     fd: i32,
     count: usize,
 ) -> bool {
-    let kind = file.kind;
     if !write_header(
         system,
         b"plain",
         to,
         fd,
-        kind,
+        file.kind,
         file.channels,
         file.rate,
         count,

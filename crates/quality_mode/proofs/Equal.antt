@@ -5,12 +5,12 @@ use mathlib.Core.Bool.{true, false}
 use borrow.Author.Tests.{eqb-true, eqb-false, eq-eqb, ne_eqb}
 use Rattle.quality_mode.specs.declared.QualityMode.{QualityMode}
 use Rattle.quality_mode.specs.declared.QualityMode.TheVariants.{Draft, Normal, Hq, Ultra}
-use Rattle.quality_mode.specs.declared.Named.TheVariants.{Quality}
+use Rattle.std.specs.Prelude.{Ok}
 use Rattle.quality_mode.specs.Quality.{code_of, same_q}
 use Rattle.quality_mode.specs.Names.{named_of}
 
 -- The number of a quality names it.
-pub named : (q : QualityMode) → named_of (code_of q) ≡ Quality q
+pub named : (q : QualityMode) → named_of (code_of q) ≡ Ok q
 named Draft = refl
 named Normal = refl
 named Hq = refl

@@ -8,7 +8,8 @@ use lib.ListN.{length}
 use lib.Ieee.{Float, nan, is_nan, size, le, sub, div}
 use Rattle.ring.specs.Length.{length_for, zeros}
 use Rattle.bank_choice.specs.Rates.{ceiling_of, steps_of}
-use Rattle.quality_mode.specs.Names.{named_of, number_of}
+use Rattle.refusal.specs.Numbers.{refusal_of}
+use Rattle.quality_mode.specs.Names.{named_of}
 use Rattle.quality_fade.specs.Fade.{place_ok}
 use Rattle.returning_fade.specs.declared.Rule.TheVariants.{Ported, Returning}
 use Rattle.returning_fade.specs.Rules.{returning_ok}
@@ -17,7 +18,7 @@ use Rattle.quality_codes.specs.Calls.{called_of, renewed_of, fresh_of}
 use Rattle.range_ends.specs.Floats.{f64, one}
 use Rattle.range_ends.specs.Readers.{renewed, ported_state}
 
-pub named : map (λ (q : ℕ). number_of (named_of q)) (0 ∷ 3 ∷ 4 ∷ 255 ∷ []) ≡ 0 ∷ 0 ∷ 1 ∷ 1 ∷ []
+pub named : map (λ (q : ℕ). refusal_of (named_of q)) (0 ∷ 3 ∷ 4 ∷ 255 ∷ []) ≡ 0 ∷ 0 ∷ 1 ∷ 1 ∷ []
 named = refl
 
 -- An opening requests a quality.

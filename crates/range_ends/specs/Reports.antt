@@ -2,7 +2,7 @@
 -- only.
 use Rattle.std.specs.Prelude.{ℕ, ◌-◌, ◌/◌, ◌%◌, ◌^◌, List, [], ◌∷◌, ℤ, pos, negsuc}
 use Rattle.residual.specs.declared.Report.{Report}
-use Rattle.residual.specs.declared.Place.{Place}
+use Rattle.std.specs.Prelude.{Option}
 use Rattle.residual.specs.Refusals.{all24, numbers_ok, report_ok, verdict, compared_of}
 use Rattle.residual.specs.Report.{differences, one}
 use Rattle.residual.specs.Report.{carried as carried_on}
@@ -10,7 +10,7 @@ use Rattle.residual.specs.Runs.{behind}
 use Rattle.fugnadri_residual.specs.Words.{refusal_of, numbers, left_from}
 
 -- The sum is passed as two halves.
-abbrev pub reported : ℕ → ℕ → Place → ℕ → Report
+abbrev pub reported : ℕ → ℕ → Option ℕ → ℕ → Report
 reported number largest place sum = record {
   number = number;
   largest = largest;
@@ -29,7 +29,7 @@ unfolding verdict all24 numbers_ok report_ok carried_on differences one
 left r xs ys = behind r (compared_of r xs ys)
 
 -- A call that has nothing more to compare.
-abbrev pub carried : ℕ → ℕ → Place → ℕ → ℕ
+abbrev pub carried : ℕ → ℕ → Option ℕ → ℕ → ℕ
 carried number largest place sum = compared (reported number largest place sum) [] []
 
 -- One sample, two samples, and the ends of the 24-bit values: -2^23, the number next below it, 2^23 - 1, the number

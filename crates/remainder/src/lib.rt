@@ -32,11 +32,9 @@ fn long_division(m: u64, k: u64, n: u64) -> u64
     requires fact_2 { n < 2 ^ 53 }
     ensures { result ≡ m * 2 ^ k % n }
 {
-    let mut r: u64 = m % n;
-    let mut left: u64 = k;
-    while left > 0 {
+    let mut r = m % n;
+    for _ in 0..k {
         r = r * 2 % n;
-        left -= 1;
     }
     r
 }

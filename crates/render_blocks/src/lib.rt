@@ -55,14 +55,13 @@ pub fn render_block<'a>(
         rendered_of table.now (held_of state ring.old) block.old }
 {
     let mut s = state;
-    let mut at: usize = 0;
-    while 4 <= block.len() - at {
-        let end = at + 4;
-        s = put_sample(s, ring, table, &mut block[at..end]);
-        at = end;
+    let count = block.len() / 4;
+    for k in 0..count {
+        let at = k * 4;
+        s = put_sample(s, ring, table, &mut block[at..at + 4]);
     }
     Written {
         state: s,
-        length: at,
+        length: count * 4,
     }
 }

@@ -41,24 +41,23 @@ fn sound(found: Found) -> Sound {
 
 fn tell(rt: &HostRuntime, found: Found) {
     let f = sound(found);
-    let kind = f.kind;
-    number(rt, refusal(found) as u64);
-    number(rt, code(kind) as u64);
-    number(rt, f.channels as u64);
-    number(rt, f.rate as u64);
+    number(rt, u64::from(refusal(found)));
+    number(rt, u64::from(code(f.kind)));
+    number(rt, u64::from(f.channels));
+    number(rt, u64::from(f.rate));
     number(rt, f.start as u64);
     number(rt, f.length as u64);
 }
 
 fn tell_chunks(rt: &HostRuntime, told: Told) {
     number(rt, told.comm as u64);
-    number(rt, told.channels as u64);
-    number(rt, told.frames as u64);
-    number(rt, told.bits as u64);
-    number(rt, told.exponent as u64);
+    number(rt, u64::from(told.channels));
+    number(rt, u64::from(told.frames));
+    number(rt, u64::from(told.bits));
+    number(rt, u64::from(told.exponent));
     number(rt, told.digits);
     number(rt, told.ssnd as u64);
-    number(rt, told.offset as u64);
+    number(rt, u64::from(told.offset));
 }
 
 fn replay(rt: &HostRuntime, file: &[u8]) {
@@ -68,28 +67,20 @@ fn replay(rt: &HostRuntime, file: &[u8]) {
     tell_chunks(rt, aiff::chunks_told(file));
     end_of_line(rt);
     let f = sound(found);
-    let kind = f.kind;
     let part = aiff::part(file, f);
-    if f.channels > 0 {
-        channel(rt, kind, f.channels, 0, part);
-    }
-    if f.channels > 1 {
-        channel(rt, kind, f.channels, 1, part);
+    for c in 0..f.channels {
+        channel(rt, f.kind, f.channels, c, part);
     }
 }
 
-// Goes line after line. The loop counts down from the largest u64, because the language demands that it ends; no input
-// is that long.
+// Goes line after line. The bound is there because the language demands that a loop ends; no input is that long.
 fn run(rt: &HostRuntime, file: &mut [u8]) {
-    let mut heard = hear(rt, &mut file[..]);
-    let mut more = heard.whole;
-    let mut turns = u64::MAX;
-    while turns > 0 && more {
-        let n = within(heard.bytes, file.len());
+    for _ in 0..u64::MAX {
+        let Some(bytes) = hear(rt, file) else {
+            break;
+        };
+        let n = within(bytes, file.len());
         replay(rt, &file[..n]);
-        heard = hear(rt, &mut file[..]);
-        more = heard.whole;
-        turns -= 1;
     }
 }
 

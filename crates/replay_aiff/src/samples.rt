@@ -11,10 +11,7 @@ const MOST: usize = 128;
 
 fn frames(kind: SampleKind, channels: u8, size: usize) -> usize {
     let frame = frame_width(kind, channels);
-    if frame == 0 {
-        return 0;
-    }
-    size / frame
+    size.checked_div(frame).unwrap_or(0)
 }
 
 pub fn channel(rt: &HostRuntime, kind: SampleKind, channels: u8, channel: u8, part: &[u8]) {
@@ -24,42 +21,20 @@ pub fn channel(rt: &HostRuntime, kind: SampleKind, channels: u8, channel: u8, pa
     let mut wholes = [0i32; MOST];
     number(
         rt,
-        filling::fill(kind, channels, channel, part, &mut doubles[..n]) as u64,
+        u64::from(filling::fill(kind, channels, channel, part, &mut doubles[..n])),
     );
     number(
         rt,
-        filling::fill_f32(kind, channels, channel, part, &mut floats[..n]) as u64,
+        u64::from(filling::fill_f32(kind, channels, channel, part, &mut floats[..n])),
     );
     number(
         rt,
-        filling::fill_whole(kind, channels, channel, part, &mut wholes[..n]) as u64,
+        u64::from(filling::fill_whole(kind, channels, channel, part, &mut wholes[..n])),
     );
-    tell(rt, &doubles, &floats, &wholes, n);
+    for ((double, float), whole) in doubles.iter().zip(&floats).zip(&wholes).take(n) {
+        pattern(rt, bits_of(*double), 16);
+        pattern(rt, u64::from(bits_of_f32(*float)), 8);
+        pattern(rt, u64::from(whole.cast_unsigned()), 8);
+    }
     end_of_line(rt);
-}
-
-fn tell(
-    rt: &HostRuntime,
-    doubles: &[f64; 128],
-    floats: &[f32; 128],
-    wholes: &[i32; 128],
-    n: usize,
-) {
-    let mut k: usize = 0;
-    while k < MOST {
-        if k < n {
-            pattern(rt, bits_of(doubles[k]), 16);
-            pattern(rt, bits_of_f32(floats[k]) as u64, 8);
-            pattern(rt, twos_complement(wholes[k]), 8);
-        }
-        k += 1;
-    }
-}
-
-fn twos_complement(n: i32) -> u64 {
-    if n < 0 {
-        0xFFFF_FFFF - (-1 - n) as u64
-    } else {
-        n as u64
-    }
 }

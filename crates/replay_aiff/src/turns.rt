@@ -12,35 +12,21 @@ pub fn by_turns(file: &[u8]) -> Found {
     if started.refusal != 0 {
         return Found::Refused(started.refusal);
     }
-    let end = started.end;
-    let walking = walk(file, end);
-    let walked = walking.seen;
-    finish(file, end, walked)
+    let walked = walk(file, started.end).seen;
+    finish(file, started.end, walked)
 }
 
 fn walk(file: &[u8], end: usize) -> Walking {
-    let mut walking = begin(end);
-    let mut k: usize = 0;
-    while k < MOST {
-        let left = walking.left;
-        walking = aiff_turns::turn(walking, end, part(file, less(end, left), 8));
-        k += 1;
-    }
-    walking
+    (0..MOST).fold(begin(end), |walking, _| {
+        let next = end.saturating_sub(walking.left);
+        aiff_turns::turn(walking, end, part(file, next, 8))
+    })
 }
 
 fn finish(file: &[u8], end: usize, walked: Walked) -> Found {
     let comm = walked.format;
     let ssnd = walked.samples;
-    let c = part(file, comm.body, fewer(comm.size, 18));
-    let s = part(file, ssnd.body, fewer(ssnd.size, 8));
+    let c = part(file, comm.body, comm.size.min(18));
+    let s = part(file, ssnd.body, ssnd.size.min(8));
     aiff_turns::finish(walked, end, c, s)
-}
-
-fn less(n: usize, by: usize) -> usize {
-    if n < by { 0 } else { n - by }
-}
-
-fn fewer(a: usize, b: usize) -> usize {
-    if a < b { a } else { b }
 }

@@ -11,20 +11,20 @@ mod slice; // a slice of samples, and Draft's reading of it
 
 use bit_patterns::float_of;
 use quality_mode::QualityMode;
-use replay_lines::{Heard, Line};
+use replay_lines::Line;
 use returning_fade::{Direction, Rule, RuledFade};
 use streams::{read_full, write_all};
 use word_bytes::hex16;
 
 // The two words that answer a line.
-#[derive(Drop)]
+#[derive(Clone, Copy)]
 struct Words {
     first: u64,
     second: u64,
 }
 
 // The state of the change of quality after a line, and the answer.
-#[derive(Drop)]
+#[derive(Clone, Copy)]
 struct Turn {
     fade: RuledFade,
     words: Words,
@@ -40,7 +40,7 @@ fn refused(no: u8) -> Words {
 
 // Packs three small numbers into one word, two hex digits each.
 fn packed(a: u8, b: u8, c: u8) -> u64 {
-    a as u64 * 65536 + b as u64 * 256 + c as u64
+    u64::from(u32::from_be_bytes([0, a, b, c]))
 }
 
 fn answer(source: &mut [f32], letter: u8, a: u64, b: u64, c: u64) -> Words {
@@ -67,38 +67,34 @@ fn call(before: RuledFade, source: &mut [f32], letter: u8, a: u64, b: u64, c: u6
 }
 
 // The next 53 bytes, which are a line, if there are that many.
-fn hear(rt: &HostRuntime) -> Heard {
+fn hear(rt: &HostRuntime) -> Option<Line> {
     let mut text = [0u8; 53];
     let n = read_full(rt, &mut text);
-    replay_lines::line_heard(n, &text)
+    let heard = replay_lines::line_heard(n, &text);
+    if heard.whole { Some(heard.line) } else { None }
 }
 
-fn say(rt: &HostRuntime, first: u64, second: u64) {
-    write_all(rt, &hex16(first));
+fn say(rt: &HostRuntime, words: Words) {
+    write_all(rt, &hex16(words.first));
     write_all(rt, b" ");
-    write_all(rt, &hex16(second));
+    write_all(rt, &hex16(words.second));
     write_all(rt, b"\n");
 }
 
-// Answers line after line. The loop counts down from the largest u64, because the language demands that it ends; no
-// input is that long.
+// Answers line after line. The bound is there because the language demands that a loop ends; no input is that long.
 fn run(rt: &HostRuntime, source: &mut [f32]) {
     let mut fade = RuledFade {
         rule: Rule::Ported,
         direction: Direction::Onwards,
         fade: quality_fade::open(QualityMode::Draft, 0),
     };
-    let mut heard = hear(rt);
-    let mut more = heard.whole;
-    let mut turns = u64::MAX;
-    while turns > 0 && more {
-        let line = heard.line;
+    for _ in 0..u64::MAX {
+        let Some(line) = hear(rt) else {
+            break;
+        };
         let t = call(fade, source, line.letter, line.a, line.b, line.c);
         fade = t.fade;
-        say(rt, t.words.first, t.words.second);
-        heard = hear(rt);
-        more = heard.whole;
-        turns -= 1;
+        say(rt, t.words);
     }
 }
 

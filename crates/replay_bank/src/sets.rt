@@ -20,7 +20,7 @@ pub fn choice(max_rate: f64, rate: f64) -> Words {
     Words {
         first: packed(small(c.safe), small(c.tighter), c.which),
         second: if c.which == 2 {
-            bits_of_f32(c.blend) as u64
+            u64::from(bits_of_f32(c.blend))
         } else {
             0
         },

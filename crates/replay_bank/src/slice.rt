@@ -4,14 +4,15 @@ use bit_patterns::{bits_of_f32, float_of_f32};
 use replay_lines::within;
 
 pub fn put(source: &mut [f32], place: u64, bits: u32) -> Words {
-    if place < source.len() as u64 {
-        source[place as usize] = float_of_f32(bits);
-        Words {
-            first: place,
-            second: bits as u64,
+    match source.get_mut(place as usize) {
+        Some(sample) => {
+            *sample = float_of_f32(bits);
+            Words {
+                first: place,
+                second: u64::from(bits),
+            }
         }
-    } else {
-        refused(1)
+        None => refused(1),
     }
 }
 
@@ -19,7 +20,7 @@ pub fn put(source: &mut [f32], place: u64, bits: u32) -> Words {
 pub fn draft(source: &[f32], count: u64, position: f64, places: u64) -> Words {
     let end = within(places as usize, source.len());
     Words {
-        first: bits_of_f32(cubic_farrow_f32::read(&source[..end], count, position)) as u64,
+        first: u64::from(bits_of_f32(cubic_farrow_f32::read(&source[..end], count, position))),
         second: end as u64,
     }
 }

@@ -36,11 +36,8 @@ fn pattern(answer: Answer) -> u64 {
 
 fn started(before: Reader, kernel: u64, opened: Opened) -> Turn {
     match opened {
-        Opened::Reader(s) => Turn {
-            reader: Reader {
-                kernel: kernel,
-                state: s,
-            },
+        Opened::Reader(state) => Turn {
+            reader: Reader { kernel, state },
             answer: 0,
         },
         Opened::Refused(no) => Turn {
@@ -59,16 +56,13 @@ fn processed(kernel: u64, s: VariableDelay, ring: &mut [f64], x: f64, delay: f64
 }
 
 fn process(before: Reader, ring: &mut [f64], x: f64, delay: f64) -> Turn {
-    let s = before.state;
-    let p = processed(before.kernel, s, ring, x, delay);
-    let after = p.state;
-    let answer = p.answer;
+    let p = processed(before.kernel, before.state, ring, x, delay);
     Turn {
         reader: Reader {
             kernel: before.kernel,
-            state: after,
+            state: p.state,
         },
-        answer: pattern(answer),
+        answer: pattern(p.answer),
     }
 }
 
@@ -80,10 +74,11 @@ pub fn call(before: Reader, ring: &mut [f64], letter: u8, a: u64, b: u64, c: u64
             variable_delay::open(b as usize, c as usize, ring),
         ),
         b'p' => process(before, ring, float_of(a), float_of(b)),
-        b'r' => {
-            let s = before.state;
-            started(before, before.kernel, variable_delay::reset(s, ring))
-        }
+        b'r' => started(
+            before,
+            before.kernel,
+            variable_delay::reset(before.state, ring),
+        ),
         _ => Turn {
             reader: before,
             answer: refused(0),

@@ -8,16 +8,17 @@
 mod calls; // a reader, and the call that a line makes
 
 use calls::{Reader, Turn, call, part};
-use replay_lines::{Heard, Line};
+use replay_lines::Line;
 use streams::{read_full, write_all};
 use variable_delay::VariableDelay;
 use word_bytes::hex16;
 
 // The next 53 bytes, a line, if there are so many.
-fn hear(rt: &HostRuntime) -> Heard {
+fn hear(rt: &HostRuntime) -> Option<Line> {
     let mut text = [0u8; 53];
     let n = read_full(rt, &mut text);
-    replay_lines::line_heard(n, &text)
+    let heard = replay_lines::line_heard(n, &text);
+    if heard.whole { Some(heard.line) } else { None }
 }
 
 fn say(rt: &HostRuntime, answer: u64, accepted: u64) {
@@ -28,8 +29,7 @@ fn say(rt: &HostRuntime, answer: u64, accepted: u64) {
 }
 
 fn replay(before: Reader, ring: &mut [f64], line: Line) -> Turn {
-    let s = before.state;
-    let end = part(s, line, ring.len());
+    let end = part(before.state, line, ring.len());
     call(
         before,
         &mut ring[..end],
@@ -40,8 +40,7 @@ fn replay(before: Reader, ring: &mut [f64], line: Line) -> Turn {
     )
 }
 
-// Goes line after line. The loop counts down from the largest u64, because the language demands that it ends; no input
-// is that long.
+// Goes line after line. The bound is there because the language demands that a loop ends; no input is that long.
 fn run(rt: &HostRuntime, ring: &mut [f64]) {
     let mut reader = Reader {
         kernel: 0,
@@ -51,17 +50,13 @@ fn run(rt: &HostRuntime, ring: &mut [f64]) {
             accepted: 0,
         },
     };
-    let mut heard = hear(rt);
-    let mut more = heard.whole;
-    let mut turns = u64::MAX;
-    while turns > 0 && more {
-        let line = heard.line;
+    for _ in 0..u64::MAX {
+        let Some(line) = hear(rt) else {
+            break;
+        };
         let t = replay(reader, ring, line);
         reader = t.reader;
         say(rt, t.answer, t.reader.state.accepted);
-        heard = hear(rt);
-        more = heard.whole;
-        turns -= 1;
     }
 }
 

@@ -4,18 +4,11 @@ use replay_lines::within;
 use streams::read_full;
 use word_bytes::word_at;
 
-// Whether a whole line was read, and the number of bytes of its file.
-#[derive(Drop)]
-pub struct Heard {
-    pub whole: bool,
-    pub bytes: usize,
-}
-
 // No file of the list is longer than this.
 const LONGEST: usize = 512;
 
-// Reads the file of the next line into a lent slice.
-pub fn hear(rt: &HostRuntime, file: &mut [u8]) -> Heard {
+// Reads the file of the next line into a lent slice, and gives the number of its bytes if the line is whole.
+pub fn hear(rt: &HostRuntime, file: &mut [u8]) -> Option<usize> {
     let mut count = [0u8; 4];
     let told = read_full(rt, &mut count);
     let bytes = within(word_at(&count, 0) as usize, LONGEST);
@@ -23,28 +16,17 @@ pub fn hear(rt: &HostRuntime, file: &mut [u8]) -> Heard {
     // This is sixteen bytes more than the longest rest of a line, so that a word can be read at every place.
     let mut text = [0u8; 1042];
     let got = read_full(rt, &mut text[..rest]);
-    put_bytes(&text, &mut file[..]);
-    Heard {
-        whole: told == 4 && got == rest,
-        bytes,
+    put_bytes(&text, file);
+    if told == 4 && got == rest {
+        Some(bytes)
+    } else {
+        None
     }
 }
 
 // A word of sixteen digits is read at the place of each byte, and its first two digits are the byte.
 fn put_bytes(text: &[u8; 1042], file: &mut [u8]) {
-    let mut k: usize = 0;
-    while k < LONGEST {
-        put(
-            &mut file[..],
-            k,
-            (word_at(text, 2 * k + 1) / 0x100_0000_0000_0000) as u8,
-        );
-        k += 1;
-    }
-}
-
-fn put(file: &mut [u8], k: usize, byte: u8) {
-    if k < file.len() {
-        file[k] = byte;
+    for (k, byte) in file.iter_mut().enumerate().take(LONGEST) {
+        *byte = (word_at(text, 2 * k + 1) / 0x100_0000_0000_0000) as u8;
     }
 }

@@ -39,21 +39,20 @@ fn wave(found: Found) -> Wave {
 
 fn tell(rt: &HostRuntime, found: Found) {
     let w = wave(found);
-    let kind = w.kind;
-    number(rt, refusal(found) as u64);
-    number(rt, code(kind) as u64);
-    number(rt, w.channels as u64);
-    number(rt, w.rate as u64);
+    number(rt, u64::from(refusal(found)));
+    number(rt, u64::from(code(w.kind)));
+    number(rt, u64::from(w.channels));
+    number(rt, u64::from(w.rate));
     number(rt, w.start as u64);
     number(rt, w.length as u64);
 }
 
 fn tell_format(rt: &HostRuntime, told: Told) {
     number(rt, told.size as u64);
-    number(rt, told.tag as u64);
-    number(rt, told.channels as u64);
-    number(rt, told.block as u64);
-    number(rt, told.bits as u64);
+    number(rt, u64::from(told.tag));
+    number(rt, u64::from(told.channels));
+    number(rt, u64::from(told.block));
+    number(rt, u64::from(told.bits));
     number(rt, told.samples as u64);
 }
 
@@ -64,27 +63,20 @@ fn replay(rt: &HostRuntime, file: &[u8]) {
     tell_format(rt, wav::fmt_told(file));
     end_of_line(rt);
     let w = wave(found);
-    let kind = w.kind;
     let part = wav::part(file, w);
-    if w.channels > 0 {
-        channel(rt, kind, w.channels, 0, part);
-    }
-    if w.channels > 1 {
-        channel(rt, kind, w.channels, 1, part);
+    for c in 0..w.channels {
+        channel(rt, w.kind, w.channels, c, part);
     }
 }
 
-// Handles line after line. The bound is the largest u64, which no input exceeds.
+// Handles line after line. The bound is there because the language demands that a loop ends; no input is that long.
 fn run(rt: &HostRuntime, file: &mut [u8]) {
-    let mut heard = hear(rt, &mut file[..]);
-    let mut more = heard.whole;
-    let mut turns = u64::MAX;
-    while turns > 0 && more {
-        let n = within(heard.bytes, file.len());
+    for _ in 0..u64::MAX {
+        let Some(bytes) = hear(rt, file) else {
+            break;
+        };
+        let n = within(bytes, file.len());
         replay(rt, &file[..n]);
-        heard = hear(rt, &mut file[..]);
-        more = heard.whole;
-        turns -= 1;
     }
 }
 

@@ -41,11 +41,10 @@ fn wave(found: Found) -> Wave {
 
 fn tell(rt: &HostRuntime, found: Found) {
     let w = wave(found);
-    let kind = w.kind;
-    number(rt, refusal(found) as u64);
-    number(rt, code(kind) as u64);
-    number(rt, w.channels as u64);
-    number(rt, w.rate as u64);
+    number(rt, u64::from(refusal(found)));
+    number(rt, u64::from(code(w.kind)));
+    number(rt, u64::from(w.channels));
+    number(rt, u64::from(w.rate));
     number(rt, w.start as u64);
     number(rt, w.length as u64);
 }
@@ -66,20 +65,17 @@ fn replay(rt: &HostRuntime, prefix: &[u8], length: usize) {
 // Whether the header is refused neither by 1 nor by 2. Step by step it cannot be seen that more bytes are lent than the
 // file has, and bytes that are missing would count as zeros.
 fn at_hand(no: u8) -> bool {
-    if no == 1 { false } else { no != 2 }
+    no != 1 && no != 2
 }
 
-// Handles line after line. The bound is the largest u64, which no input exceeds.
+// Handles line after line. The bound is there because the language demands that a loop ends; no input is that long.
 fn run(rt: &HostRuntime, prefix: &mut [u8]) {
-    let mut heard = hear(rt, &mut prefix[..]);
-    let mut more = heard.whole;
-    let mut turns = u64::MAX;
-    while turns > 0 && more {
+    for _ in 0..u64::MAX {
+        let Some(heard) = hear(rt, prefix) else {
+            break;
+        };
         let n = within(heard.bytes, prefix.len());
         replay(rt, &prefix[..n], heard.length);
-        heard = hear(rt, &mut prefix[..]);
-        more = heard.whole;
-        turns -= 1;
     }
 }
 

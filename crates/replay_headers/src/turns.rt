@@ -15,9 +15,7 @@ pub fn by_turns(prefix: &[u8], length: usize) -> Found {
     if begun.refusal != 0 {
         return Found::Refused(begun.refusal);
     }
-    let walking = walk(prefix, opening, begun.end);
-    let walked = walking.seen;
-    finish(prefix, walked)
+    finish(prefix, walk(prefix, opening, begun.end).seen)
 }
 
 // The opening is the first 12 bytes, and for RF64 and BW64 also the `ds64` with its table.
@@ -29,26 +27,14 @@ fn opening_of(prefix: &[u8]) -> &[u8] {
 }
 
 fn walk(prefix: &[u8], opening: &[u8], end: usize) -> Walking {
-    let mut walking = riff_chunks::begin(end);
-    let mut k: usize = 0;
-    while k < MOST {
-        let left = walking.left;
-        walking = long_turns::turn(opening, walking, end, part(prefix, less(end, left), 8));
-        k += 1;
-    }
-    walking
+    (0..MOST).fold(riff_chunks::begin(end), |walking, _| {
+        let next = end.saturating_sub(walking.left);
+        long_turns::turn(opening, walking, end, part(prefix, next, 8))
+    })
 }
 
 fn finish(prefix: &[u8], walked: Walked) -> Found {
     let format = walked.format;
-    let f = part(prefix, format.body, fewer(format.size, 40));
+    let f = part(prefix, format.body, format.size.min(40));
     wav_turns::finish(walked, f)
-}
-
-fn less(n: usize, by: usize) -> usize {
-    if n < by { 0 } else { n - by }
-}
-
-fn fewer(a: usize, b: usize) -> usize {
-    if a < b { a } else { b }
 }

@@ -57,7 +57,7 @@ pub fn within(need: usize, room: usize) -> usize
     ensures value { result ≡ min need room }
     ensures upper_bound { result ≤ room }
 {
-    if need < room { need } else { room }
+    need.min(room)
 }
 
 // How much of a buffer the table with these taps and phases takes; all of it if they are out of range, so that no

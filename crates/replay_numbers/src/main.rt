@@ -7,27 +7,24 @@
 
 mod answers; // the function that a letter names
 
-use answers::{Reply, answer};
-use replay_lines::{Heard, Line};
+use answers::answer;
+use replay_lines::Line;
 use streams::{read_full, write_all};
 use word_bytes::hex16;
 
 // The next 53 bytes, a line, if there are so many.
-fn hear(rt: &HostRuntime) -> Heard {
+fn hear(rt: &HostRuntime) -> Option<Line> {
     let mut text = [0u8; 53];
     let n = read_full(rt, &mut text);
-    replay_lines::line_heard(n, &text)
+    let heard = replay_lines::line_heard(n, &text);
+    if heard.whole { Some(heard.line) } else { None }
 }
 
-fn say(rt: &HostRuntime, reply: Reply) {
+fn say(rt: &HostRuntime, reply: Option<u64>) {
     match reply {
-        Reply::Word(n) => {
-            write_all(rt, &hex16(n));
-        }
-        Reply::Unknown => {
-            write_all(rt, b"?");
-        }
-    }
+        Some(n) => write_all(rt, &hex16(n)),
+        None => write_all(rt, b"?"),
+    };
 }
 
 fn replay(rt: &HostRuntime, line: Line) {
@@ -39,17 +36,12 @@ fn replay(rt: &HostRuntime, line: Line) {
     write_all(rt, b"\n");
 }
 
-// Goes line after line. The loop counts down from the largest u64, because the language demands that it ends; no input
-// is that long.
+// Goes line after line. The bound is there because the language demands that a loop ends; no input is that long.
 fn main(rt: HostRuntime) {
-    let mut heard = hear(&rt);
-    let mut more = heard.whole;
-    let mut turns = u64::MAX;
-    while turns > 0 && more {
-        let line = heard.line;
+    for _ in 0..u64::MAX {
+        let Some(line) = hear(&rt) else {
+            break;
+        };
         replay(&rt, line);
-        heard = hear(&rt);
-        more = heard.whole;
-        turns -= 1;
     }
 }

@@ -1,6 +1,6 @@
 // A line of standard input, a line of standard output, which is two words of sixteen hex digits, and what is kept
 // between two lines.
-use replay_lines::Heard;
+use replay_lines::Line;
 use streams::{read_full, write_all};
 use variable_delay::VariableDelay;
 use word_bytes::hex16;
@@ -20,10 +20,11 @@ pub struct Shape {
 }
 
 // The next 53 bytes, a line, if there are so many.
-pub fn hear(rt: &HostRuntime) -> Heard {
+pub fn hear(rt: &HostRuntime) -> Option<Line> {
     let mut text = [0u8; 53];
     let n = read_full(rt, &mut text);
-    replay_lines::line_heard(n, &text)
+    let heard = replay_lines::line_heard(n, &text);
+    if heard.whole { Some(heard.line) } else { None }
 }
 
 pub fn say(rt: &HostRuntime, answer: u64, beside: u64) {

@@ -15,15 +15,6 @@ use lines::{Player, Shape, hear};
 use replay_lines::Line;
 use variable_delay::VariableDelay;
 
-// What a letter is about: the tables, a reader of f32, or one of f64.
-fn concerned(letter: u8) -> u8 {
-    match letter {
-        b's' | b'e' | b'n' | b'm' => 0,
-        b'O' | b'P' | b'R' => 1,
-        _ => 2,
-    }
-}
-
 fn replay(
     rt: &HostRuntime,
     before: Player,
@@ -33,18 +24,14 @@ fn replay(
     table_f32: &mut [f32],
     line: Line,
 ) -> Player {
-    let whom = concerned(line.letter);
-    if whom == 0 {
-        return tables::call(rt, before, table, table_f32, line);
+    match line.letter {
+        b's' | b'e' | b'n' | b'm' => tables::call(rt, before, table, table_f32, line),
+        b'O' | b'P' | b'R' => readers_f32::call_f32(rt, before, ring_f32, table_f32, line),
+        _ => readers::call(rt, before, ring, table, line),
     }
-    if whom == 1 {
-        return readers_f32::call_f32(rt, before, ring_f32, &table_f32[..], line);
-    }
-    readers::call(rt, before, ring, &table[..], line)
 }
 
-// Goes line after line. The loop counts down from the largest u64, because the language demands that it ends; no input
-// is that long.
+// Goes line after line. The bound is there because the language demands that a loop ends; no input is that long.
 fn run(
     rt: &HostRuntime,
     ring: &mut [f64],
@@ -64,15 +51,11 @@ fn run(
             accepted: 0,
         },
     };
-    let mut heard = hear(rt);
-    let mut more = heard.whole;
-    let mut turns = u64::MAX;
-    while turns > 0 && more {
-        let line = heard.line;
+    for _ in 0..u64::MAX {
+        let Some(line) = hear(rt) else {
+            break;
+        };
         player = replay(rt, player, ring, ring_f32, table, table_f32, line);
-        heard = hear(rt);
-        more = heard.whole;
-        turns -= 1;
     }
 }
 

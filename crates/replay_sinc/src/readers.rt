@@ -1,4 +1,4 @@
-// The reader over f64, with the parts of its ring and its table that the settings take.
+// The reader over f64, and a call of a reader of either width.
 ghost use Rattle.std.specs.Prelude.{◌≤◌};
 
 use crate::lines::{Player, Shape};
@@ -8,7 +8,7 @@ use replay_lines::{Line, table_part};
 use variable_delay::VariableDelay;
 
 // How much of the ring's buffer the settings take. Opening brings its own settings.
-pub fn ring_part(s: VariableDelay, opens: bool, line: Line, room: usize) -> usize
+fn ring_part(s: VariableDelay, opens: bool, line: Line, room: usize) -> usize
     ensures { result ≤ room }
 {
     let need = if opens {
@@ -19,36 +19,39 @@ pub fn ring_part(s: VariableDelay, opens: bool, line: Line, room: usize) -> usiz
     replay_lines::within(need, room)
 }
 
-fn process<'a>(
-    s: VariableDelay,
-    shape: Shape,
-    ring: &mut [f64],
-    table: &'a [f64],
+// A call of a reader, with the parts of its ring and its table that the settings take.
+pub fn call_by<T, F: FnOnce(&mut [T], &[T]) -> Turn>(
+    rt: &HostRuntime,
+    before: Player,
+    opens: bool,
+    ring: &mut [T],
+    table: &[T],
     line: Line,
-) -> Turn {
+    called: F,
+) -> Player
+    requires { F.IsAlwaysCallable called }
+{
+    let shape = before.shape;
+    let end = ring_part(before.state, opens, line, ring.len());
+    let to = table_part(shape.taps, shape.phases, table.len());
+    let turn = called(&mut ring[..end], &table[..to]);
+    answered(rt, shape, turn)
+}
+
+fn process(s: VariableDelay, shape: Shape, ring: &mut [f64], table: &[f64], line: Line) -> Turn {
     let x = float_of(line.a);
     let delay = float_of(line.b);
     let p = sinc_delay::process_sample(s, ring, x, delay, table, shape.taps, shape.phases);
-    let state = p.state;
-    let answer = p.answer;
     Turn {
-        state,
-        answer: pattern(answer),
+        state: p.state,
+        answer: pattern(p.answer),
     }
 }
 
 // `o` opens a reader (maximum delay, margin), `p` hands it a sample (the sample, the delay), any other letter resets
 // it.
-fn called<'a>(
-    rt: &HostRuntime,
-    s: VariableDelay,
-    shape: Shape,
-    ring: &mut [f64],
-    table: &'a [f64],
-    line: Line,
-) -> Turn {
-    let letter = line.letter;
-    match letter {
+fn called(s: VariableDelay, shape: Shape, ring: &mut [f64], table: &[f64], line: Line) -> Turn {
+    match line.letter {
         b'o' => started(
             s,
             variable_delay::open(line.a as usize, line.b as usize, ring),
@@ -58,17 +61,15 @@ fn called<'a>(
     }
 }
 
-pub fn call<'a>(
+pub fn call(
     rt: &HostRuntime,
     before: Player,
     ring: &mut [f64],
-    table: &'a [f64],
+    table: &[f64],
     line: Line,
 ) -> Player {
-    let shape = before.shape;
-    let s = before.state;
-    let end = ring_part(s, line.letter == b'o', line, ring.len());
-    let to = table_part(shape.taps, shape.phases, table.len());
-    let turn = called(rt, s, shape, &mut ring[..end], &table[..to], line);
-    answered(rt, shape, turn)
+    let opens = line.letter == b'o';
+    call_by(rt, before, opens, ring, table, line, |ring, table| {
+        called(before.state, before.shape, ring, table, line)
+    })
 }

@@ -8,14 +8,13 @@ use sinc_settings::Settings;
 // `s` sets the taps, the phases and beta for the lines that follow.
 fn shaped(rt: &HostRuntime, before: Player, line: Line) -> Player {
     say(rt, 0, 0);
-    let state = before.state;
     Player {
         shape: Shape {
             taps: line.a as usize,
             phases: line.b as usize,
             beta: float_of(line.c),
         },
-        state,
+        state: before.state,
     }
 }
 

@@ -13,9 +13,11 @@ pub struct Turn {
 
 // Writes the answer of a reader and the number of samples it has accepted.
 pub fn answered(rt: &HostRuntime, shape: Shape, turn: Turn) -> Player {
-    let state = turn.state;
-    say(rt, turn.answer, state.accepted);
-    Player { shape, state }
+    say(rt, turn.answer, turn.state.accepted);
+    Player {
+        shape,
+        state: turn.state,
+    }
 }
 
 // O4. At a refusal by 4 or 5 the original answers 0.0 and does not advance, and so does this.
@@ -35,7 +37,7 @@ pub fn pattern(answer: Answer) -> u64 {
 
 pub fn pattern_f32(answer: AnswerF32) -> u64 {
     match answer {
-        AnswerF32::Sample(y) => bits_of_f32(y) as u64,
+        AnswerF32::Sample(y) => u64::from(bits_of_f32(y)),
         AnswerF32::Refused(no) => silent(no),
     }
 }

@@ -28,7 +28,7 @@ pub fn turn_of(before: ModulationEngine, opened: Opened) -> Turn {
         },
         Opened::Refused(k) => Turn {
             engine: before,
-            refusal: k as u64,
+            refusal: u64::from(k),
             left: 0,
             right: 0,
         },
@@ -45,7 +45,7 @@ fn stepped(after: ModulationEngine, offset: Offset) -> Turn {
         },
         Offset::Refused(k) => Turn {
             engine: after,
-            refusal: k as u64,
+            refusal: u64::from(k),
             left: 0,
             right: 0,
         },
@@ -54,23 +54,16 @@ fn stepped(after: ModulationEngine, offset: Offset) -> Turn {
 
 pub fn step(before: ModulationEngine, params: ModulationParams) -> Turn {
     let next = modulation::next(before, params);
-    let after = next.engine;
-    let offset = next.offset;
-    stepped(after, offset)
+    stepped(next.engine, next.offset)
 }
 
 // Makes `count` steps and gives what the last of them hands out. If there are none the refusal is 255.
 pub fn steps(before: ModulationEngine, params: ModulationParams, count: u64) -> Turn {
-    let mut turn = Turn {
+    let none = Turn {
         engine: before,
         refusal: 255,
         left: 0,
         right: 0,
     };
-    let mut left = count;
-    while left > 0 {
-        turn = step(turn.engine, params);
-        left -= 1;
-    }
-    turn
+    (0..count).fold(none, |turn, _| step(turn.engine, params))
 }

@@ -2,7 +2,7 @@
 use crate::lines::Verdict;
 
 // The lines that were read, those with an answer (without and with a star), and how many of these differ.
-#[derive(Clone, Copy)]
+#[derive(Clone, Copy, Default)]
 pub struct Seen {
     pub lines: u64,
     pub compared: u64,
@@ -12,23 +12,24 @@ pub struct Seen {
 }
 
 fn one_more(n: u64, by: bool) -> u64 {
-    if by {
-        if n < u64::MAX {
-            return n + 1;
-        }
-    }
-    n
+    n.saturating_add(u64::from(by))
 }
 
 pub fn counted(before: Seen, verdict: Verdict) -> Seen {
-    let said = verdict.answers;
-    let star = verdict.star;
-    let wrong = verdict.differs;
-    Seen {
-        lines: one_more(before.lines, true),
-        compared: one_more(before.compared, said && !star),
-        different: one_more(before.different, said && !star && wrong),
-        changed: one_more(before.changed, said && star),
-        noticed: one_more(before.noticed, said && star && wrong),
+    let lines = one_more(before.lines, true);
+    match verdict.differs {
+        None => Seen { lines, ..before },
+        Some(wrong) if verdict.star => Seen {
+            lines,
+            changed: one_more(before.changed, true),
+            noticed: one_more(before.noticed, wrong),
+            ..before
+        },
+        Some(wrong) => Seen {
+            lines,
+            compared: one_more(before.compared, true),
+            different: one_more(before.different, wrong),
+            ..before
+        },
     }
 }

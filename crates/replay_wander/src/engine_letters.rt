@@ -6,11 +6,12 @@ use modulation_engine::ModulationEngine;
 use modulation_params::ModulationParams;
 
 fn called(params: ModulationParams, turn: Turn, agrees: bool) -> Found {
-    let engine = turn.engine;
     Found {
-        player: Player { engine, params },
-        answers: true,
-        agrees,
+        player: Player {
+            engine: turn.engine,
+            params,
+        },
+        agrees: Some(agrees),
     }
 }
 

@@ -9,19 +9,17 @@ pub struct Player {
     pub params: ModulationParams,
 }
 
-// What a letter does, and whether the result is what the line says.
+// What a letter does, and whether the result is what the line says, if the line has an answer.
 #[derive(Clone, Copy)]
 pub struct Found {
     pub player: Player,
-    pub answers: bool,
-    pub agrees: bool,
+    pub agrees: Option<bool>,
 }
 
 fn set(engine: ModulationEngine, params: ModulationParams) -> Found {
     Found {
         player: Player { engine, params },
-        answers: false,
-        agrees: true,
+        agrees: None,
     }
 }
 
@@ -64,17 +62,14 @@ pub fn state(
     c: u64,
 ) -> Found {
     let w = packed_engine::words_of(e);
-    let agrees = if from < 13 {
-        w[from] == a && w[from + 1] == b && w[from + 2] == c
-    } else {
-        false
-    };
     Found {
         player: Player {
             engine: e,
             params: p,
         },
-        answers: true,
-        agrees,
+        agrees: Some(
+            w.get(from..)
+                .is_some_and(|rest| rest.starts_with(&[a, b, c])),
+        ),
     }
 }

@@ -4,13 +4,12 @@ use crate::letters::{Found, Player, settings, state};
 use bit_patterns::float_of;
 use replay_lines::Line;
 
-// What a line leaves, whether it has an answer and a star, and whether another answer was found.
+// What a line leaves, whether it has a star, and whether another answer was found, if it has an answer.
 #[derive(Clone, Copy)]
 pub struct Verdict {
     pub player: Player,
-    pub answers: bool,
     pub star: bool,
-    pub differs: bool,
+    pub differs: Option<bool>,
 }
 
 // A letter that is none of these counts as an answer that differs.
@@ -21,22 +20,19 @@ fn said(before: Player, letter: u8, a: u64, b: u64, c: u64) -> Found {
         b'w' | b'f' | b'a' => settings(e, p, letter, float_of(a), float_of(b), float_of(c)),
         b'o' | b't' | b'd' | b'r' => call(e, p, letter, a, b, c),
         b'n' | b'x' => stepped(e, p, letter, a, b, c),
-        b'0'..=b'4' => state(e, p, 3 * (letter as usize - 48), a, b, c),
+        b'0'..=b'4' => state(e, p, 3 * usize::from(letter - b'0'), a, b, c),
         _ => Found {
             player: before,
-            answers: true,
-            agrees: false,
+            agrees: Some(false),
         },
     }
 }
 
 pub fn heard(before: Player, line: Line) -> Verdict {
     let s = said(before, line.letter, line.a, line.b, line.c);
-    let player = s.player;
     Verdict {
-        player,
-        answers: s.answers,
+        player: s.player,
         star: line.mark == b'*',
-        differs: !s.agrees,
+        differs: s.agrees.map(|agrees| !agrees),
     }
 }

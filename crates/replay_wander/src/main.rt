@@ -16,7 +16,7 @@ use counts::{Seen, counted};
 use letters::Player;
 use lines::heard;
 use modulation_params::default_params;
-use replay_lines::{Heard, Line};
+use replay_lines::Line;
 use streams::{print_decimal, read_full, write_all};
 
 #[derive(Clone, Copy)]
@@ -32,42 +32,35 @@ fn tell(rt: &HostRuntime, text: &[u8], n: u64) {
 }
 
 fn replay(rt: &HostRuntime, before: Course, line: Line) -> Course {
-    let player = before.player;
-    let seen = before.seen;
-    let verdict = heard(player, line);
-    let after = counted(seen, verdict);
-    if after.different != seen.different {
-        tell(rt, b"differs: line ", after.lines);
+    let verdict = heard(before.player, line);
+    let seen = counted(before.seen, verdict);
+    if seen.different != before.seen.different {
+        tell(rt, b"differs: line ", seen.lines);
     }
-    let player = verdict.player;
     Course {
-        player,
-        seen: after,
+        player: verdict.player,
+        seen,
     }
 }
 
 // The next 53 bytes, a line, if there are so many.
-fn hear(rt: &HostRuntime) -> Heard {
+fn hear(rt: &HostRuntime) -> Option<Line> {
     let mut text = [0u8; 53];
     let n = read_full(rt, &mut text);
-    replay_lines::line_heard(n, &text)
+    let heard = replay_lines::line_heard(n, &text);
+    if heard.whole { Some(heard.line) } else { None }
 }
 
-// Goes line after line. The loop counts down from the largest u64, because the language demands that it ends; no input
-// is that long.
+// Goes line after line. The bound is there because the language demands that a loop ends; no input is that long.
 fn run(rt: &HostRuntime, start: Course) -> Seen {
-    let mut r = start;
-    let mut next = hear(rt);
-    let mut more = next.whole;
-    let mut turns = u64::MAX;
-    while turns > 0 && more {
-        let line = next.line;
-        r = replay(rt, r, line);
-        next = hear(rt);
-        more = next.whole;
-        turns -= 1;
+    let mut course = start;
+    for _ in 0..u64::MAX {
+        let Some(line) = hear(rt) else {
+            break;
+        };
+        course = replay(rt, course, line);
     }
-    r.seen
+    course.seen
 }
 
 fn main(rt: HostRuntime) {
@@ -76,13 +69,7 @@ fn main(rt: HostRuntime) {
             engine: opened_first(),
             params: default_params(),
         },
-        seen: Seen {
-            lines: 0,
-            compared: 0,
-            different: 0,
-            changed: 0,
-            noticed: 0,
-        },
+        seen: Seen::default(),
     };
     let seen = run(&rt, start);
     tell(&rt, b"answers compared: ", seen.compared);

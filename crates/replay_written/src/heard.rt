@@ -6,10 +6,9 @@ use replay_lines::within;
 use streams::read_full;
 use word_bytes::word_at;
 
-// Whether a whole line was read, and the call that it describes.
-#[derive(Drop)]
+// The call that a line describes.
+#[derive(Clone, Copy)]
 pub struct Heard {
-    pub whole: bool,
     pub kind: u8,
     pub channels: u8,
     pub rate: u32,
@@ -21,8 +20,8 @@ pub struct Heard {
 // No call of the list has more samples than this.
 const MOST: usize = 64;
 
-// Reads the call of the next line; the patterns of its samples go into a lent array.
-pub fn hear(rt: &HostRuntime, words: &mut [u64; 64]) -> Heard {
+// Reads the call of the next line, if the line is whole; the patterns of its samples go into a lent array.
+pub fn hear(rt: &HostRuntime, words: &mut [u64; 64]) -> Option<Heard> {
     let mut head = [0u8; 102];
     let told = read_full(rt, &mut head);
     let what = (word_at(&head, 68) % 0x100) as u8;
@@ -31,15 +30,17 @@ pub fn hear(rt: &HostRuntime, words: &mut [u64; 64]) -> Heard {
     let mut text = [0u8; 1089];
     let got = read_full(rt, &mut text[..rest]);
     put_words(&text, words);
-    Heard {
-        whole: told == 102 && got == rest,
+    if told != 102 || got != rest {
+        return None;
+    }
+    Some(Heard {
         kind: (word_at(&head, 0) % 0x100) as u8,
         channels: (word_at(&head, 17) % 0x100) as u8,
         rate: (word_at(&head, 34) % 0x1_0000_0000) as u32,
         room: word_at(&head, 51) as usize,
         what,
         count,
-    }
+    })
 }
 
 // The number of sample words that follow the first six words.
@@ -50,9 +51,7 @@ fn samples(what: u8, count: usize) -> usize
 }
 
 fn put_words(text: &[u8; 1089], words: &mut [u64; 64]) {
-    let mut k: usize = 0;
-    while k < MOST {
-        words[k] = word_at(text, 17 * k);
-        k += 1;
+    for (k, word) in words.iter_mut().enumerate() {
+        *word = word_at(text, 17 * k);
     }
 }

@@ -18,134 +18,68 @@ use said::tell;
 use sample_kind::of_code;
 use wav_write::Written;
 
-fn refusal(answer: Written) -> u8 {
+// The refusal number, 0 for none, and the length, 0 if refused.
+fn answered(answer: Written) -> (u8, usize) {
     match answer {
-        Written::Length(_) => 0,
-        Written::Refused(no) => no,
+        Written::Length(n) => (0, n),
+        Written::Refused(no) => (no, 0),
     }
 }
 
-fn length(answer: Written) -> usize {
-    match answer {
-        Written::Length(n) => n,
-        Written::Refused(_) => 0,
-    }
+// Writes into a buffer as long as the line says, and tells what came of it: `write` answers with the refusal number, 0
+// for none, and a length.
+fn replay<F: FnOnce(&mut [u8]) -> (u8, usize)>(
+    rt: &HostRuntime,
+    heard: Heard,
+    count: usize,
+    write: F,
+)
+    requires { F.IsAlwaysCallable write }
+{
+    let mut out = [0xA5u8; 512];
+    let room = within(heard.room, 512);
+    let (refusal, length) = write(&mut out[..room]);
+    let told = file_length_for(of_code(heard.kind), heard.channels, count);
+    tell(rt, refusal, length, told, &out[..room]);
 }
 
-fn put(samples: &mut [f64], k: usize, x: f64) {
-    if k < samples.len() {
-        samples[k] = x;
-    }
-}
-
-fn put_all(words: &[u64; 64], samples: &mut [f64]) {
-    let mut k: usize = 0;
-    while k < 64 {
-        put(&mut samples[..], k, float_of(words[k]));
-        k += 1;
-    }
-}
-
-fn put_f32(samples: &mut [f32], k: usize, a: f32) {
-    if k < samples.len() {
-        samples[k] = a;
-    }
-}
-
-fn put_all_f32(words: &[u64; 64], samples: &mut [f32]) {
-    let mut k: usize = 0;
-    while k < 64 {
-        put_f32(
-            &mut samples[..],
-            k,
-            float_of_f32((words[k] % 0x1_0000_0000) as u32),
-        );
-        k += 1;
-    }
-}
-
-fn replay(rt: &HostRuntime, heard: Heard, words: &[u64; 64]) {
+fn replay_one(rt: &HostRuntime, heard: Heard, words: [u64; 64]) {
     let kind = of_code(heard.kind);
+    let channels = heard.channels;
+    let rate = heard.rate;
     let n = within(heard.count, 64);
-    let mut samples = [0.0f64; 64];
-    put_all(words, &mut samples[..]);
-    let mut out = [0xA5u8; 512];
-    let room = within(heard.room, 512);
-    let answer = wav_write::write(
-        Form::Rf64,
-        kind,
-        heard.channels,
-        heard.rate,
-        &samples[..n],
-        &mut out[..room],
-    );
-    let told = file_length_for(kind, heard.channels, n);
-    tell(rt, refusal(answer), length(answer), told, &out, room);
-}
-
-fn replay_f32(rt: &HostRuntime, heard: Heard, words: &[u64; 64]) {
-    let kind = of_code(heard.kind);
-    let n = within(heard.count, 64);
-    let mut samples = [0.0f32; 64];
-    put_all_f32(words, &mut samples[..]);
-    let mut out = [0xA5u8; 512];
-    let room = within(heard.room, 512);
-    let answer = wav_write::write_f32(
-        Form::Rf64,
-        kind,
-        heard.channels,
-        heard.rate,
-        &samples[..n],
-        &mut out[..room],
-    );
-    let told = file_length_for(kind, heard.channels, n);
-    tell(rt, refusal(answer), length(answer), told, &out, room);
-}
-
-fn replay_header(rt: &HostRuntime, heard: Heard) {
-    let kind = of_code(heard.kind);
-    let form = if heard.what == 2 {
-        Form::Rf64
-    } else {
-        Form::Bw64
-    };
-    let mut out = [0xA5u8; 512];
-    let room = within(heard.room, 512);
-    let refused = header_of(
-        form,
-        kind,
-        heard.channels,
-        heard.rate,
-        heard.count,
-        &mut out[..room],
-    );
-    let long = header_length_for(kind, heard.count);
-    let told = file_length_for(kind, heard.channels, heard.count);
-    tell(rt, refused, long, told, &out, room);
-}
-
-fn replay_one(rt: &HostRuntime, heard: Heard, words: &[u64; 64]) {
-    if heard.what == 0 {
-        replay(rt, heard, words);
-        return;
+    match heard.what {
+        0 => {
+            let samples = words.map(float_of);
+            replay(rt, heard, n, |out| {
+                answered(wav_write::write(Form::Rf64, kind, channels, rate, &samples[..n], out))
+            });
+        }
+        1 => {
+            let samples = words.map(|word| float_of_f32((word % 0x1_0000_0000) as u32));
+            replay(rt, heard, n, |out| {
+                answered(wav_write::write_f32(Form::Rf64, kind, channels, rate, &samples[..n], out))
+            });
+        }
+        what => {
+            let form = if what == 2 { Form::Rf64 } else { Form::Bw64 };
+            replay(rt, heard, heard.count, |out| {
+                (
+                    header_of(form, kind, channels, rate, heard.count, out),
+                    header_length_for(kind, heard.count),
+                )
+            });
+        }
     }
-    if heard.what == 1 {
-        replay_f32(rt, heard, words);
-        return;
-    }
-    replay_header(rt, heard);
 }
 
-// Handles line after line. The bound is the largest u64, which no input exceeds.
+// Handles line after line. The bound is there because the language demands that a loop ends; no input is that long.
 fn main(rt: HostRuntime) {
     let mut words = [0u64; 64];
-    let mut heard = hear(&rt, &mut words);
-    let mut more = heard.whole;
-    let mut turns = u64::MAX;
-    while turns > 0 && more {
-        replay_one(&rt, heard, &words);
-        heard = hear(&rt, &mut words);
-        more = heard.whole;
-        turns -= 1;
+    for _ in 0..u64::MAX {
+        let Some(heard) = hear(&rt, &mut words) else {
+            break;
+        };
+        replay_one(&rt, heard, words);
     }
 }

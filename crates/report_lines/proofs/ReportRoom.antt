@@ -9,19 +9,16 @@ use Rattle.text.specs.Text.{ascii}
 use Rattle.text.proofs.Digits.{few-digits}
 use Rattle.decimals.specs.Writing.{two_words}
 use Rattle.residual.specs.declared.Report.{Report}
-use Rattle.residual.specs.declared.Place.{Place}
-use Rattle.residual.specs.declared.Place.TheVariants.{Nowhere, At}
-use Rattle.decibels.specs.declared.Level.{Level}
-use Rattle.decibels.specs.declared.Level.TheVariants.{None, Below}
+use Rattle.std.specs.Prelude.{Option, Some, None}
 use Rattle.level_text.specs.LevelText.{size_text, tenths_text, level_text}
 use Rattle.report_lines.specs.Lines.{place_text, largest_text, sum_text, figures_text, channel_text}
 use Rattle.report_lines.specs.Lines.{compared_text, left_over_text}
 use Rattle.report_lines.proofs.Room.{either, short-count}
 
-short-place : (p : Place) → length (place_text p) ≤ 20
+short-place : (p : Option ℕ) → length (place_text p) ≤ 20
 unfolding ascii
-short-place Nowhere = omega arith
-short-place (At k) = few-digits 20 k
+short-place None = omega arith
+short-place (Some k) = few-digits 20 k
 
 short-size : (t : ℕ) → length (size_text t) ≤ 44
 unfolding ascii size_text
@@ -35,12 +32,12 @@ short-tenths j =
     either (ltb j 61) above _ 45 (omega (arith, short-size (61 - j)))
     (either (ltb 61 j) below (size_text 0) 45 (omega (arith, short-size (j - 61))) (omega (arith, short-size 0)))
 
-short-level : (level : Level) → length (level_text level) ≤ 45
+short-level : (level : Option ℕ) → length (level_text level) ≤ 45
 unfolding ascii
 short-level None = omega arith
-short-level (Below j) = short-tenths j
+short-level (Some j) = short-tenths j
 
-short-largest : (largest : ℕ) (p : Place) → length (largest_text largest p) ≤ 58
+short-largest : (largest : ℕ) (p : Option ℕ) → length (largest_text largest p) ≤ 58
 unfolding ascii largest_text
 short-largest largest p = simp length-append (omega (arith, few-digits 20 largest, short-place p))
 
@@ -50,14 +47,14 @@ short-sum high low =
     simp length-append
     (omega (arith, few-digits 39 (two_words high low), few-digits 20 high, few-digits 20 low))
 
-short-figures : (r : Report) (level : Level) → length (figures_text r level) ≤ 209
+short-figures : (r : Report) (level : Option ℕ) → length (figures_text r level) ≤ 209
 unfolding ascii figures_text
 short-figures r level =
     either (eqb r.number 0) (ascii "") _ 209 (omega arith)
     (simp length-append
     (omega (arith, short-largest r.largest r.place, short-sum r.high r.low, short-level level)))
 
-pub short-channel : (channel : ℕ) (r : Report) (level : Level) → length (channel_text channel r level) ≤ 320
+pub short-channel : (channel : ℕ) (r : Report) (level : Option ℕ) → length (channel_text channel r level) ≤ 320
 unfolding ascii channel_text
 short-channel channel r level =
     simp length-append

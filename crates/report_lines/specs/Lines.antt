@@ -3,16 +3,14 @@ use Rattle.std.specs.Prelude.{ℕ, cond, List, [], ◌++◌, eqb}
 use Rattle.text.specs.Text.{ascii, decimal}
 use Rattle.decimals.specs.Writing.{decimal_of}
 use Rattle.residual.specs.declared.Report.{Report}
-use Rattle.residual.specs.declared.Place.{Place}
-use Rattle.residual.specs.declared.Place.TheVariants.{Nowhere, At}
-use Rattle.decibels.specs.declared.Level.{Level}
+use Rattle.std.specs.Prelude.{Option, Some, None}
 use Rattle.level_text.specs.LevelText.{level_text}
 use Rattle.report_lines.specs.Files.{count_text}
 
 -- Where the largest difference stands first; a report in which something was compared has such a place.
-abbrev pub place_text : Place → List ℕ
-place_text Nowhere = ascii "none"
-place_text (At k) = decimal k
+abbrev pub place_text : Option ℕ → List ℕ
+place_text None = ascii "none"
+place_text (Some k) = decimal k
 
 -- The sum of the squared differences, and the halves in which a report carries it.
 unfoldable pub sum_text : ℕ → ℕ → List ℕ
@@ -20,19 +18,19 @@ sum_text high low =
     decimal_of high low ++ (ascii ", high " ++ (decimal high ++ (ascii ", low " ++ decimal low)))
 
 -- The largest difference and its place.
-unfoldable pub largest_text : ℕ → Place → List ℕ
+unfoldable pub largest_text : ℕ → Option ℕ → List ℕ
 largest_text largest place =
     ascii ", largest " ++ (decimal largest ++ (ascii ", place " ++ place_text place))
 
 -- What follows the number of samples; nothing if nothing was compared.
-unfoldable pub figures_text : Report → Level → List ℕ
+unfoldable pub figures_text : Report → Option ℕ → List ℕ
 figures_text r level =
     cond (eqb r.number 0) []
     (largest_text r.largest r.place ++ (ascii ", sum " ++ (sum_text r.high r.low ++
     (ascii ", level " ++ level_text level))))
 
 -- The line of a channel.
-unfoldable pub channel_text : ℕ → Report → Level → List ℕ
+unfoldable pub channel_text : ℕ → Report → Option ℕ → List ℕ
 channel_text channel r level =
     ascii "channel " ++ (decimal channel ++ (ascii ": number " ++ (decimal r.number ++
     (figures_text r level ++ ascii "\n"))))

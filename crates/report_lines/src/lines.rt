@@ -5,16 +5,15 @@ ghost use Rattle.report_lines.specs.Lines.{place_text, largest_text, sum_text, f
 ghost use Rattle.report_lines.specs.Lines.{compared_text, left_over_text};
 
 use crate::files::put_count;
-use decibels::Level;
-use residual::{Place, Report};
+use residual::Report;
 
-fn put_place(out: &mut [u8], at: usize, place: Place) -> usize
+fn put_place(out: &mut [u8], at: usize, place: Option<u64>) -> usize
     ensures value { result ≡ place_after (length out.old) at (place_text place) }
     ensures out_after { out.new ≡ put_at out.old at (place_text place) }
 {
     match place {
-        Place::Nowhere => text::put(out, at, b"none"),
-        Place::At(k) => text::put_decimal(out, at, k),
+        None => text::put(out, at, b"none"),
+        Some(k) => text::put_decimal(out, at, k),
     }
 }
 
@@ -30,7 +29,7 @@ fn put_sum(out: &mut [u8], at: usize, high: u64, low: u64) -> usize
     text::put_decimal(out, lower, low)
 }
 
-fn put_largest(out: &mut [u8], at: usize, largest: u32, place: Place) -> usize
+fn put_largest(out: &mut [u8], at: usize, largest: u32, place: Option<u64>) -> usize
     ensures value { result ≡ place_after (length out.old) at (largest_text largest place) }
     ensures out_after { out.new ≡ put_at out.old at (largest_text largest place) }
 {
@@ -41,7 +40,7 @@ fn put_largest(out: &mut [u8], at: usize, largest: u32, place: Place) -> usize
 }
 
 // What follows the number of samples; nothing if nothing was compared.
-fn put_figures(out: &mut [u8], at: usize, report: Report, level: Level) -> usize
+fn put_figures(out: &mut [u8], at: usize, report: Report, level: Option<u32>) -> usize
     ensures value { result ≡ place_after (length out.old) at (figures_text report level) }
     ensures out_after { out.new ≡ put_at out.old at (figures_text report level) }
 {
@@ -57,7 +56,13 @@ fn put_figures(out: &mut [u8], at: usize, report: Report, level: Level) -> usize
 }
 
 // The line of a channel. If nothing was compared it ends with the number of samples.
-pub fn put_channel(out: &mut [u8], at: usize, channel: u8, report: Report, level: Level) -> usize
+pub fn put_channel(
+    out: &mut [u8],
+    at: usize,
+    channel: u8,
+    report: Report,
+    level: Option<u32>,
+) -> usize
     ensures value { result ≡ place_after (length out.old) at (channel_text channel report level) }
     ensures out_after { out.new ≡ put_at out.old at (channel_text channel report level) }
 {

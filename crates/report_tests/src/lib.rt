@@ -20,10 +20,8 @@ pub fn all_24(s: &[i32]) -> bool
     ensures { result ≡ all24 s.now }
 {
     let mut ok = true;
-    let mut i: usize = 0;
-    while i < s.len() {
-        ok = both(ok, in_24(s[i]));
-        i += 1;
+    for x in s {
+        ok = both(ok, in_24(*x));
     }
     ok
 }

@@ -1,10 +1,9 @@
 -- Counting on plain numbers agrees with extending a report, for every report that is in range. Assumes nothing.
 use Rattle.std.proofs.Common.{◌≡◌, ℕ, zero, suc, ◌*◌, ◌<◌, ◌≤◌, Bool, true, false, cond, ltb, List, [], ◌∷◌, sym, refl}
 use Rattle.std.proofs.Common.{ap, ◌∙◌, mul-le-mul, arith, ltb-true, lt-ltb, eq-eqb, ne_eqb, eqb-true}
+use Rattle.std.proofs.Common.{Option, Some, None}
 use mathlib.Core.List.{foldl}
 use Rattle.residual.specs.declared.Report.{Report}
-use Rattle.residual.specs.declared.Place.{Place}
-use Rattle.residual.specs.declared.Place.TheVariants.{Nowhere, At}
 use Rattle.residual.specs.Report.{one}
 use Rattle.residual.specs.Refusals.{place_ok}
 use Rattle.residual.specs.Tallies.{index_of, tally_of, told_of, step_of}
@@ -12,8 +11,8 @@ use Rattle.residual.proofs.ValidReport.{Valid}
 
 -- A report is empty, with no place and no largest difference, or it is not empty and has a place.
 pub data Fit (r : Report) : Type 0 where
-  nothing : r.number ≡ 0 → r.largest ≡ 0 → r.place ≡ Nowhere → Fit r
-  something : (k : ℕ) → 0 < r.number → r.place ≡ At k → Fit r
+  nothing : r.number ≡ 0 → r.largest ≡ 0 → r.place ≡ None → Fit r
+  something : (k : ℕ) → 0 < r.number → r.place ≡ Some k → Fit r
 
 no-square : (l : ℕ) → l * l ≤ 0 → l ≡ 0
 no-square zero h = refl
@@ -25,13 +24,13 @@ no-square (suc l) h =
 pub fit : (r : Report) → Valid r → Fit r
 fit r v = go r.place refl
   where
-    go : (p : Place) → r.place ≡ p → Fit r
-    go Nowhere e =
+    go : (p : Option ℕ) → r.place ≡ p → Fit r
+    go None e =
         let n : r.number ≡ 0 =
-        eqb-true r.number 0 (ap (λ (p : Place). place_ok p r.number) (sym e) ∙ v.placed) in
+        eqb-true r.number 0 (ap (λ (p : Option ℕ). place_ok p r.number) (sym e) ∙ v.placed) in
         nothing n (no-square r.largest (omega (arith, v.least, rw n at v.most))) e
-    go (At k) e =
-        let l = ltb-true k r.number (ap (λ (p : Place). place_ok p r.number) (sym e) ∙ v.placed) in
+    go (Some k) e =
+        let l = ltb-true k r.number (ap (λ (p : Option ℕ). place_ok p r.number) (sym e) ∙ v.placed) in
         something k (omega (arith, l)) e
 
 -- ---- a report and its numbers
@@ -48,7 +47,7 @@ largest-first : (d : ℕ) → d ≡ cond (ltb 0 d) d 0
 largest-first zero = pick_same (ltb 0 0) 0
 largest-first (suc d) = rw (lt-ltb 0 (suc d) (omega arith))
 
-index-pick : (t : Bool) (j k : ℕ) → index_of (cond t (At j) (At k)) ≡ cond t j k
+index-pick : (t : Bool) (j k : ℕ) → index_of (cond t (Some j) (Some k)) ≡ cond t j k
 index-pick true j k = refl
 index-pick false j k = refl
 

@@ -1,5 +1,5 @@
 -- Counting differences one by one, or a block of them at once: there is room for each. Assumes nothing.
-use Rattle.std.proofs.Common.{◌≡◌, ℕ, suc, ◌+◌, ◌*◌, ◌%◌, ◌^◌, ◌<◌, ◌≤◌, cond, ltb, List, [], ◌∷◌, length, take, drop}
+use Rattle.std.proofs.Common.{◌≡◌, ℕ, suc, ◌+◌, ◌*◌, ◌%◌, ◌^◌, ◌<◌, ◌≤◌, cond, ltb, List, [], ◌∷◌, length, take}
 use Rattle.std.proofs.Common.{ℤ, sym, subst, zero-add, arith, length-take-le}
 use mathlib.Core.List.{foldl}
 use Rattle.residual.specs.declared.tally.Tally.{Tally}
@@ -9,7 +9,6 @@ use Rattle.residual.specs.Blocks.{added_to}
 use Rattle.report_tests.proofs.WideSums.{square-below}
 use Rattle.residual.proofs.SumHalves.{high_half, low_half}
 use Rattle.residual.proofs.Stretches.{Small, none, more, small-differences, small-take, length-differences}
-use Rattle.residual.proofs.Pieces.{length_part, alike-part}
 
 -- ---- room
 pub high-below : (h l n : ℕ) → h * 2 ^ 64 + l ≤ n * 2 ^ 48 → n ≤ 2 ^ 36 → h ≤ 2 ^ 20
@@ -23,12 +22,12 @@ room-step t d n h r =
     let s : t.high * 2 ^ 64 + t.low ≤ t.number * 2 ^ 48 = r.sum in
     record { counts = omega arith; sum = omega arith; half = omega arith }
 
-room-fold : (t : Tally) (ds : List ℕ) (n : ℕ) → Small ds → Room t (length ds + n) → Room (foldl step_of t ds) n
+pub room-fold : (t : Tally) (ds : List ℕ) (n : ℕ) → Small ds → Room t (length ds + n) → Room (foldl step_of t ds) n
 room-fold t [] n none r = subst (Room t) (zero-add n) r
 room-fold t (d ∷ ds) n (more h s) r =
     room-fold (step_of t d) ds n s (room-step t d (length ds + n) h (subst (Room t) (omega arith) r))
 
-room-less : {t : Tally} {n : ℕ} (m : ℕ) → m ≤ n → Room t n → Room t m
+pub room-less : {t : Tally} {n : ℕ} (m : ℕ) → m ≤ n → Room t n → Room t m
 room-less m h r = record { counts = omega (arith, r.counts); sum = r.sum; half = r.half }
 
 -- ---- one difference, field by field
@@ -64,11 +63,3 @@ room_for {t} {xs} {ys} i n ready inside e =
     subst (λ (v : Tally). Room v n) (sym e)
     (room-fold t (take i ds) n (small-take ds i (small-differences xs ys a.left a.right))
     (room-less (length (take i ds) + n) (omega arith) ready.room))
-
--- A part of k differences from index i on can be counted when those before it have been.
-pub ready-part : {t v : Tally} (xs ys : List ℤ) (i k : ℕ) → Ready t xs ys → i + k ≤ length xs
-    → v ≡ foldl step_of t (take i (differences xs ys)) → Ready v (take k (drop i xs)) (take k (drop i ys))
-ready-part {t} {v} xs ys i k ready h e = record {
-  room = subst (Room v) (sym (length_part i k xs h)) (room_for i k ready h e);
-  alike = alike-part xs ys i k ready.alike h;
-}

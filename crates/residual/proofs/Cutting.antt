@@ -4,7 +4,7 @@ use mathlib.Core.List.{foldl, foldl-append}
 use Rattle.residual.specs.declared.Report.{Report}
 use Rattle.residual.specs.Report.{difference, differences, one, carried}
 
-differences-append : (xs ys us vs : List ℤ) → length xs ≡ length ys
+pub differences-append : (xs ys us vs : List ℤ) → length xs ≡ length ys
     → differences (xs ++ us) (ys ++ vs) ≡ differences xs ys ++ differences us vs
 unfolding differences
 differences-append [] [] us vs e = refl

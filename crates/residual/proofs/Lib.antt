@@ -1,13 +1,13 @@
 pub mod Signs
 pub mod SumHalves
 pub mod Stretches
-pub mod Pieces
 pub mod Turns
 pub mod Counting
 pub mod Blocks
 pub mod ValidReport
 pub mod Agreeing
 pub mod Cutting
+pub mod Blocked
 pub mod StaysInRange
 pub mod Greatest
 pub mod Meaning

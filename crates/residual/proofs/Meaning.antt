@@ -3,34 +3,32 @@
 -- nothing.
 use Rattle.std.proofs.Common.{◌≡◌, ℕ, ◌+◌, ◌*◌, ◌/◌, ◌%◌, ◌^◌, ◌<◌, ◌≤◌, max, Bool, true, false, cond, ltb, List, []}
 use Rattle.std.proofs.Common.{◌∷◌, ◌++◌, length, ℤ, sym, refl, ap, ◌∙◌, append_assoc, append-nil, le_of_lt, arith}
-use Rattle.std.proofs.Common.{ltb-false, ltb-true, ne_eqb}
+use Rattle.std.proofs.Common.{ltb-false, ltb-true, ne_eqb, Option, Some}
 use mathlib.Core.List.{foldl}
 use native.Mathlib.Nat.{max-eq_left, max-eq_right}
 use Rattle.residual.specs.declared.Report.{Report}
-use Rattle.residual.specs.declared.Place.{Place}
-use Rattle.residual.specs.declared.Place.TheVariants.{At}
 use Rattle.residual.specs.Report.{differences, empty_report, sum_of, newer, one, carried}
 use Rattle.residual.specs.Report.{greatest, first_at, squares, place_of, report_of}
 use Rattle.residual.proofs.Greatest.{greatest-more, squares-more, length_more}
 use Rattle.residual.proofs.Greatest.{here, alone, greatest-found, found, above}
 
 -- ---- the step
-first : (d : ℕ) → At 0 ≡ place_of (d ∷ [])
+first : (d : ℕ) → Some 0 ≡ place_of (d ∷ [])
 unfolding place_of
-first d = ap At (sym (here (greatest (d ∷ [])) d [] (alone d)))
+first d = ap Some (sym (here (greatest (d ∷ [])) d [] (alone d)))
 
 -- The place of the greatest, if the difference is above all so far and if it is not.
 placed-new : (e : ℕ) (ds : List ℕ) (d : ℕ) → greatest (e ∷ ds) < d
-    → At (length (e ∷ ds)) ≡ place_of ((e ∷ ds) ++ (d ∷ []))
+    → Some (length (e ∷ ds)) ≡ place_of ((e ∷ ds) ++ (d ∷ []))
 unfolding place_of
 placed-new e ds d h =
-    ap At (sym (above d (e ∷ ds) h)
+    ap Some (sym (above d (e ∷ ds) h)
     ∙ ap (λ (g : ℕ). first_at g ((e ∷ ds) ++ (d ∷ []))) (sym (greatest-more (e ∷ ds) d ∙ max-eq_right (le_of_lt h))))
 
 placed-old : (e : ℕ) (ds : List ℕ) (d : ℕ) → d ≤ greatest (e ∷ ds) → place_of (e ∷ ds) ≡ place_of ((e ∷ ds) ++ (d ∷ []))
 unfolding place_of
 placed-old e ds d h =
-    ap At (sym (found (greatest (e ∷ ds)) (e ∷ ds) (d ∷ []) (omega (arith, greatest-found e ds)))
+    ap Some (sym (found (greatest (e ∷ ds)) (e ∷ ds) (d ∷ []) (omega (arith, greatest-found e ds)))
     ∙ ap (λ (g : ℕ). first_at g ((e ∷ ds) ++ (d ∷ []))) (sym (greatest-more (e ∷ ds) d ∙ max-eq_left h)))
 
 largest-one : (ds : List ℕ) (d : ℕ) → cond (newer (report_of ds) d) d (greatest ds) ≡ greatest (ds ++ (d ∷ []))
@@ -45,20 +43,21 @@ largest-one (e ∷ ds) d = go (ltb (greatest (e ∷ ds)) d) refl ∙ sym (greate
         rw (ne_eqb (length (e ∷ ds)) 0 (λ z. omega arith), h) (omega (arith, ltb-false (greatest (e ∷ ds)) d h))
 
 place-one : (ds : List ℕ) (d : ℕ)
-    → cond (newer (report_of ds) d) (At (length ds)) (place_of ds) ≡ place_of (ds ++ (d ∷ []))
+    → cond (newer (report_of ds) d) (Some (length ds)) (place_of ds) ≡ place_of (ds ++ (d ∷ []))
 unfolding report_of
 place-one [] d = first d
 place-one (e ∷ ds) d = go (ltb (greatest (e ∷ ds)) d) refl
   where
     go : (t : Bool) → ltb (greatest (e ∷ ds)) d ≡ t
-        → cond (newer (report_of (e ∷ ds)) d) (At (length (e ∷ ds))) (place_of (e ∷ ds))
+        → cond (newer (report_of (e ∷ ds)) d) (Some (length (e ∷ ds))) (place_of (e ∷ ds))
         ≡ place_of ((e ∷ ds) ++ (d ∷ []))
     go true h =
         rw (ne_eqb (length (e ∷ ds)) 0 (λ z. omega arith), h) (placed-new e ds d (ltb-true (greatest (e ∷ ds)) d h))
     go false h =
         rw (ne_eqb (length (e ∷ ds)) 0 (λ z. omega arith), h) (placed-old e ds d (ltb-false (greatest (e ∷ ds)) d h))
 
-report-is : (ds : List ℕ) {n g s : ℕ} {p : Place} → n ≡ length ds → g ≡ greatest ds → p ≡ place_of ds → s ≡ squares ds
+report-is : (ds : List ℕ) {n g s : ℕ} {p : Option ℕ} → n ≡ length ds → g ≡ greatest ds → p ≡ place_of ds
+    → s ≡ squares ds
     → ◌≡◌ {A = Report}
     (record { number = n; largest = g; place = p; high = s / 2 ^ 64; low = s % 2 ^ 64 })
     (report_of ds)

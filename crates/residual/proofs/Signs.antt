@@ -1,9 +1,8 @@
--- The difference of two 24-bit values fits an `i32`, also with its sign changed if it is negative, and its size is
--- below 2^24. Assumes nothing.
-use Rattle.std.proofs.Common.{◌≡◌, ℕ, zero, suc, ◌-◌, ◌^◌, ◌<◌, ◌≤◌, Bool, true, false, cond, T, ltb, leb, ℤ, pos}
-use Rattle.std.proofs.Common.{negsuc, ◌-ℤ◌, nat_abs, subst, arith, w32, Fits, SFits, ltb-true, leb-true}
+-- A 24-bit value fits an `i32`, and the size of the difference of two is below 2^24. Assumes nothing.
+use Rattle.std.proofs.Common.{◌≡◌, ℕ, zero, suc, ◌-◌, ◌^◌, ◌<◌, ◌≤◌, Bool, true, false, cond, ltb, leb, ℤ, pos}
+use Rattle.std.proofs.Common.{negsuc, ◌-ℤ◌, nat_abs, arith, w32, SFits, leb-true}
 use lib.IntN.{sub_ℕ}
-use lib.Signed.{mag, lt_z, non_neg}
+use lib.Signed.{mag}
 use Rattle.residual.specs.Refusals.{in24}
 use Rattle.report_tests.proofs.BothTests.{left-true}
 
@@ -31,26 +30,3 @@ size (negsuc a) (negsuc b) hx hy = size-sub (suc b) (suc a) (omega arith) (omega
 
 pub below-24 : (x y : ℤ) → in24 x ≡ true → in24 y ≡ true → nat_abs (x -ℤ y) < 2 ^ 24
 below-24 x y hx hy = size x y (mag-24 x hx) (mag-24 y hy)
-
-pub small-fits : (z : ℤ) → nat_abs z < 2 ^ 24 → SFits w32 z
-small-fits (pos n) h = record { sfits = omega arith }
-small-fits (negsuc n) h = record { sfits = omega arith }
-
--- What the code holds as the word w if it stands for z.
-pub record Turned (w z : ℤ) : Type 0 where
-  pub size_of : nat_abs (pos 0 -ℤ w) ≡ nat_abs z
-  pub right-way : T (non_neg (pos 0 -ℤ w))
-
-pub turned : (w : ℤ) {z : ℤ} → w ≡ z → lt_z w (pos 0) ≡ true → Turned w z
-turned (pos n) e h = let l : n < 0 = ltb-true n 0 h in absurd (omega arith)
-turned (negsuc n) e h = record {
-  size_of = subst (λ (z : ℤ). nat_abs (pos 0 -ℤ negsuc n) ≡ nat_abs z) e (omega arith);
-  right-way = tt;
-}
-
-pub castable : (w : ℤ) → nat_abs w < 2 ^ 24 → T (non_neg w) → T (non_neg w) × Fits w32 (nat_abs w)
-castable w h n = (n, record { fits = omega arith })
-
-pub not-below : (w : ℤ) → lt_z w (pos 0) ≡ false → T (non_neg w)
-not-below (pos n) h = tt
-not-below (negsuc n) h = let e : ◌≡◌ {A = ℕ} 0 1 = cc in absurd (omega arith)

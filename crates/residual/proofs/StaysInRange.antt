@@ -2,10 +2,9 @@
 -- refused keeps a report in range. Assumes nothing.
 use Rattle.std.proofs.Common.{◌≡◌, ℕ, ◌+◌, ◌*◌, ◌^◌, ◌<◌, ◌≤◌, Bool, true, false, ltb, List, [], ◌∷◌, length, ℤ, refl}
 use Rattle.std.proofs.Common.{add-mul, mul-le-mul, mul-le-mul_left, one-mul, arith, ltb-false, ltb-true, lt-ltb, eq-eqb}
-use Rattle.std.proofs.Common.{ne_eqb}
+use Rattle.std.proofs.Common.{ne_eqb, Some}
 use mathlib.Core.List.{foldl}
 use Rattle.residual.specs.declared.Report.{Report}
-use Rattle.residual.specs.declared.Place.TheVariants.{At}
 use Rattle.residual.specs.Report.{differences, empty_report, sum_of, newer, one, carried}
 use Rattle.residual.specs.Refusals.{numbers_ok, report_ok, verdict}
 use Rattle.residual.proofs.Stretches.{Small, none, more, small-differences, length-differences}
@@ -45,7 +44,7 @@ module _ (r : Report) (d : ℕ) (v : Valid r) (few : r.number < 2 ^ 36) (small :
     most = rw (e, sum_one r d) (new-most r.number r.largest (sum_of r) d v.most g);
   }
 
-  stay-old : (k : ℕ) → newer r d ≡ false → d ≤ r.largest → r.place ≡ At k → k < r.number → Valid (one r d)
+  stay-old : (k : ℕ) → newer r d ≡ false → d ≤ r.largest → r.place ≡ Some k → k < r.number → Valid (one r d)
   unfolding one
   stay-old k e g p l = record {
     few = omega arith;

@@ -1,11 +1,10 @@
--- A loop over the differences of two stretches, by an index or by parts, whatever a turn does with a difference: before
--- each turn the differences so far have been folded. Assumes nothing.
-use Rattle.std.proofs.Common.{◌≡◌, ℕ, ◌+◌, ◌<◌, ◌≤◌, List, [], ◌∷◌, length, get_or, take, drop, ℤ, pos, ap, ◌∙◌}
+-- A loop over the differences of two stretches by an index, whatever a turn does with a difference: before each turn
+-- the differences so far have been folded. Assumes nothing.
+use Rattle.std.proofs.Common.{◌≡◌, ℕ, ◌+◌, ◌<◌, ◌≤◌, List, [], ◌∷◌, length, get_or, take, ℤ, pos, ap, ◌∙◌}
 use Rattle.std.proofs.Common.{add-one, arith, take_all, take-suc}
 use mathlib.Core.List.{foldl, foldl-append}
 use Rattle.residual.specs.Report.{difference, differences}
 use Rattle.residual.proofs.Stretches.{length-differences, at-difference}
-use Rattle.residual.proofs.Pieces.{part-differences, take_part}
 
 module _ {T : Type 0} (step : T → ℕ → T) (t : T) (xs ys : List ℤ) (long : length xs ≡ length ys) (i : ℕ) where
   pub one-turn : i < length xs → {v w : T} (d : ℕ) → v ≡ foldl step t (take i (differences xs ys))
@@ -22,13 +21,6 @@ module _ {T : Type 0} (step : T → ℕ → T) (t : T) (xs ys : List ℤ) (long 
         e,
         f,
       )
-
-  pub more-turns : (k : ℕ) {v w : T} → v ≡ foldl step t (take i (differences xs ys))
-      → w ≡ foldl step v (differences (take k (drop i xs)) (take k (drop i ys)))
-      → w ≡ foldl step t (take (i + k) (differences xs ys))
-  more-turns k e f =
-      let ds = differences xs ys in
-      f ∙ rw (part-differences i k xs ys, ← take_part i k ds, foldl-append step t (take i ds) (take k (drop i ds)), e)
 
   pub all-turns : length xs ≤ i → {v : T} → v ≡ foldl step t (take i (differences xs ys))
       → v ≡ foldl step t (differences xs ys)

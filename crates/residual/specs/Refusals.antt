@@ -1,19 +1,18 @@
 -- W13g, W13h. By which number a call is refused, in the order of 01, and what a call answers. Definitions only.
 use Rattle.std.specs.Prelude.{ℕ, zero, suc, Bool, ◌&&◌, List, [], ◌∷◌, length, ℤ, ◌==◌, nat_eq, nat_lt}
+use Rattle.std.specs.Prelude.{Option, Some, None}
 use Rattle.refusal_order.specs.Order.{Test, ◌unless◌, first_of}
 pub use Rattle.report_tests.specs.Tests.{in24, room_for}
 unfoldable pub use Rattle.report_tests.specs.Tests.{all24, numbers_ok}
 use Rattle.residual.specs.declared.Report.{Report}
-use Rattle.residual.specs.declared.Place.{Place}
-use Rattle.residual.specs.declared.Place.TheVariants.{Nowhere, At}
 use Rattle.residual.specs.declared.Compared.{Compared}
 use Rattle.residual.specs.declared.Compared.TheVariants as compared
 use Rattle.residual.specs.Report.{sum_of, carried}
 
 -- Test 3: an empty report has no place, any other one below its number.
-abbrev pub place_ok : Place → ℕ → Bool
-place_ok Nowhere n = n == 0
-place_ok (At k) n = nat_lt k n
+abbrev pub place_ok : Option ℕ → ℕ → Bool
+place_ok None n = n == 0
+place_ok (Some k) n = nat_lt k n
 
 -- Test 3: the number, the largest difference, the sum and the place of the carried report are in range.
 unfoldable pub report_ok : Report → Bool

@@ -1,11 +1,9 @@
 -- W13a to W13d, W13f. The report of two equally long stretches of whole samples: sample by sample, over many calls, and
 -- all at once. Definitions only.
 use Rattle.std.specs.Prelude.{ℕ, suc, ◌+◌, ◌*◌, ◌/◌, ◌%◌, ◌^◌, max, Bool, cond, ◌||◌, List, [], ◌∷◌, length, ℤ}
-use Rattle.std.specs.Prelude.{◌-ℤ◌, ◌==◌, nat_lt, unsigned_abs}
+use Rattle.std.specs.Prelude.{◌-ℤ◌, ◌==◌, nat_lt, unsigned_abs, Option, Some, None}
 use mathlib.Core.List.{foldl}
 use Rattle.residual.specs.declared.Report.{Report}
-use Rattle.residual.specs.declared.Place.{Place}
-use Rattle.residual.specs.declared.Place.TheVariants.{Nowhere, At}
 
 -- The absolute difference of two samples, and those of two stretches, sample by sample.
 abbrev pub difference : ℤ → ℤ → ℕ
@@ -18,7 +16,7 @@ differences (x ∷ xs) (y ∷ ys) = difference x y ∷ differences xs ys
 
 -- W13f. An empty report has number zero and no place.
 abbrev pub empty_report : Report
-empty_report = record { number = 0; largest = 0; place = Nowhere; high = 0; low = 0 }
+empty_report = record { number = 0; largest = 0; place = None; high = 0; low = 0 }
 
 -- W13d. The sum does not fit 64 bits and is handed out as two halves.
 abbrev pub sum_of : Report → ℕ
@@ -33,7 +31,7 @@ unfoldable pub one : Report → ℕ → Report
 one r d = record {
   number = r.number + 1;
   largest = cond (newer r d) d r.largest;
-  place = cond (newer r d) (At r.number) r.place;
+  place = cond (newer r d) (Some r.number) r.place;
   high = (sum_of r + d * d) / 2 ^ 64;
   low = (sum_of r + d * d) % 2 ^ 64;
 }
@@ -57,9 +55,9 @@ squares [] = 0
 squares (d ∷ ds) = d * d + squares ds
 
 -- If nothing was compared there is no place.
-unfoldable pub place_of : List ℕ → Place
-place_of [] = Nowhere
-place_of (d ∷ ds) = At (first_at (greatest (d ∷ ds)) (d ∷ ds))
+unfoldable pub place_of : List ℕ → Option ℕ
+place_of [] = None
+place_of (d ∷ ds) = Some (first_at (greatest (d ∷ ds)) (d ∷ ds))
 
 unfoldable pub report_of : List ℕ → Report
 report_of ds = record {

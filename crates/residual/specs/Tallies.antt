@@ -1,15 +1,14 @@
 -- A report as plain numbers while a stretch is counted. A missing place is 0. That is right for the first difference of
 -- all: if it is above 0 it sets the place to 0, and if it is 0 it leaves it at 0. Definitions only.
 use Rattle.std.specs.Prelude.{◌≡◌, ℕ, ◌+◌, ◌*◌, ◌/◌, ◌%◌, ◌^◌, ◌<◌, ◌≤◌, true, cond, List, length, ℤ, ◌==◌, nat_lt}
+use Rattle.std.specs.Prelude.{Option, Some, None}
 use Rattle.residual.specs.declared.Report.{Report}
-use Rattle.residual.specs.declared.Place.{Place}
-use Rattle.residual.specs.declared.Place.TheVariants.{Nowhere, At}
 use Rattle.residual.specs.declared.tally.Tally.{Tally}
 use Rattle.residual.specs.Refusals.{all24}
 
-abbrev pub index_of : Place → ℕ
-index_of Nowhere = 0
-index_of (At k) = k
+abbrev pub index_of : Option ℕ → ℕ
+index_of None = 0
+index_of (Some k) = k
 
 unfoldable pub tally_of : Report → Tally
 tally_of r = record {
@@ -24,7 +23,7 @@ unfoldable pub told_of : Tally → Report
 told_of t = record {
   number = t.number;
   largest = t.largest;
-  place = cond (t.number == 0) Nowhere (At t.index);
+  place = cond (t.number == 0) None (Some t.index);
   high = t.high;
   low = t.low;
 }

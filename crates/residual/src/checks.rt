@@ -2,16 +2,16 @@
 ghost use Rattle.std.specs.Prelude.{◌≡◌};
 ghost use Rattle.residual.specs.Refusals.{place_ok, report_ok, verdict};
 
-use crate::{Place, Report};
+use crate::Report;
 use refusal_order::both;
 use report_tests::{all_24, fits, numbers_ok};
 
-fn place_ok(p: Place, number: u64) -> bool
+fn place_ok(p: Option<u64>, number: u64) -> bool
     ensures { result ≡ place_ok p number }
 {
     match p {
-        Place::Nowhere => number == 0,
-        Place::At(k) => k < number,
+        None => number == 0,
+        Some(k) => k < number,
     }
 }
 

@@ -15,20 +15,13 @@ ghost use Rattle.residual.specs.Refusals.{compared_of};
 use checks::due;
 use steps::counted;
 
-// Where the largest difference stands first, counted over all calls from the first sample compared. An empty report has
-// no such place.
-#[derive(Clone, Copy)]
-pub enum Place {
-    Nowhere,
-    At(u64),
-}
-
-// The sum is high * 2^64 + low.
+// The place is where the largest difference stands first, counted over all calls from the first sample compared; an
+// empty report has none. The sum is high * 2^64 + low.
 #[derive(Clone, Copy)]
 pub struct Report {
     pub number: u64,
     pub largest: u32,
-    pub place: Place,
+    pub place: Option<u64>,
     pub high: u64,
     pub low: u64,
 }
@@ -45,7 +38,7 @@ pub fn empty() -> Report
     Report {
         number: 0,
         largest: 0,
-        place: Place::Nowhere,
+        place: None,
         high: 0,
         low: 0,
     }

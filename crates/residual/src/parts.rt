@@ -45,10 +45,8 @@ pub(crate) fn squared(a: &[i32], b: &[i32], top: u32) -> Parts
         lows: 0,
         quiet: true,
     };
-    let mut i: usize = 0;
-    while i < a.len() {
+    for i in 0..a.len() {
         now = part(now, distance(a[i], b[i]), top);
-        i += 1;
     }
     now
 }

@@ -13,17 +13,10 @@ pub(crate) fn distance(x: i32, y: i32) -> u32
     requires { (in24 x ≡ true) × (in24 y ≡ true) }
     ensures { result ≡ difference x y }
 {
-    let d = x - y;
-    if d < 0 { (0 - d) as u32 } else { d as u32 }
+    (x - y).unsigned_abs()
 }
 
-fn chosen(test: bool, a: u64, b: u64) -> u64
-    ensures { result ≡ (if test then a else b) }
-{
-    if test { a } else { b }
-}
-
-fn chosen_u32(test: bool, a: u32, b: u32) -> u32
+fn chosen<T: Copy>(test: bool, a: T, b: T) -> T
     ensures { result ≡ (if test then a else b) }
 {
     if test { a } else { b }
@@ -48,7 +41,7 @@ fn step(t: Tally, d: u32) -> Tally
     let above = t.largest < d;
     Tally {
         number: number,
-        largest: chosen_u32(above, d, t.largest),
+        largest: chosen(above, d, t.largest),
         index: chosen(above, t.number, t.index),
         high: high,
         low: low,
@@ -61,10 +54,8 @@ fn stepped(t: Tally, a: &[i32], b: &[i32]) -> Tally
     ensures { result ≡ foldl step_of t (differences a.now b.now) }
 {
     let mut now = t;
-    let mut i: usize = 0;
-    while i < a.len() {
+    for i in 0..a.len() {
         now = step(now, distance(a[i], b[i]));
-        i += 1;
     }
     now
 }
@@ -81,24 +72,13 @@ fn block(t: Tally, a: &[i32], b: &[i32]) -> Tally
     stepped(t, a, b)
 }
 
-// Where the block that begins at i ends.
-fn block_end(i: usize, n: usize) -> usize
-    requires { i < n }
-    ensures { (i < result) × ((result ≤ n) × (result ≤ i + 256)) }
-{
-    if n - i < 256 { n } else { i + 256 }
-}
-
 fn stretched(t: Tally, a: &[i32], b: &[i32]) -> Tally
     requires { Ready t a.now b.now }
     ensures { result ≡ foldl step_of t (differences a.now b.now) }
 {
     let mut now = t;
-    let mut i: usize = 0;
-    while i < a.len() {
-        let e = block_end(i, a.len());
-        now = block(now, &a[i..e], &b[i..e]);
-        i = e;
+    for (x, y) in a.chunks(256).zip(b.chunks(256)) {
+        now = block(now, x, y);
     }
     now
 }

@@ -1,13 +1,13 @@
 // What the arguments of `residual FIRST SECOND [NAME=VALUE …]` ask for, and which of them names the picture, 0 for
 // none.
 use arguments::Argument;
-use asked::{Compared, Comparison};
+use asked::Comparison;
 use system::{STANDARD_ERROR, System};
 use words_asked::{
     Names, none, of_two, refused, say_bad, say_elsewhere, say_too_long, say_unknown, with_file,
 };
 
-#[derive(Drop)]
+#[derive(Clone, Copy)]
 pub(crate) struct ToCompare {
     pub names: Names,
     pub settings: Comparison,
@@ -15,18 +15,13 @@ pub(crate) struct ToCompare {
 }
 
 pub(crate) fn to_compare(system: &System) -> ToCompare {
-    let count = system.arg_count();
-    let settings = asked::plain_comparison();
-    let names = none();
     let mut asked = ToCompare {
-        names: names,
-        settings: settings,
+        names: none(),
+        settings: asked::plain_comparison(),
         picture: 0,
     };
-    let mut i: usize = 1;
-    while i < count {
+    for i in 1..system.arg_count() {
         asked = with_argument(system, asked, i);
-        i += 1;
     }
     both_named(system, asked)
 }
@@ -46,24 +41,14 @@ pub(crate) fn tell_usage(system: &System, fd: i32) {
 
 // Unless exactly two files were named, the usage is shown and the names are not good.
 fn both_named(system: &System, asked: ToCompare) -> ToCompare {
-    let names = asked.names;
-    if !names.good {
+    if !asked.names.good {
         return asked;
     }
-    let two = of_two(names);
-    if !two.good {
+    let names = of_two(asked.names);
+    if !names.good {
         tell_usage(system, STANDARD_ERROR);
     }
-    with_names(asked, two)
-}
-
-fn with_names(asked: ToCompare, names: Names) -> ToCompare {
-    let settings = asked.settings;
-    ToCompare {
-        names: names,
-        settings: settings,
-        picture: asked.picture,
-    }
+    ToCompare { names, ..asked }
 }
 
 fn with_argument(system: &System, asked: ToCompare, i: usize) -> ToCompare {
@@ -76,15 +61,18 @@ fn with_argument(system: &System, asked: ToCompare, i: usize) -> ToCompare {
 }
 
 fn without(asked: ToCompare) -> ToCompare {
-    let names = asked.names;
-    with_names(asked, refused(names))
+    ToCompare {
+        names: refused(asked.names),
+        ..asked
+    }
 }
 
 fn with_text(system: &System, asked: ToCompare, i: usize, words: &[u8]) -> ToCompare {
-    let names = asked.names;
-    let argument = arguments::meaning(words);
-    match argument {
-        Argument::File => with_names(asked, with_file(names, i)),
+    match arguments::meaning(words) {
+        Argument::File => ToCompare {
+            names: with_file(asked.names, i),
+            ..asked
+        },
         Argument::Unknown => {
             say_unknown(system, b"residual", words);
             without(asked)
@@ -93,28 +81,21 @@ fn with_text(system: &System, asked: ToCompare, i: usize, words: &[u8]) -> ToCom
             say_bad(system, b"residual", words, name);
             without(asked)
         }
-        Argument::Picture => with_setting(system, at_picture(asked, i), words, argument),
-        _ => with_setting(system, asked, words, argument),
+        Argument::Picture => {
+            let at_picture = ToCompare {
+                picture: i,
+                ..asked
+            };
+            with_setting(system, at_picture, words, Argument::Picture)
+        }
+        argument => with_setting(system, asked, words, argument),
     }
 }
 
-fn at_picture(asked: ToCompare, i: usize) -> ToCompare {
-    let mut a = asked;
-    a.picture = i;
-    a
-}
-
 fn with_setting(system: &System, asked: ToCompare, words: &[u8], argument: Argument) -> ToCompare {
-    let names = asked.names;
-    let settings = asked.settings;
-    let changed = asked::compared_with(settings, argument);
-    match changed {
-        Compared::Asked(s) => ToCompare {
-            names: names,
-            settings: s,
-            picture: asked.picture,
-        },
-        Compared::Other => {
+    match asked::compared_with(asked.settings, argument) {
+        Some(settings) => ToCompare { settings, ..asked },
+        None => {
             say_elsewhere(system, b"residual", words);
             without(asked)
         }

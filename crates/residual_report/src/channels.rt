@@ -6,7 +6,7 @@ use peaks::{largest, raise};
 use residual::{Compared, Report};
 use sizes::{begun, begun_i32, plus, times};
 
-#[derive(Drop)]
+#[derive(Clone, Copy)]
 pub(crate) struct Carried {
     pub report: Report,
     pub outcome: Outcome,
@@ -23,10 +23,8 @@ pub(crate) fn compare_channels(
     left: &[u8; 32768],
     right: &[u8; 32768],
 ) -> Reports {
-    let first = job.first;
-    let second = job.second;
-    let one = begun(left, times(n, first.frame));
-    let two = begun(right, times(n, second.frame));
+    let one = begun(left, times(n, job.first.frame));
+    let two = begun(right, times(n, job.second.frame));
     compare_parts(job, reports, peaks, k, done, n, one, two)
 }
 
@@ -55,15 +53,7 @@ fn compare_rest(
     one: &[u8],
     two: &[u8],
 ) -> Reports {
-    let outcome = half.outcome;
-    let first = job.first;
-    if !is_well(outcome) {
-        return half;
-    }
-    if first.channels != 2 {
-        return half;
-    }
-    if job.channel == 1 {
+    if !is_well(half.outcome) || job.first.channels != 2 || job.channel == Some(1) {
         return half;
     }
     compare_second(job, half, peaks, k, done, n, one, two)
@@ -79,18 +69,14 @@ fn compare_first(
     one: &[u8],
     two: &[u8],
 ) -> Reports {
-    if job.channel == 2 {
+    if job.channel == Some(2) {
         return reports;
     }
-    let report = reports.one;
-    let other = reports.two;
-    let c = compare_channel(job, 0, report, peaks, k, done, n, one, two);
-    let carried = c.report;
-    let outcome = c.outcome;
+    let c = compare_channel(job, 0, reports.one, peaks, k, done, n, one, two);
     Reports {
-        one: carried,
-        two: other,
-        outcome: outcome,
+        one: c.report,
+        two: reports.two,
+        outcome: c.outcome,
         second: c.second,
     }
 }
@@ -105,15 +91,11 @@ fn compare_second(
     one: &[u8],
     two: &[u8],
 ) -> Reports {
-    let report = reports.two;
-    let other = reports.one;
-    let c = compare_channel(job, 1, report, peaks, k, done, n, one, two);
-    let carried = c.report;
-    let outcome = c.outcome;
+    let c = compare_channel(job, 1, reports.two, peaks, k, done, n, one, two);
     Reports {
-        one: other,
-        two: carried,
-        outcome: outcome,
+        one: reports.one,
+        two: c.report,
+        outcome: c.outcome,
         second: c.second,
     }
 }
@@ -147,9 +129,9 @@ fn compare_channel(
 fn misfit(report: Report, frame: usize, channel: u8, second: bool) -> Carried {
     let outcome = refused_at(15, frame, if channel == 0 { 1 } else { 2 });
     Carried {
-        report: report,
-        outcome: outcome,
-        second: second,
+        report,
+        outcome,
+        second,
     }
 }
 
@@ -167,28 +149,21 @@ fn carry(
     if drawn {
         return note(report, peaks, k, a, b);
     }
-    let compared = residual::compare(report, a, b);
-    told(report, compared)
+    carry_on(report, a, b)
 }
 
-fn told(before: Report, compared: Compared) -> Carried {
-    match compared {
-        Compared::Carried(report) => {
-            let outcome = well();
-            Carried {
-                report: report,
-                outcome: outcome,
-                second: false,
-            }
-        }
-        Compared::Refused(number) => {
-            let outcome = refused_at(number, 0, 1);
-            Carried {
-                report: before,
-                outcome: outcome,
-                second: false,
-            }
-        }
+fn carry_on(before: Report, a: &[i32], b: &[i32]) -> Carried {
+    match residual::compare(before, a, b) {
+        Compared::Carried(report) => Carried {
+            report,
+            outcome: well(),
+            second: false,
+        },
+        Compared::Refused(number) => Carried {
+            report: before,
+            outcome: refused_at(number, 0, 1),
+            second: false,
+        },
     }
 }
 
@@ -200,6 +175,5 @@ fn note(report: Report, peaks: &mut [u32], k: usize, a: &[i32], b: &[i32]) -> Ca
     raise(peaks, k, largest(a, none));
     raise(peaks, k, largest(b, none));
     raise(peaks, plus(k, 1000), largest(a, b));
-    let compared = residual::compare(report, a, b);
-    told(report, compared)
+    carry_on(report, a, b)
 }

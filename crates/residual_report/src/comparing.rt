@@ -9,14 +9,14 @@ use sizes::{less, plus};
 use system::System;
 use wave_file::{WaveFile, read_frames};
 
-// Two files, the frames of them that are compared, and the channel, 0 for all. If a picture is wanted, `stretches` is
-// the number of its stretches, at most 1000; otherwise it is 1.
+// Two files, the frames of them that are compared, and the channel, none for all. If a picture is wanted, `stretches`
+// is the number of its stretches, at most 1000; otherwise it is 1.
 #[derive(Clone, Copy)]
 pub(crate) struct Job {
     pub first: WaveFile,
     pub second: WaveFile,
     pub extent: Extent,
-    pub channel: u8,
+    pub channel: Option<u8>,
     pub stretches: usize,
     pub drawn: bool,
 }
@@ -33,36 +33,32 @@ pub(crate) struct Reports {
 // The peaks are those of the samples and then of the differences of channel 1, followed by those of channel 2, with
 // 1000 places for each.
 pub(crate) fn compare(system: &System, job: Job, peaks: &mut [u32]) -> Reports {
-    let extent = job.extent;
-    let frames = extent.frames;
+    let frames = job.extent.frames;
     let mut reports = none();
     let mut done: usize = 0;
     let mut k: usize = 0;
     let mut said: i64 = 0;
-    let mut turns = u64::MAX;
-    while turns > 0 && done < frames {
+    // By hand: a block ends where its stretch does, so that where the next one begins is no step of a range.
+    while done < frames {
         k = stretch_of(frames, job.stretches, k, done);
         let end = stretch_end(frames, job.stretches, plus(k, 1));
         let n = block_of(less(end, done));
         reports = block(system, job, reports, peaks, k, done, n);
-        let outcome = reports.outcome;
-        if !is_well(outcome) {
+        if !is_well(reports.outcome) {
             return reports;
         }
         done = plus(done, n);
         said = tell(system, done, frames, said);
-        turns -= 1;
     }
     reports
 }
 
 fn none() -> Reports {
     let empty = residual::empty();
-    let outcome = well();
     Reports {
         one: empty,
         two: empty,
-        outcome: outcome,
+        outcome: well(),
         second: false,
     }
 }
@@ -72,17 +68,6 @@ fn tell(system: &System, done: usize, frames: usize, said: i64) -> i64 {
     let terminal = system.is_terminal();
     let second = system.second();
     progress::tell(system, b"residual", done, frames, terminal, said, second)
-}
-
-fn ended(reports: Reports, outcome: Outcome, second: bool) -> Reports {
-    let one = reports.one;
-    let two = reports.two;
-    Reports {
-        one: one,
-        two: two,
-        outcome: outcome,
-        second: second,
-    }
 }
 
 // Compares n frames of both files, after `done` frames.
@@ -98,15 +83,21 @@ fn block(
     let mut left = [0u8; 32768];
     let mut right = [0u8; 32768];
     let extent = job.extent;
-    let first = job.first;
-    let second = job.second;
-    let io = read_frames(system, first, plus(extent.first, done), &mut left, n);
+    let io = read_frames(system, job.first, plus(extent.first, done), &mut left, n);
     if io != 0 {
-        return ended(reports, broken(io), false);
+        return Reports {
+            outcome: broken(io),
+            second: false,
+            ..reports
+        };
     }
-    let io = read_frames(system, second, plus(extent.second, done), &mut right, n);
+    let io = read_frames(system, job.second, plus(extent.second, done), &mut right, n);
     if io != 0 {
-        return ended(reports, broken(io), true);
+        return Reports {
+            outcome: broken(io),
+            second: true,
+            ..reports
+        };
     }
     compare_channels(job, reports, peaks, k, done, n, &left, &right)
 }

@@ -4,12 +4,12 @@ use part_file::write;
 use sizes::{begun, plus};
 use system::System;
 
-// The number of channels of the files and the one that is shown, 0 for all; the number of frames compared, their rate,
-// and the number of stretches in which they are shown.
+// The number of channels of the files and the one that is shown, none for all; the number of frames compared, their
+// rate, and the number of stretches in which they are shown.
 #[derive(Clone, Copy)]
 pub(crate) struct Drawing {
     pub channels: u8,
-    pub channel: u8,
+    pub channel: Option<u8>,
     pub frames: u64,
     pub rate: u32,
     pub stretches: u32,
@@ -29,17 +29,14 @@ pub(crate) fn draw(
     if !write_head(system, name, fd, drawing.channels, first, second) {
         return false;
     }
-    if drawing.channel != 2 {
-        if !write_panel(system, name, fd, drawing, 1, peaks, 0) {
-            return false;
-        }
+    if drawing.channel != Some(2) && !write_panel(system, name, fd, drawing, 1, peaks, 0) {
+        return false;
     }
-    if drawing.channels == 2 {
-        if drawing.channel != 1 {
-            if !write_panel(system, name, fd, drawing, 2, peaks, 2000) {
-                return false;
-            }
-        }
+    if drawing.channels == 2
+        && drawing.channel != Some(1)
+        && !write_panel(system, name, fd, drawing, 2, peaks, 2000)
+    {
+        return false;
     }
     write_tail(system, name, fd)
 }
@@ -98,24 +95,12 @@ fn write_stretches(
     peaks: &[u32],
     from: usize,
 ) -> bool {
-    let mut k: u32 = 0;
-    let mut at = from;
-    while k < n {
-        if !write_stretch(
-            system,
-            name,
-            fd,
-            k,
-            n,
-            peak(peaks, at),
-            peak(peaks, plus(at, 1000)),
-        ) {
-            return false;
-        }
-        at = plus(at, 1);
-        k += 1;
-    }
-    true
+    (0..n).all(|k| {
+        let at = plus(from, k as usize);
+        let sample = peak(peaks, at);
+        let difference = peak(peaks, plus(at, 1000));
+        write_stretch(system, name, fd, k, n, sample, difference)
+    })
 }
 
 fn write_stretch(
@@ -133,5 +118,5 @@ fn write_stretch(
 }
 
 fn peak(peaks: &[u32], at: usize) -> u32 {
-    if at < peaks.len() { peaks[at] } else { 0 }
+    peaks.get(at).copied().unwrap_or(0)
 }

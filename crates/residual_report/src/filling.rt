@@ -7,17 +7,15 @@ use wave_file::WaveFile;
 
 // Fills the first n numbers, and gives n, or the place of the first sample that does not fit (15).
 pub(crate) fn fill(file: WaveFile, channel: u8, part: &[u8], out: &mut [i32], n: usize) -> usize {
-    let kind = file.kind;
     if n <= out.len() {
-        return fill_all(kind, file.channels, channel, part, &mut out[..n]);
+        return fill_all(file.kind, file.channels, channel, part, &mut out[..n]);
     }
     0
 }
 
 fn fill_all(kind: SampleKind, channels: u8, channel: u8, part: &[u8], out: &mut [i32]) -> usize {
     match kind {
-        SampleKind::Pcm16 => fill_pcm(kind, channels, channel, part, out),
-        SampleKind::Pcm24 => fill_pcm(kind, channels, channel, part, out),
+        SampleKind::Pcm16 | SampleKind::Pcm24 => fill_pcm(kind, channels, channel, part, out),
         SampleKind::Float32 => fill_floats(channels, channel, part, out),
     }
 }

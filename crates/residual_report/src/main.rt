@@ -10,7 +10,6 @@ mod filling; // a channel as whole numbers
 mod reporting; // the report's lines
 mod sayings; // what is said of files that cannot be compared
 
-use arguments::Channel;
 use asked::Comparison;
 use asking::{help_asked, tell_usage, to_compare};
 use compared_frames::span;
@@ -19,7 +18,6 @@ use drawing::Drawing;
 use error_lines::{misused, say_of, succeed};
 use file_words::{say_unopened, say_wrapped};
 use outcomes::is_well;
-use part_file::Made;
 use sayings::{comparable, say_outcome};
 use sizes::fewer;
 use std::process::ExitCode;
@@ -34,7 +32,6 @@ fn main(rt: HostRuntime) -> ExitCode {
     }
     let asked = to_compare(&system);
     let names = asked.names;
-    let settings = asked.settings;
     if !names.good {
         return misused();
     }
@@ -44,7 +41,13 @@ fn main(rt: HostRuntime) -> ExitCode {
     let m = system.arg(names.second, &mut second).unwrap_or(0);
     let mut picture = [0u8; 4096];
     let p = system.arg(asked.picture, &mut picture).unwrap_or(0);
-    run(&system, settings, &picture[..p], &first[..n], &second[..m])
+    run(
+        &system,
+        asked.settings,
+        &picture[..p],
+        &first[..n],
+        &second[..m],
+    )
 }
 
 // The name of the picture stands after `picture=`.
@@ -125,42 +128,31 @@ fn compare_both(
     a: WaveFile,
     b: WaveFile,
 ) -> bool {
-    let asked = settings.channel;
-    let channel = channel_of(asked);
-    if !comparable(system, first, second, a, b, channel) {
+    if !comparable(system, first, second, a, b, settings.channel) {
         return false;
     }
     say_wrapped(system, b"residual", first, a);
     say_wrapped(system, b"residual", second, b);
-    let job = job_of(settings, a, b, channel);
+    let job = job_of(settings, a, b);
     if settings.picture {
         return draw(system, job, picture, first, second);
     }
     tell(system, job, first, second)
 }
 
-// The channel's number, or 0 for all channels.
-fn channel_of(channel: Channel) -> u8 {
-    match channel {
-        Channel::All => 0,
-        Channel::Only(c) => c,
-    }
-}
-
-fn job_of(settings: Comparison, a: WaveFile, b: WaveFile, channel: u8) -> Job {
-    let frames = settings.frames;
+fn job_of(settings: Comparison, a: WaveFile, b: WaveFile) -> Job {
     let extent = span(
         a.frames,
         b.frames,
         settings.first_skip as usize,
         settings.second_skip as usize,
-        frames,
+        settings.frames,
     );
     Job {
         first: a,
         second: b,
-        extent: extent,
-        channel: channel,
+        extent,
+        channel: settings.channel,
         stretches: stretches_of(settings.picture, extent.frames),
         drawn: settings.picture,
     }
@@ -197,8 +189,8 @@ fn ended_well(system: &System, reports: Reports, first: &[u8], second: &[u8]) ->
 fn draw(system: &System, job: Job, picture: &[u8], first: &[u8], second: &[u8]) -> bool {
     let made = part_file::make(system, b"residual", picture);
     match made {
-        Made::Open(fd) => draw_into(system, job, picture, fd, first, second),
-        Made::Failed => false,
+        Some(fd) => draw_into(system, job, picture, fd, first, second),
+        None => false,
     }
 }
 

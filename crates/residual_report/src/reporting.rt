@@ -36,12 +36,11 @@ pub(crate) fn tell(
 // An example of such a line is `first: PCM of 24 bits, 1 channel, 48000 Hz, 480000 frames: A.wav`.
 fn tell_file(system: &System, which: &[u8], name: &[u8], file: WaveFile) -> bool {
     let mut line = [0u8; 4400];
-    let kind = file.kind;
     let at = put(&mut line, 0, which);
     let at = report_lines::put_file(
         &mut line,
         at,
-        kind,
+        file.kind,
         file.channels,
         file.rate,
         file.frames as u64,
@@ -59,18 +58,11 @@ fn tell_compared(system: &System, first: usize, second: usize) -> bool {
 }
 
 fn tell_channels(system: &System, job: Job, reports: Reports) -> bool {
-    let file = job.first;
-    let one = reports.one;
-    let two = reports.two;
-    if job.channel != 2 {
-        if !tell_channel(system, 1, one) {
-            return false;
-        }
+    if job.channel != Some(2) && !tell_channel(system, 1, reports.one) {
+        return false;
     }
-    if file.channels == 2 {
-        if job.channel != 1 {
-            return tell_channel(system, 2, two);
-        }
+    if job.first.channels == 2 && job.channel != Some(1) {
+        return tell_channel(system, 2, reports.two);
     }
     true
 }

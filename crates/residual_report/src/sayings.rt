@@ -13,7 +13,7 @@ pub(crate) fn comparable(
     second: &[u8],
     a: WaveFile,
     b: WaveFile,
-    channel: u8,
+    channel: Option<u8>,
 ) -> bool {
     if a.rate != b.rate {
         say_differ(
@@ -39,7 +39,7 @@ pub(crate) fn comparable(
         );
         return false;
     }
-    if channel > a.channels {
+    if channel.is_some_and(|c| c > a.channels) {
         say_of(system, b"residual", first, b" has one channel only\n");
         return false;
     }

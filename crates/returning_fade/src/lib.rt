@@ -46,20 +46,14 @@ pub struct RuledTurn {
 pub fn rule_code(rule: Rule) -> u8
     ensures { result ≡ rule_code rule }
 {
-    match rule {
-        Rule::Ported => 0,
-        Rule::Returning => 1,
-    }
+    rule as u8
 }
 
 // A direction's number, for interfaces that pass only numbers.
 pub fn direction_code(direction: Direction) -> u8
     ensures { result ≡ direction_code direction }
 {
-    match direction {
-        Direction::Onwards => 0,
-        Direction::Back => 1,
-    }
+    direction as u8
 }
 
 // W9g. Whether the place and the direction are in their ranges.

@@ -3,7 +3,7 @@
 // walk is never longer than the file. Its steps are public too, for layouts with other identifiers or sizes.
 #![tactic(auto)]
 
-ghost use Rattle.std.specs.Prelude.{◌≡◌, ◌+◌, ◌<◌, min};
+ghost use Rattle.std.specs.Prelude.{◌≡◌, ◌+◌, ◌<◌};
 ghost use Rattle.word_bytes.specs.Bytes.{bytes_value};
 ghost use Rattle.riff_chunks.specs.Chunks.{chunk_at};
 ghost use Rattle.riff_chunks.specs.Walk.{walk_to, walk_of, riff_sought};
@@ -55,13 +55,7 @@ pub struct Walking {
 pub fn walk(file: &[u8], end: usize) -> Walked
     ensures { result ≡ walk_of file.now end }
 {
-    walk_to(file, earlier(end, file.len()))
-}
-
-fn earlier(end: usize, len: usize) -> usize
-    ensures { result ≡ min end len }
-{
-    if end < len { end } else { len }
+    walk_to(file, end.min(file.len()))
 }
 
 // The walk up to an end that lies in the file. The bytes that are left are counted down, so that no sum can overflow.
@@ -70,6 +64,7 @@ fn walk_to(file: &[u8], end: usize) -> Walked
 {
     let sought = riff_sought();
     let mut walking = begin(end);
+    // By hand: a chunk's size says how far the walk goes on, and what it has found may end it; no count does.
     while walking.left >= 8 {
         let left = walking.left;
         let c = chunk_at(file, end - left);

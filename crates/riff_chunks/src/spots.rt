@@ -1,5 +1,5 @@
 // W1. What has been seen of the chunks: whether one runs past the end, and where the first of each identifier stands.
-ghost use Rattle.std.specs.Prelude.{◌≡◌, false, ◌||◌};
+ghost use Rattle.std.specs.Prelude.{◌≡◌, false};
 ghost use Rattle.riff_chunks.specs.Chunks.{nowhere};
 ghost use Rattle.riff_chunks.specs.Walk.{or_else, spot_if};
 ghost use Rattle.riff_chunks.specs.Walk.{noted as Walk·noted};
@@ -28,16 +28,10 @@ pub fn noted(sought: Sought, seen: Walked, c: Chunk, over: bool) -> Walked
     let format = first_of(seen.format, sought.format, c);
     let samples = first_of(seen.samples, sought.samples, c);
     Walked {
-        overruns: either(seen.overruns, over),
+        overruns: seen.overruns || over,
         format: format,
         samples: samples,
     }
-}
-
-fn either(a: bool, b: bool) -> bool
-    ensures { result ≡ a || b }
-{
-    if a { true } else { b }
 }
 
 // The spot that was found before; otherwise the chunk's, if it has the identifier.

@@ -1,5 +1,5 @@
 // W1. The steps of a walk: its beginning, and one more chunk. Any numbers are accepted.
-ghost use Rattle.std.specs.Prelude.{◌≡◌, ◌-◌, ◌%◌};
+ghost use Rattle.std.specs.Prelude.{◌≡◌, ◌%◌};
 ghost use Rattle.riff_chunks.specs.Walk.{begun, turned, left_after, is_last};
 
 use crate::spots::{noted, unseen};
@@ -11,7 +11,7 @@ pub fn begin(end: usize) -> Walking
 {
     let seen = unseen();
     Walking {
-        left: less(end, 12),
+        left: end.saturating_sub(12),
         seen: seen,
     }
 }
@@ -20,19 +20,13 @@ pub fn begin(end: usize) -> Walking
 pub fn turn(walking: Walking, sought: Sought, c: Chunk) -> Walking
     ensures { result ≡ turned sought walking c }
 {
-    let room = less(walking.left, 8);
+    let room = walking.left.saturating_sub(8);
     let before = walking.seen;
     let seen = noted(sought, before, c, c.size > room);
     Walking {
         left: left_after(sought, c, room),
         seen: seen,
     }
-}
-
-fn less(n: usize, by: usize) -> usize
-    ensures { result ≡ n - by }
-{
-    if n < by { 0 } else { n - by }
 }
 
 // Nothing is left if the walk ends with this chunk, or if the chunk runs past the end. The pad byte of the last chunk

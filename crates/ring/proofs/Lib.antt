@@ -1,6 +1,5 @@
 pub mod Masks
 pub mod Lengths
-pub mod Cleared
 pub mod RunStartWays
 pub mod HeldRuns
 pub mod OneTap

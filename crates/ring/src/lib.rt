@@ -37,11 +37,7 @@ pub fn length_for(maximum: usize, margin: usize) -> usize
 pub fn clear(ring: &mut [f64])
     ensures { ring.new ≡ zeros (length ring.old) }
 {
-    let mut i: usize = 0;
-    while i < ring.len() {
-        ring[i] = 0.0;
-        i += 1;
-    }
+    ring.fill(0.0);
 }
 
 // K1. An index modulo the length. A reader's ring has a power of two as its length, so a mask is enough; in a slice

@@ -8,11 +8,7 @@ use crate::taps::tap_place;
 pub fn clear_f32(ring: &mut [f32])
     ensures { ring.new ≡ zeros (length ring.old) }
 {
-    let mut i: usize = 0;
-    while i < ring.len() {
-        ring[i] = 0.0;
-        i += 1;
-    }
+    ring.fill(0.0);
 }
 
 pub fn tap_f32(source: &[f32], count: u64, index: i64) -> f32

@@ -12,23 +12,15 @@ ghost use Rattle.ring_told.specs.Told.{told_of};
 pub use single::told_f32;
 
 #[derive(Clone, Copy)]
-pub enum Tap {
-    Held(f64),
-    Unwritten,
-    Ahead,
-    Overwritten,
-}
-
-#[derive(Clone, Copy)]
-pub enum TapF32 {
-    Held(f32),
+pub enum Tap<T> {
+    Held(T),
     Unwritten,
     Ahead,
     Overwritten,
 }
 
 // Which of the four a tap is, in a ring that has accepted `count` samples (K2).
-pub fn told(source: &[f64], count: u64, index: i64) -> Tap
+pub fn told(source: &[f64], count: u64, index: i64) -> Tap<f64>
     ensures { result ≡ told_of (tap_at source.now count index) }
 {
     if index < 0 {

@@ -3,21 +3,21 @@ ghost use Rattle.std.specs.Prelude.{◌≡◌};
 ghost use Rattle.ring.specs.Taps.{tap_at};
 ghost use Rattle.ring_told.specs.Told.{told_f32_of};
 
-use crate::TapF32;
+use crate::Tap;
 
-pub fn told_f32(source: &[f32], count: u64, index: i64) -> TapF32
+pub fn told_f32(source: &[f32], count: u64, index: i64) -> Tap<f32>
     ensures { result ≡ told_f32_of (tap_at source.now count index) }
 {
     if index < 0 {
-        return TapF32::Unwritten;
+        return Tap::Unwritten;
     }
     let k = index as u64;
     if count <= k {
-        return TapF32::Ahead;
+        return Tap::Ahead;
     }
     if count - 1 - k >= source.len() as u64 {
-        return TapF32::Overwritten;
+        return Tap::Overwritten;
     }
     let at = ring::place(k, source.len());
-    TapF32::Held(source[at])
+    Tap::Held(source[at])
 }

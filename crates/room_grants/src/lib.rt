@@ -24,11 +24,7 @@ pub enum Place {
 fn clear_marks(marks: &mut [u8])
     ensures { marks.new ≡ replicate (length marks.old) 0 }
 {
-    let mut i: usize = 0;
-    while i < marks.len() {
-        marks[i] = 0;
-        i += 1;
-    }
+    marks.fill(0);
 }
 
 // Refuses by 2, or makes every slot free.

@@ -43,16 +43,12 @@ pub(crate) fn first(wanted: Wanted, rates: &[f64], marks: &[u8]) -> usize
     ensures { result ≡ first_slot (suits_of wanted) rates.now marks.now }
 {
     let n = slots(rates, marks);
-    let mut i: usize = 0;
-    loop {
-        if i >= n {
-            return i;
-        }
+    for i in 0..n {
         if suits(wanted, rates[i], marks[i]) {
             return i;
         }
-        i += 1;
     }
+    n
 }
 
 // The rate is tested first, because it mostly differs.
@@ -71,16 +67,12 @@ pub(crate) fn first_set(rate: f64, mode: Mode, rates: &[f64], marks: &[u8]) -> u
     ensures { result ≡ first_slot (has_set rate mode) rates.now marks.now }
 {
     let n = slots(rates, marks);
-    let mut i: usize = 0;
-    loop {
-        if i >= n {
-            return i;
-        }
+    for i in 0..n {
         if has_set(rate, mode, rates[i], marks[i]) {
             return i;
         }
-        i += 1;
     }
+    n
 }
 
 // Whether some slot has a set.
@@ -111,15 +103,10 @@ fn alone(rates: &[f64], marks: &[u8], i: usize) -> bool
 pub fn room_ok(rates: &[f64], marks: &[u8]) -> bool
     ensures { result ≡ room_ok rates.now marks.now }
 {
-    let n = slots(rates, marks);
-    let mut i: usize = 0;
-    loop {
-        if i >= n {
-            return true;
-        }
+    for i in 0..slots(rates, marks) {
         if !alone(rates, marks, i) {
             return false;
         }
-        i += 1;
     }
+    true
 }

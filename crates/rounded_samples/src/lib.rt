@@ -16,15 +16,10 @@ use woven::sample_at;
 pub fn first_misfit(kind: SampleKind, samples: &[f32]) -> usize
     ensures { result ≡ misfit_in kind samples.now }
 {
-    let mut i: usize = 0;
-    while i < samples.len() {
-        if fits(kind, samples[i]) {
-            i += 1;
-        } else {
-            return i;
-        }
-    }
-    i
+    samples
+        .iter()
+        .position(|x| !fits(kind, *x))
+        .unwrap_or(samples.len())
 }
 
 fn fits(kind: SampleKind, x: f32) -> bool
@@ -47,9 +42,7 @@ fn rounded(x: f32) -> i32
 pub fn round_off(samples: &[f32], out: &mut [i32])
     ensures { out.new ≡ list_of (rounded_at samples.now) (length out.old) }
 {
-    let mut k: usize = 0;
-    while k < out.len() {
-        out[k] = rounded(sample_at(samples, k));
-        k += 1;
+    for (k, x) in out.iter_mut().enumerate() {
+        *x = rounded(sample_at(samples, k));
     }
 }

@@ -33,22 +33,16 @@ pub fn frame_width(kind: SampleKind, channels: u8) -> usize
 pub fn code(kind: SampleKind) -> u8
     ensures { result ≡ code_of kind }
 {
-    match kind {
-        SampleKind::Pcm16 => 0,
-        SampleKind::Pcm24 => 1,
-        SampleKind::Float32 => 2,
-    }
+    kind as u8
 }
 
 // The kind with a code. A code above 2 is no kind's; whoever takes codes from outside tests that before.
 pub fn of_code(code: u8) -> SampleKind
     ensures { result ≡ kind_of code }
 {
-    if code == 0 {
-        return SampleKind::Pcm16;
+    match code {
+        0 => SampleKind::Pcm16,
+        1 => SampleKind::Pcm24,
+        _ => SampleKind::Float32,
     }
-    if code == 1 {
-        return SampleKind::Pcm24;
-    }
-    SampleKind::Float32
 }

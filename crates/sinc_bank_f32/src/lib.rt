@@ -108,13 +108,11 @@ fn write_sets(max_rate: f64, n: usize, width: usize, sets: &mut [f32], mode: Mod
         × (length sets.old ≡ n * width) }
     ensures { sets.new ≡ bank_in mode max_rate }
 {
-    let mut i: usize = 0;
-    while i < n {
+    for i in 0..n {
         let rate = bank_choice::set_rate(max_rate, i);
         let start = i * width;
         let end = start + width;
         write_set(rate, &mut sets[start..end], mode);
-        i += 1;
     }
 }
 

@@ -23,11 +23,9 @@ fn run<'a>(
     ensures { result ≡ fold (run_turn table.now row next blend source.now place) sum n }
 {
     let mut sum = sum;
-    let mut k: usize = 0;
-    while k < n {
+    for k in 0..n {
         let a = table[row + k];
         sum = sum + source[place + k] * (a + blend * (table[next + k] - a));
-        k += 1;
     }
     sum
 }
@@ -92,12 +90,10 @@ pub(crate) fn one_by_one<'a>(
     let row = phase * taps;
     let next = row + taps;
     let mut sum = 0.0;
-    let mut k: usize = 0;
-    while k < taps {
+    for k in 0..taps {
         let a = table[row + k];
         let x = tap_after(source, count, first, k);
         sum = sum + x * (a + blend * (table[next + k] - a));
-        k += 1;
     }
     sum
 }

@@ -36,12 +36,10 @@ fn one_by_one<'a>(
     let row = phase * taps;
     let next = row + taps;
     let mut held: f64 = 0.0;
-    let mut k: usize = 0;
-    while k < taps {
+    for k in 0..taps {
         let a = table[row + k];
         let x = tap_after(source, count, first, k);
         held = step(x, a + blend * (table[next + k] - a), held);
-        k += 1;
     }
     narrow(held)
 }
@@ -75,11 +73,9 @@ fn silent<'a>(table: &'a [f32], taps: usize, phase: usize, blend: f32, from: usi
     let row = phase * taps;
     let next = row + taps;
     let mut sum = sum;
-    let mut k: usize = from;
-    while k < taps {
+    for k in from..taps {
         let a = table[row + k];
         sum = 0.0 * (a + blend * (table[next + k] - a)) + sum;
-        k += 1;
     }
     sum
 }

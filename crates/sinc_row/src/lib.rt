@@ -34,8 +34,8 @@ fn sinc(x: f64) -> f64
     }
     let y = 3.141592653589793 * x;
     match elementary::sine(y) {
-        elementary::Answer::Value(v) => v / y,
-        elementary::Answer::Refused(_) => 0.0,
+        Ok(v) => v / y,
+        Err(_) => 0.0,
     }
 }
 
@@ -67,12 +67,10 @@ fn fill<'a>(row: &mut [f64], settings: Settings, window: &'a [f64], phase: usize
     let center = (settings.taps as f64) / 2.0 - 1.0;
     let frac = (phase as f64) / (settings.phases as f64);
     let mut gain = 0.0;
-    let mut k: usize = 0;
-    while k < row.len() {
+    for (k, at) in row.iter_mut().enumerate() {
         let c = coefficient(settings.cutoff, (k as f64) - center - frac, window[k]);
-        row[k] = c;
+        *at = c;
         gain = gain + c;
-        k += 1;
     }
     gain
 }
@@ -100,10 +98,8 @@ pub fn divide(row: &mut [f64], gain: f64)
     ensures { row.new ≡ map (λ (x : Float). div binary64 x gain) row.old }
 {
     let plain = plain(gain);
-    let mut k: usize = 0;
-    while k < row.len() {
-        row[k] = quotient(row[k], gain, plain);
-        k += 1;
+    for x in row.iter_mut() {
+        *x = quotient(*x, gain, plain);
     }
 }
 

@@ -24,10 +24,8 @@ fn fill_window(window: &mut [f64], settings: Settings, mode: Mode)
     ensures { window.new ≡ list_of (window_in mode settings) settings.taps }
 {
     let denom = bessel::sum(mode, settings.beta);
-    let mut k: usize = 0;
-    while k < window.len() {
-        window[k] = kaiser(settings, mode, denom, k);
-        k += 1;
+    for (k, at) in window.iter_mut().enumerate() {
+        *at = kaiser(settings, mode, denom, k);
     }
 }
 

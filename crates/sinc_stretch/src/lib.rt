@@ -43,49 +43,36 @@ pub fn process_stretch<'a>(
     );
     if no != 0 {
         return StretchAnswer {
-            state: state,
+            state,
             done: 0,
             refusal: no,
         };
     }
     let mut i = state.accepted;
-    let mut k: usize = 0;
-    while k < n {
-        let x = inputs[k];
+    for (k, &x) in inputs.iter().enumerate() {
         let y = delays[k];
-        if stretch_call::passes(i, x, y) {
-            let at = (i & (len as u64 - 1)) as usize;
-            ring[at] = x;
-            let sample = sinc_read::read(
-                table,
-                taps,
-                phases,
-                &ring[..],
-                i + 1,
-                (i as i64) as f64 - y,
-            );
-            out[k] = bit_patterns::one_nan(sample);
-            i += 1;
-            k += 1;
-        } else {
+        if !stretch_call::passes(i, x, y) {
             return StretchAnswer {
                 state: VariableDelay {
-                    maximum: state.maximum,
-                    margin: state.margin,
                     accepted: i,
+                    ..state
                 },
                 done: k,
                 refusal: stretch_call::due(i, x, y),
             };
         }
+        let at = (i & (len as u64 - 1)) as usize;
+        ring[at] = x;
+        let sample = sinc_read::read(table, taps, phases, &ring[..], i + 1, (i as i64) as f64 - y);
+        out[k] = bit_patterns::one_nan(sample);
+        i += 1;
     }
     StretchAnswer {
         state: VariableDelay {
-            maximum: state.maximum,
-            margin: state.margin,
             accepted: i,
+            ..state
         },
-        done: k,
+        done: n,
         refusal: 0,
     }
 }

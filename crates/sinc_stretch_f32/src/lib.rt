@@ -20,13 +20,9 @@ fn ended(state: VariableDelay, accepted: u64, done: usize, refusal: u8) -> Stret
     } }
 {
     StretchAnswer {
-        state: VariableDelay {
-            maximum: state.maximum,
-            margin: state.margin,
-            accepted: accepted,
-        },
-        done: done,
-        refusal: refusal,
+        state: VariableDelay { accepted, ..state },
+        done,
+        refusal,
     }
 }
 
@@ -61,6 +57,7 @@ pub fn process_stretch<'a>(
     }
     let mut i = state.accepted;
     let mut k: usize = 0;
+    // By hand: (2) a `for` over the pairs, with `k = 2 * pair`, was tried: three instructions more a pair (callgrind).
     while n - k >= 2 {
         let t = served_two(
             i,

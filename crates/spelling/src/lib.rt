@@ -4,20 +4,11 @@
 ghost use Rattle.std.specs.Prelude.{◌≡◌, ◌≤◌, length};
 ghost use Rattle.spelling.specs.Words.{same_bytes, split_in, in_name, all_in_name, is_named};
 
+#[tactic(auto, using(crate::proofs::Letters::as_compared))]
 pub fn same(a: &[u8], b: &[u8]) -> bool
     ensures { result ≡ same_bytes a.now b.now }
 {
-    if a.len() != b.len() {
-        return false;
-    }
-    let mut i: usize = 0;
-    while i < a.len() {
-        if a[i] != b[i] {
-            return false;
-        }
-        i += 1;
-    }
-    true
+    a == b
 }
 
 // The place of the first `=`, or the end if there is none.
@@ -46,15 +37,7 @@ pub fn is_named(text: &[u8]) -> bool
 fn all_in_name(text: &[u8]) -> bool
     ensures { result ≡ all_in_name text.now }
 {
-    let mut i: usize = 0;
-    while i < text.len() {
-        if in_name(text[i]) {
-            i += 1;
-        } else {
-            return false;
-        }
-    }
-    true
+    text.iter().all(|c| in_name(*c))
 }
 
 fn in_name(c: u8) -> bool

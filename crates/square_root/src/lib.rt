@@ -27,15 +27,13 @@ fn root_digits(z: u64) -> u64
     let mut s: u64 = 0;
     let mut r: u64 = 0;
     let mut y: u64 = z;
-    let mut i: u64 = 0;
-    while i < 55 {
+    for _ in 0..55u64 {
         let a: u64 = r * 4 + (y >> 62);
         let t: u64 = s * 4 + 1;
         let d: u64 = digit(a, t);
         s = s * 2 + d;
         r = a - d * t;
         y = y << 2;
-        i += 1;
     }
     float_digits::sticky(s, r)
 }

@@ -12,6 +12,7 @@ pub fn read_full(rt: &HostRuntime, buf: &mut [u8]) -> usize
     ensures { result ≤ length buf.new }
 {
     let mut done: usize = 0;
+    // By hand: how far a read comes only the read says, and one that gives nothing ends the loop; no count does.
     while done < buf.len() {
         let n = read_some(rt, &mut buf[done..]);
         if n == 0 {
@@ -57,7 +58,8 @@ pub fn print_decimal(rt: &HostRuntime, n: u64) -> bool {
 // The same in hexadecimal, in lower case, with zeros in front up to `width` digits. A width of 0 counts as 1, and one
 // above 16 as 16.
 pub fn print_hex(rt: &HostRuntime, n: u64, width: usize) -> bool {
-    let digits = in_lower_case(word_bytes::hex16(n));
+    let mut digits = word_bytes::hex16(n);
+    digits.make_ascii_lowercase();
     let from = first_digit(&digits, width);
     if from < 16 {
         return write_all(rt, &digits[from..]);
@@ -65,26 +67,11 @@ pub fn print_hex(rt: &HostRuntime, n: u64, width: usize) -> bool {
     write_all(rt, b"0")
 }
 
-// The letters A to F become a to f, whose bytes have one bit more; the digits have it already.
-fn in_lower_case(digits: [u8; 16]) -> [u8; 16] {
-    let mut lower = digits;
-    let mut i: usize = 0;
-    while i < 16 {
-        lower[i] = lower[i] | 0x20;
-        i += 1;
-    }
-    lower
-}
-
 // The place of the first digit that is not 0, or of the one from which on there are `width`.
 fn first_digit(digits: &[u8; 16], width: usize) -> usize {
     let most = sizes::less(16, sizes::fewer(width, 16));
-    let mut i: usize = 0;
-    while i < most {
-        if digits[i] != b'0' {
-            return i;
-        }
-        i += 1;
-    }
-    i
+    digits[..most]
+        .iter()
+        .position(|d| *d != b'0')
+        .unwrap_or(most)
 }

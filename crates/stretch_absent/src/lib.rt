@@ -2,7 +2,7 @@
 // stretch, from its delays, so that a call that does not need them pays nothing.
 #![tactic(auto)]
 
-ghost use Rattle.std.specs.Prelude.{◌≡◌, min, length};
+ghost use Rattle.std.specs.Prelude.{◌≡◌};
 ghost use Rattle.stretch_absent.specs.Sums.{sums_of};
 
 use absent_taps::Absent;
@@ -16,7 +16,7 @@ const MOST: u64 = 128;
 pub fn absent_in(len: usize, before: u64, delays: &[f64], done: usize, taps: u64) -> Absent
     ensures { result ≡ sums_of len before delays.now done taps }
 {
-    let n = fewer(done, delays.len());
+    let n = done.min(delays.len());
     if taps > MOST {
         return absent_taps::nothing();
     }
@@ -29,24 +29,16 @@ pub fn absent_in(len: usize, before: u64, delays: &[f64], done: usize, taps: u64
     let mut unwritten: u64 = 0;
     let mut ahead: u64 = 0;
     let mut overwritten: u64 = 0;
-    let mut k: usize = 0;
-    while k < n {
+    for k in 0..n {
         let i = before + k as u64;
         let a = told_call::of_call(len, i, i + 1, delays[k], taps);
         unwritten += a.unwritten;
         ahead += a.ahead;
         overwritten += a.overwritten;
-        k += 1;
     }
     Absent {
-        unwritten: unwritten,
-        ahead: ahead,
-        overwritten: overwritten,
+        unwritten,
+        ahead,
+        overwritten,
     }
-}
-
-fn fewer(a: usize, b: usize) -> usize
-    ensures { result ≡ min a b }
-{
-    if a < b { a } else { b }
 }

@@ -12,17 +12,9 @@ pub fn put(out: &mut [u8], at: usize, text: &[u8]) -> usize
     if out.len() <= at {
         return out.len();
     }
-    let mut to = at;
-    let mut k: usize = 0;
-    while k < text.len() {
-        if out.len() <= to {
-            return to;
-        }
-        out[to] = text[k];
-        to += 1;
-        k += 1;
-    }
-    to
+    let n = text.len().min(out.len() - at);
+    out[at..at + n].copy_from_slice(&text[..n]);
+    at + n
 }
 
 pub fn put_decimal(out: &mut [u8], at: usize, n: u64) -> usize
@@ -32,6 +24,7 @@ pub fn put_decimal(out: &mut [u8], at: usize, n: u64) -> usize
     let mut digits = [0u8; 20];
     let mut v = n;
     let mut k: usize = 19;
+    // By hand: the number's last digit ends the loop, and which of the 20 that is only the quotients tell.
     while v > 9 {
         digits[k] = digit(v % 10);
         v /= 10;

@@ -9,62 +9,45 @@ use variable_delay::{Opened, VariableDelay};
 // 1024 samples, so that only the last block has a trailing part.
 const BLOCK: usize = 8192;
 
-#[derive(Drop)]
-struct Turn {
+// What failed has been reported on standard error.
+#[derive(Clone, Copy)]
+struct Failed;
+
+// Reads one block, writes its lines, and gives the state after it, or none after the last block. With 50 bytes for each
+// sample no line is cut off (trace_lines, proofs/NothingCutOff.antt).
+fn block(
+    rt: &HostRuntime,
     state: VariableDelay,
-    more: bool,
-    well: bool,
-}
-
-// Whether a block of n bytes was written and, if it is the last, whether all of standard input was read. What failed is
-// reported on standard error.
-fn went_well(rt: &HostRuntime, n: usize, written: bool, spare: &mut [u8]) -> bool {
-    if !written {
-        write_error(rt, b"trace: standard output takes no more\n");
-        return false;
-    }
-    if n < BLOCK {
-        if !can_be_read(rt, spare) {
-            write_error(rt, b"trace: standard input cannot be read\n");
-            return false;
-        }
-    }
-    true
-}
-
-// Reads one block and writes its lines. With 50 bytes for each sample no line is cut off (trace_lines,
-// proofs/NothingCutOff.antt).
-fn block(rt: &HostRuntime, state: VariableDelay, ring: &mut [f64]) -> Turn {
+    ring: &mut [f64],
+) -> Result<Option<VariableDelay>, Failed> {
     let mut samples = [0u8; BLOCK];
     let mut lines = [0u8; 51200];
     let n = read_full(rt, &mut samples);
     let t = trace_lines::put_lines(state, ring, &samples[..n], &mut lines);
-    let m = t.length;
-    let written = write_all(rt, &lines[..m]);
-    let well = went_well(rt, n, written, &mut samples);
-    let after = t.state;
-    Turn {
-        state: after,
-        more: well && n == BLOCK,
-        well: well,
+    if !write_all(rt, &lines[..t.length]) {
+        write_error(rt, b"trace: standard output takes no more\n");
+        return Err(Failed);
     }
+    if n == BLOCK {
+        return Ok(Some(t.state));
+    }
+    if !can_be_read(rt, &mut samples) {
+        write_error(rt, b"trace: standard input cannot be read\n");
+        return Err(Failed);
+    }
+    Ok(None)
 }
 
-// Goes block after block, and tells whether all went well. The loop counts down from the largest u64, because the
-// language demands that it ends; no input is that long.
-fn run(rt: &HostRuntime, start: VariableDelay, ring: &mut [f64]) -> bool {
+// Goes block after block. The bound is there because the language demands that a loop ends; no input is that long.
+fn run(rt: &HostRuntime, start: VariableDelay, ring: &mut [f64]) -> Result<(), Failed> {
     let mut state = start;
-    let mut more = true;
-    let mut well = true;
-    let mut turns = u64::MAX;
-    while turns > 0 && more {
-        let t = block(rt, state, ring);
-        state = t.state;
-        more = t.more;
-        well = t.well;
-        turns -= 1;
+    for _ in 0..u64::MAX {
+        let Some(after) = block(rt, state, ring)? else {
+            break;
+        };
+        state = after;
     }
-    well
+    Ok(())
 }
 
 // Ends with the status 0 where all went well, and else with 1.
@@ -73,8 +56,8 @@ fn main(rt: HostRuntime) -> ExitCode {
     let Opened::Reader(start) = variable_delay::open(0, 0, &mut ring) else {
         return ExitCode::FAILURE;
     };
-    if run(&rt, start, &mut ring) {
-        return ExitCode::SUCCESS;
+    match run(&rt, start, &mut ring) {
+        Ok(()) => ExitCode::SUCCESS,
+        Err(Failed) => ExitCode::FAILURE,
     }
-    ExitCode::FAILURE
 }

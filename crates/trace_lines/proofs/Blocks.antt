@@ -1,12 +1,13 @@
 -- A block of bytes, sample by sample: what a turn of the loop does, and that samples handed over in two blocks give the
 -- same lines as in one. Assumes nothing.
-use mathlib.Core.Path.{◌≡◌, refl, sym, ◌∙◌, ap}
+use mathlib.Core.Path.{◌≡◌, refl, sym, ◌∙◌, ap, subst}
 use mathlib.Core.List.{List, [], ◌∷◌, ◌++◌, append_assoc}
-use Prim.Native.Nat.{ℕ, suc, ◌+◌, ◌-◌, ◌/◌, ◌<◌, ◌≤◌}
+use Prim.Native.Nat.{ℕ, suc, ◌+◌, ◌/◌, ◌<◌, ◌≤◌}
 use native.Mathlib.Nat.{add-zero, min-eq_right}
 use native.Mathlib.Omega.{arith}
-use lib.ListN.{length, take, drop, length-drop}
-use lib.Seq.{drop-drop}
+use lib.ListN.{length, take, drop, length-append}
+use Rattle.std.proofs.Math.Seq.{drop-append_seam}
+use Rattle.std.proofs.lemmas.List.{take-append-le}
 use lib.Ieee.{Float, binary64, of_bits}
 use Rattle.word_bytes.specs.Bytes.{bytes_value}
 use Rattle.text.specs.Text.{put_at, place_after}
@@ -18,19 +19,23 @@ use Rattle.runs.specs.Calls.{run_of}
 use Rattle.runs.specs.Runs.{Reader, due, after}
 use Rattle.trace_lines.specs.Lines.{line_of, call, answer_to, lines_of, reader_after, samples_of, samples_in}
 
-pub no_more : (bytes : List ℕ) (at : ℕ) → length bytes - at < 8 → samples_in (drop at bytes) ≡ []
+-- Fewer than eight bytes hold no sample.
+pub no_more : (bytes : List ℕ) → length bytes < 8 → samples_in bytes ≡ []
 unfolding samples_of
-no_more bytes at h =
-    let e : length (drop at bytes) / 8 ≡ 0 = simp length-drop (omega arith) in
+no_more bytes h =
+    let e : length bytes / 8 ≡ 0 = omega arith in
     rw e
 
-pub next-sample : (bytes : List ℕ) (at : ℕ) {x : Float} → x ≡ of_bits binary64 (bytes_value (take 8 (drop at bytes)))
-    → 8 ≤ length bytes - at
-    → samples_in (drop at bytes) ≡ x ∷ samples_in (drop (at + 8) bytes)
+-- The sample that eight bytes hold comes before those of the bytes behind them.
+pub next-sample : (eight rest : List ℕ) {bytes : List ℕ} {x : Float} → bytes ≡ eight ++ rest → length eight ≡ 8
+    → x ≡ of_bits binary64 (bytes_value (take 8 eight)) → samples_in bytes ≡ x ∷ samples_in rest
 unfolding samples_of
-next-sample bytes at e h =
-    let n : length (drop at bytes) / 8 ≡ suc (length (drop (at + 8) bytes) / 8) = simp length-drop (omega arith) in
-    rw (n, drop-drop 8 at bytes, e)
+next-sample eight rest {bytes} b h e =
+    let n : length (eight ++ rest) / 8 ≡ suc (length rest / 8) = omega (arith, length-append {A = ℕ}) in
+    let t : take 8 (eight ++ rest) ≡ take 8 eight = take-append-le 8 eight rest (omega arith) in
+    let d : drop 8 (eight ++ rest) ≡ rest =
+    subst (λ (k : ℕ). drop k (eight ++ rest) ≡ rest) h (drop-append_seam eight rest) in
+    rw (b, n, t, d, e)
 
 -- What the samples that are still to come lead to, from a reader and a place of the bytes `out` on.
 pub record Come : Type 0 where

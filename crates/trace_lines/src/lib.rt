@@ -10,7 +10,7 @@ use bit_patterns::{bits_of, float_of};
 use variable_delay::VariableDelay;
 
 // The state of the reader after the samples, and the place where their lines end.
-#[derive(Drop)]
+#[derive(Clone, Copy)]
 pub struct Traced {
     pub state: VariableDelay,
     pub length: usize,
@@ -53,15 +53,13 @@ pub fn put_lines(state: VariableDelay, ring: &mut [f64], block: &[u8], out: &mut
 {
     let mut s = state;
     let mut to: usize = 0;
-    let mut at: usize = 0;
-    while 8 <= block.len() - at {
-        let x = float_of(word_bytes::low_first(block, at));
+    for sample in block.chunks_exact(8) {
+        let x = float_of(word_bytes::low_first(sample, 0));
         let count = s.accepted;
         let r = cubic_delay::process_sample(s, ring, x, 1.5);
         let a = r.answer;
         s = r.state;
         to = put_line(out, to, count, a);
-        at += 8;
     }
     Traced {
         state: s,

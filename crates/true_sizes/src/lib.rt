@@ -2,7 +2,7 @@
 // starts at place 20. Bytes that are missing count as 0, so that every slice is accepted.
 #![tactic(auto)]
 
-ghost use Rattle.std.specs.Prelude.{◌≡◌, ◌||◌, ◌+◌, ◌-◌, ◌/◌, ◌≤◌, min, length};
+ghost use Rattle.std.specs.Prelude.{◌≡◌, ◌+◌, ◌-◌, ◌/◌, ◌≤◌, min, length};
 ghost use Rattle.true_sizes.specs.Sizes.{is_long, small_sizes, size64, true_size, entry_count, entry_at, entries_from};
 ghost use Rattle.true_sizes.specs.Sizes.{size_in, all_small};
 
@@ -21,13 +21,7 @@ pub fn is_long(opening: &[u8]) -> bool
     ensures { result ≡ is_long opening.now }
 {
     let id = low_first_u32(opening, 0);
-    either(id == 0x3436_4652, id == 0x3436_5742)
-}
-
-fn either(a: bool, b: bool) -> bool
-    ensures { result ≡ a || b }
-{
-    if a { true } else { b }
+    id == 0x3436_4652 || id == 0x3436_5742
 }
 
 // The true size of a chunk, from its identifier and its 32-bit size.
@@ -69,8 +63,8 @@ pub fn entry_count(opening: &[u8]) -> usize
     ensures upper_bound { result ≤ 0xffff_ffff }
 {
     let told = low_first_u32(opening, 44) as usize;
-    let held = less(low_first_u32(opening, 16) as usize, 28) / 12;
-    if told < held { told } else { held }
+    let held = (low_first_u32(opening, 16) as usize).saturating_sub(28) / 12;
+    told.min(held)
 }
 
 // The number of entries that a loop needs to read. Entries behind the lent bytes are all zeros, and the first of them
@@ -80,14 +74,8 @@ fn looked_at(opening: &[u8]) -> usize
     ensures upper_bound { result ≤ 0xffff_ffff }
 {
     let count = entry_count(opening);
-    let lent = less(opening.len(), 48) / 12 + 2;
-    if lent < count { lent } else { count }
-}
-
-fn less(n: usize, by: usize) -> usize
-    ensures { result ≡ n - by }
-{
-    if n < by { 0 } else { n - by }
+    let lent = opening.len().saturating_sub(48) / 12 + 2;
+    count.min(lent)
 }
 
 fn entry_at(opening: &[u8], at: usize) -> Entry
@@ -96,22 +84,18 @@ fn entry_at(opening: &[u8], at: usize) -> Entry
 {
     let id = low_first_u32(opening, at);
     let size = low_first(opening, at + 4);
-    Entry { id: id, size: size }
+    Entry { id, size }
 }
 
 fn size_in(opening: &[u8], count: usize, id: u32) -> usize
     requires { count ≤ 0xffff_ffff }
     ensures { result ≡ size_in id (entries_from opening.now count 48) }
 {
-    let mut k: usize = 0;
-    let mut at: usize = 48;
-    while k < count {
-        let e = entry_at(opening, at);
+    for k in 0..count {
+        let e = entry_at(opening, 48 + 12 * k);
         if e.id == id {
             return e.size as usize;
         }
-        k += 1;
-        at += 12;
     }
     0xffff_ffff
 }
@@ -120,15 +104,5 @@ fn all_small(opening: &[u8], count: usize) -> bool
     requires { count ≤ 0xffff_ffff }
     ensures { result ≡ all_small (entries_from opening.now count 48) }
 {
-    let mut k: usize = 0;
-    let mut at: usize = 48;
-    while k < count {
-        let e = entry_at(opening, at);
-        if e.size > 0x100_0000_0000 {
-            return false;
-        }
-        k += 1;
-        at += 12;
-    }
-    true
+    (0..count).all(|k| entry_at(opening, 48 + 12 * k).size <= 0x100_0000_0000)
 }

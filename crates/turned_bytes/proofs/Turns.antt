@@ -2,9 +2,10 @@
 -- nothing.
 use mathlib.Core.Path.{◌≡◌, refl, ap, ◌∙◌}
 use mathlib.Core.List.{List, [], ◌∷◌, ◌++◌, reverse, append_assoc}
-use Prim.Native.Nat.{ℕ, zero, suc, ◌+◌, ◌*◌, ◌≤◌, ◌<◌}
+use mathlib.Core.Logic.{⊎_elim}
+use Prim.Native.Nat.{ℕ, zero, suc, ◌+◌, ◌*◌, ◌/◌, ◌≤◌, ◌<◌}
 use native.Mathlib.Numerals.{add-one}
-use native.Mathlib.Nat.{suc-mul, zero-mul, zero-add, suc-add}
+use native.Mathlib.Nat.{suc-mul, zero-mul, zero-add, suc-add, mul-le-mul_right, eq-or-lt_of_le, div-add-mod'}
 use native.Mathlib.Omega.{arith}
 use lib.ListN.{length, take, drop, set, get_or}
 use lib.ListN.{length-append, length-take, length-drop, length-reverse, take-append-drop}
@@ -41,19 +42,36 @@ three-behind p (a ∷ b ∷ c ∷ r) h =
     (set-behind p (c ∷ b ∷ c ∷ r) 2 a)
 
 module _ (b : List ℕ) (at : ℕ) where
-  pub two-turned : at + 2 ≤ length b
+  two-turned : at + 2 ≤ length b
       → set (set b at (get_or b (at + 1) 0)) (at + 1) (get_or b at 0) ≡ turned_at 2 at b
   two-turned h =
       rw (take-append-drop at b, length-take-le at b (omega arith)) at
       (two-behind (take at b) (drop at b) (simp length-drop (omega arith)))
 
-  pub three-turned : at + 3 ≤ length b
+  three-turned : at + 3 ≤ length b
       → set (set b at (get_or b (at + 2) 0)) (at + 2) (get_or b at 0) ≡ turned_at 3 at b
   three-turned h =
       rw (take-append-drop at b, length-take-le at b (omega arith)) at
       (three-behind (take at b) (drop at b) (simp length-drop (omega arith)))
 
+  -- The last byte stands at i.
+  pub turned : (w i : ℕ) → 2 ≤ w → w ≤ 3 → i + 1 ≡ at + w → at + w ≤ length b
+      → set (set b at (get_or b i 0)) i (get_or b at 0) ≡ turned_at w at b
+  turned w i p q e h =
+      ⊎_elim
+      (λ (t : 2 ≡ w). let j : i ≡ at + 1 = omega arith in rw (j, ← t) (two-turned (omega arith)))
+      (λ (t : 2 < w).
+      let j : i ≡ at + 2 = omega arith in
+      let u : w ≡ 3 = omega arith in
+      rw (j, u) (three-turned (omega arith)))
+      (eq-or-lt_of_le p)
+
 -- ---- one sample more
+pub one-within : (w k len : ℕ) → k < len / w → k * w + w ≤ len
+one-within w k len h =
+    let l : suc k ≤ len / w = omega arith in
+    omega (arith, mul-le-mul_right w l, suc-mul k w, div-add-mod' len w)
+
 same-length-at : (w at : ℕ) (b : List ℕ) → at + w ≤ length b → length (turned_at w at b) ≡ length b
 same-length-at w at b h =
     simp (length-append, length-reverse, length-take, length-drop) (omega arith)
@@ -74,24 +92,22 @@ one_more w (suc k) b h =
     (behind w (k * w) r (turned_first w k (drop w b))
     ∙ ap (λ (l : List ℕ). r ++ l) (one_more w k (drop w b) (simp length-drop (omega arith))))
 
--- ---- a loop over n samples of w bytes that has reversed the first k of them
-pub record Turning (w n : ℕ) (old now : List ℕ) (k : ℕ) : Type 0 where
-  pub few : k ≤ n
+-- ---- a loop over samples of w bytes that has reversed the first k of them
+pub record Turning (w : ℕ) (old now : List ℕ) (k : ℕ) : Type 0 where
   pub long : length now ≡ length old
   pub turned : now ≡ turned_first w k old
 
-pub none-turned : {w n : ℕ} {old : List ℕ} → Turning w n old old 0
+pub none-turned : {w : ℕ} {old : List ℕ} → Turning w old old 0
 unfolding turned_first
-none-turned = record { few = omega arith; long = refl; turned = refl }
+none-turned = record { long = refl; turned = refl }
 
-pub more-turned : {w n k : ℕ} {old now next : List ℕ} → Turning w n old now k → k < n → k * w + w ≤ length old
-    → next ≡ turned_at w (k * w) now → Turning w n old next (k + 1)
-more-turned {w} {n} {k} {old} {now} {next} t l h e =
+pub more-turned : {w k : ℕ} {old now next : List ℕ} → Turning w old now k → k * w + w ≤ length old
+    → next ≡ turned_at w (k * w) now → Turning w old next (k + 1)
+more-turned {w} {k} {old} {now} {next} t h e =
     record {
-      few = omega arith;
       long = ap length e ∙ same-length-at w (k * w) now (omega (arith, t.long)) ∙ t.long;
       turned = rw add-one (e ∙ ap (turned_at w (k * w)) t.turned ∙ one_more w k old h);
     }
 
-pub all-turned : {w n k : ℕ} {old now : List ℕ} → Turning w n old now k → n ≤ k → now ≡ turned_first w n old
-all-turned {w} {n} {k} {old} t h = t.turned ∙ ap (λ (m : ℕ). turned_first w m old) (omega (arith, t.few))
+pub all-turned : {w k : ℕ} {old now : List ℕ} (n : ℕ) → Turning w old now k → k ≡ n → now ≡ turned_first w n old
+all-turned {w} {k} {old} n t e = t.turned ∙ ap (λ (m : ℕ). turned_first w m old) e

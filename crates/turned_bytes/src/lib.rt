@@ -12,50 +12,29 @@ pub fn turn_round(kind: SampleKind, bytes: &mut [u8])
     ensures { bytes.new ≡ turned_round kind bytes.old }
 {
     match kind {
-        SampleKind::Pcm16 => turn_twos(bytes),
-        SampleKind::Pcm24 => turn_threes(bytes),
+        SampleKind::Pcm16 => turn_each::<2>(bytes),
+        SampleKind::Pcm24 => turn_each::<3>(bytes),
         SampleKind::Float32 => {}
     }
 }
 
-fn turn_twos(bytes: &mut [u8])
-    ensures { bytes.new
-        ≡ turned_first 2 (length bytes.old / 2) bytes.old }
+fn turn_each<const WIDTH: usize>(bytes: &mut [u8])
+    requires { (2 ≤ WIDTH) × (WIDTH ≤ 3) }
+    ensures { bytes.new ≡ turned_first WIDTH (length bytes.old / WIDTH) bytes.old }
 {
-    let n = bytes.len() / 2;
-    let mut k: usize = 0;
-    while k < n {
-        turn_two(&mut bytes[..], k * 2);
-        k += 1;
+    let n = bytes.len() / WIDTH;
+    for k in 0..n {
+        turn_one::<WIDTH>(bytes, k * WIDTH);
     }
 }
 
-fn turn_threes(bytes: &mut [u8])
-    ensures { bytes.new
-        ≡ turned_first 3 (length bytes.old / 3) bytes.old }
-{
-    let n = bytes.len() / 3;
-    let mut k: usize = 0;
-    while k < n {
-        turn_three(&mut bytes[..], k * 3);
-        k += 1;
-    }
-}
-
-fn turn_two(bytes: &mut [u8], at: usize)
-    requires { at + 2 ≤ length bytes.old }
-    ensures { bytes.new ≡ turned_at 2 at bytes.old }
+// Of two or three bytes the first and the last change places.
+fn turn_one<const WIDTH: usize>(bytes: &mut [u8], at: usize)
+    requires width { (2 ≤ WIDTH) × (WIDTH ≤ 3) }
+    requires within { at + WIDTH ≤ length bytes.old }
+    ensures { bytes.new ≡ turned_at WIDTH at bytes.old }
 {
     let first = bytes[at];
-    bytes[at] = bytes[at + 1];
-    bytes[at + 1] = first;
-}
-
-fn turn_three(bytes: &mut [u8], at: usize)
-    requires { at + 3 ≤ length bytes.old }
-    ensures { bytes.new ≡ turned_at 3 at bytes.old }
-{
-    let first = bytes[at];
-    bytes[at] = bytes[at + 2];
-    bytes[at + 2] = first;
+    bytes[at] = bytes[at + WIDTH - 1];
+    bytes[at + WIDTH - 1] = first;
 }

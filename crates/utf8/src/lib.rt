@@ -82,10 +82,8 @@ pub fn is_utf8(text: &[u8]) -> bool
     ensures { result ≡ is_utf8 text.now }
 {
     let mut place: u8 = 0;
-    let mut k: usize = 0;
-    while k < text.len() {
-        place = next(place, text[k]);
-        k += 1;
+    for b in text {
+        place = next(place, *b);
     }
     place == 0
 }

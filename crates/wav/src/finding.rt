@@ -30,9 +30,9 @@ pub fn finish(wave: bool, inside: bool, tag: u32, f: &[u8], walked: Walked) -> F
     let channels = two(f, 2);
     let rate = low_first_u32(f, 4);
     Found::Wave(Wave {
-        kind: kind,
+        kind,
         channels: channels as u8,
-        rate: rate,
+        rate,
         start: samples.body,
         length: samples.size,
     })

@@ -2,7 +2,7 @@
 // are. Bytes that are missing count as 0, so that every slice is accepted.
 #![tactic(auto)]
 
-ghost use Rattle.std.specs.Prelude.{◌≡◌, ◌||◌, [], ◌∷◌};
+ghost use Rattle.std.specs.Prelude.{◌≡◌, [], ◌∷◌};
 ghost use Rattle.refusal_order.specs.Order.{◌unless◌, first_of};
 ghost use Rattle.wav_opening.specs.Opening.{
   has_letters,
@@ -133,15 +133,9 @@ fn has_letters(opening: &[u8]) -> bool
     ensures { result ≡ has_letters opening.now }
 {
     both(
-        either(low_first_u32(opening, 0) == 0x4646_4952, is_long(opening)),
+        low_first_u32(opening, 0) == 0x4646_4952 || is_long(opening),
         low_first_u32(opening, 8) == 0x4556_4157,
     )
-}
-
-fn either(a: bool, b: bool) -> bool
-    ensures { result ≡ a || b }
-{
-    if a { true } else { b }
 }
 
 // `ds64` is the first chunk, has 28 bytes or more, and lies in the file.
@@ -174,7 +168,7 @@ fn true_riff(opening: &[u8], length: usize) -> usize
 fn sizes_there(opening: &[u8], length: usize) -> bool
     ensures { result ≡ sizes_there opening.now length }
 {
-    either(!is_long(opening), has_ds64(opening, length))
+    !is_long(opening) || has_ds64(opening, length)
 }
 
 // The table is read only if there is a `ds64`, because in other files these bytes mean something else.

@@ -18,11 +18,6 @@ pub place : {size n frame first width : ℕ} (k : ℕ) → Whole size n frame fi
     → k * frame + first + width ≤ size
 place {frame = frame} k w h = omega (arith, w.all, w.inside, mul-le-mul_right frame h, suc-mul k frame)
 
-pub whole_of : {kind k : SampleKind} {channels first size n : ℕ} (c : ℕ) → Framed kind channels first size n → kind ≡ k
-    → channels ≡ c
-    → Whole size n (frame_of k c) first (width_of k)
-whole_of c f p q = rw (p, q) at f.whole
-
 pub two-channels : {kind : SampleKind} {channels first size n : ℕ} → Framed kind channels first size n
     → (channels ≡ 1 → ⊥) → channels ≡ 2
 two-channels f h = omega (arith, f.some, f.few)

@@ -4,8 +4,9 @@ ghost use Rattle.std.specs.Float.{binary32, binary64};
 ghost use Rattle.wav_samples.specs.Filling.{refused_by, verdict, whole_verdict, filled, filled_whole};
 ghost use Rattle.wav_samples.specs.Samples.{is_pcm};
 
-use crate::{frames, frames_f32, frames_whole};
+use crate::{by_frame, frames, frames_f32};
 use sample_kind::{SampleKind, frame_width};
+use whole_samples::{whole16, whole24};
 
 pub fn fill(kind: SampleKind, channels: u8, channel: u8, part: &[u8], out: &mut [f64]) -> u8
     ensures value { result ≡ verdict kind channels channel (length part.now) (length out.old) }
@@ -16,13 +17,7 @@ pub fn fill(kind: SampleKind, channels: u8, channel: u8, part: &[u8], out: &mut 
     if refused != 0 {
         return refused;
     }
-    frames::frames(
-        kind,
-        channels,
-        frame_width(kind, channel),
-        part,
-        &mut out[..],
-    );
+    frames::frames(kind, channels, frame_width(kind, channel), part, out);
     0
 }
 
@@ -35,13 +30,7 @@ pub fn fill_f32(kind: SampleKind, channels: u8, channel: u8, part: &[u8], out: &
     if refused != 0 {
         return refused;
     }
-    frames_f32::frames(
-        kind,
-        channels,
-        frame_width(kind, channel),
-        part,
-        &mut out[..],
-    );
+    frames_f32::frames(kind, channels, frame_width(kind, channel), part, out);
     0
 }
 
@@ -56,12 +45,14 @@ pub fn fill_whole(kind: SampleKind, channels: u8, channel: u8, part: &[u8], out:
     if refused != 0 {
         return refused;
     }
-    frames_whole::frames(
+    by_frame::pcm(
         kind,
         channels,
         frame_width(kind, channel),
         part,
-        &mut out[..],
+        out,
+        whole16,
+        whole24,
     );
     0
 }

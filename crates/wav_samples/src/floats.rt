@@ -10,8 +10,8 @@ ghost use Rattle.wav_samples.specs.Samples.{sample_of};
 ghost use Rattle.wav_samples.specs.Filling.{frames_of};
 ghost use Rattle.wav_samples.specs.Frames.{Whole, Inside, patterns, NoneAbove};
 
+use crate::by_frame::fill_by;
 use crate::no_nan::{gathered, numbers, together};
-use crate::places::four_at;
 use crate::widened;
 
 // A file of one channel. A block is short enough for a compiler to unroll it into vector instructions without a loop.
@@ -19,12 +19,13 @@ pub(crate) fn of_one(first: usize, part: &[u8], out: &mut [f64])
     requires { Whole (length part.now) (length out.old) 4 first 4 }
     ensures { out.new ≡ frames_of (sample_of binary64 Float32 part.now) 4 first (length out.old) }
 {
-    let mut k: usize = 0;
-    while out.len() - k >= 96 {
+    let blocks = out.len() / 96;
+    for b in 0..blocks {
+        let k = b * 96;
         block_of_one(k * 4 + first, part, &mut out[k..k + 96]);
-        k += 96;
     }
-    tested(4, k * 4 + first, part, &mut out[k..]);
+    let end = blocks * 96;
+    tested(4, end * 4 + first, part, &mut out[end..]);
 }
 
 // One channel of a file of two. 48 patterns fill twelve vector registers of plain x86-64. A block has one more, because
@@ -33,12 +34,13 @@ pub(crate) fn of_two(first: usize, part: &[u8], out: &mut [f64])
     requires { Whole (length part.now) (length out.old) 8 first 4 }
     ensures { out.new ≡ frames_of (sample_of binary64 Float32 part.now) 8 first (length out.old) }
 {
-    let mut k: usize = 0;
-    while out.len() - k >= 49 {
+    let blocks = out.len() / 49;
+    for b in 0..blocks {
+        let k = b * 49;
         block_of_two(k * 8 + first, part, &mut out[k..k + 49]);
-        k += 49;
     }
-    tested(8, k * 8 + first, part, &mut out[k..]);
+    let end = blocks * 49;
+    tested(8, end * 8 + first, part, &mut out[end..]);
 }
 
 fn block_of_one(first: usize, part: &[u8], out: &mut [f64])
@@ -72,11 +74,7 @@ fn untested(frame: usize, first: usize, part: &[u8], out: &mut [f64])
     ensures { out.new ≡ frames_of (sample_of binary64 Float32 part.now) frame first
         (length out.old) }
 {
-    let mut k: usize = 0;
-    while k < out.len() {
-        out[k] = of_number(four_at(part, k * frame + first));
-        k += 1;
-    }
+    fill_by::<_, _, 4>(frame, first, part, out, of_number);
 }
 
 fn tested(frame: usize, first: usize, part: &[u8], out: &mut [f64])
@@ -84,11 +82,7 @@ fn tested(frame: usize, first: usize, part: &[u8], out: &mut [f64])
     ensures { out.new ≡ frames_of (sample_of binary64 Float32 part.now) frame first
         (length out.old) }
 {
-    let mut k: usize = 0;
-    while k < out.len() {
-        out[k] = widened(four_at(part, k * frame + first));
-        k += 1;
-    }
+    fill_by::<_, _, 4>(frame, first, part, out, widened);
 }
 
 fn handed(kept: &[u32], out: &mut [f64])
@@ -96,10 +90,8 @@ fn handed(kept: &[u32], out: &mut [f64])
         × NoneAbove (λ (k : ℕ). get_or kept.now k 0) (length out.old) 0x7f80_0000 }
     ensures { out.new ≡ list_of (λ (k : ℕ). of_bits binary32 (get_or kept.now k 0)) (length out.old) }
 {
-    let mut k: usize = 0;
-    while k < out.len() {
-        out[k] = of_number(kept[k]);
-        k += 1;
+    for (k, sample) in out.iter_mut().enumerate() {
+        *sample = of_number(kept[k]);
     }
 }
 

@@ -1,16 +1,15 @@
-// W1. One channel's samples into f64. There is a loop for each kind, and each call passes the bytes of a frame as a
-// constant, so that a compiler can convert several samples at a time.
+// W1. One channel's samples into f64.
 ghost use Rattle.std.specs.Prelude.{◌≡◌, length};
 ghost use Rattle.std.specs.Float.{binary64};
-ghost use Rattle.sample_kind.specs.declared.SampleKind.TheVariants.{Pcm16, Pcm24};
 ghost use Rattle.sample_kind.specs.Kinds.{frame_of};
 ghost use Rattle.wav_samples.specs.Samples.{sample_of};
 ghost use Rattle.wav_samples.specs.Filling.{frames_of};
-ghost use Rattle.wav_samples.specs.Frames.{Whole, Framed};
+ghost use Rattle.wav_samples.specs.Frames.{Framed};
 
+use crate::by_frame::pcm;
 use crate::floats::{of_one, of_two};
-use crate::places::{three_at, two_at};
 use sample_kind::SampleKind;
+use whole_samples::{pcm16, pcm24};
 
 pub(crate) fn frames(kind: SampleKind, channels: u8, first: usize, part: &[u8], out: &mut [f64])
     requires { Framed kind channels first (length part.now) (length out.old) }
@@ -19,48 +18,15 @@ pub(crate) fn frames(kind: SampleKind, channels: u8, first: usize, part: &[u8], 
         (length out.old) }
 {
     match kind {
-        SampleKind::Pcm16 => {
-            if channels == 1 {
-                pcm16(2, first, part, &mut out[..]);
-            } else {
-                pcm16(4, first, part, &mut out[..]);
-            }
-        }
-        SampleKind::Pcm24 => {
-            if channels == 1 {
-                pcm24(3, first, part, &mut out[..]);
-            } else {
-                pcm24(6, first, part, &mut out[..]);
-            }
-        }
         SampleKind::Float32 => {
             if channels == 1 {
-                of_one(first, part, &mut out[..]);
+                of_one(first, part, out);
             } else {
-                of_two(first, part, &mut out[..]);
+                of_two(first, part, out);
             }
         }
-    }
-}
-
-fn pcm16(frame: usize, first: usize, part: &[u8], out: &mut [f64])
-    requires { Whole (length part.now) (length out.old) frame first 2 }
-    ensures { out.new ≡ frames_of (sample_of binary64 Pcm16 part.now) frame first (length out.old) }
-{
-    let mut k: usize = 0;
-    while k < out.len() {
-        out[k] = whole_samples::pcm16(two_at(part, k * frame + first));
-        k += 1;
-    }
-}
-
-fn pcm24(frame: usize, first: usize, part: &[u8], out: &mut [f64])
-    requires { Whole (length part.now) (length out.old) frame first 3 }
-    ensures { out.new ≡ frames_of (sample_of binary64 Pcm24 part.now) frame first (length out.old) }
-{
-    let mut k: usize = 0;
-    while k < out.len() {
-        out[k] = whole_samples::pcm24(three_at(part, k * frame + first));
-        k += 1;
+        SampleKind::Pcm16 | SampleKind::Pcm24 => pcm(
+            kind, channels, first, part, out, pcm16, pcm24,
+        ),
     }
 }

@@ -1,15 +1,15 @@
-// W1. One channel's samples into f32. There is a loop for each kind, and each call passes the bytes of a frame as a
-// constant, so that a compiler can convert several samples at a time.
+// W1. One channel's samples into f32.
 ghost use Rattle.std.specs.Prelude.{◌≡◌, length};
 ghost use Rattle.std.specs.Float.{binary32};
-ghost use Rattle.sample_kind.specs.declared.SampleKind.TheVariants.{Pcm16, Pcm24, Float32};
 ghost use Rattle.sample_kind.specs.Kinds.{frame_of};
 ghost use Rattle.wav_samples.specs.Samples.{sample_of};
 ghost use Rattle.wav_samples.specs.Filling.{frames_of};
-ghost use Rattle.wav_samples.specs.Frames.{Whole, Framed};
+ghost use Rattle.wav_samples.specs.Frames.{Framed};
 
-use crate::places::{four_at, three_at, two_at};
+use crate::by_frame::{fill_by, pcm};
+use bit_patterns::float_of_f32;
 use sample_kind::SampleKind;
+use whole_samples::{pcm16_f32, pcm24_f32};
 
 pub(crate) fn frames(kind: SampleKind, channels: u8, first: usize, part: &[u8], out: &mut [f32])
     requires { Framed kind channels first (length part.now) (length out.old) }
@@ -18,60 +18,15 @@ pub(crate) fn frames(kind: SampleKind, channels: u8, first: usize, part: &[u8], 
         (length out.old) }
 {
     match kind {
-        SampleKind::Pcm16 => {
-            if channels == 1 {
-                pcm16(2, first, part, &mut out[..]);
-            } else {
-                pcm16(4, first, part, &mut out[..]);
-            }
-        }
-        SampleKind::Pcm24 => {
-            if channels == 1 {
-                pcm24(3, first, part, &mut out[..]);
-            } else {
-                pcm24(6, first, part, &mut out[..]);
-            }
-        }
         SampleKind::Float32 => {
             if channels == 1 {
-                float32(4, first, part, &mut out[..]);
+                fill_by::<_, _, 4>(4, first, part, out, float_of_f32);
             } else {
-                float32(8, first, part, &mut out[..]);
+                fill_by::<_, _, 4>(8, first, part, out, float_of_f32);
             }
         }
-    }
-}
-
-fn pcm16(frame: usize, first: usize, part: &[u8], out: &mut [f32])
-    requires { Whole (length part.now) (length out.old) frame first 2 }
-    ensures { out.new ≡ frames_of (sample_of binary32 Pcm16 part.now) frame first (length out.old) }
-{
-    let mut k: usize = 0;
-    while k < out.len() {
-        out[k] = whole_samples::pcm16_f32(two_at(part, k * frame + first));
-        k += 1;
-    }
-}
-
-fn pcm24(frame: usize, first: usize, part: &[u8], out: &mut [f32])
-    requires { Whole (length part.now) (length out.old) frame first 3 }
-    ensures { out.new ≡ frames_of (sample_of binary32 Pcm24 part.now) frame first (length out.old) }
-{
-    let mut k: usize = 0;
-    while k < out.len() {
-        out[k] = whole_samples::pcm24_f32(three_at(part, k * frame + first));
-        k += 1;
-    }
-}
-
-fn float32(frame: usize, first: usize, part: &[u8], out: &mut [f32])
-    requires { Whole (length part.now) (length out.old) frame first 4 }
-    ensures { out.new ≡ frames_of (sample_of binary32 Float32 part.now) frame first
-        (length out.old) }
-{
-    let mut k: usize = 0;
-    while k < out.len() {
-        out[k] = bit_patterns::float_of_f32(four_at(part, k * frame + first));
-        k += 1;
+        SampleKind::Pcm16 | SampleKind::Pcm24 => pcm(
+            kind, channels, first, part, out, pcm16_f32, pcm24_f32,
+        ),
     }
 }

@@ -6,11 +6,11 @@ ghost use Rattle.std.specs.Float.{binary32, binary64};
 ghost use Rattle.std.specs.Float.Ieee.{of_bits};
 ghost use Rattle.wav_samples.specs.Samples.{sample_of};
 
+mod by_frame; // the loop over the frames, into any type
 pub mod filling;
-mod floats; // the loops of floats into f64, a block at a time
-mod frames; // the loops into f64, one for each kind
+mod floats; // floats into f64, a block at a time
+mod frames; // all kinds into f64
 mod frames_f32; // into f32
-mod frames_whole; // into i32
 mod no_nan; // whether a block of floats holds no NaN
 mod places; // the bytes of a sample whose place is known to lie in the part
 

@@ -12,10 +12,8 @@ pub(crate) fn together(frame: usize, first: usize, part: &[u8], count: usize) ->
     ensures { NoneAbove (patterns part.now frame first) count (result % 0x8000_0000) }
 {
     let mut all: u32 = 0;
-    let mut k: usize = 0;
-    while k < count {
-        all = all | four_at(part, k * frame + first);
-        k += 1;
+    for k in 0..count {
+        all |= four_at(part, k * frame + first);
     }
     all
 }
@@ -27,12 +25,10 @@ pub(crate) fn gathered(frame: usize, first: usize, part: &[u8], kept: &mut [u32]
     ensures kept_after { kept.new ≡ list_of (patterns part.now frame first) (length kept.old) }
 {
     let mut all: u32 = 0;
-    let mut k: usize = 0;
-    while k < kept.len() {
+    for (k, pattern) in kept.iter_mut().enumerate() {
         let n = four_at(part, k * frame + first);
-        all = all | n;
-        kept[k] = n;
-        k += 1;
+        all |= n;
+        *pattern = n;
     }
     all
 }
@@ -43,10 +39,8 @@ fn nans(frame: usize, first: usize, part: &[u8], count: usize) -> u32
     ensures { result ≡ 0 → NoneAbove (patterns part.now frame first) count 0x7f80_0000 }
 {
     let mut found: u32 = 0;
-    let mut k: usize = 0;
-    while k < count {
+    for k in 0..count {
         found += one_if_nan(four_at(part, k * frame + first));
-        k += 1;
     }
     found
 }

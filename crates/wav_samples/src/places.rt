@@ -26,3 +26,17 @@ pub(crate) fn four_at(part: &[u8], at: usize) -> u32
 {
     of_four(part[at], part[at + 1], part[at + 2], part[at + 3])
 }
+
+pub(crate) fn number_at<const WIDTH: usize>(part: &[u8], at: usize) -> u32
+    requires width { (2 ≤ WIDTH) × (WIDTH ≤ 4) }
+    requires within { at + WIDTH ≤ length part.now }
+    ensures { result ≡ number WIDTH part.now at }
+{
+    if WIDTH == 2 {
+        two_at(part, at)
+    } else if WIDTH == 3 {
+        three_at(part, at)
+    } else {
+        four_at(part, at)
+    }
+}

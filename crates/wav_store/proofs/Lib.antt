@@ -1,4 +1,5 @@
 pub mod Looked
+pub mod Words
 pub mod Placed
 pub mod Stores
 pub mod Exactly

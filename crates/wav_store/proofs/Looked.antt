@@ -1,13 +1,13 @@
--- The invariant of a loop over samples that remembers whether all of them so far fit, for any kind. Assumes nothing.
+-- Whether all samples fit, of any kind: by a fold over them, and for each. Assumes nothing.
 use mathlib.Core.Path.{◌≡◌, refl, sym, ap, ◌∙◌}
 use mathlib.Core.Bool.{Bool, true, false, cond, ◌&&◌, true≢false}
 use mathlib.Core.List.{List, [], ◌∷◌}
-use Prim.Native.Nat.{ℕ, zero, suc, ◌+◌, ◌≤◌, ◌<◌}
-use native.Mathlib.Numerals.{add-one}
+use Prim.Native.Nat.{ℕ, zero, suc, ◌-◌, ◌<◌}
 use native.Mathlib.Omega.{arith}
-use lib.ListN.{length, drop, get_or, drop_of_length-le}
-use lib.Seq.{drop-cons}
+use lib.ListN.{length, take, drop, get_or, length-drop}
+use lib.Seq.{take_all}
 use lib.Ieee.{Float}
+use Rattle.std.specs.List.{fold, list_all}
 use Rattle.sample_kind.specs.declared.SampleKind.{SampleKind}
 use Rattle.stored_samples.specs.Stored.{fits_in}
 use Rattle.wav_store.specs.Inner.{Seen}
@@ -21,32 +21,20 @@ and-true : (a : Bool) → (a && true) ≡ a
 and-true true = refl
 and-true false = refl
 
--- The first i of them have been tested.
-pub record Looked (kind : SampleKind) (xs : List Float) (ok : Bool) (i : ℕ) : Type 0 where
-  pub most : i ≤ length xs
-  pub rest : (ok && all_fit kind (drop i xs)) ≡ all_fit kind xs
+folds : {A : Type 0} (test : A → Bool) (ok : Bool) (xs : List A)
+    → fold (λ (t : Bool) (x : A). t && test x) ok xs ≡ (ok && list_all test xs)
+folds test ok [] = sym (and-true ok)
+folds test ok (x ∷ xs) = folds test (ok && test x) xs ∙ and_assoc ok (test x) (list_all test xs)
 
-pub unlooked : {kind : SampleKind} {xs : List Float} → Looked kind xs true 0
-unlooked = record { most = omega arith; rest = refl }
+-- Every element is tested, without an early exit.
+pub all-folded : {A : Type 0} (test : A → Bool) (xs : List A)
+    → fold (λ (t : Bool) (x : A). t && test x) true xs ≡ list_all test xs
+all-folded test xs = folds test true xs
 
-module _ {kind : SampleKind} {xs : List Float} {ok : Bool} {i : ℕ} (l : Looked kind xs ok i) where
-  pub looked-more : (d : Float) {more : Bool} → i < length xs → more ≡ (ok && fits_in kind (get_or xs i d))
-      → Looked kind xs more (i + 1)
-  unfolding all_fit
-  looked-more d {more} h e =
-      record {
-        most = omega arith;
-        rest =
-            rw (e, add-one) (and_assoc ok (fits_in kind (get_or xs i d)) (all_fit kind (drop (suc i) xs))
-            ∙ ap (λ (ys : List Float). ok && all_fit kind ys) (sym (drop-cons xs i d h))
-            ∙ l.rest);
-      }
-
-  pub all-looked : length xs ≤ i → ok ≡ all_fit kind xs
-  unfolding all_fit
-  all-looked h =
-      sym (and-true ok)
-      ∙ ap (λ (ys : List Float). ok && all_fit kind ys) (sym (drop_of_length-le xs h)) ∙ l.rest
+pub fits-each : (kind : SampleKind) (xs : List Float) → list_all (fits_in kind) xs ≡ all_fit kind xs
+unfolding all_fit
+fits-each kind [] = refl
+fits-each kind (x ∷ xs) = ap (λ (b : Bool). fits_in kind x && b) (fits-each kind xs)
 
 -- ---- each sample
 left : (a b : Bool) → (a && b) ≡ true → a ≡ true
@@ -63,6 +51,21 @@ unfolding all_fit
 each_fits kind [] i d e h = absurd (omega arith)
 each_fits kind (x ∷ xs) zero d e h = left (fits_in kind x) (all_fit kind xs) e
 each_fits kind (x ∷ xs) (suc i) d e h = each_fits kind xs i d (right (fits_in kind x) (all_fit kind xs) e) (omega arith)
+
+rest_fit : (kind : SampleKind) (xs : List Float) (m : ℕ) → all_fit kind xs ≡ true → all_fit kind (drop m xs) ≡ true
+unfolding all_fit
+rest_fit kind xs zero e = e
+rest_fit kind [] (suc m) e = e
+rest_fit kind (x ∷ xs) (suc m) e = rest_fit kind xs m (right (fits_in kind x) (all_fit kind xs) e)
+
+-- Each sample from the m-th on.
+pub tail_fits : (kind : SampleKind) (xs : List Float) (m k : ℕ) (d : Float) → all_fit kind xs ≡ true
+    → k < length (take (length xs - m) (drop m xs))
+    → fits_in kind (get_or (take (length xs - m) (drop m xs)) k d) ≡ true
+tail_fits kind xs m k d e h =
+    let t : take (length xs - m) (drop m xs) ≡ drop m xs =
+    take_all (length xs - m) (drop m xs) (omega (arith, length-drop m xs)) in
+    each_fits kind (take (length xs - m) (drop m xs)) k d (ap (all_fit kind) t ∙ rest_fit kind xs m e) h
 
 -- ---- the number that stands for the result
 pub seen_by : (kind : SampleKind) (xs : List Float) (ok : Bool) → ok ≡ all_fit kind xs → Seen kind xs (cond ok 1 0)

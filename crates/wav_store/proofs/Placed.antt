@@ -1,19 +1,20 @@
--- The invariant of a loop that writes the bytes of each sample behind those before it, for any kind. Assumes nothing.
+-- The first samples are written, each behind those before it, for any kind. Assumes nothing.
 use mathlib.Core.Path.{◌≡◌, refl, sym, ap, ◌∙◌, subst}
 use mathlib.Core.List.{List, [], ◌∷◌, ◌++◌, append_assoc, append-nil}
-use Prim.Native.Nat.{ℕ, zero, suc, ◌+◌, ◌*◌, ◌≤◌, ◌<◌}
+use Prim.Native.Nat.{ℕ, zero, suc, ◌+◌, ◌-◌, ◌*◌, ◌≤◌, ◌<◌}
 use native.Mathlib.Nat.{add_comm, zero-mul, suc-mul, mul-le-mul_right}
 use native.Mathlib.Numerals.{add-one}
 use native.Mathlib.Omega.{arith}
-use lib.ListN.{length, take, drop, get_or, length-append, drop_of_length-le}
+use lib.ListN.{length, take, drop, get_or, length-append, length-drop, drop_of_length-le}
 use lib.Seq.{drop-cons, take_at, take_all, length-take-le, sets, sets-eq, length-sets}
 use lib.Ieee.{Float, nan}
+use borrow.Rule.Slice.PartMut.{put_mid, Post-is}
 use Rattle.word_bytes.specs.Bytes.{low_bytes}
 use Rattle.sample_kind.specs.declared.SampleKind.{SampleKind}
 use Rattle.sample_kind.specs.declared.SampleKind.TheVariants.{Float32}
 use Rattle.sample_kind.specs.Kinds.{width_of}
 use Rattle.stored_samples.specs.Stored.{word_of}
-use Rattle.wav_store.specs.Inner.{Placed, Plain, Next, PlainFrom}
+use Rattle.wav_store.specs.Inner.{Placed, Next}
 use Rattle.wav_store.specs.Storing.{bytes_of}
 
 pub length-low : (k n : ℕ) → length (low_bytes k n) ≡ k
@@ -65,13 +66,19 @@ module _ {kind : SampleKind} {xs : List Float} where
               ∙ rw (written, add-one);
         }
 
-  pub all_placed : {out : List ℕ} {i : ℕ} → Placed kind xs out i → length xs ≤ i → out ≡ bytes_of kind xs
-  unfolding bytes_of
-  all_placed {out} {i} p h =
-      let e : i ≡ length xs = omega (arith, p.most) in
-      let all : take (i * width_of kind) out ≡ out = take_all (i * width_of kind) out (rw e (omega (arith, p.long))) in
-      sym (p.whole ∙ ap (λ (ys : List Float). take (i * width_of kind) out ++ bytes_of kind ys) (drop_of_length-le xs h)
-      ∙ append-nil (take (i * width_of kind) out) ∙ all)
+-- The bytes of the samples that are left are written behind those of the first n.
+pub last_placed : {xs : List Float} {out ys : List ℕ} {n : ℕ} → Placed Float32 xs out n
+    → ys ≡ bytes_of Float32 (take (length xs - n) (drop n xs)) → put_mid (n * 4) (length out - n * 4) out ys
+    ≡ bytes_of Float32 xs
+last_placed {xs} {out} {ys} {n} p e =
+    let at = n * 4 in
+    let t : take (length xs - n) (drop n xs) ≡ drop n xs =
+    take_all (length xs - n) (drop n xs) (omega (arith, length-drop n xs)) in
+    let le : at ≤ length out = omega (arith, p.long, p.most) in
+    ap (λ (zs : List ℕ). take at out ++ (ys ++ zs))
+    (Post-is at (length out) out le ∙ drop_of_length-le out {i = length out} (omega arith))
+    ∙ ap (λ (zs : List ℕ). take at out ++ zs) (append-nil ys ∙ e ∙ ap (bytes_of Float32) t)
+    ∙ sym p.whole
 
 -- ---- the bytes of four samples, as the code writes them
 pub step : {xs : List Float} {out o : List ℕ} {i w : ℕ} → Placed Float32 xs out i → i < length xs
@@ -86,21 +93,16 @@ moved {xs} {out} p e = subst (λ (i : ℕ). Placed Float32 xs out i) e p
 
 pub four-placed : {xs : List Float} {out p q r s : List ℕ} {i a b c d : ℕ} → Placed Float32 xs out i
     → i + 4 ≤ length xs → a ≡ word_of Float32 (get_or xs i nan) → b ≡ word_of Float32 (get_or xs (i + 1) nan)
-    → c ≡ word_of Float32 (get_or xs (i + 1 + 1) nan) → d ≡ word_of Float32 (get_or xs (i + 1 + 1 + 1) nan)
+    → c ≡ word_of Float32 (get_or xs (i + 2) nan) → d ≡ word_of Float32 (get_or xs (i + 3) nan)
     → p ≡ sets out (i * 4) (low_bytes 4 a) → q ≡ sets p (i * 4 + 4) (low_bytes 4 b)
     → r ≡ sets q (i * 4 + 8) (low_bytes 4 c) → s ≡ sets r (i * 4 + 12) (low_bytes 4 d)
     → Placed Float32 xs s (i + 4)
 four-placed z l a b c d p q r w =
     let first = step z (omega arith) a p refl in
     let second = step first (omega arith) b q (omega arith) in
-    let third = step second (omega arith) c r (omega arith) in
-    moved (step third (omega arith) d w (omega arith)) (omega arith)
+    let third = step (moved second (omega arith)) (omega arith) c r (omega arith) in
+    moved (step (moved third (omega arith)) (omega arith) d w (omega arith)) (omega arith)
 
 -- ---- four of sixteen
 pub next-four : {xs : List Float} {i : ℕ} → Next 16 xs i → (o : ℕ) {j : ℕ} → o ≤ 12 → i + o ≡ j → Next 4 xs j
 next-four n o l e = record { room = omega (arith, n.room, e); fit = n.fit }
-
-pub plain-four : (xs : List Float) (i : ℕ) → PlainFrom 16 xs i → (o j : ℕ) → o ≤ 12 → i + o ≡ j → PlainFrom 4 xs j
-plain-four xs i p o j l e k h d =
-    let a : i + (o + k) ≡ j + k = omega (arith, e) in
-    subst (λ (n : ℕ). Plain (get_or xs n d)) a (p (o + k) (omega (arith, h)) d)

@@ -3,11 +3,29 @@ use Rattle.std.specs.Prelude.{ℕ, zero, suc, ◌+◌, ◌*◌, ◌/◌, ◌%◌
 use Rattle.std.specs.Prelude.{negsuc, length, take, drop, get_or, Float}
 use Rattle.std.specs.Float.{fin, binary64}
 use Rattle.std.specs.Float.Ieee.{to_bits}
+use Rattle.std.specs.List.{flat_map}
 use Rattle.sample_kind.specs.declared.SampleKind.{SampleKind}
 use Rattle.sample_kind.specs.declared.SampleKind.TheVariants.{Float32}
 use Rattle.sample_kind.specs.Kinds.{width_of}
 use Rattle.stored_samples.specs.Stored.{fits_in}
+use Rattle.word_bytes.specs.Bytes.{low_bytes}
 use Rattle.wav_store.specs.Storing.{all_fit, bytes_of}
+
+-- Each result that a closure gives is that of h.
+abbrev pub Computes : {A R : Type 0} → (A → R → Type 0) → (A → R) → Type 0
+Computes gives h = (x : _) (r : _) → gives x r → r ≡ h x
+
+-- The numbers of elements as bytes, the lowest `wide` bytes of each.
+abbrev pub words_of : {A : Type 0} → ℕ → (A → ℕ) → List A → List ℕ
+words_of wide v xs = flat_map (λ (x : _). low_bytes wide (v x)) xs
+
+-- P holds of each element.
+abbrev pub AtEach : {A : Type 0} → (A → Type 0) → List A → Type 0
+AtEach P xs = (k : ℕ) (d : _) → k < length xs → P (get_or xs k d)
+
+-- P holds of each element from the i-th on, before the j-th.
+abbrev pub AtThese : {A : Type 0} → (A → Type 0) → List A → ℕ → ℕ → Type 0
+AtThese P xs i j = (k : ℕ) (d : _) → i ≤ k → k < j → P (get_or xs k d)
 
 -- What writing needs: a slice of the right length, and samples that fit.
 pub record Ready (kind : SampleKind) (xs : List Float) (out : List ℕ) : Type 0 where
@@ -64,10 +82,6 @@ PlainFrom n xs i = (k : ℕ) → k < n → (d : Float) → Plain (get_or xs (i +
 pub record Turn (n : ℕ) (xs : List Float) (out : List ℕ) (i : ℕ) : Type 0 where
   pub next : Next n xs i
   pub placed : Placed Float32 xs out i
-
-pub record PlainTurn (n : ℕ) (xs : List Float) (out : List ℕ) (i : ℕ) : Type 0 where
-  pub turn : Turn n xs out i
-  pub plain : PlainFrom n xs i
 
 -- The four digits below 2^62.
 abbrev pub four : ℕ

@@ -1,9 +1,9 @@
 // W2e. Every sample is tested, without an early exit, so that a compiler takes several at once.
-ghost use Rattle.std.specs.Prelude.{◌≡◌, cond};
+ghost use Rattle.std.specs.Prelude.{◌≡◌, Bool, cond};
 ghost use Rattle.std.specs.Float.Ieee as Ieee;
-ghost use Rattle.sample_kind.specs.declared.SampleKind.TheVariants.{Pcm16, Pcm24, Float32};
-ghost use Rattle.wav_store.specs.Inner.{Seen, Tells, two};
-ghost use Rattle.wav_store.specs.Storing.{all_fit};
+ghost use Rattle.std.specs.List.{list_all};
+ghost use Rattle.sample_kind.specs.declared.SampleKind.TheVariants.{Float32};
+ghost use Rattle.wav_store.specs.Inner.{Computes, Seen, Tells, two};
 
 use refusal_order::both;
 use sample_kind::SampleKind;
@@ -15,8 +15,8 @@ pub(crate) fn seen(kind: SampleKind, samples: &[f64]) -> u8
     ensures { Seen kind samples.now result }
 {
     match kind {
-        SampleKind::Pcm16 => number(all16(samples)),
-        SampleKind::Pcm24 => number(all24(samples)),
+        SampleKind::Pcm16 => number(all_pass(samples, |x| fits16(x))),
+        SampleKind::Pcm24 => number(all_pass(samples, |x| fits24(x))),
         SampleKind::Float32 => seen_float(samples),
     }
 }
@@ -27,40 +27,12 @@ fn number(ok: bool) -> u8
     if ok { 1 } else { 0 }
 }
 
-fn all16(samples: &[f64]) -> bool
-    ensures { result ≡ all_fit Pcm16 samples.now }
+// Whether all samples pass a test.
+pub(crate) fn all_pass<T: Copy, F: Fn(T) -> bool>(samples: &[T], passes: F) -> bool
+    requires { F.IsAlwaysCallable passes }
+    ensures { (test : T → Bool) → Computes (F.post passes) test → result ≡ list_all test samples.now }
 {
-    let mut ok = true;
-    let mut i: usize = 0;
-    while i < samples.len() {
-        ok = both(ok, fits16(samples[i]));
-        i += 1;
-    }
-    ok
-}
-
-fn all24(samples: &[f64]) -> bool
-    ensures { result ≡ all_fit Pcm24 samples.now }
-{
-    let mut ok = true;
-    let mut i: usize = 0;
-    while i < samples.len() {
-        ok = both(ok, fits24(samples[i]));
-        i += 1;
-    }
-    ok
-}
-
-fn all_float(samples: &[f64]) -> bool
-    ensures { result ≡ all_fit Float32 samples.now }
-{
-    let mut ok = true;
-    let mut i: usize = 0;
-    while i < samples.len() {
-        ok = both(ok, fits_float(samples[i]));
-        i += 1;
-    }
-    ok
+    samples.iter().fold(true, |ok, x| both(ok, passes(*x)))
 }
 
 // A NaN becomes 2, because it is not less than 2.
@@ -84,12 +56,10 @@ fn seen_float(samples: &[f64]) -> u8
 {
     let mut some: u64 = 0;
     let mut every: u64 = 0x3c00_0000_0000_0000;
-    let mut i: usize = 0;
-    while i < samples.len() {
-        let b = cut(samples[i]);
-        some = some | b;
-        every = every & b;
-        i += 1;
+    for x in samples {
+        let b = cut(*x);
+        some |= b;
+        every &= b;
     }
     if some / 0x4000_0000_0000_0000 % 2 == 0 {
         if every == 0x3c00_0000_0000_0000 {
@@ -97,5 +67,5 @@ fn seen_float(samples: &[f64]) -> u8
         }
         return 1;
     }
-    number(all_float(samples))
+    number(all_pass(samples, |x| fits_float(x)))
 }

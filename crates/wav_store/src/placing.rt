@@ -1,11 +1,12 @@
-// W2. Writes the bytes of samples that fit, the low byte first, with a loop for each kind.
-ghost use Rattle.std.specs.Prelude.{◌≡◌, ◌*◌, length};
-ghost use Rattle.sample_kind.specs.declared.SampleKind.TheVariants.{Pcm16, Pcm24, Float32};
-ghost use Rattle.wav_store.specs.Inner.{Ready, PlainReady};
+// W2. Writes the bytes of samples that fit, the low byte first.
+ghost use Rattle.std.specs.Prelude.{◌≡◌, ℕ, ◌*◌, length};
+ghost use Rattle.sample_kind.specs.declared.SampleKind.TheVariants.{Float32};
+ghost use Rattle.word_bytes.specs.Bytes.{low_bytes};
+ghost use Rattle.wav_store.specs.Inner.{AtEach, Computes, Ready, PlainReady, words_of};
 ghost use Rattle.wav_store.specs.Storing.{bytes_of};
 
 use crate::floats::{nearest_float, nearest_plain};
-use crate::turns::{put, sixteen};
+use crate::turns::sixteen;
 use sample_kind::SampleKind;
 use stored_samples::{stored16, stored24};
 
@@ -14,68 +15,57 @@ pub(crate) fn place(kind: SampleKind, samples: &[f64], out: &mut [u8])
     ensures { out.new ≡ bytes_of kind samples.now }
 {
     match kind {
-        SampleKind::Pcm16 => place16(samples, &mut out[..]),
-        SampleKind::Pcm24 => place24(samples, &mut out[..]),
+        SampleKind::Pcm16 => place_words::<f64, 2, _>(samples, &mut out[..], |x| stored16(x)),
+        SampleKind::Pcm24 => place_words::<f64, 3, _>(samples, &mut out[..], |x| stored24(x)),
         SampleKind::Float32 => place_float(samples, &mut out[..]),
     }
 }
 
-fn place16(samples: &[f64], out: &mut [u8])
-    requires { length out.old ≡ length samples.now * 2 }
-    ensures { out.new ≡ bytes_of Pcm16 samples.now }
+// The lowest WIDTH bytes of each sample's word.
+pub(crate) fn place_words<T: Copy, const WIDTH: usize, F: Fn(T) -> u32>(
+    samples: &[T],
+    out: &mut [u8],
+    word: F,
+)
+    requires long { length out.old ≡ length samples.now * WIDTH }
+    requires callable { AtEach (F.pre word) samples.now }
+    ensures { (v : T → ℕ) → Computes (F.post word) v → out.new ≡ words_of WIDTH v samples.now }
 {
-    let mut i: usize = 0;
-    while i < samples.len() {
-        let w = stored16(samples[i]);
-        let at = i * 2;
-        out[at] = (w % 256) as u8;
-        out[at + 1] = (w / 256 % 256) as u8;
-        i += 1;
+    // By index, because std does not say what is written through `chunks_exact_mut`.
+    for (i, x) in samples.iter().enumerate() {
+        let at = i * WIDTH;
+        put_low(word(*x), &mut out[at..at + WIDTH]);
     }
 }
 
-fn place24(samples: &[f64], out: &mut [u8])
-    requires { length out.old ≡ length samples.now * 3 }
-    ensures { out.new ≡ bytes_of Pcm24 samples.now }
+// Writes the lowest bytes of a word, as many as the slice takes. What word_bytes writes is a u64, which costs a sample
+// of 24 bits an instruction more.
+fn put_low(w: u32, out: &mut [u8])
+    ensures { out.new ≡ low_bytes (length out.old) w }
 {
-    let mut i: usize = 0;
-    while i < samples.len() {
-        let w = stored24(samples[i]);
-        let at = i * 3;
-        out[at] = (w % 256) as u8;
-        out[at + 1] = (w / 256 % 256) as u8;
-        out[at + 2] = (w / 256 / 256 % 256) as u8;
-        i += 1;
+    let mut rest = w;
+    for byte in out.iter_mut() {
+        *byte = (rest % 256) as u8;
+        rest /= 256;
     }
 }
 
+// Sixteen samples at a time, and then those that are left.
 fn place_float(samples: &[f64], out: &mut [u8])
     requires { Ready Float32 samples.now out.old }
     ensures { out.new ≡ bytes_of Float32 samples.now }
 {
-    let mut i: usize = 0;
-    while 16 <= samples.len() - i {
-        sixteen(samples, i, &mut out[..]);
-        i += 16;
+    let turns = samples.len() / 16;
+    for turn in 0..turns {
+        sixteen(samples, turn * 16, &mut out[..]);
     }
-    while i < samples.len() {
-        put(i * 4, nearest_float(samples[i]), &mut out[..]);
-        i += 1;
-    }
+    let done = turns * 16;
+    place_words::<f64, 4, _>(&samples[done..], &mut out[done * 4..], |x| nearest_float(x));
 }
 
 pub(crate) fn place_plain(samples: &[f64], out: &mut [u8])
     requires { PlainReady samples.now out.old }
     ensures { out.new ≡ bytes_of Float32 samples.now }
 {
-    let mut i: usize = 0;
-    while i < samples.len() {
-        let w = nearest_plain(samples[i]);
-        let at = i * 4;
-        out[at] = (w % 256) as u8;
-        out[at + 1] = (w / 256 % 256) as u8;
-        out[at + 2] = (w / 256 / 256 % 256) as u8;
-        out[at + 3] = (w / 256 / 256 / 256 % 256) as u8;
-        i += 1;
-    }
+    place_words::<f64, 4, _>(samples, &mut out[..], |x| nearest_plain(x));
 }

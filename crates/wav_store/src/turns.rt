@@ -6,9 +6,9 @@ ghost use Rattle.std.proofs.lemmas.List.Edits.{sets};
 ghost use Rattle.std.specs.Float.{binary64};
 ghost use Rattle.std.specs.Float.Ieee.{to_bits};
 ghost use Rattle.sample_kind.specs.declared.SampleKind.TheVariants.{Float32};
-ghost use Rattle.stored_samples.specs.Stored.{fits_in};
+ghost use Rattle.stored_samples.specs.Stored.{fits_in, word_of};
 ghost use Rattle.word_bytes.specs.Bytes.{low_bytes};
-ghost use Rattle.wav_store.specs.Inner.{Placed, Next, PlainFrom, Turn, PlainTurn, four};
+ghost use Rattle.wav_store.specs.Inner.{AtThese, Computes, Placed, Next, PlainFrom, Turn, four};
 
 use crate::floats::{nearest_float, nearest_plain};
 
@@ -17,36 +17,22 @@ pub(crate) fn sixteen(samples: &[f64], i: usize, out: &mut [u8])
     ensures { Placed Float32 samples.now out.new (i + 16) }
 {
     if every(samples, i) == 0x3c00_0000_0000_0000 {
-        sixteen_plain(samples, i, &mut out[..]);
+        sixteen_by(samples, i, &mut out[..], |x| nearest_plain(x));
     } else {
-        sixteen_any(samples, i, &mut out[..]);
+        sixteen_by(samples, i, &mut out[..], |x| nearest_float(x));
     }
 }
 
-fn sixteen_any(samples: &[f64], i: usize, out: &mut [u8])
-    requires { Turn 16 samples.now out.old i }
+fn sixteen_by<F: Fn(f64) -> u32>(samples: &[f64], i: usize, out: &mut [u8], nearest: F)
+    requires turn { Turn 16 samples.now out.old i }
+    requires callable { AtThese (F.pre nearest) samples.now i (i + 16) }
+    requires right { Computes (F.post nearest) (word_of Float32) }
     ensures { Placed Float32 samples.now out.new (i + 16) }
 {
-    let j = i + 4;
-    let k = j + 4;
-    let l = k + 4;
-    four_any(samples, i, &mut out[..]);
-    four_any(samples, j, &mut out[..]);
-    four_any(samples, k, &mut out[..]);
-    four_any(samples, l, &mut out[..]);
-}
-
-fn sixteen_plain(samples: &[f64], i: usize, out: &mut [u8])
-    requires { PlainTurn 16 samples.now out.old i }
-    ensures { Placed Float32 samples.now out.new (i + 16) }
-{
-    let j = i + 4;
-    let k = j + 4;
-    let l = k + 4;
-    four_plain(samples, i, &mut out[..]);
-    four_plain(samples, j, &mut out[..]);
-    four_plain(samples, k, &mut out[..]);
-    four_plain(samples, l, &mut out[..]);
+    four(samples, i, &mut out[..], &nearest);
+    four(samples, i + 4, &mut out[..], &nearest);
+    four(samples, i + 8, &mut out[..], &nearest);
+    four(samples, i + 12, &mut out[..], &nearest);
 }
 
 // A sample that fits is not a NaN, so it has a bit pattern.
@@ -63,25 +49,22 @@ fn every(samples: &[f64], i: usize) -> u64
     ensures { result ≡ four → PlainFrom 16 samples.now i }
 {
     let mut all: u64 = 0x3c00_0000_0000_0000;
-    let mut k: usize = 0;
-    while k < 16 {
-        all = all & pattern(samples[i + k]);
-        k += 1;
+    for k in 0..16 {
+        all &= pattern(samples[i + k]);
     }
     all
 }
 
-fn four_any(samples: &[f64], i: usize, out: &mut [u8])
-    requires { Turn 4 samples.now out.old i }
+fn four<F: Fn(f64) -> u32>(samples: &[f64], i: usize, out: &mut [u8], nearest: &F)
+    requires turn { Turn 4 samples.now out.old i }
+    requires callable { AtThese (F.pre nearest.now) samples.now i (i + 4) }
+    requires right { Computes (F.post nearest.now) (word_of Float32) }
     ensures { Placed Float32 samples.now out.new (i + 4) }
 {
-    let j = i + 1;
-    let k = j + 1;
-    let l = k + 1;
-    let a = nearest_float(samples[i]);
-    let b = nearest_float(samples[j]);
-    let c = nearest_float(samples[k]);
-    let d = nearest_float(samples[l]);
+    let a = nearest(samples[i]);
+    let b = nearest(samples[i + 1]);
+    let c = nearest(samples[i + 2]);
+    let d = nearest(samples[i + 3]);
     let at = i * 4;
     put(at, a, &mut out[..]);
     put(at + 4, b, &mut out[..]);
@@ -89,25 +72,7 @@ fn four_any(samples: &[f64], i: usize, out: &mut [u8])
     put(at + 12, d, &mut out[..]);
 }
 
-fn four_plain(samples: &[f64], i: usize, out: &mut [u8])
-    requires { PlainTurn 4 samples.now out.old i }
-    ensures { Placed Float32 samples.now out.new (i + 4) }
-{
-    let j = i + 1;
-    let k = j + 1;
-    let l = k + 1;
-    let a = nearest_plain(samples[i]);
-    let b = nearest_plain(samples[j]);
-    let c = nearest_plain(samples[k]);
-    let d = nearest_plain(samples[l]);
-    let at = i * 4;
-    put(at, a, &mut out[..]);
-    put(at + 4, b, &mut out[..]);
-    put(at + 8, c, &mut out[..]);
-    put(at + 12, d, &mut out[..]);
-}
-
-pub(crate) fn put(at: usize, w: u32, out: &mut [u8])
+fn put(at: usize, w: u32, out: &mut [u8])
     requires { at + 4 ≤ length out.old }
     ensures { out.new ≡ sets out.old at (low_bytes 4 w) }
 {

@@ -91,11 +91,13 @@ fn refusal(number: u8, told: Told) -> Refused
     }
 }
 
-// Walks chunk after chunk. The loop ends because each step passes at least 8 bytes.
+// Walks chunk after chunk.
 fn walk_all(system: &System, fd: i32, layout: Layout, opening: &[u8], end: usize) -> Walk
     ensures { Walks layout opening.now end result }
 {
     let mut walking = riff_chunks::begin(end);
+    // By hand: the size in a head that was read says where the next one stands, so what is left ends the loop, and no
+    // count does. Each step passes at least 8 bytes.
     while walking.left >= 8 {
         let turned = one_turn(system, fd, layout, opening, walking, end);
         match turned {

@@ -31,12 +31,10 @@ fn write_rows<'a>(table: &mut [f64], settings: Settings, window: &'a [f64])
 {
     let taps = settings.taps;
     let phases = settings.phases;
-    let mut phase: usize = 0;
-    while phase <= phases {
+    for phase in 0..=phases {
         let start = phase * taps;
         let end = start + taps;
         sinc_row::write_row(&mut table[start..end], settings, window, phase);
-        phase += 1;
     }
 }
 

@@ -31,10 +31,8 @@ fn narrow_row<'a>(row: &mut [f32], from: &'a [f64])
     requires { length row.old ≡ length from.now }
     ensures { row.new ≡ map narrowed from.now }
 {
-    let mut k: usize = 0;
-    while k < row.len() {
-        row[k] = narrowing::narrow(from[k]);
-        k += 1;
+    for (k, at) in row.iter_mut().enumerate() {
+        *at = narrowing::narrow(from[k]);
     }
 }
 
@@ -57,12 +55,10 @@ fn write_rows<'a>(table: &mut [f32], settings: Settings, window: &'a [f64])
 {
     let taps = settings.taps;
     let phases = settings.phases;
-    let mut phase: usize = 0;
-    while phase <= phases {
+    for phase in 0..=phases {
         let start = phase * taps;
         let end = start + taps;
         write_row(&mut table[start..end], settings, window, phase);
-        phase += 1;
     }
 }
 

@@ -24,19 +24,10 @@ fn read_bytes(s: &[u8]) -> u64
     ensures upper_bound { result < 256 ^ length s.now }
 {
     let mut v: u64 = 0;
-    let mut k = s.len();
-    while k > 0 {
-        k -= 1;
-        v = v * 256 + wide(s[k]);
+    for k in (0..s.len()).rev() {
+        v = v * 256 + u64::from(s[k]);
     }
     v
-}
-
-fn wide(x: u8) -> u64
-    ensures value { result ≡ x }
-    ensures upper_bound { result < 256 }
-{
-    x as u64
 }
 
 pub fn low_first_bytes(n: u64) -> [u8; 8]
@@ -51,7 +42,7 @@ pub fn low_first_bytes_u32(n: u32) -> [u8; 4]
     ensures { result ≡ low_bytes 4 n }
 {
     let mut out = [0u8; 4];
-    write_bytes(n as u64, &mut out);
+    write_bytes(u64::from(n), &mut out);
     out
 }
 
@@ -59,10 +50,8 @@ pub fn write_bytes(n: u64, out: &mut [u8])
     ensures { out.new ≡ low_bytes (length out.old) n }
 {
     let mut v = n;
-    let mut i: usize = 0;
-    while i < out.len() {
-        out[i] = (v % 256) as u8;
+    for byte in out.iter_mut() {
+        *byte = (v % 256) as u8;
         v /= 256;
-        i += 1;
     }
 }

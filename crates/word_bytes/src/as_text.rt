@@ -10,9 +10,7 @@ pub fn hex16(n: u64) -> [u8; 16]
 {
     let mut out = [0u8; 16];
     let mut v = n;
-    let mut k: usize = 16;
-    while k > 0 {
-        k -= 1;
+    for k in (0..16).rev() {
         out[k] = glyph(v % 16);
         v /= 16;
     }
@@ -38,10 +36,8 @@ fn read_hex(s: &[u8]) -> u64
     ensures { result ≡ hex_value 0 s.now }
 {
     let mut v: u64 = 0;
-    let mut i: usize = 0;
-    while i < s.len() {
-        v = v * 16 + digit_of(s[i]);
-        i += 1;
+    for c in s {
+        v = v * 16 + digit_of(*c);
     }
     v
 }

@@ -34,44 +34,42 @@ pub fn none() -> Names
 pub fn with_file(names: Names, i: usize) -> Names
     ensures { result ≡ with_file names i }
 {
-    let mut n = names;
-    if n.files == 0 {
-        n.first = i;
-        n.files = 1;
-        return n;
+    match names.files {
+        0 => Names {
+            first: i,
+            files: 1,
+            ..names
+        },
+        1 => Names {
+            second: i,
+            files: 2,
+            ..names
+        },
+        _ => Names { files: 3, ..names },
     }
-    if n.files == 1 {
-        n.second = i;
-        n.files = 2;
-        return n;
-    }
-    n.files = 3;
-    n
 }
 
 pub fn refused(names: Names) -> Names
     ensures { result ≡ refused_names names }
 {
-    let mut n = names;
-    n.good = false;
-    n
+    Names {
+        good: false,
+        ..names
+    }
 }
 
 // The names stay good if exactly two files were named.
 pub fn of_two(names: Names) -> Names
     ensures { result ≡ of_two names }
 {
-    let mut n = names;
-    n.good = refusal_order::both(names.good, names.files == 2);
-    n
+    let good = names.good && names.files == 2;
+    Names { good, ..names }
 }
 
 // Whether an argument asks for the usage: `--help` or `-h`.
+#[tactic(auto, unfolding(text::specs::Text::ascii))]
 pub fn is_help(words: &[u8]) -> bool
     ensures { result ≡ is_help words.now }
 {
-    if spelling::same(words, b"--help") {
-        return true;
-    }
-    spelling::same(words, b"-h")
+    spelling::same(words, b"--help") || spelling::same(words, b"-h")
 }

@@ -4,7 +4,6 @@
 
 use answer::Answer;
 use bit_patterns::bits_of;
-use elementary::Answer as Power;
 use streams::{print_decimal, write_all};
 use variable_delay::VariableDelay;
 
@@ -97,8 +96,8 @@ fn first(input: f64, delay: f64) -> u64 {
 // E4. If it were refused, the number would be printed.
 fn power(x: f64) -> u64 {
     match elementary::exp2(x) {
-        Power::Value(y) => bits_of(y),
-        Power::Refused(no) => no as u64,
+        Ok(y) => bits_of(y),
+        Err(refusal) => refusal.number() as u64,
     }
 }
 

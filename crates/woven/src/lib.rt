@@ -27,9 +27,7 @@ pub fn weave(one: &[f32], two: &[f32], out: &mut [f32])
     ensures { out.new
         ≡ list_of (woven_at one.now two.now) (length out.old) }
 {
-    let mut k: usize = 0;
-    while k < out.len() {
-        out[k] = woven_at(one, two, k);
-        k += 1;
+    for (k, sample) in out.iter_mut().enumerate() {
+        *sample = woven_at(one, two, k);
     }
 }

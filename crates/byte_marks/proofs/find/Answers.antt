@@ -1,20 +1,20 @@
--- `byte_marks::find` meets its contract. The loop's invariant: the byte's place in the whole text lies i bytes behind
--- its place in what is left. Assumes nothing.
-use native.Mathlib.Omega.{arith}
-use Rattle.byte_marks.proofs.Places.{here, further, nowhere}
+-- `byte_marks::find` meets its contract: the first byte that the library's search finds is the definition's. Assumes
+-- nothing.
+use Rattle.std.proofs.Common.{rules}
+use Rattle.std.proofs.lemmas.Iterator.{YieldsList-from_slice}
+use Rattle.std.proofs.lemmas.Iterator.Search.{position_from_yields_List}
+use borrow.Author.Tests.{tests}
+use mathlib.Core.Path.{◌∙◌}
+use lib.Dec.{eqb}
+use Rattle.byte_marks.proofs.Places.{place, within}
 use Rattle.byte_marks.proofs.find.Goals as goal
 
-pub returns-then-text-i-clause-value : goal.returns-then-text-i-clause-value
-returns-then-text-i-clause-value c =
-    let e = here c.args.byte c.args.text.now c.loop-i.i c.loop-i-test.true c.if-text-i.true in
-    omega (arith, c.loop-i.invariant.1, e)
-
-pub loop-i-preserved : goal.loop-i-preserved
-loop-i-preserved c =
-    let e = further c.args.byte c.args.text.now c.loop-i.i c.loop-i-test.true c.if-text-i.false in
-    (omega arith, omega (arith, c.loop-i.invariant.1, e))
-
-pub returns-clause-value : goal.returns-clause-value
-returns-clause-value c =
-    let e = nowhere c.args.byte c.args.text.now c.loop-i.i (omega arith) in
-    omega (arith, c.loop-i.invariant.1, e)
+pub returns : goal.returns
+returns c =
+    let text = c.args.text.now in
+    let b = c.args.byte in
+    let found =
+    position_from_yields_List (λ x. eqb x b) _ _ c.position.result c.position.ensures.ran
+    (YieldsList-from_slice text cc) (λ x b q k. search (rules, tests)) in
+    let value = c.unwrap_or.ensures ∙ place b text found in
+    record { value = value; upper_bound = rw value (within b text) }

@@ -17,22 +17,20 @@ pub returns-then-x-n : goal.returns-then-x-n
 returns-then-x-n c =
     let l = c.loop-n in
     let x = c.args.x in
-    sym (l.invariant.1 ∙ found (65535 - l.n) l.n x (omega arith) c.if-x-n.true)
+    sym (l.invariant ∙ found (65535 - l.n) l.n x (omega arith) c.if-x-n.true)
 
 pub loop-n-preserved : goal.loop-n-preserved
 loop-n-preserved c =
     let l = c.loop-n in
     let x = c.args.x in
     let e : 65536 - (l.n + 1) ≡ 65535 - l.n = omega arith in
-    (omega arith, rw (e, add-one) (l.invariant.1 ∙ later (65535 - l.n) l.n x (omega arith) c.if-x-n.false))
+    rw (e, add-one) (l.invariant ∙ later (65535 - l.n) l.n x (omega arith) c.if-x-n.false)
 
 pub returns : goal.returns
 returns c =
     let l = c.loop-n in
-    sym (l.invariant.1 ∙ ended l.n c.args.x (omega arith))
+    let e : l.n ≡ 65536 = omega arith in
+    sym (l.invariant ∙ ended l.n c.args.x (omega arith) ∙ e)
 
 pub loop-n-init : goal.loop-n-init
-loop-n-init c = (omega arith, refl)
-
-pub loop-n-smaller : goal.loop-n-smaller
-loop-n-smaller c = omega arith
+loop-n-init c = refl

@@ -11,13 +11,13 @@ returns-then-before-gt-LIMIT c =
 
 pub returns-then-n-before : goal.returns-then-n-before
 returns-then-n-before c =
-    let f = c.fewer-n.ensures in
+    let f = c.min-n.ensures in
     let a = c.args in
     c.nothing-then-n-before.ensures
     ∙ too_many a.len a.before a.fade a.choice a.quality a.delays.now a.done (omega (arith, f))
 
 pub loop-k-init : goal.loop-k-init
-loop-k-init c = begun _ _ _ _ _ _ _ c.fewer-n.ensures (omega arith)
+loop-k-init c = begun _ _ _ _ _ _ _ c.min-n.ensures (omega arith)
 
 pub overflow_add-i : goal.overflow_add-i
 overflow_add-i c = let w = c.loop-k.invariant in omega (arith, w.bound)

@@ -75,10 +75,10 @@ side_by_side c e =
 returns : tie.Need-returns-then-is_finite
 returns c =
     let q = c.before.before in
-    side_by_side q.before.before (sure q.quick-r.ensures c.before.is_finite.ensures c.if-is_finite.true)
+    side_by_side q.before (sure q.quick-r.ensures c.before.is_finite.ensures c.if-is_finite.true)
 
 returns-2 : tie.Need-returns-then-p-source
-returns-2 c = side_by_side c.before.before.before.before.before.before c.slow.ensures
+returns-2 c = side_by_side c.before.before.before.before c.slow.ensures
 
 one-by-one-requires : tie.Need-one_by_one-requires
 one-by-one-requires c κs = small c.before.before.before

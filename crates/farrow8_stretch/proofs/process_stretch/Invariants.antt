@@ -1,5 +1,4 @@
 use mathlib.Core.Bool.{true}
-use Prim.Native.Nat.{◌-◌}
 use Rattle.farrow8.specs.Kernel.{farrow_at}
 use Rattle.stretch_call.proofs.Loops.{Going}
 use Rattle.farrow8_stretch.proofs.process_stretch.Given as goal
@@ -7,6 +6,3 @@ use Rattle.farrow8_stretch.proofs.process_stretch.Given as goal
 abbrev pub invariant-loop-k : goal.invariant-loop-k
 invariant-loop-k l =
     Going farrow_at true true l.state l.initial.ring l.inputs l.delays l.initial.out l.ring l.out l.i l.k
-
-abbrev pub decreases-loop-k : goal.decreases-loop-k
-decreases-loop-k l = l.n - l.k

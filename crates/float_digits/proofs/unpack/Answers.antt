@@ -12,17 +12,17 @@ use Rattle.float_digits.proofs.Lengths.{zeros-and-size}
 use Rattle.float_digits.proofs.unpack.Goals as goal
 
 -- The digits as the code has them, and how many there are.
-abbrev D : (c : goal.After-place-k) → ℕ
-D c = bit_and c.args.bits 0x7fff_ffff_ffff_ffff - c.place-k.result * 2 ^ 52 % 2 ^ 64
+abbrev D : (c : goal.After-saturating_sub-k) → ℕ
+D c = bit_and c.args.bits 0x7fff_ffff_ffff_ffff - c.saturating_sub-k.result * 2 ^ 52 % 2 ^ 64
 
-is : (c : goal.After-place-k) → D c ≡ digits_of c.args.bits
-is c = omega (arith, c.place-k.ensures, and_mask c.args.bits 63)
+is : (c : goal.After-saturating_sub-k) → D c ≡ digits_of c.args.bits
+is c = omega (arith, c.saturating_sub-k.ensures, and_mask c.args.bits 63)
 
-short : (c : goal.After-place-k) → size (D c) ≤ 53
-short c = size-le (D c) 53 (omega (arith, c.place-k.ensures, and_mask c.args.bits 63))
+short : (c : goal.After-saturating_sub-k) → size (D c) ≤ 53
+short c = size-le (D c) 53 (omega (arith, c.saturating_sub-k.ensures, and_mask c.args.bits 63))
 
-zeros : (c : goal.After-place-k) → count_leading_zeros 64 (D c) + size (D c) ≡ 64
-zeros c = zeros-and-size 64 (D c) (omega (arith, c.place-k.ensures, and_mask c.args.bits 63))
+zeros : (c : goal.After-saturating_sub-k) → count_leading_zeros 64 (D c) + size (D c) ≡ 64
+zeros c = zeros-and-size 64 (D c) (omega (arith, c.saturating_sub-k.ensures, and_mask c.args.bits 63))
 
 pub overflow_cast-z : goal.overflow_cast-z
 overflow_cast-z c = omega (arith, zeros c)
@@ -34,7 +34,7 @@ pub overflow_shl-result : goal.overflow_shl-result
 overflow_shl-result c = omega (arith, zeros c)
 
 pub overflow_add-result : goal.overflow_add-result
-overflow_add-result c = omega (arith, c.place-k.ensures, and_mask c.args.bits 63)
+overflow_add-result c = omega (arith, c.saturating_sub-k.ensures, and_mask c.args.bits 63)
 
 pub overflow_sub-result-2 : goal.overflow_sub-result-2
 overflow_sub-result-2 c = omega (arith, zeros c)
@@ -42,8 +42,8 @@ overflow_sub-result-2 c = omega (arith, zeros c)
 pub returns : goal.returns
 returns c =
     let z : count_leading_zeros 64 (D c) - 1 ≡ 63 - size (D c) = omega (arith, zeros c) in
-    let e : c.place-k.result + 64 - count_leading_zeros 64 (D c) ≡ c.place-k.result + size (D c) =
+    let e : c.saturating_sub-k.result + 64 - count_leading_zeros 64 (D c) ≡ c.saturating_sub-k.result + size (D c) =
     omega (arith, zeros c) in
     let whole : D c * 2 ^ (63 - size (D c)) % 2 ^ 64 ≡ D c * 2 ^ (63 - size (D c)) =
     shl_exact (size (D c)) (63 - size (D c)) 64 (size-lt (D c)) (omega (arith, short c)) in
-    rw (z, e, whole, is c, c.place-k.ensures, and_mask c.args.bits 63)
+    rw (z, e, whole, is c, c.saturating_sub-k.ensures, and_mask c.args.bits 63)

@@ -1,7 +1,7 @@
 -- `fugnadri_residual::fugnadri_residual_compare` meets its contract, by the two cases of the call's answer. Assumes
 -- nothing.
 use mathlib.Core.Path.{sym, ap, ◌∙◌}
-use Rattle.residual.specs.declared.Place.{Place}
+use Rattle.std.specs.Prelude.{ℕ, Option}
 use Rattle.residual.specs.Refusals.{compared_of}
 use Rattle.fugnadri_residual.specs.Words.{numbers, left_by}
 use Rattle.fugnadri_residual.proofs.fugnadri_residual_compare.Goals as goal
@@ -11,7 +11,7 @@ returns-in-Refused c =
     let s = c.args in
     let n = numbers s.number.now s.largest.now s.placed.now s.place.now s.high.now s.low.now in
     let answer = c.compare-c.ensures
-    ∙ ap (λ (p : Place).
+    ∙ ap (λ (p : Option ℕ).
     compared_of
     (record { number = n.number; largest = n.largest; place = p; high = n.high; low = n.low })
     s.a.now s.b.now)
@@ -23,7 +23,7 @@ returns-in-Carried c =
     let s = c.args in
     let n = numbers s.number.now s.largest.now s.placed.now s.place.now s.high.now s.low.now in
     let answer = c.compare-c.ensures
-    ∙ ap (λ (p : Place).
+    ∙ ap (λ (p : Option ℕ).
     compared_of
     (record { number = n.number; largest = n.largest; place = p; high = n.high; low = n.low })
     s.a.now s.b.now)

@@ -1,5 +1,4 @@
 use mathlib.Core.Bool.{true}
-use Prim.Native.Nat.{◌-◌}
 use Rattle.lagrange.specs.Kernel.{taps_ok, lagrange_at}
 use Rattle.stretch_call.proofs.Loops.{Going}
 use Rattle.lagrange_stretch.proofs.process_stretch.Given as goal
@@ -8,6 +7,3 @@ abbrev pub invariant-loop-k : goal.invariant-loop-k
 invariant-loop-k l =
     Going (lagrange_at l.taps) (taps_ok l.taps) true l.state l.initial.ring l.inputs l.delays l.initial.out l.ring l.out
     l.i l.k
-
-abbrev pub decreases-loop-k : goal.decreases-loop-k
-decreases-loop-k l = l.n - l.k

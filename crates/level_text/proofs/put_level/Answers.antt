@@ -13,9 +13,9 @@ returns-in-None c =
       out_after = c.put.ensures.out_after ∙ ap (put_at _ _) t;
     }
 
-pub returns-in-Below : goal.returns-in-Below
-returns-in-Below c =
-    let t = ap level_text (sym c.in-Below.is) in
+pub returns-in-Some : goal.returns-in-Some
+returns-in-Some c =
+    let t = ap level_text (sym c.in-Some.is) in
     record {
       value = c.put_tenths.ensures.value ∙ ap (place_after _ _) t;
       out_after = c.put_tenths.ensures.out_after ∙ ap (put_at _ _) t;

@@ -9,8 +9,4 @@ abbrev pub invariant-loop-k : goal.invariant-loop-k
 invariant-loop-k l =
     (length l.digits ≡ 20)
     × (l.from ≤ l.k)
-    × (l.k ≤ 20)
     × (last_digits (20 - l.from) l.n ≡ last_digits (l.k - l.from) l.v ++ drop l.k l.digits)
-
-abbrev pub decreases-loop-k : goal.decreases-loop-k
-decreases-loop-k l = l.k

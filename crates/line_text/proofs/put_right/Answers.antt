@@ -14,6 +14,6 @@ pub returns : goal.returns
 returns c =
     let a = c.args in
     let room = a.width - length (decimal a.n) in
-    let count : c.less.result ≡ room = omega (arith, few-digits 20 a.n) in
+    let count : c.saturating_sub.result ≡ room = omega (arith, few-digits 20 a.n) in
     let before = rw count at c.put_blanks-to.ensures in
     then a.out.now (blanks room) (decimal a.n) a.at before c.put_decimal.ensures

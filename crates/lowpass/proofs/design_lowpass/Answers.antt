@@ -1,6 +1,5 @@
 -- `lowpass::design_lowpass` meets its contract: it writes the coefficients, then divides each by their sum. Assumes
 -- nothing.
-use borrow.Author.Rules.{rules}
 use mathlib.Core.Path.{◌≡◌, sym, ◌∙◌}
 use lib.ListN.{length}
 use Rattle.filter_settings.specs.Ranges.{design_verdict}

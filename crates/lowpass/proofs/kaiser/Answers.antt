@@ -1,5 +1,4 @@
 -- `lowpass::kaiser` meets its contract: the result of each step is the definition's. Assumes nothing.
-use borrow.Author.Rules.{rules}
 use lib.Ieee.{of_bits}
 use Rattle.lowpass.proofs.kaiser.Goals as goal
 

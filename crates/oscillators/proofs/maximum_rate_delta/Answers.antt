@@ -1,47 +1,42 @@
 -- `oscillators::maximum_rate_delta` meets its contract. The loop's invariant: the depths that are left, with the sum so
--- far, give what all give. The measure is their number. Assumes nothing.
-use borrow.Author.Rules.{scaled_Fits}
-use mathlib.Core.Path.{refl, sym, ◌∙◌}
-use Prim.Native.Nat.{◌≤◌}
-use native.Mathlib.Omega.{arith}
-use lib.ListN.{length, drop_of_length-le}
+-- far, give what all give. Assumes nothing.
+use Rattle.std.proofs.Common.{◌<◌, ◌≤◌, length, refl, sym, ◌∙◌, arith}
+use lib.ListN.{drop_of_length-le}
 use Rattle.oscillator_arithmetic.specs.Arithmetic.{squares_from, rate_delta}
 use Rattle.oscillators.specs.Answers.{answered_by, depths_ok}
 use Rattle.oscillators.proofs.Squares.{one_more, passes, fails}
 use Rattle.oscillators.proofs.maximum_rate_delta.Goals as goal
 
-pub loop-i-init : goal.loop-i-init
-loop-i-init c = (omega arith, refl, refl)
+pub loop-depth-init : goal.loop-depth-init
+loop-depth-init c = record { sum = refl; good = refl }
 
-pub offset_bounds-depths_cents-i : goal.offset_bounds-depths_cents-i
-offset_bounds-depths_cents-i c = scaled_Fits _ _ 8 c.loop-i-test.true c.well_formed.0.1
-
-pub returns-else-depth_ok : goal.returns-else-depth_ok
+pub returns-then-not-depth_ok : goal.returns-then-not-depth_ok
 unfolding answered_by
-returns-else-depth_ok c =
+returns-then-not-depth_ok c =
     let xs = c.args.depths_cents.now in
     rw (
-      ← c.loop-i.invariant.2,
-      fails xs c.loop-i.i c.loop-i-test.true (sym c.depth_ok.ensures ∙ c.if-depth_ok.false),
+      ← c.loop-depth.invariant.good,
+      fails xs c.loop-depth.depth-index (omega arith) (sym c.depth_ok.ensures ∙ c.if-not-depth_ok.true),
     )
 
-pub loop-i-smaller : goal.loop-i-smaller
-loop-i-smaller c = omega arith
-
-pub loop-i-preserved : goal.loop-i-preserved
-loop-i-preserved c =
+pub loop-depth-preserved : goal.loop-depth-preserved
+loop-depth-preserved c =
     let xs = c.args.depths_cents.now in
-    let i = c.loop-i.i in
-    let h = c.loop-i-test.true in (
-      omega arith,
-      rw (c.speed_delta-delta.ensures, ← one_more xs i h c.loop-i.sum) c.loop-i.invariant.1,
-      rw (← passes xs i h (sym c.depth_ok.ensures ∙ c.if-depth_ok.true))
-          c.loop-i.invariant.2,
-    )
+    let i = c.loop-depth.depth-index in
+    let h : i < length xs = omega arith in
+    record {
+      sum = rw (c.speed_delta-delta.ensures, ← one_more xs i h c.loop-depth.sum) c.loop-depth.invariant.sum;
+      good = rw (← passes xs i h (sym c.depth_ok.ensures ∙ c.if-not-depth_ok.false)) c.loop-depth.invariant.good;
+    }
 
 pub returns : goal.returns
 unfolding answered_by depths_ok squares_from rate_delta
 returns c =
     let xs = c.args.depths_cents.now in
-    let past : length xs ≤ c.loop-i.i = c.loop-i-test.false in
-    rw (← c.loop-i.invariant.2, ← c.loop-i.invariant.1, c.square_root.ensures, drop_of_length-le xs past)
+    let past : length xs ≤ c.loop-depth.depth-index = omega arith in
+    rw (
+      ← c.loop-depth.invariant.good,
+      ← c.loop-depth.invariant.sum,
+      c.square_root.ensures,
+      drop_of_length-le xs past,
+    )

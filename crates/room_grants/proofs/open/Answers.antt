@@ -1,5 +1,4 @@
 -- `room_grants::open` meets its contract: it is refused by the lengths, or both lists are cleared. Assumes nothing.
-use borrow.Author.Tests.{not-true, not-false}
 use mathlib.Core.Path.{◌≡◌, refl, ◌∙◌, ap}
 use mathlib.Core.Bool.{Bool, cond}
 use Rattle.room_grants.specs.Grants.{open_verdict}
@@ -16,7 +15,7 @@ verdict c =
 pub returns-then-not-lengths_agree : goal.returns-then-not-lengths_agree
 returns-then-not-lengths_agree c =
     let no = verdict (goal.at.returns-then-not-lengths_agree c).After-lengths_agree
-    ∙ ap (λ (b : Bool). cond b 0 2) (not-true c.lengths_agree.result c.if-not-lengths_agree.true-raw) in
+    ∙ ap (λ (b : Bool). cond b 0 2) c.if-not-lengths_agree.true in
     let a = c.args in
     let both = by-verdict a.rates.now a.marks.now no refl refl in
     record { value = both.0; rates_after = both.1.0; marks_after = both.1.1 }
@@ -24,7 +23,7 @@ returns-then-not-lengths_agree c =
 pub returns : goal.returns
 returns c =
     let no = verdict (goal.at.returns c).After-lengths_agree
-    ∙ ap (λ (b : Bool). cond b 0 2) (not-false c.lengths_agree.result c.if-not-lengths_agree.false-raw) in
+    ∙ ap (λ (b : Bool). cond b 0 2) c.if-not-lengths_agree.false in
     let a = c.args in
     let both = by-verdict a.rates.now a.marks.now no c.clear.ensures c.clear_marks.ensures in
     record { value = both.0; rates_after = both.1.0; marks_after = both.1.1 }

@@ -1,5 +1,4 @@
 -- `rounded_samples::fits` meets its contract, by the cases of the three kinds. Assumes nothing.
-use borrow.Author.Rules.{rules}
 use Rattle.rounded_samples.proofs.fits.Goals as goal
 
 pub returns-in-Pcm16 : goal.returns-in-Pcm16

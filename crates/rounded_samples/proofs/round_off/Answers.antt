@@ -2,16 +2,12 @@
 use mathlib.Core.Path.{ap, ◌∙◌}
 use native.Mathlib.Omega.{arith}
 use lib.Dec.{lit≤}
-use lib.ListN.{length-set}
 use Rattle.loop_laws.proofs.Writing.{unwritten, written-more, all-written}
 use Rattle.sample_kind.specs.declared.SampleKind.TheVariants.{Pcm24}
 use Rattle.stored_samples.specs.Stored.{word_of}
 use Rattle.whole_samples.proofs.Signs.{units_small, kept}
 use Rattle.rounded_samples.specs.Rounded.{rounded_of}
 use Rattle.rounded_samples.proofs.round_off.Goals as goal
-
-pub loop-k-smaller : goal.loop-k-smaller
-loop-k-smaller c = simp length-set (omega arith)
 
 pub loop-k-preserved : goal.loop-k-preserved
 loop-k-preserved c =

@@ -14,7 +14,7 @@ use Rattle.stretch_call.specs.Items.{before_items}
 use Rattle.stretch_call.proofs.Tests.{unowned}
 use Rattle.stretch_call.proofs.Loops.{Ready, not-begun, starts, ready, stops, all_done}
 use Rattle.sinc_stretch.proofs.process_stretch.Goals as goal
-use Rattle.sinc_stretch.proofs.process_stretch.Goals.{After-refused_first-no, Then-passes}
+use Rattle.sinc_stretch.proofs.process_stretch.Goals.{After-refused_first-no, Else-not-passes}
 
 -- The table's refusals, split into their two tests, stand in the place of the reader's own.
 first : (c : After-refused_first-no)
@@ -46,10 +46,15 @@ loop-k-init c = starts _ _ _ _ _ _ _ _ (first (goal.at.loop-k-init c).After-refu
 pub bounds-delays-k : goal.bounds-delays-k
 bounds-delays-k c = let g = c.loop-k.invariant in omega (arith, g.alike)
 
+pub returns-then-not-passes : goal.returns-then-not-passes
+returns-then-not-passes c =
+    stops _ _ _ _ _ _ _ _ c.loop-k.invariant nan c.loop-k-test.true _ c.due.ensures c.passes.ensures
+    c.if-not-passes.true
+
 -- The item that is accepted.
-here : (c : Then-passes)
+here : (c : Else-not-passes)
     → Ready _ _ _ _ _ _ _ _ c.loop-k.invariant nan c.loop-k-test.true
-here c = ready _ _ _ _ _ _ _ _ c.loop-k.invariant nan _ c.passes.ensures c.if-passes.true
+here c = ready _ _ _ _ _ _ _ _ c.loop-k.invariant nan _ c.passes.ensures c.if-not-passes.false
 
 pub overflow_sub-at : goal.overflow_sub-at
 overflow_sub-at c = (here c).some
@@ -63,37 +68,30 @@ pub bounds-ring-at : goal.bounds-ring-at
 bounds-ring-at c = (here c).inside
 
 pub overflow_add-i : goal.overflow_add-i
-overflow_add-i c = omega (arith, (here (goal.at.overflow_add-i c).Then-passes).below)
+overflow_add-i c = omega (arith, (here (goal.at.overflow_add-i c).Else-not-passes).below)
 
 pub overflow_cast-i : goal.overflow_cast-i
-overflow_cast-i c = (here (goal.at.overflow_cast-i c).Then-passes).cast
+overflow_cast-i c = (here (goal.at.overflow_cast-i c).Else-not-passes).cast
 
 pub int_to_float-i : goal.int_to_float-i
-int_to_float-i c = (here (goal.at.int_to_float-i c).Then-passes).whole_float
+int_to_float-i c = (here (goal.at.int_to_float-i c).Else-not-passes).whole_float
 
 pub bounds-out-k : goal.bounds-out-k
-bounds-out-k c =
-    let g = c.loop-k.invariant in
-    omega (arith, c.loop-k-test.true, g.half.long, g.room)
+bounds-out-k c = let g = c.loop-k.invariant in omega (arith, c.loop-k-test.true, g.half.long, g.room)
 
-pub overflow_add-i-then-passes : goal.overflow_add-i-then-passes
-overflow_add-i-then-passes c = omega (arith, (here (goal.at.overflow_add-i-then-passes c).Then-passes).below)
+pub overflow_add-i-in-loop-k : goal.overflow_add-i-in-loop-k
+overflow_add-i-in-loop-k c = omega (arith, (here (goal.at.overflow_add-i-in-loop-k c).Else-not-passes).below)
 
 pub loop-k-preserved : goal.loop-k-preserved
-loop-k-preserved c = (here (goal.at.loop-k-preserved c).Then-passes).turns
+loop-k-preserved c =
+    (here (goal.at.loop-k-preserved c).Else-not-passes).turns
     (λ own lent range. c.one_nan.ensures ∙ c.read-sample.ensures ∙ rw (both-pass own lent, range))
-
-pub shape_of-out-else-passes : goal.shape_of-out-else-passes
-shape_of-out-else-passes c = c.loop-k.invariant.half.long
-
-pub returns-else-passes : goal.returns-else-passes
-returns-else-passes c =
-    let t = c.loop-k-test.true in
-    stops _ _ _ _ _ _ _ _ c.loop-k.invariant nan t _ c.due.ensures c.passes.ensures
-    c.if-passes.false
 
 pub shape_of-out : goal.shape_of-out
 shape_of-out c = c.loop-k.invariant.half.long
 
 pub returns : goal.returns
-returns c = all_done _ _ _ _ _ _ _ _ c.loop-k.invariant (omega arith)
+returns c =
+    let g = c.loop-k.invariant in
+    let all : c.loop-k.k ≡ length c.args.inputs.now = omega (arith, g.place) in
+    rw (← all) (all_done _ _ _ _ _ _ _ _ g (omega arith))

@@ -1,7 +1,6 @@
 use mathlib.Core.Bool.{◌&&◌}
 use lib.Dec.{eqb}
 use lib.ListN.{length}
-use Prim.Native.Nat.{◌-◌}
 use Rattle.sinc_settings.specs.Ranges.{taps_ok, phases_ok}
 use Rattle.sinc_settings.specs.Refusals.{table_length}
 use Rattle.sinc_read.specs.Reading.{sinc_at}
@@ -13,6 +12,3 @@ invariant-loop-k l =
     Going (sinc_at l.table l.taps l.phases) (taps_ok l.taps && phases_ok l.phases)
     (eqb (length l.table) (table_length l.taps l.phases))
     l.state l.initial.ring l.inputs l.delays l.initial.out l.ring l.out l.i l.k
-
-abbrev pub decreases-loop-k : goal.decreases-loop-k
-decreases-loop-k l = l.n - l.k

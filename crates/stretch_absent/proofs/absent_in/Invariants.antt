@@ -1,10 +1,6 @@
-use Prim.Native.Nat.{◌-◌}
 use Rattle.stretch_absent.proofs.Added.{Adding}
 use Rattle.stretch_absent.proofs.absent_in.Given as goal
 
 abbrev pub invariant-loop-k : goal.invariant-loop-k
 invariant-loop-k l =
     Adding l.len l.before l.delays l.done l.taps l.n l.unwritten l.ahead l.overwritten l.k
-
-abbrev pub decreases-loop-k : goal.decreases-loop-k
-decreases-loop-k l = l.n - l.k

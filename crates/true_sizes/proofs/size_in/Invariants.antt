@@ -1,10 +1,6 @@
-use Prim.Native.Nat.{◌-◌}
 use Rattle.true_sizes.specs.Sizes.{size_in}
 use Rattle.true_sizes.proofs.Table.{Left}
 use Rattle.true_sizes.proofs.size_in.Given as goal
 
 abbrev pub invariant-loop-k : goal.invariant-loop-k
-invariant-loop-k l = Left (size_in l.id) l.opening l.count l.k l.at
-
-abbrev pub decreases-loop-k : goal.decreases-loop-k
-decreases-loop-k l = l.count - l.k
+invariant-loop-k l = Left (size_in l.id) l.opening l.count l.k

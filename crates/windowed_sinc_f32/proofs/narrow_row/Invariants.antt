@@ -1,7 +1,6 @@
-use mathlib.Core.List.{List}
-use Prim.Native.Nat.{ℕ, ◌-◌}
-use lib.ListN.{length, get_or}
-use lib.Ieee.{Float, nan}
+use Rattle.std.proofs.Common.{ℕ, List, get_or}
+use Rattle.std.specs.Prelude.{Float}
+use Rattle.std.specs.Float.{nan}
 use Rattle.rounding.specs.Operations.{narrowed}
 use Rattle.loop_laws.proofs.Writing.{Written}
 use Rattle.windowed_sinc_f32.proofs.narrow_row.Given as goal
@@ -11,6 +10,3 @@ rounded from k = narrowed (get_or from k nan)
 
 abbrev pub invariant-loop-k : goal.invariant-loop-k
 invariant-loop-k l = Written (rounded l.from) l.initial.row l.row l.k
-
-abbrev pub decreases-loop-k : goal.decreases-loop-k
-decreases-loop-k l = length l.row - l.k

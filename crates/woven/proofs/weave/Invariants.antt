@@ -1,11 +1,6 @@
-use Prim.Native.Nat.{◌-◌}
-use lib.ListN.{length}
 use Rattle.loop_laws.proofs.Writing.{Written}
 use Rattle.woven.specs.Woven.{woven_at}
 use Rattle.woven.proofs.weave.Given as goal
 
 abbrev pub invariant-loop-k : goal.invariant-loop-k
 invariant-loop-k l = Written (woven_at l.one l.two) l.initial.out l.out l.k
-
-abbrev pub decreases-loop-k : goal.decreases-loop-k
-decreases-loop-k l = length l.out - l.k

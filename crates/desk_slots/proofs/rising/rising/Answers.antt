@@ -5,7 +5,6 @@ use mathlib.Core.Bool.{◌&&◌}
 use Prim.Native.Nat.{◌+◌}
 use native.Mathlib.Numerals.{add-one}
 use native.Mathlib.Omega.{arith}
-use borrow.Author.Tests.{not-true, not-false}
 use lib.ListN.{get_or, drop}
 use lib.Ieee.{nan, of_bits}
 use Rattle.sinc_settings.specs.Ranges.{one-f}
@@ -16,15 +15,7 @@ use Rattle.desk_slots.proofs.rising.rising.Goals.{After-rises_here}
 
 pub loop-i-init : goal.loop-i-init
 unfolding of_bits
-loop-i-init c = (omega arith, refl)
-
-pub returns-then-i-n : goal.returns-then-i-n
-unfolding of_bits
-returns-then-i-n c =
-    let a = c.args in
-    sym (c.loop-i.invariant.1
-    ∙ nothing_left c.loop-i.low a.rates.now a.marks.now c.loop-i.i
-    (omega (arith, c.if-i-n.true, c.slots-n.ensures)))
+loop-i-init c = refl
 
 -- What the answer is, by slot i and the others.
 split : (c : After-rises_here) →
@@ -36,19 +27,22 @@ split : (c : After-rises_here) →
     (drop (i + 1) a.rates.now) (drop (i + 1) a.marks.now)
 split c =
     let a = c.args in
-    c.loop-i.invariant.1
+    c.loop-i.invariant
     ∙ rw (c.rises_here.ensures, add-one)
-    (slot-by-slot c.loop-i.low a.rates.now a.marks.now c.loop-i.i
-    (omega (arith, c.if-i-n.false, c.slots-n.ensures)))
+    (slot-by-slot c.loop-i.low a.rates.now a.marks.now c.loop-i.i (omega (arith, c.slots-n.ensures)))
 
 pub returns-then-not-rises_here : goal.returns-then-not-rises_here
-returns-then-not-rises_here c = let t = not-true c.rises_here.result c.if-not-rises_here.true-raw in
-    sym (rw t at (split (goal.at.returns-then-not-rises_here c).After-rises_here))
+returns-then-not-rises_here c =
+    let t = c.if-not-rises_here.true in sym (rw t at (split (goal.at.returns-then-not-rises_here c).After-rises_here))
 
 pub loop-i-preserved : goal.loop-i-preserved
 loop-i-preserved c =
-    let t = not-false c.rises_here.result c.if-not-rises_here.false-raw in (
-      omega (arith, c.if-i-n.false),
-      rw c.risen_to-low.ensures
-          (rw t at (split (goal.at.loop-i-preserved c).After-rises_here)),
-    )
+    let t = c.if-not-rises_here.false in
+    rw c.risen_to-low.ensures (rw t at (split (goal.at.loop-i-preserved c).After-rises_here))
+
+pub returns : goal.returns
+unfolding of_bits
+returns c =
+    let a = c.args in
+    sym (c.loop-i.invariant
+    ∙ nothing_left c.loop-i.low a.rates.now a.marks.now c.loop-i.i (omega (arith, c.slots-n.ensures)))

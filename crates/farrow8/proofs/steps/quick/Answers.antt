@@ -16,12 +16,12 @@ returns c = λ f7.
     let e1 = c.near_fused-p6.ensures.sure.is f1 in
     let e2 =
     c.near_fused-p5.ensures.sure.is f2
-    ∙ ap (λ (z : Float). step a.mu z a.s.now.s5) e1 in
+    ∙ ap (λ (z : Float). step a.mu z a.s.s5) e1 in
     let e3 =
     c.near_fused-p4.ensures.sure.is f3
-    ∙ ap (λ (z : Float). step a.mu z a.s.now.s4) e2 in
+    ∙ ap (λ (z : Float). step a.mu z a.s.s4) e2 in
     let e4 =
-    c.near_fused-p3.ensures.sure.is f4 ∙ ap (λ (z : Float). step a.mu z a.s.now.s3) e3 in
-    let e5 = c.near_fused-p2.ensures.sure.is f5 ∙ ap (λ (z : Float). step a.mu z a.s.now.s2) e4 in
-    let e6 = c.near_fused-p1.ensures.sure.is f6 ∙ ap (λ (z : Float). step a.mu z a.s.now.s1) e5 in
-    c.near_fused.ensures.sure.is f7 ∙ ap (λ (z : Float). step a.mu z a.s.now.s0) e6
+    c.near_fused-p3.ensures.sure.is f4 ∙ ap (λ (z : Float). step a.mu z a.s.s3) e3 in
+    let e5 = c.near_fused-p2.ensures.sure.is f5 ∙ ap (λ (z : Float). step a.mu z a.s.s2) e4 in
+    let e6 = c.near_fused-p1.ensures.sure.is f6 ∙ ap (λ (z : Float). step a.mu z a.s.s1) e5 in
+    c.near_fused.ensures.sure.is f7 ∙ ap (λ (z : Float). step a.mu z a.s.s0) e6

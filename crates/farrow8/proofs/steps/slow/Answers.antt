@@ -10,9 +10,9 @@ returns c =
     let e1 = c.fused64-p6.ensures in
     let e2 =
     c.fused64-p5.ensures
-    ∙ ap (λ (z : Float). step a.mu z a.s.now.s5) e1 in
-    let e3 = c.fused64-p4.ensures ∙ ap (λ (z : Float). step a.mu z a.s.now.s4) e2 in
-    let e4 = c.fused64-p3.ensures ∙ ap (λ (z : Float). step a.mu z a.s.now.s3) e3 in
-    let e5 = c.fused64-p2.ensures ∙ ap (λ (z : Float). step a.mu z a.s.now.s2) e4 in
-    let e6 = c.fused64-p1.ensures ∙ ap (λ (z : Float). step a.mu z a.s.now.s1) e5 in
-    c.fused64.ensures ∙ ap (λ (z : Float). step a.mu z a.s.now.s0) e6
+    ∙ ap (λ (z : Float). step a.mu z a.s.s5) e1 in
+    let e3 = c.fused64-p4.ensures ∙ ap (λ (z : Float). step a.mu z a.s.s4) e2 in
+    let e4 = c.fused64-p3.ensures ∙ ap (λ (z : Float). step a.mu z a.s.s3) e3 in
+    let e5 = c.fused64-p2.ensures ∙ ap (λ (z : Float). step a.mu z a.s.s2) e4 in
+    let e6 = c.fused64-p1.ensures ∙ ap (λ (z : Float). step a.mu z a.s.s1) e5 in
+    c.fused64.ensures ∙ ap (λ (z : Float). step a.mu z a.s.s0) e6

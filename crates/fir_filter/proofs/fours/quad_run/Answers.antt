@@ -9,9 +9,6 @@ use Rattle.fir_filter.proofs.PairSums.{earlier-visits}
 use Rattle.fir_filter.proofs.fours.quad_run.Goals as goal
 use Rattle.fir_filter.proofs.fours.quad_run.Goals.{In-loop-p}
 
-pub overflow_sub-end : goal.overflow_sub-end
-overflow_sub-end c = c.requires.few
-
 pub loop-p-init : goal.loop-p-init
 loop-p-init c = (
   begun _ _ _ _ _ _ _ _ c.requires.few,
@@ -29,9 +26,6 @@ fourth c =
 sample : (c : In-loop-p) → c.loop-p.p - 1 < length c.args.history.now
 sample c =
     sample-there _ _ _ _ _ _ _ _ _ _ _ _ c.loop-p.invariant.3 c.loop-p-test.true c.requires
-
-pub overflow_sub-p : goal.overflow_sub-p
-overflow_sub-p c = omega (arith, c.loop-p-test.true)
 
 pub offset_bounds-history-p : goal.offset_bounds-history-p
 offset_bounds-history-p c =
@@ -84,9 +78,6 @@ bounds-coefficients-i-in-loop-p-3 c = fourth (goal.at.bounds-coefficients-i-in-l
 pub overflow_add-i : goal.overflow_add-i
 overflow_add-i c =
     omega (arith, fourth (goal.at.overflow_add-i c).In-loop-p, c.well_formed.0.1)
-
-pub loop-p-smaller : goal.loop-p-smaller
-loop-p-smaller c = let t = c.loop-p-test.true in omega arith
 
 pub loop-p-preserved : goal.loop-p-preserved
 loop-p-preserved c =

@@ -7,9 +7,6 @@ use Rattle.fir_filter.proofs.RunTurns.{begun, coefficient-there, sample-there, g
 use Rattle.fir_filter.proofs.tested.tested_run.Goals as goal
 use Rattle.fir_filter.proofs.tested.tested_run.Goals.{In-loop-p}
 
-pub overflow_sub-end : goal.overflow_sub-end
-overflow_sub-end c = c.requires.few
-
 pub loop-p-init : goal.loop-p-init
 loop-p-init c = begun _ _ _ _ _ _ _ _ c.requires.few
 
@@ -25,9 +22,6 @@ sample : (c : In-loop-p) →
 sample c =
     sample-there _ _ _ _ _ _ _ _ _ _ _ _ c.loop-p.invariant c.loop-p-test.true
     c.requires
-
-pub overflow_sub-p : goal.overflow_sub-p
-overflow_sub-p c = omega (arith, c.loop-p-test.true)
 
 pub offset_bounds-coefficients-i : goal.offset_bounds-coefficients-i
 offset_bounds-coefficients-i c =
@@ -47,9 +41,6 @@ bounds-history-p c = sample (goal.at.bounds-history-p c).In-loop-p
 pub overflow_add-i : goal.overflow_add-i
 overflow_add-i c =
     omega (arith, coefficient (goal.at.overflow_add-i c).In-loop-p, c.requires.short, c.well_formed.0.1)
-
-pub loop-p-smaller : goal.loop-p-smaller
-loop-p-smaller c = let t = c.loop-p-test.true in omega arith
 
 pub loop-p-preserved : goal.loop-p-preserved
 loop-p-preserved c =

@@ -5,7 +5,4 @@ use Rattle.fir_filter.proofs.tested.tested_run.Given as goal
 
 abbrev pub invariant-loop-p : goal.invariant-loop-p
 invariant-loop-p l =
-    Going add_to l.coefficients l.history l.index l.step l.above l.count l.start l.end l.sum l.i l.p
-
-abbrev pub decreases-loop-p : goal.decreases-loop-p
-decreases-loop-p l = l.p - l.end
+    Going add_to l.coefficients l.history l.index l.step l.above l.count l.start (l.above - l.count) l.sum l.i l.p

@@ -14,44 +14,17 @@ unfolding of_bits
 one = refl
 
 pub loop-h-init : goal.loop-h-init
-loop-h-init c = (omega arith, ones c.args.local (2 * c.args.f) one)
+loop-h-init c = ones c.args.local (2 * c.args.f) one
 
 pub loop-h-preserved : goal.loop-h-preserved
 loop-h-preserved c =
     let a = c.args in
-    let t = c.loop-h-test.true in (
-      omega arith,
-      subst (λ (n : ℕ). Weights a.local (2 * a.f) n c.pass-v.result) (omega arith)
-          (pass a.local (2 * a.f) (omega arith) a.own c.requires.1 (2 * c.loop-h.h)
-          (λ k i. (λ e. omega arith, λ e. omega arith)) _ _ c.number.ensures
-          c.number-in-loop-h.ensures _ c.loop-h.invariant.1 c.pass-v.ensures),
-    )
+    subst (λ (n : ℕ). Weights a.local (2 * a.f) n c.pass-v.result) (omega arith)
+    (pass a.local (2 * a.f) (omega arith) a.own c.requires.1 (2 * c.loop-h.h)
+    (λ k i. (λ e. omega arith, λ e. omega arith)) _ _ c.number.ensures
+    c.number-in-loop-h.ensures _ c.loop-h.invariant c.pass-v.ensures)
 
 pub returns : goal.returns
 returns c =
     let a = c.args in
-    subst (λ (n : ℕ). Weights a.local (2 * a.f) n c.loop-h.w) (omega arith) c.loop-h.invariant.1
-
-pub overflow_mul-h : goal.overflow_mul-h
-overflow_mul-h c = omega arith
-
-pub number-requires : goal.number-requires
-number-requires c = omega arith
-
-pub overflow_mul-h-in-loop-h : goal.overflow_mul-h-in-loop-h
-overflow_mul-h-in-loop-h c = omega arith
-
-pub overflow_add-h : goal.overflow_add-h
-overflow_add-h c = omega arith
-
-pub number-requires-in-loop-h : goal.number-requires-in-loop-h
-number-requires-in-loop-h c = omega arith
-
-pub pass-v-requires : goal.pass-v-requires
-pass-v-requires c = tt
-
-pub overflow_add-h-in-loop-h : goal.overflow_add-h-in-loop-h
-overflow_add-h-in-loop-h c = omega arith
-
-pub loop-h-smaller : goal.loop-h-smaller
-loop-h-smaller c = omega arith
+    subst (λ (n : ℕ). Weights a.local (2 * a.f) n c.loop-h.w) (omega arith) c.loop-h.invariant

@@ -1,9 +1,6 @@
-use Prim.Native.Nat.{◌+◌, ◌-◌, ◌*◌, ◌≤◌, min}
+use Prim.Native.Nat.{◌*◌, min}
 use Rattle.lagrange.specs.Eights.{Weights}
 use Rattle.lagrange.proofs.lanes.nodes_behind.Given as goal
 
 abbrev pub invariant-loop-h : goal.invariant-loop-h
-invariant-loop-h l = (l.f + 4 ≤ l.h) × Weights l.local (2 * l.f) (2 * min l.h l.pairs) l.w
-
-abbrev pub decreases-loop-h : goal.decreases-loop-h
-decreases-loop-h l = l.pairs - l.h
+invariant-loop-h l = Weights l.local (2 * l.f) (2 * min l.h l.pairs) l.w

@@ -14,7 +14,7 @@ use Rattle.lagrange.specs.Eights.{tap_turn}
 use Rattle.lagrange.proofs.sums.one_by_one.Goals as goal
 
 pub loop-k-init : goal.loop-k-init
-loop-k-init c = (omega arith, none _ _)
+loop-k-init c = none _ _
 
 pub tap_after-requires : goal.tap_after-requires
 tap_after-requires c =
@@ -22,36 +22,17 @@ tap_after-requires c =
 
 pub loop-k-preserved : goal.loop-k-preserved
 loop-k-preserved c =
-    let a = c.args in (
-      omega arith,
-      turn
-          (tap_turn (λ k. tap_of a.source.now a.count (to_z w64 (of_z w64 a.base) +ℤ pos (a.first + k)))
-          a.w)
-          a.sum c.loop-k.k c.loop-k.sum _ c.loop-k.invariant.1 (rw c.tap_after.ensures),
-    )
+    let a = c.args in
+    turn (tap_turn (λ k. tap_of a.source.now a.count (to_z w64 (of_z w64 a.base) +ℤ pos (a.first + k))) a.w) a.sum
+    c.loop-k.k c.loop-k.sum _ c.loop-k.invariant (rw c.tap_after.ensures)
 
 pub returns : goal.returns
 returns c =
     let a = c.args in
-    c.loop-k.invariant.1
+    c.loop-k.invariant
     ∙ ap
     (λ (z : ℤ). fold (tap_turn (λ (k : ℕ). tap_of a.source.now a.count (z +ℤ pos (a.first + k))) a.w)
     a.sum c.loop-k.k) (to_z-of_z w64 a.base c.ranges.base)
     ∙ ap
     (fold (tap_turn (λ (k : ℕ). tap_of a.source.now a.count (a.base +ℤ pos (a.first + k))) a.w)
     a.sum) (omega arith)
-
-pub overflow_add-first : goal.overflow_add-first
-overflow_add-first c = omega arith
-
-pub offset_bounds-w-k : goal.offset_bounds-w-k
-offset_bounds-w-k c = omega arith
-
-pub bounds-w-k : goal.bounds-w-k
-bounds-w-k c = omega arith
-
-pub overflow_add-k : goal.overflow_add-k
-overflow_add-k c = omega arith
-
-pub loop-k-smaller : goal.loop-k-smaller
-loop-k-smaller c = omega arith

@@ -1,5 +1,5 @@
 use mathlib.Core.Path.{◌≡◌}
-use Prim.Native.Nat.{◌+◌, ◌-◌, ◌≤◌}
+use Prim.Native.Nat.{◌+◌}
 use lib.IntN.{pos, ◌+ℤ◌}
 use Rattle.loop_laws.specs.Loops.{fold}
 use Rattle.ring.specs.Taps.{tap_of}
@@ -8,8 +8,4 @@ use Rattle.lagrange.proofs.sums.one_by_one.Given as goal
 
 abbrev pub invariant-loop-k : goal.invariant-loop-k
 invariant-loop-k l =
-    (l.k ≤ l.n) × (l.sum ≡ fold (tap_turn (λ kk. tap_of l.source l.count (l.base +ℤ pos (l.first + kk))) l.w) l.sum-2
-    l.k)
-
-abbrev pub decreases-loop-k : goal.decreases-loop-k
-decreases-loop-k l = l.n - l.k
+    l.sum ≡ fold (tap_turn (λ kk. tap_of l.source l.count (l.base +ℤ pos (l.first + kk))) l.w) l.sum-2 l.k

@@ -1,5 +1,5 @@
 use mathlib.Core.Path.{◌≡◌}
-use Prim.Native.Nat.{◌+◌, ◌-◌, ◌≤◌}
+use Prim.Native.Nat.{◌+◌}
 use lib.ListN.{get_or}
 use lib.Ieee.{nan}
 use Rattle.loop_laws.specs.Loops.{fold}
@@ -8,7 +8,4 @@ use Rattle.lagrange.proofs.sums.run.Given as goal
 
 abbrev pub invariant-loop-k : goal.invariant-loop-k
 invariant-loop-k l =
-    (l.k ≤ l.n) × (l.sum ≡ fold (tap_turn (λ kk. get_or l.source (l.place + kk) nan) l.w) l.sum-2 l.k)
-
-abbrev pub decreases-loop-k : goal.decreases-loop-k
-decreases-loop-k l = l.n - l.k
+    l.sum ≡ fold (tap_turn (λ kk. get_or l.source (l.place + kk) nan) l.w) l.sum-2 l.k

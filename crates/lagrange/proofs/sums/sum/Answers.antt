@@ -1,12 +1,12 @@
--- `lagrange::sums::sum` meets its contract: after each turn the sum is the fold over the blocks so far.
--- Assumes nothing.
+-- `lagrange::sums::sum` meets its contract: it is the fold over the first block, or over both. Assumes nothing.
 use mathlib.Core.Path.{◌≡◌, refl, ◌∙◌, ap}
-use Prim.Native.Nat.{◌*◌, min}
+use mathlib.Core.List.{List}
+use Prim.Native.Nat.{ℕ, ◌*◌, ◌≤◌, min}
 use native.Mathlib.Omega.{arith}
 use lib.IntN.{ℤ}
-use lib.Ieee.{binary64, of_bits}
+use lib.Ieee.{Float, binary64, of_bits}
 use mir.Syntax.{w64}
-use mir.Val.{to_z, of_z}
+use mir.Val.{SFits, to_z, of_z}
 use mir.ValLaws.{to_z-of_z}
 use Rattle.loop_laws.specs.Loops.{fold}
 use Rattle.loop_laws.proofs.Folds.{none}
@@ -17,44 +17,42 @@ nothing : of_bits binary64 0 ≡ zero-f
 unfolding of_bits
 nothing = refl
 
-pub loop-f-init : goal.loop-f-init
-loop-f-init c =
-    let a = c.args in
-    let step = turn_of a.source.now a.count (to_z w64 (of_z w64 a.base)) a.local (2 * a.pairs) in
-    nothing ∙ none step zero-f ∙ ap (fold step zero-f) (omega arith)
+-- After a block that goes as far as the last pair no tap is left.
+whole : (xs : List Float) (count : ℕ) (base : ℤ) (local : Float) (pairs f : ℕ) {r : Float} → SFits w64 base → pairs ≤ f
+    → r ≡ fold (turn_of xs count (to_z w64 (of_z w64 base)) local (2 * pairs)) zero-f (2 * min f pairs)
+    → r ≡ fold (turn_of xs count base local (2 * pairs)) zero-f (2 * pairs)
+whole xs count base local pairs f fits far e =
+    e
+    ∙ ap (λ (z : ℤ). fold (turn_of xs count z local (2 * pairs)) zero-f (2 * min f pairs)) (to_z-of_z w64 base fits)
+    ∙ ap (fold (turn_of xs count base local (2 * pairs)) zero-f) (omega arith)
 
-pub block-sum-requires : goal.block-sum-requires
-block-sum-requires c =
-    let a = c.args in
-    let step = turn_of a.source.now a.count (to_z w64 (of_z w64 a.base)) a.local (2 * a.pairs) in
-    let less = c.loop-f-test.true in (
+pub block-front-requires : goal.block-front-requires
+block-front-requires c =
+    let a = c.args in (
       rw (to_z-of_z w64 a.base c.ranges.base) c.requires.0,
-      less,
+      omega arith,
       c.requires.2,
       c.start-s.ensures,
-      c.loop-f.invariant ∙ ap (fold step zero-f) (omega arith),
+      nothing ∙ none _ zero-f,
     )
 
-pub loop-f-preserved : goal.loop-f-preserved
-loop-f-preserved c = c.block-sum.ensures
+pub returns-then-pairs-le4 : goal.returns-then-pairs-le4
+returns-then-pairs-le4 c =
+    let a = c.args in
+    whole a.source.now a.count a.base a.local a.pairs 4 c.ranges.base c.if-pairs-le4.true c.block-front.ensures
+
+pub block-requires : goal.block-requires
+block-requires c =
+    let a = c.args in
+    let step = turn_of a.source.now a.count (to_z w64 (of_z w64 a.base)) a.local (2 * a.pairs) in (
+      rw (to_z-of_z w64 a.base c.ranges.base) c.requires.0,
+      c.if-pairs-le4.false,
+      c.requires.2,
+      c.start-s.ensures,
+      c.block-front.ensures ∙ ap (fold step zero-f) (omega arith),
+    )
 
 pub returns : goal.returns
 returns c =
     let a = c.args in
-    c.loop-f.invariant
-    ∙ ap
-    (λ (z : ℤ). fold (turn_of a.source.now a.count z a.local (2 * a.pairs)) zero-f
-    (2 * min c.loop-f.f a.pairs)) (to_z-of_z w64 a.base c.ranges.base)
-    ∙ ap (fold (turn_of a.source.now a.count a.base a.local (2 * a.pairs)) zero-f) (omega arith)
-
-pub overflow_mul-pairs : goal.overflow_mul-pairs
-overflow_mul-pairs c = omega arith
-
-pub start-s-requires : goal.start-s-requires
-start-s-requires c = omega arith
-
-pub overflow_add-f : goal.overflow_add-f
-overflow_add-f c = omega arith
-
-pub loop-f-smaller : goal.loop-f-smaller
-loop-f-smaller c = omega arith
+    whole a.source.now a.count a.base a.local a.pairs 8 c.ranges.base (omega arith) c.block.ensures

@@ -8,7 +8,7 @@ use Rattle.oversampled_delay.proofs.Inner.{only-four-inside}
 use Rattle.oversampled_delay.proofs.phases.phases.Goals as goal
 
 pub loop-k-init : goal.loop-k-init
-loop-k-init c = (omega arith, refl, refl, no-phase _ _)
+loop-k-init c = (refl, refl, no-phase _ _)
 
 pub rate_of-rate-requires : goal.rate_of-rate-requires
 rate_of-rate-requires c = c.requires.1.either
@@ -25,22 +25,15 @@ phase-inner-requires c =
       only-four-inside
           (turn_of (read_by a.kernel a.table.now) a.state a.coefficients.now a.up.now a.from
           a.delay) (high_of a.state.inner a.down.now a.ring.now) r c.requires.1
-          (subst T (sym c.well_formed.1.1.1.1.1.1.1.0.1) tt) refl c.loop-k.k t c.loop-k.invariant.3,
+          (subst T (sym c.well_formed.1.1.1.1.1.1.1.0.1) tt) refl c.loop-k.k t c.loop-k.invariant.2,
     )
-
-pub overflow_add-k : goal.overflow_add-k
-overflow_add-k c = search rules
-
-pub loop-k-smaller : goal.loop-k-smaller
-loop-k-smaller c = search rules
 
 pub loop-k-preserved : goal.loop-k-preserved
 loop-k-preserved c =
     let i = c.loop-k.invariant in (
-      omega (arith, c.loop-k-test.true),
       search rules,
       search rules,
-      one_more _ _ c.loop-k.k i.3 (
+      one_more _ _ c.loop-k.k i.2 (
         c.phase-inner.ensures.value,
         (c.phase-inner.ensures.down_after, c.phase-inner.ensures.ring_after),
       ),
@@ -50,8 +43,8 @@ pub returns : goal.returns
 returns c =
     let i = c.loop-k.invariant in
     let a = c.args in
-    let all : c.loop-k.k ≡ a.state.factor = omega (arith, i.0, c.loop-k-test.false) in
-    let e = i.3 ∙ ap (phases_of _ _) all in
+    let all : c.loop-k.k ≡ a.state.factor = omega arith in
+    let e = i.2 ∙ ap (phases_of _ _) all in
     record {
       value = ap (λ (h : High). h.inner) e;
       down_after = ap (λ (h : High). h.down) e;

@@ -20,16 +20,10 @@ overflow_add-high c =
 pub returns : goal.returns
 returns c =
     step_is c.args.t c.args.d c.requires.0.half (square-below c.args.d c.requires.1)
-    c.wrapping_add_u64-low.ensures.value c.chosen_u32.ensures c.chosen.ensures c.carry.ensures
+    c.wrapping_add_u64-low.ensures.value c.chosen.ensures c.chosen-2.ensures c.carry.ensures
 
 pub wrapping_add_u64-low-requires : goal.wrapping_add_u64-low-requires
 wrapping_add_u64-low-requires c = tt
 
 pub carry-requires : goal.carry-requires
 carry-requires c = tt
-
-pub chosen_u32-requires : goal.chosen_u32-requires
-chosen_u32-requires c = tt
-
-pub chosen-requires : goal.chosen-requires
-chosen-requires c = tt

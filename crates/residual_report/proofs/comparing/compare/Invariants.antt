@@ -1,10 +1,6 @@
--- `residual_report::comparing::compare` ends: its turns are counted. Assumes nothing.
-use mathlib.Core.Path.{◌≡◌}
-use lib.ListN.{length}
+-- `residual_report::comparing::compare` ends: each block has a frame at least. Assumes nothing.
+use Prim.Native.Nat.{◌-◌}
 use Rattle.residual_report.proofs.comparing.compare.Given as goal
 
-abbrev pub invariant-loop-turns : goal.invariant-loop-turns
-invariant-loop-turns l = length l.peaks ≡ length l.initial.peaks
-
-abbrev pub decreases-loop-turns : goal.decreases-loop-turns
-decreases-loop-turns l = l.turns
+abbrev pub decreases-loop-done : goal.decreases-loop-done
+decreases-loop-done l = l.frames - l.done

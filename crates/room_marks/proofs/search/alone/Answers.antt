@@ -6,7 +6,7 @@ use mathlib.Core.List.{List}
 use Prim.Native.Nat.{ℕ, suc, ◌+◌, ◌-◌}
 use native.Mathlib.Numerals.{add-one}
 use native.Mathlib.Omega.{arith}
-use borrow.Author.Tests.{ne_eqb, not-true, not-false}
+use borrow.Author.Tests.{ne_eqb}
 use lib.Dec.{eqb}
 use lib.ListN.{length, get_or, take, drop, length-drop}
 use lib.Seq.{take_all}
@@ -38,7 +38,7 @@ pub returns-then-not-both : goal.returns-then-not-both
 returns-then-not-both c =
     let a = c.args in
     sym (held-alone a.rates.now a.marks.now a.i (held (goal.at.returns-then-not-both c).Else-mark-eq0)
-    ∙ rw (tested (goal.at.returns-then-not-both c).After-both ∙ not-true c.both.result c.if-not-both.true-raw))
+    ∙ rw (tested (goal.at.returns-then-not-both c).After-both ∙ c.if-not-both.true))
 
 rest : {A : Type 0} (xs : List A) (i n : ℕ) → n ≡ length xs - (i + 1) → take n (drop (i + 1) xs) ≡ drop (suc i) xs
 rest xs i n e = rw add-one (take_all n (drop (suc i) xs) (simp length-drop (omega arith)))
@@ -59,4 +59,4 @@ pub returns : goal.returns
 returns c =
     let a = c.args in
     sym (held-alone a.rates.now a.marks.now a.i (held (goal.at.returns c).Else-mark-eq0)
-    ∙ rw (tested (goal.at.returns c).After-both ∙ not-false c.both.result c.if-not-both.false-raw, later c))
+    ∙ rw (tested (goal.at.returns c).After-both ∙ c.if-not-both.false, later c))

@@ -1,38 +1,29 @@
 -- `room_marks::search::first` meets its contract: no slot that the loop has passed is wanted. Assumes nothing.
-use mathlib.Core.Path.{sym, ◌∙◌}
-use Prim.Native.Nat.{◌<◌}
+use mathlib.Core.Path.{◌≡◌, sym, ◌∙◌}
 use native.Mathlib.Omega.{arith}
-use Rattle.room_marks.specs.Search.{suits_of, shorter}
+use Rattle.room_marks.specs.Search.{suits_of}
 use Rattle.room_marks.proofs.Searching.{at_first, at-end, found, goes_on}
 use Rattle.room_marks.proofs.search.first.Goals as goal
-use Rattle.room_marks.proofs.search.first.Goals.{Else-i-n}
 
 pub loop-i-init : goal.loop-i-init
-loop-i-init c = (omega arith, at_first _ _ _)
-
-pub returns-then-i-n : goal.returns-then-i-n
-returns-then-i-n c =
-    let a = c.args in
-    at-end (suits_of a.wanted) a.rates.now a.marks.now c.loop-i.i c.loop-i.invariant.1
-    (omega (arith, c.if-i-n.true, c.slots-n.ensures))
-
--- Slot i is one of them.
-below : (c : Else-i-n) → let a = c.args in
-    c.loop-i.i < shorter a.rates.now a.marks.now
-below c = omega (arith, c.if-i-n.false, c.slots-n.ensures)
+loop-i-init c = at_first _ _ _
 
 pub returns-then-suits : goal.returns-then-suits
 returns-then-suits c =
     let a = c.args in
-    found (suits_of a.wanted) a.rates.now a.marks.now c.loop-i.i c.loop-i.invariant.1
-    (below (goal.at.returns-then-suits c).Else-i-n)
-    (sym c.suits.ensures ∙ c.if-suits.true)
+    found (suits_of a.wanted) a.rates.now a.marks.now c.loop-i.i c.loop-i.invariant
+    (omega (arith, c.slots-n.ensures)) (sym c.suits.ensures ∙ c.if-suits.true)
 
 pub loop-i-preserved : goal.loop-i-preserved
 loop-i-preserved c =
-    let a = c.args in (
-      omega (arith, c.if-i-n.false),
-      goes_on (suits_of a.wanted) a.rates.now a.marks.now c.loop-i.i c.loop-i.invariant.1
-          (below (goal.at.loop-i-preserved c).Else-i-n)
-          (sym c.suits.ensures ∙ c.if-suits.false),
-    )
+    let a = c.args in
+    goes_on (suits_of a.wanted) a.rates.now a.marks.now c.loop-i.i c.loop-i.invariant
+    (omega (arith, c.slots-n.ensures)) (sym c.suits.ensures ∙ c.if-suits.false)
+
+pub returns : goal.returns
+returns c =
+    let a = c.args in
+    let e : c.slots-n.result ≡ c.loop-i.i = omega arith in
+    e
+    ∙ at-end (suits_of a.wanted) a.rates.now a.marks.now c.loop-i.i c.loop-i.invariant
+    (omega (arith, c.slots-n.ensures))

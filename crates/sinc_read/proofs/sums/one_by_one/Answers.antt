@@ -16,60 +16,28 @@ use Rattle.sinc_read.specs.Sums.{tap_turn}
 use Rattle.sinc_phases.proofs.RowsInTable.{next_row}
 use Rattle.sinc_read.proofs.sums.one_by_one.Goals as goal
 
-pub overflow_mul-row : goal.overflow_mul-row
-overflow_mul-row c = omega arith
-
-pub overflow_add-next : goal.overflow_add-next
-overflow_add-next c = omega arith
-
 nothing : of_bits binary64 0 ≡ zero-f
 unfolding of_bits
 nothing = refl
 
 pub loop-k-init : goal.loop-k-init
-loop-k-init c = (omega arith, nothing ∙ none _ _)
-
-pub overflow_add-a : goal.overflow_add-a
-overflow_add-a c = omega arith
-
-pub offset_bounds-table-row : goal.offset_bounds-table-row
-offset_bounds-table-row c = omega arith
-
-pub bounds-table-row : goal.bounds-table-row
-bounds-table-row c = omega arith
+loop-k-init c = nothing ∙ none _ _
 
 pub tap_after-x-requires : goal.tap_after-x-requires
 tap_after-x-requires c =
     (subst (λ (z : ℤ). mag z ≤ 2 ^ 37) (sym (to_z-of_z w64 c.args.first c.ranges.first)) c.requires.2, omega arith)
 
-pub overflow_add-sum : goal.overflow_add-sum
-overflow_add-sum c = omega arith
-
-pub offset_bounds-table-next : goal.offset_bounds-table-next
-offset_bounds-table-next c = omega arith
-
-pub bounds-table-next : goal.bounds-table-next
-bounds-table-next c = omega arith
-
-pub overflow_add-k : goal.overflow_add-k
-overflow_add-k c = omega arith
-
-pub loop-k-smaller : goal.loop-k-smaller
-loop-k-smaller c = omega arith
-
 pub loop-k-preserved : goal.loop-k-preserved
 loop-k-preserved c =
     let a = c.args in
-    let x : ℕ → Float = λ (k : ℕ). tap_of a.source.now a.count (to_z w64 (of_z w64 a.first) +ℤ pos k) in (
-      omega arith,
-      turn (tap_turn x a.table.now a.blend a.taps a.phase) zero-f c.loop-k.k c.loop-k.sum _
-          c.loop-k.invariant.1 (rw (c.tap_after-x.ensures, next_row a.phase a.taps)),
-    )
+    let x : ℕ → Float = λ (k : ℕ). tap_of a.source.now a.count (to_z w64 (of_z w64 a.first) +ℤ pos k) in
+    turn (tap_turn x a.table.now a.blend a.taps a.phase) zero-f c.loop-k.k c.loop-k.sum _
+    c.loop-k.invariant (rw (c.tap_after-x.ensures, next_row a.phase a.taps))
 
 pub returns : goal.returns
 returns c =
     let a = c.args in
-    c.loop-k.invariant.1
+    c.loop-k.invariant
     ∙ ap (λ (z : ℤ). fold
     (tap_turn (λ (k : ℕ). tap_of a.source.now a.count (z +ℤ pos k)) a.table.now a.blend a.taps
     a.phase) zero-f c.loop-k.k)

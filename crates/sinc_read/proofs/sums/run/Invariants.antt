@@ -1,12 +1,7 @@
-use mathlib.Core.Path.{◌≡◌}
-use Prim.Native.Nat.{◌-◌, ◌≤◌}
+use Rattle.std.proofs.Common.{◌≡◌}
 use Rattle.loop_laws.specs.Loops.{fold}
 use Rattle.sinc_read.specs.Sums.{run_turn}
 use Rattle.sinc_read.proofs.sums.run.Given as goal
 
 abbrev pub invariant-loop-k : goal.invariant-loop-k
-invariant-loop-k l =
-    (l.k ≤ l.n) × (l.sum ≡ fold (run_turn l.table l.row l.next l.blend l.source l.place) l.sum-2 l.k)
-
-abbrev pub decreases-loop-k : goal.decreases-loop-k
-decreases-loop-k l = l.n - l.k
+invariant-loop-k l = l.sum ≡ fold (run_turn l.table l.row l.next l.blend l.source l.place) l.sum-2 l.k

@@ -24,7 +24,6 @@ use Rattle.sinc_read_f32.proofs.absent.one_by_one.Goals as goal
 pub loop-k-init : goal.loop-k-init
 unfolding fits
 loop-k-init c = (
-  omega arith,
   subst (λ (z : Float). T (fits binary32 z)) (sym (zero_bits binary64)) tt,
   zero_bits binary64 ∙ none _ _,
 )
@@ -37,18 +36,17 @@ pub loop-k-preserved : goal.loop-k-preserved
 loop-k-preserved c =
     let a = c.args in
     let x : ℕ → Float = λ (k : ℕ). tap_of a.source.now a.count (to_z w64 (of_z w64 a.first) +ℤ pos k) in (
-      omega arith,
       subst (λ (z : Float). T (fits binary32 z)) (sym c.step-held.ensures) (fused-fits binary32 _ _ _),
       turn (tap_turn x a.table.now a.blend a.taps a.phase) zero-f c.loop-k.k c.loop-k.held _
-          c.loop-k.invariant.2 (c.step-held.ensures ∙ rw (c.tap_after-x.ensures, next_row a.phase a.taps)),
+          c.loop-k.invariant.1 (c.step-held.ensures ∙ rw (c.tap_after-x.ensures, next_row a.phase a.taps)),
     )
 
 pub returns : goal.returns
 returns c =
     let a = c.args in
     c.narrow.ensures
-    ∙ narrowed-own c.loop-k.held c.loop-k.invariant.1
-    ∙ c.loop-k.invariant.2
+    ∙ narrowed-own c.loop-k.held c.loop-k.invariant.0
+    ∙ c.loop-k.invariant.1
     ∙ ap (λ (z : ℤ). fold
     (tap_turn (λ (k : ℕ). tap_of a.source.now a.count (z +ℤ pos k)) a.table.now a.blend a.taps
     a.phase) zero-f c.loop-k.k)
@@ -56,33 +54,3 @@ returns c =
     ∙ ap (fold
     (tap_turn (λ (k : ℕ). tap_of a.source.now a.count (a.first +ℤ pos k)) a.table.now a.blend
     a.taps a.phase) zero-f) (omega arith)
-
-pub overflow_mul-row : goal.overflow_mul-row
-overflow_mul-row c = omega arith
-
-pub overflow_add-next : goal.overflow_add-next
-overflow_add-next c = omega arith
-
-pub overflow_add-a : goal.overflow_add-a
-overflow_add-a c = omega arith
-
-pub offset_bounds-table-row : goal.offset_bounds-table-row
-offset_bounds-table-row c = omega arith
-
-pub bounds-table-row : goal.bounds-table-row
-bounds-table-row c = omega arith
-
-pub overflow_add-next-in-loop-k : goal.overflow_add-next-in-loop-k
-overflow_add-next-in-loop-k c = omega arith
-
-pub offset_bounds-table-next : goal.offset_bounds-table-next
-offset_bounds-table-next c = omega arith
-
-pub bounds-table-next : goal.bounds-table-next
-bounds-table-next c = omega arith
-
-pub overflow_add-k : goal.overflow_add-k
-overflow_add-k c = omega arith
-
-pub loop-k-smaller : goal.loop-k-smaller
-loop-k-smaller c = omega arith

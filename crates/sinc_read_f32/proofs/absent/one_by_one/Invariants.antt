@@ -1,5 +1,5 @@
 use mathlib.Core.Path.{◌≡◌}
-use Prim.Native.Nat.{ℕ, ◌-◌, ◌≤◌}
+use Prim.Native.Nat.{ℕ}
 use lib.Dec.{T}
 use lib.IntN.{pos, ◌+ℤ◌}
 use lib.Ieee.{binary32, fits}
@@ -11,10 +11,7 @@ use Rattle.sinc_read_f32.proofs.absent.one_by_one.Given as goal
 
 abbrev pub invariant-loop-k : goal.invariant-loop-k
 invariant-loop-k l =
-    (l.k ≤ l.taps) × (T (fits binary32 l.held))
+    (T (fits binary32 l.held))
     × (l.held
     ≡ fold (tap_turn (λ (kk : ℕ). tap_of l.source l.count (l.first +ℤ pos kk)) l.table l.blend l.taps l.phase) zero-f
     l.k)
-
-abbrev pub decreases-loop-k : goal.decreases-loop-k
-decreases-loop-k l = l.taps - l.k

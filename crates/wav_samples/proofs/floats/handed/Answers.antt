@@ -1,7 +1,6 @@
 -- `wav_samples::floats::handed` meets its contract: the loop writes a list by a rule, and no pattern is a NaN's.
 -- Assumes nothing.
 use native.Mathlib.Omega.{arith}
-use lib.ListN.{length-set}
 use Rattle.loop_laws.proofs.Writing.{unwritten, written-more, all-written}
 use Rattle.wav_samples.proofs.floats.handed.Goals as goal
 
@@ -15,9 +14,6 @@ loop-k-init c = unwritten
 
 pub bounds-kept-k : goal.bounds-kept-k
 bounds-kept-k c = omega (arith, c.requires.0, c.loop-k.invariant.long)
-
-pub loop-k-smaller : goal.loop-k-smaller
-loop-k-smaller c = simp length-set (omega arith)
 
 pub loop-k-preserved : goal.loop-k-preserved
 loop-k-preserved c = written-more c.loop-k.invariant (omega arith) c.of_number.ensures

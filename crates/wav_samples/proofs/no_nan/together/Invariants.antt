@@ -1,9 +1,6 @@
-use Prim.Native.Nat.{◌-◌, ◌%◌}
+use Prim.Native.Nat.{◌%◌}
 use Rattle.wav_samples.specs.Frames.{patterns, NoneAbove}
 use Rattle.wav_samples.proofs.no_nan.together.Given as goal
 
 abbrev pub invariant-loop-k : goal.invariant-loop-k
 invariant-loop-k l = NoneAbove (patterns l.part l.frame l.first) l.k (l.all % 0x8000_0000)
-
-abbrev pub decreases-loop-k : goal.decreases-loop-k
-decreases-loop-k l = l.count - l.k

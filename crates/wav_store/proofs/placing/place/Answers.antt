@@ -1,17 +1,24 @@
 -- `wav_store::placing::place` meets its contract, by the cases of the three kinds. Assumes nothing.
+use mathlib.Core.Path.{◌∙◌}
+use Rattle.std.proofs.Common.{rules}
+use Rattle.sample_kind.specs.declared.SampleKind.TheVariants.{Pcm16, Pcm24}
+use Rattle.stored_samples.specs.Stored.{word_of}
+use Rattle.wav_store.proofs.Words.{words-bytes}
 use Rattle.wav_store.proofs.placing.place.Goals as goal
 
-pub place16-requires : goal.place16-requires
-place16-requires c = (rw c.in-Pcm16.is at c.requires).long
+pub place_words-requires-clause-long : goal.place_words-requires-clause-long
+place_words-requires-clause-long c = (rw c.in-Pcm16.is at c.requires).long
 
 pub returns-in-Pcm16 : goal.returns-in-Pcm16
-returns-in-Pcm16 c = rw c.in-Pcm16.is c.place16.ensures
+returns-in-Pcm16 c =
+    rw c.in-Pcm16.is (c.place_words.ensures (word_of Pcm16) (λ x r h. search rules) ∙ words-bytes Pcm16 _)
 
-pub place24-requires : goal.place24-requires
-place24-requires c = (rw c.in-Pcm24.is at c.requires).long
+pub place_words-requires-in-Pcm24-clause-long : goal.place_words-requires-in-Pcm24-clause-long
+place_words-requires-in-Pcm24-clause-long c = (rw c.in-Pcm24.is at c.requires).long
 
 pub returns-in-Pcm24 : goal.returns-in-Pcm24
-returns-in-Pcm24 c = rw c.in-Pcm24.is c.place24.ensures
+returns-in-Pcm24 c =
+    rw c.in-Pcm24.is (c.place_words-in-Pcm24.ensures (word_of Pcm24) (λ x r h. search rules) ∙ words-bytes Pcm24 _)
 
 pub place_float-requires : goal.place_float-requires
 place_float-requires c = rw c.in-Float32.is at c.requires

@@ -1,64 +1,10 @@
--- `wav_store::placing::place_plain` meets its contract: each turn writes the bytes of the next sample. Assumes nothing.
-use mathlib.Core.Path.{◌≡◌, sym, ap, ◌∙◌}
-use Prim.Native.Nat.{suc, ◌+◌, ◌*◌}
-use native.Mathlib.Numerals.{add-one}
-use native.Mathlib.Omega.{arith}
-use lib.ListN.{length-set}
-use Rattle.word_bytes.specs.Bytes.{low_bytes}
-use Rattle.wav_store.proofs.Placed.{unplaced, placed-more, all_placed}
+-- `wav_store::placing::place_plain` meets its contract, by the bytes of the nearest f32s. Assumes nothing.
+use mathlib.Core.Path.{◌∙◌}
+use Rattle.std.proofs.Common.{rules}
+use Rattle.sample_kind.specs.declared.SampleKind.TheVariants.{Float32}
+use Rattle.stored_samples.specs.Stored.{word_of}
+use Rattle.wav_store.proofs.Words.{words-bytes}
 use Rattle.wav_store.proofs.placing.place_plain.Goals as goal
 
-pub loop-i-init : goal.loop-i-init
-loop-i-init c = unplaced c.requires.long
-
-pub nearest_plain-w-requires : goal.nearest_plain-w-requires
-nearest_plain-w-requires c =
-    c.requires.plain c.loop-i.i (omega arith) _
-
-pub loop-i-preserved : goal.loop-i-preserved
-unfolding low_bytes
-loop-i-preserved c =
-    let l = c.loop-i in
-    let at = l.i * 4 in
-    let two : at + 2 ≡ suc (suc at) = omega arith in
-    let three : at + 3 ≡ suc (suc (suc at)) = omega arith in
-    rw (add-one at, two, three) (placed-more l.invariant (omega arith) _ (ap (low_bytes 4) c.nearest_plain-w.ensures))
-
-pub shape_of-out : goal.shape_of-out
-shape_of-out c = c.loop-i.invariant.long ∙ sym c.requires.long
-
-pub bounds-samples-i : goal.bounds-samples-i
-bounds-samples-i c = omega arith
-
-pub overflow_mul-at : goal.overflow_mul-at
-overflow_mul-at c = omega arith
-
-pub bounds-out-at : goal.bounds-out-at
-bounds-out-at c = omega arith
-
-pub overflow_add-out : goal.overflow_add-out
-overflow_add-out c = omega arith
-
-pub bounds-out-at-in-loop-i : goal.bounds-out-at-in-loop-i
-bounds-out-at-in-loop-i c = simp length-set (omega arith)
-
-pub overflow_add-out-in-loop-i : goal.overflow_add-out-in-loop-i
-overflow_add-out-in-loop-i c = omega arith
-
-pub bounds-out-at-in-loop-i-2 : goal.bounds-out-at-in-loop-i-2
-bounds-out-at-in-loop-i-2 c = simp length-set (omega arith)
-
-pub overflow_add-out-in-loop-i-2 : goal.overflow_add-out-in-loop-i-2
-overflow_add-out-in-loop-i-2 c = omega arith
-
-pub bounds-out-at-in-loop-i-3 : goal.bounds-out-at-in-loop-i-3
-bounds-out-at-in-loop-i-3 c = simp length-set (omega arith)
-
-pub overflow_add-i : goal.overflow_add-i
-overflow_add-i c = omega arith
-
-pub loop-i-smaller : goal.loop-i-smaller
-loop-i-smaller c = omega arith
-
 pub returns : goal.returns
-returns c = all_placed c.loop-i.invariant (omega arith)
+returns c = c.place_words.ensures (word_of Float32) (λ x r h. search rules) ∙ words-bytes Float32 _

@@ -25,15 +25,3 @@ returns c e k h d = c.loop-k.invariant.plain e k (omega (arith, h)) d
 
 pub loop-k-init : goal.loop-k-init
 loop-k-init c = unshared
-
-pub overflow_add-i : goal.overflow_add-i
-overflow_add-i c = omega arith
-
-pub bounds-samples-i : goal.bounds-samples-i
-bounds-samples-i c = omega arith
-
-pub overflow_add-k : goal.overflow_add-k
-overflow_add-k c = omega arith
-
-pub loop-k-smaller : goal.loop-k-smaller
-loop-k-smaller c = omega arith

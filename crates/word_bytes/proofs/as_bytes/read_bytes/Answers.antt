@@ -13,17 +13,17 @@ use Rattle.word_bytes.proofs.as_bytes.read_bytes.Goals as goal
 
 pub loop-k-init : goal.loop-k-init
 unfolding bytes_value
-loop-k-init c = (omega arith, rw sub_self (lit≤ tt), sym (ap bytes_value (drop-length c.args.s.now)))
+loop-k-init c = (rw sub_self (lit≤ tt), sym (ap bytes_value (drop-length c.args.s.now)))
 
 pub overflow_mul-v : goal.overflow_mul-v
 overflow_mul-v c =
-    let h : c.loop-k.v < 256 ^ 7 = within 256 7 c.loop-k.invariant.1 (omega arith) (lit≤ tt) in
+    let h : c.loop-k.v < 256 ^ 7 = within 256 7 c.loop-k.invariant.0 (omega arith) (lit≤ tt) in
     omega arith
 
 pub overflow_add-v : goal.overflow_add-v
 overflow_add-v c =
     let l = c.loop-k in
-    let h : l.v < 256 ^ 7 = within 256 7 l.invariant.1 (omega arith) (lit≤ tt) in
+    let h : l.v < 256 ^ 7 = within 256 7 l.invariant.0 (omega arith) (lit≤ tt) in
     omega arith
 
 pub loop-k-preserved : goal.loop-k-preserved
@@ -32,12 +32,11 @@ loop-k-preserved c =
     let s = c.args.s.now in
     let e : length s - (l.k - 1) ≡ suc (length s - l.k) = omega arith in
     let g : suc (l.k - 1) ≡ l.k = omega arith in (
-      omega arith,
-      rw e (one_more 256 (length s - l.k) l.invariant.1 c.wide.ensures.upper_bound),
-      rw (byte-read s (l.k - 1) (omega arith), g, c.wide.ensures.value, ← l.invariant.2),
+      rw e (one_more 256 (length s - l.k) l.invariant.0 (omega arith)),
+      rw (byte-read s (l.k - 1) (omega arith), g, ← l.invariant.1) (omega arith),
     )
 
 pub returns : goal.returns
 returns c =
     let z : c.loop-k.k ≡ 0 = omega arith in
-    record { value = rw z at c.loop-k.invariant.2; upper_bound = rw (z, sub-zero) at c.loop-k.invariant.1 }
+    record { value = rw z at c.loop-k.invariant.1; upper_bound = rw (z, sub-zero) at c.loop-k.invariant.0 }

@@ -1,6 +1,5 @@
--- `word_bytes::write_bytes` meets its contract. The loop's invariant: the bytes written before i, followed by those
--- that are left of v, are the bytes of n. Assumes nothing.
-use borrow.Author.Rules.{rules}
+-- `word_bytes::write_bytes` meets its contract. The loop's invariant: the bytes written so far, followed by those that
+-- are left of v, are the bytes of n. Assumes nothing.
 use mathlib.Core.Path.{◌≡◌, sym}
 use mathlib.Core.List.{append-nil}
 use Prim.Native.Nat.{suc, ◌-◌}
@@ -13,25 +12,20 @@ use Rattle.word_bytes.specs.Bytes.{low_bytes}
 use Rattle.word_bytes.proofs.Rows.{byte-written}
 use Rattle.word_bytes.proofs.as_bytes.write_bytes.Goals as goal
 
-pub loop-i-init : goal.loop-i-init
-loop-i-init c = (search rules, search rules, rw sub-zero)
+pub loop-byte-init : goal.loop-byte-init
+loop-byte-init c = rw sub-zero
 
-pub loop-i-smaller : goal.loop-i-smaller
-loop-i-smaller c = simp length-set (omega arith)
-
-pub loop-i-preserved : goal.loop-i-preserved
-loop-i-preserved c =
-    let l = c.loop-i in
-    let e : length l.out - l.i ≡ suc (length l.out - suc l.i) = omega arith in (
-      simp length-set (omega arith),
-      simp length-set (omega arith),
-      simp (length-set, add-one)
-          (rw (← byte-written l.out l.i (length l.out - suc l.i) l.v (omega arith), ← e) l.invariant.2),
-    )
+pub loop-byte-preserved : goal.loop-byte-preserved
+loop-byte-preserved c =
+    let l = c.loop-byte in
+    let i = l.byte-index in
+    let e : length l.out - i ≡ suc (length l.out - suc i) = omega arith in
+    simp (length-set, add-one)
+    (rw (← byte-written l.out i (length l.out - suc i) l.v (omega arith), ← e) l.invariant)
 
 pub returns : goal.returns
 unfolding low_bytes
 returns c =
-    let l = c.loop-i in
-    let e : l.i ≡ length l.out = omega arith in
-    sym (rw (e, sub_self, take-length, append-nil) at l.invariant.2)
+    let l = c.loop-byte in
+    let e : l.byte-index ≡ length l.out = omega arith in
+    sym (rw (e, sub_self, take-length, append-nil) at l.invariant)

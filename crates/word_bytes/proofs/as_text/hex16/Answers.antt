@@ -11,17 +11,17 @@ use Rattle.word_bytes.proofs.Rows.{hex-written}
 use Rattle.word_bytes.proofs.as_text.hex16.Goals as goal
 
 pub loop-k-init : goal.loop-k-init
-loop-k-init c = (search rules, search rules, rw append-nil)
+loop-k-init c = (search rules, rw append-nil)
 
 pub loop-k-preserved : goal.loop-k-preserved
 loop-k-preserved c =
     let k = c.loop-k.k in
     let e : suc (k - 1) ≡ k = omega arith in
     let g = hex-written c.loop-k.out (k - 1) c.loop-k.v (omega arith) in
-    (simp length-set (omega arith), omega arith, rw (c.glyph.ensures, ← g, e) c.loop-k.invariant.2)
+    (simp length-set (omega arith), rw (c.glyph.ensures, ← g, e) c.loop-k.invariant.1)
 
 pub returns : goal.returns
 unfolding hex_digits
 returns c =
     let z : c.loop-k.k ≡ 0 = omega arith in
-    sym (rw z at c.loop-k.invariant.2)
+    sym (rw z at c.loop-k.invariant.1)

@@ -1,12 +1,8 @@
 use mathlib.Core.Path.{◌≡◌}
 use mathlib.Core.List.{◌++◌}
-use Prim.Native.Nat.{◌≤◌}
 use lib.ListN.{length, drop}
 use Rattle.word_bytes.specs.Hex.{hex_digits}
 use Rattle.word_bytes.proofs.as_text.hex16.Given as goal
 
 abbrev pub invariant-loop-k : goal.invariant-loop-k
-invariant-loop-k l = (length l.out ≡ 16) × (l.k ≤ 16) × (hex_digits 16 l.n ≡ hex_digits l.k l.v ++ drop l.k l.out)
-
-abbrev pub decreases-loop-k : goal.decreases-loop-k
-decreases-loop-k l = l.k
+invariant-loop-k l = (length l.out ≡ 16) × (hex_digits 16 l.n ≡ hex_digits l.k l.v ++ drop l.k l.out)

@@ -1,0 +1,10 @@
+use Prim.Native.Nat.{ℕ, ◌+◌, ◌*◌}
+use Rattle.loop_laws.proofs.Writing.{Written}
+use Rattle.high_first.specs.High.{big_number}
+use Rattle.wav_samples.specs.Frames.{Gives}
+use Rattle.aiff_samples.proofs.by_frame.fill_threes.Given as goal
+
+abbrev pub invariant-loop-k : goal.invariant-loop-k
+invariant-loop-k g l =
+    (means : ℕ → _) → Gives (goal.F-post g l.value) means
+    → Written (λ (j : ℕ). means (big_number 3 l.part (j * l.frame + l.first))) l.initial.out l.out l.k

@@ -1,9 +1,0 @@
--- `answer_parts::values::value` meets its contract, by the two cases; the literal 0.0 is +0.0. Assumes nothing.
-use mathlib.Core.Path.{sym, ap}
-use lib.Ieee.{of_bits}
-use Rattle.answer_parts.specs.Values.{value_of}
-use Rattle.answer_parts.proofs.values.value.Goals as goal
-
-pub returns-in-Refused : goal.returns-in-Refused
-unfolding of_bits
-returns-in-Refused c = sym (ap value_of c.in-Refused.is)

@@ -1,8 +1,0 @@
--- `replay_written::main` ends, because the number of remaining turns falls. Assumes nothing.
-use Rattle.replay_written.proofs.main.Given as goal
-
-abbrev pub invariant-loop-turns : goal.invariant-loop-turns
-invariant-loop-turns l = Unit {0}
-
-abbrev pub decreases-loop-turns : goal.decreases-loop-turns
-decreases-loop-turns l = l.turns

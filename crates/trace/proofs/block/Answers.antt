@@ -1,8 +1,0 @@
--- `trace::block` stays within its arrays: the lines end within theirs. Assumes nothing.
-use borrow.Author.Rules.{rules}
-use mathlib.Core.Path.{sym}
-use lib.Seq.{length-take-le}
-use Rattle.trace.proofs.block.Goals as goal
-
-pub slice_bounds-write_all-end : goal.slice_bounds-write_all-end
-slice_bounds-write_all-end c = sym (length-take-le _ _ (search rules))
