@@ -21,15 +21,20 @@ pub fn series(x: f64, terms: u32) -> f64
     let y = x * x / 4.0;
     let mut sum = 1.0;
     let mut term = 1.0;
-    for k in 0..terms {
-        let n = (k + 1) as f64;
+    let mut k: u32 = 0;
+    // By hand: F5 asks for a loop that breaks with its sum, and a `for` gives no value.
+    loop {
+        if k == terms {
+            break sum;
+        }
+        k += 1;
+        let n = k as f64;
         term = term * (y / (n * n));
         sum = sum + term;
         if term < sum * 1.0e-16 {
-            break;
+            break sum;
         }
     }
-    sum
 }
 
 // 000 adds at most 24 terms.

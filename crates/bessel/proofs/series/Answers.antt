@@ -29,15 +29,25 @@ last n k y sum term r e h = let z : n - k ≡ 0 = omega arith in rw z at h
 
 pub loop-k-init : goal.loop-k-init
 unfolding series_of of_bits
-loop-k-init c = simp sub-zero
+loop-k-init c = (omega arith, simp sub-zero)
+
+pub int_to_float-n : goal.int_to_float-n
+int_to_float-n c = tt
+
+pub loop-k-smaller : goal.loop-k-smaller
+loop-k-smaller c = omega arith
 
 pub loop-k-preserved : goal.loop-k-preserved
-loop-k-preserved c =
-    turn c.args.terms c.loop-k.k _ c.loop-k.sum c.loop-k.term false (omega arith) c.loop-k.invariant c.if-term-sum.false
+loop-k-preserved c = (
+  omega arith,
+  turn c.args.terms c.loop-k.k _ c.loop-k.sum c.loop-k.term false (omega arith) c.loop-k.invariant.1
+      c.if-term-sum.false,
+)
 
-pub returns-after-loop-k : goal.returns-after-loop-k
-returns-after-loop-k c = last c.args.terms c.loop-k.k _ _ c.loop-k.term _ (omega arith) c.loop-k.invariant
+pub returns-then-k-terms : goal.returns-then-k-terms
+returns-then-k-terms c = last _ _ _ _ c.loop-k.term _ c.if-k-terms.true c.loop-k.invariant.1
 
 pub returns-then-term-sum : goal.returns-then-term-sum
 returns-then-term-sum c =
-    turn c.args.terms c.loop-k.k _ c.loop-k.sum c.loop-k.term true (omega arith) c.loop-k.invariant c.if-term-sum.true
+    turn c.args.terms c.loop-k.k _ c.loop-k.sum c.loop-k.term true (omega arith) c.loop-k.invariant.1
+    c.if-term-sum.true
