@@ -39,6 +39,13 @@ impl TryFrom<u8> for QualityMode {
     }
 }
 
+// N1. The same by name.
+pub fn of_code(code: u8) -> Result<QualityMode, Refusal>
+    ensures { result ≡ named_of code }
+{
+    QualityMode::try_from(code)
+}
+
 // A quality as a number, its place in 000's list, for callers that can only pass numbers.
 pub fn code(quality: QualityMode) -> u8
     ensures { result ≡ code_of quality }
