@@ -32,7 +32,7 @@ module _ (kind : SampleKind) where
   place [] = refl
   place (x ∷ xs) = one_more (fits_in kind x) _ _ (place xs)
 
-  within : (xs : List Float) → misfit_in kind xs ≤ length xs
+  pub within : (xs : List Float) → misfit_in kind xs ≤ length xs
   unfolding misfit_in
   within [] = omega arith
   within (x ∷ xs) = one-within (fits_in kind x) _ _ (within xs)

@@ -4,11 +4,10 @@
 ghost use Rattle.std.specs.Prelude.{◌≡◌, ◌≤◌, length};
 ghost use Rattle.spelling.specs.Words.{same_bytes, split_in, in_name, all_in_name, is_named};
 
-#[tactic(auto, using(crate::proofs::Letters::as_compared))]
 pub fn same(a: &[u8], b: &[u8]) -> bool
     ensures { result ≡ same_bytes a.now b.now }
 {
-    a == b
+    a.len() == b.len() && a.iter().zip(b.iter()).all(|(x, y)| *x == *y)
 }
 
 // The place of the first `=`, or the end if there is none.

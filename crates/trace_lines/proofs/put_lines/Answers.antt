@@ -13,7 +13,7 @@ loop-sample-init c =
     let same = c.into_iter-sample-iterator.ensures.into_iter_gives in
     let chunks = c.chunks_exact-sample-items.ensures in
     let whole = ap chunks_exact_rest same ∙ chunks.rest in
-    (ap chunks_exact_size same ∙ chunks.size, omega arith, rw whole refl)
+    (omega (arith, ap chunks_exact_size same, chunks.size), omega arith, rw whole refl)
 
 pub loop-sample-preserved : goal.loop-sample-preserved
 unfolding le of_bits
