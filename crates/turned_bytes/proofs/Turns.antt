@@ -54,23 +54,30 @@ module _ (b : List ℕ) (at : ℕ) where
       rw (take-append-drop at b, length-take-le at b (omega arith)) at
       (three-behind (take at b) (drop at b) (simp length-drop (omega arith)))
 
-  -- The last byte stands at i.
-  pub turned : (w i : ℕ) → 2 ≤ w → w ≤ 3 → i + 1 ≡ at + w → at + w ≤ length b
-      → set (set b at (get_or b i 0)) i (get_or b at 0) ≡ turned_at w at b
-  turned w i p q e h =
-      ⊎_elim
-      (λ (t : 2 ≡ w). let j : i ≡ at + 1 = omega arith in rw (j, ← t) (two-turned (omega arith)))
+  -- The last byte stands at i, and is read at j.
+  pub turned : (w i j : ℕ) → 2 ≤ w → w ≤ 3 → i + 1 ≡ at + w → j ≡ i → at + w ≤ length b
+      → set (set b at (get_or b j 0)) i (get_or b at 0) ≡ turned_at w at b
+  turned w i j p q e f h =
+      rw f
+      (⊎_elim
+      (λ (t : 2 ≡ w). let k : i ≡ at + 1 = omega arith in rw (k, ← t) (two-turned (omega arith)))
       (λ (t : 2 < w).
-      let j : i ≡ at + 2 = omega arith in
+      let k : i ≡ at + 2 = omega arith in
       let u : w ≡ 3 = omega arith in
-      rw (j, u) (three-turned (omega arith)))
-      (eq-or-lt_of_le p)
+      rw (k, u) (three-turned (omega arith)))
+      (eq-or-lt_of_le p))
 
 -- ---- one sample more
-pub one-within : (w k len : ℕ) → k < len / w → k * w + w ≤ len
-one-within w k len h =
-    let l : suc k ≤ len / w = omega arith in
+-- The number of samples is len / v, where v is the width.
+pub one-within : (w v k len : ℕ) → k < len / v → v ≡ w → k * w + w ≤ len
+one-within w v k len h e =
+    let l : suc k ≤ len / w = rw e at h in
     omega (arith, mul-le-mul_right w l, suc-mul k w, div-add-mod' len w)
+
+pub one-count : (w v k len : ℕ) → k ≤ len / v → len / v ≤ k → v ≡ w → k ≡ len / w
+one-count w v k len p q e =
+    let c : k ≡ len / v = omega arith in
+    c ∙ ap (λ (n : ℕ). len / n) e
 
 same-length-at : (w at : ℕ) (b : List ℕ) → at + w ≤ length b → length (turned_at w at b) ≡ length b
 same-length-at w at b h =
